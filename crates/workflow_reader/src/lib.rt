@@ -1,0 +1,8 @@
+//! Workflow documents.
+#![tactic(auto)]
+
+mod fault;
+mod workflow;
+
+pub use fault::FirstFault;
+pub use workflow::{Job, Output, Workflow};
