@@ -1,5 +1,5 @@
 -- Which job makes a file, and what a workflow in document order keeps.
-use Rattle.std.specs.Prelude.{◌≡◌, ℕ, ◌<◌, ◌==◌, Bool, true, false, List, [], ◌∷◌, length, map, take, if◌then◌else◌, Option, Some, None, slice_index_or}
+use Rattle.std.specs.Prelude.{◌≡◌, ℕ, ◌<◌, ◌≤◌, ◌==◌, Bool, true, false, List, [], ◌∷◌, length, map, take, if◌then◌else◌, Option, Some, None, slice_index_or}
 use Rattle.std.specs.List.{list_any}
 use Rattle.outside.specs.declared.numbers.FileId.{FileId}
 use Rattle.workflow_reader.specs.declared.workflow.Workflow.{Workflow}
@@ -35,8 +35,9 @@ abbrev pub AreBelow : ℕ → List ℕ → Type 0
 AreBelow n [] = Unit {0}
 AreBelow n (f ∷ fs) = (f < n) × AreBelow n fs
 
--- Each file has one producer, and each input is made by an earlier job.
+-- The jobs are few, each file has one producer, and each input is made by an earlier job.
 pub record IsFirstForm (w : Workflow) : Type 0 where
+  pub few : length w.jobs ≤ 10000
   pub in_range : (i : ℕ) (j : Job) → i < length w.jobs → slice_index_or w.jobs i j ≡ j → AreBelow (length w.files) (outputs_of j)
   pub one : (i f : ℕ) (j : Job) → i < length w.jobs → slice_index_or w.jobs i j ≡ j → has_output f j ≡ true → producer w.jobs f ≡ Some j
   pub earlier : (i : ℕ) (j : Job) → i < length w.jobs → slice_index_or w.jobs i j ≡ j → AreMade (take i w.jobs) (inputs_of j)
