@@ -1,16 +1,35 @@
 //! What a run meets outside itself, and the plain values that every layer speaks of.
+//!
+//! The layers above know documents, sinks, hosts and tools by these traits alone: a meaning that
+//! may be told or not, and a count of faults that never falls. The definitions stand in `specs/`.
 #![tactic(auto)]
 
 mod blob;
+mod docs;
+mod failing;
+mod host;
 mod items;
 mod memory;
+mod memory_docs;
+mod memory_host;
+mod memory_sink;
 mod numbers;
+mod printed;
+mod sink;
 mod text;
 mod tool;
 
 pub use blob::Blob;
+pub use docs::{DocFault, Docs};
+pub use failing::Failing;
+pub use host::{Host, HostFault};
 pub use items::Items;
 pub use memory::Memory;
+pub use memory_docs::MemoryDocs;
+pub use memory_host::MemoryHost;
+pub use memory_sink::MemorySink;
 pub use numbers::{FileId, JobId, PairId, SiteId, TaskId};
+pub use printed::{push_name, push_number};
+pub use sink::{Sink, SinkFault, write_all};
 pub use text::Text;
 pub use tool::{Tool, ToolFault};

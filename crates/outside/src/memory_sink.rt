@@ -1,0 +1,83 @@
+//! A sink in memory.
+
+ghost use Rattle.std.specs.Prelude.{◌≡◌, ◌≤◌, ◌<◌, ℕ, List, [], Option, Some, IfOk};
+
+use crate::failing::Failing;
+use crate::memory::Memory;
+use crate::sink::{Sink, SinkFault};
+use std::alloc::Global;
+
+/// A sink with room for so many bytes, of which one write takes a few at most.
+#[derive(Drop)]
+pub struct MemorySink {
+    bytes: Vec<u8>,
+    room: usize,
+    most: usize,
+    failing: Failing,
+    faults: u64,
+    ghost most_is_not_none: { 0 < most },
+}
+
+impl MemorySink {
+    ghost use Rattle.outside.specs.Memories.{sink_bytes, sink_failing, failing_calls, calls_made};
+
+    /// Nothing written. `failing` lists the writes that are to fail, by number from 1.
+    pub fn new(
+        alloc: Global,
+        room: usize,
+        most: usize,
+        failing: Vec<u64>,
+    ) -> Result<MemorySink, Memory>
+        requires { 0 < most }
+        ensures bytes { IfOk result (λ s. sink_bytes s ≡ []) }
+        ensures failing { IfOk result (λ s. failing_calls (sink_failing s) ≡ failing.items) }
+        ensures calls { IfOk result (λ s. calls_made (sink_failing s) ≡ 0) }
+    {
+        let bytes = Vec::with_capacity(alloc, room)?;
+        Ok(MemorySink {
+            bytes,
+            room,
+            most,
+            failing: Failing::new(failing),
+            faults: 0,
+        })
+    }
+
+    pub fn bytes(&self) -> &[u8]
+        ensures { result.now ≡ sink_bytes self.now }
+    {
+        &self.bytes
+    }
+}
+
+impl Sink for MemorySink {
+    ghost use Rattle.outside.specs.Counts.{Rose};
+    ghost use Rattle.outside.specs.Sink.{Wrote};
+    ghost use Rattle.std.specs.Prelude.{Some};
+
+    ghost written = { λ s. Some s.bytes.items };
+
+    ghost faults = { λ s. s.faults };
+
+    fn faults(&self) -> u64 {
+        self.faults
+    }
+
+    fn write(&mut self, piece: &[u8]) -> Result<usize, SinkFault> {
+        let fails = self.failing.call();
+        let full = self.bytes.len() >= self.room && !piece.is_empty();
+        if fails || full {
+            self.faults = self.faults.saturating_add(1);
+            return Err(SinkFault::Failed);
+        }
+        let left = self.room.saturating_sub(self.bytes.len());
+        let n = piece.len().min(self.most).min(left);
+        match self.bytes.extend_from_slice(&piece[..n]) {
+            Ok(()) => Ok(n),
+            Err(_) => {
+                self.faults = self.faults.saturating_add(1);
+                Err(SinkFault::Failed)
+            }
+        }
+    }
+}
