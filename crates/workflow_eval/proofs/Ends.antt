@@ -1,5 +1,5 @@
 -- How an evaluation ends: at a job that gives nothing, or after the last one.
-use Rattle.std.proofs.Common.{◌≡◌, ℕ, zero, suc, ◌+◌, ◌<◌, ◌≤◌, cond, List, [], ◌∷◌, length, take, drop, map, refl, sym, ap, subst, ◌∙◌, drop-cons, add-one, arith}
+use Rattle.std.proofs.Common.{◌≡◌, ℕ, zero, suc, ◌+◌, ◌<◌, ◌≤◌, cond, List, [], ◌∷◌, length, drop, map, refl, sym, ap, subst, ◌∙◌, drop-cons, add-one, arith}
 use Rattle.std.specs.Prelude.{Option, Some, None, IsSome, is_some, option_map, Err, slice_index_or}
 use Rattle.std.proofs.lemmas.List.{length-map}
 use Rattle.workflow_reader.specs.declared.workflow.Workflow.{Workflow}
@@ -12,7 +12,7 @@ use Rattle.workflow_eval.specs.declared.fault.EvalFault.TheVariants.{Declined, T
 use Rattle.workflow_eval.specs.Value.{all_of, value, made_by}
 use Rattle.workflow_eval.specs.Tables.{at, IsFaultOf}
 use Rattle.workflow_eval.specs.Evaluated.{AreValues, first_undefined, first_undefined_from, Evaluates}
-use Rattle.workflow_eval.proofs.Jobs.{IsJobAt, Evaluated}
+use Rattle.workflow_eval.proofs.Jobs.{IsJobAt, take_all, Evaluated}
 
 -- what the jobs from the i-th on give is what all give
 abbrev pub NoneBefore : Apply → Workflow → ℕ → Type 0
@@ -46,10 +46,6 @@ ends_with apply w i number old before new j here is none le made made_is Memory 
 drop_all : (js : List Job) → drop (length js) js ≡ []
 drop_all [] = refl
 drop_all (j ∷ js) = drop_all js
-
-take_all : (js : List Job) → take (length js) js ≡ js
-take_all [] = refl
-take_all (j ∷ js) = ap (λ (x : List Job). j ∷ x) (take_all js)
 
 -- after the last job
 none_undefined : (apply : Apply) (w : Workflow) → NoneBefore apply w (length w.jobs) → first_undefined apply w ≡ None

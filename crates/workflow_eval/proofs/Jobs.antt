@@ -63,6 +63,10 @@ value_of_output apply w i j form here table stands vs parts looked ran f k e h =
     ∙ ap (λ (x : Option (List (List ℕ))). option_and_then (part f (outputs_of j)) (run_of apply j x)) (sym (inputs_stand apply w.jobs (take i w.jobs) i k table (inputs_of j) h stands (form.earlier i j here.below here.is)) ∙ looked)
     ∙ ap (option_and_then (part f (outputs_of j))) ran
 
+pub take_all : (js : List Job) → take (length js) js ≡ js
+take_all [] = refl
+take_all (j ∷ js) = ap (λ (x : List Job). j ∷ x) (take_all js)
+
 -- the files that one job more makes
 pub made_more : (js : List Job) (i f : ℕ) (j : Job) → IsJobAt js i j → is_made (take (i + 1) js) f ≡ (is_made (take i js) f || has_output f j)
 made_more js i f j here =
