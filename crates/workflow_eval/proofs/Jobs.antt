@@ -16,6 +16,7 @@ pub record IsJobAt (js : List Job) (i : ℕ) (j : Job) : Type 0 where
   pub below : i < length js
   pub is : slice_index_or js i j ≡ j
 
+-- an element of the same list
 pub job_at : (js ks : List Job) (i : ℕ) (j : Job) → js ≡ ks → i < length js → j ≡ slice_index_or js i j → IsJobAt ks i j
 job_at js ks i j same below is = record { below = subst (λ (x : List Job). i < length x) same below; is = sym (ap (λ (x : List Job). slice_index_or x i j) same) ∙ sym is }
 

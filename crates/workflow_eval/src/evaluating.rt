@@ -52,11 +52,9 @@ pub fn evaluate<T: Tool>(
     ensures faults { T.faults tool.old ≤ T.faults tool.new }
 {
     let mut table = empty(alloc, workflow.files.as_slice().len())?;
-    let jobs = workflow.jobs.as_slice();
-    for i in 0..jobs.len() {
-        let job = &jobs[i];
-        let inputs = copies_of(alloc, table.as_slice(), job.inputs.as_slice())?;
-        let outputs = run_job(alloc, JobId(i as u32), job, inputs.as_slice(), tool)?;
+    for (i, job) in workflow.jobs.as_slice().iter().enumerate() {
+        let inputs = copies_of(alloc, &table, job.inputs.as_slice())?;
+        let outputs = run_job(alloc, JobId(i as u32), job, &inputs, tool)?;
         place(&mut table, job.outputs.as_slice(), outputs);
     }
     Ok(into_blobs(alloc, table)?)

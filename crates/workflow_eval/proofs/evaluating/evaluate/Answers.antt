@@ -11,46 +11,46 @@ loop-i-init g c = (c.in_ok-table.ensures ∙ ap length c.as_slice.ensures, λ f 
 
 pub copies_of-requires : goal.copies_of-requires
 copies_of-requires g c =
-    let here = job_at _ _ _ _ c.as_slice-jobs.ensures c.loop-i-test.true c.index-jobs-i.is in
-    rw (c.as_slice-in-loop-i.ensures.value, c.as_slice-in-loop-i-2.ensures)
-    (inputs_there g.T.Tool.apply c.args.workflow.now c.loop-i.i c.index-jobs-i.result c.requires here _ c.loop-i.invariant.1)
+    let here = job_at _ _ _ _ c.as_slice-job-items.ensures c.loop-i-test.true c.job-item.is in
+    rw (c.deref.ensures.value, c.as_slice-in-loop-i.ensures)
+    (inputs_there g.T.Tool.apply c.args.workflow.now c.loop-i.i c.job-item.result c.requires here _ c.loop-i.invariant.1)
 
 pub returns-in_err-outputs-clause-answer : goal.returns-in_err-outputs-clause-answer
 returns-in_err-outputs-clause-answer g c =
-    let here = job_at _ _ _ _ c.as_slice-jobs.ensures c.loop-i-test.true c.index-jobs-i.is in
-    let looked = rw (c.as_slice-in-loop-i.ensures.value, c.as_slice-in-loop-i-2.ensures) at c.in_ok-inputs.ensures in
-    let made = made_of g.T.Tool.apply c.args.workflow.now c.loop-i.i c.index-jobs-i.result c.requires here _ c.loop-i.invariant.1 _ looked in
+    let here = job_at _ _ _ _ c.as_slice-job-items.ensures c.loop-i-test.true c.job-item.is in
+    let looked = rw (c.deref.ensures.value, c.as_slice-in-loop-i.ensures) at c.in_ok-inputs.ensures in
+    let made = made_of g.T.Tool.apply c.args.workflow.now c.loop-i.i c.job-item.result c.requires here _ c.loop-i.invariant.1 _ looked in
     let p = err_from_is_err_and c.from_residual-in_err-outputs.result c.from_residual-in_err-outputs.ensures.1 in
-    let fault = rw c.as_slice-in-loop-i-3.ensures.value at c.in_err-outputs.ensures.fault in
-    rw (p.1, p.2) (ends_with g.T.Tool.apply c.args.workflow.now c.loop-i.i c.loop-i.i _ _ _ c.index-jobs-i.result here refl c.loop-i.invariant.2 c.loop-i.invariant.3 _ made c.in_err-outputs.field-0.0 fault)
+    let fault = rw c.deref-in-loop-i.ensures.value at c.in_err-outputs.ensures.fault in
+    rw (p.1, p.2) (ends_with g.T.Tool.apply c.args.workflow.now c.loop-i.i c.loop-i.i _ _ _ c.job-item.result here refl c.loop-i.invariant.2 c.loop-i.invariant.3 _ made c.in_err-outputs.field-0.0 fault)
 
 pub place-requires-clause-in_range : goal.place-requires-clause-in_range
 place-requires-clause-in_range g c =
-    let here = job_at _ _ _ _ c.as_slice-jobs.ensures c.loop-i-test.true c.index-jobs-i.is in
-    rw c.as_slice-in-loop-i-4.ensures (all_below _ _ (places_there c.args.workflow.now c.loop-i.i c.index-jobs-i.result c.requires here _ c.loop-i.invariant.0))
+    let here = job_at _ _ _ _ c.as_slice-job-items.ensures c.loop-i-test.true c.job-item.is in
+    rw c.as_slice-in-loop-i-2.ensures (all_below _ _ (places_there c.args.workflow.now c.loop-i.i c.job-item.result c.requires here _ c.loop-i.invariant.0))
 
 pub loop-i-preserved : goal.loop-i-preserved
 loop-i-preserved g c =
-    let here = job_at _ _ _ _ c.as_slice-jobs.ensures c.loop-i-test.true c.index-jobs-i.is in
-    let looked = rw (c.as_slice-in-loop-i.ensures.value, c.as_slice-in-loop-i-2.ensures) at c.in_ok-inputs.ensures in
-    let ran = rw c.as_slice-in-loop-i-3.ensures.value at c.in_ok-outputs.ensures.ok in
-    let made = made_of g.T.Tool.apply c.args.workflow.now c.loop-i.i c.index-jobs-i.result c.requires here _ c.loop-i.invariant.1 _ looked in
+    let here = job_at _ _ _ _ c.as_slice-job-items.ensures c.loop-i-test.true c.job-item.is in
+    let looked = rw (c.deref.ensures.value, c.as_slice-in-loop-i.ensures) at c.in_ok-inputs.ensures in
+    let ran = rw c.deref-in-loop-i.ensures.value at c.in_ok-outputs.ensures.ok in
+    let made = made_of g.T.Tool.apply c.args.workflow.now c.loop-i.i c.job-item.result c.requires here _ c.loop-i.invariant.1 _ looked in
     let kept = c.loop-i.invariant in
-    let placed_is = rw c.as_slice-in-loop-i-4.ensures at c.place.ensures in
+    let placed_is = rw c.as_slice-in-loop-i-2.ensures at c.place.ensures in
     rw placed_is (
-      length_placed (outputs_of c.index-jobs-i.result) c.in_ok-outputs.outputs.items c.loop-i.table.items ∙ kept.0,
-      evaluated_more g.T.Tool.apply c.args.workflow.now c.loop-i.i c.index-jobs-i.result c.requires here _ kept.0 kept.1 _ _ looked ran c.in_ok-outputs.ensures.as_many,
-      none_before_more g.T.Tool.apply c.args.workflow.now c.loop-i.i c.index-jobs-i.result _ here (made ∙ ran) kept.2,
+      length_placed (outputs_of c.job-item.result) c.in_ok-outputs.outputs.items c.loop-i.table.items ∙ kept.0,
+      evaluated_more g.T.Tool.apply c.args.workflow.now c.loop-i.i c.job-item.result c.requires here _ kept.0 kept.1 _ _ looked ran c.in_ok-outputs.ensures.as_many,
+      none_before_more g.T.Tool.apply c.args.workflow.now c.loop-i.i c.job-item.result _ here (made ∙ ran) kept.2,
       omega (arith, kept.3, c.in_ok-outputs.ensures.faults),
     )
 
 pub into_blobs-requires : goal.into_blobs-requires
 into_blobs-requires g c =
-    let last : c.loop-i.i ≡ length c.args.workflow.now.jobs = omega (arith, c.loop-i-test.false, c.loop-i.auto.i-end, ap length c.as_slice-jobs.ensures) in
+    let last : c.loop-i.i ≡ length c.args.workflow.now.jobs = omega (arith, c.loop-i-test.false, ap length c.as_slice-job-items.ensures) in
     all_there g.T.Tool.apply c.args.workflow.now c.loop-i.i c.requires last _ c.loop-i.invariant.0 c.loop-i.invariant.1
 
 pub returns-clause-answer : goal.returns-clause-answer
 returns-clause-answer g c =
-    let last : c.loop-i.i ≡ length c.args.workflow.now.jobs = omega (arith, c.loop-i-test.false, c.loop-i.auto.i-end, ap length c.as_slice-jobs.ensures) in
+    let last : c.loop-i.i ≡ length c.args.workflow.now.jobs = omega (arith, c.loop-i-test.false, ap length c.as_slice-job-items.ensures) in
     let kept = c.loop-i.invariant in
     ends_well g.T.Tool.apply c.args.workflow.now c.loop-i.i c.requires last _ kept.0 kept.1 kept.2 _ c.in_ok-into_blobs.ensures
