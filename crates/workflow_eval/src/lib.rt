@@ -1,7 +1,8 @@
 //! Plain evaluation of a workflow's files.
 //!
 //! The value of a file is its part of what its producer makes of the values of the producer's
-//! inputs: `specs/Value.antt`, with two laws in `law.rt` that no other assignment fits.
+//! inputs: `specs/Value.antt`. Two laws in `law.rt` say that this equation holds and has no other
+//! solution.
 //! [`evaluate`] runs the jobs of a `workflow_reader::Workflow` in document order over one table,
 //! each by an `outside::Tool`; `specs/Evaluated.antt` says what it answers.
 #![tactic(auto)]
