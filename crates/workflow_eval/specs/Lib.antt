@@ -1,2 +1,4 @@
 pub mod Value
+pub mod Valuation
+pub mod Tables
 pub mod Evaluated

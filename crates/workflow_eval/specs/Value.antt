@@ -1,5 +1,5 @@
 -- The value of a file: what its producer makes of the values of the producer's inputs.
-use Rattle.std.specs.Prelude.{◌≡◌, ℕ, zero, suc, ◌==◌, Bool, true, false, List, [], ◌∷◌, length, map, if◌then◌else◌, Option, Some, None, option_map, option_and_then}
+use Rattle.std.specs.Prelude.{ℕ, zero, suc, ◌==◌, List, [], ◌∷◌, length, map, if◌then◌else◌, Option, Some, None, option_map, option_and_then}
 use Rattle.outside.specs.Tool.{Apply}
 use Rattle.workflow_reader.specs.declared.workflow.Workflow.{Workflow}
 use Rattle.workflow_reader.specs.declared.workflow.Job.{Job}

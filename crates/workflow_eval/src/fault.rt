@@ -1,6 +1,9 @@
 //! Why a workflow could not be evaluated.
 
-use outside::JobId;
+ghost use Rattle.std.specs.Prelude.{◌≡◌};
+ghost use Rattle.workflow_eval.specs.declared.fault.EvalFault.TheVariants.{Memory};
+
+use outside::{JobId, Memory};
 
 #[derive(Clone, Copy, Debug, PartialEq, Eq)]
 pub enum EvalFault {
@@ -9,4 +12,12 @@ pub enum EvalFault {
     /// The tool failed at the job.
     ToolFailed(JobId),
     Memory,
+}
+
+impl From<Memory> for EvalFault {
+    ghost from_gives = { λ _ e. e ≡ Memory };
+
+    fn from(_e: Memory) -> EvalFault {
+        EvalFault::Memory
+    }
 }

@@ -1,0 +1,5 @@
+pub mod Tables
+pub mod Placing
+pub mod Jobs
+pub mod Ends
+pub mod Laws

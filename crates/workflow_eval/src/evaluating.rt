@@ -1,0 +1,61 @@
+//! The values of a workflow's files.
+
+ghost use Rattle.std.specs.Prelude.{◌≡◌, ◌≤◌, Some, length, IfOk, IfErr};
+ghost use Rattle.outside.specs.Counts.{Rose};
+ghost use Rattle.workflow_reader.specs.Producers.{IsFirstForm};
+ghost use Rattle.workflow_eval.specs.Value.{run_of};
+ghost use Rattle.workflow_eval.specs.Tables.{IsFaultOf};
+ghost use Rattle.workflow_eval.specs.Evaluated.{Evaluates};
+
+use crate::fault::EvalFault;
+use crate::table::{copies_of, empty, into_blobs, place};
+use outside::{Blob, JobId, Tool, ToolFault};
+use std::alloc::Global;
+use workflow_reader::{Job, Workflow};
+
+/// Runs a job's tool.
+fn run_job<T: Tool>(
+    alloc: Global,
+    number: JobId,
+    job: &Job,
+    inputs: &[Blob],
+    tool: &mut T,
+) -> Result<Vec<Blob>, EvalFault>
+    ensures ok { IfOk result (λ v. run_of T.apply job.now (Some inputs.now) ≡ Some v.items) }
+    ensures as_many { IfOk result (λ v. length job.now.outputs ≡ length v.items) }
+    ensures fault { IfErr result (λ e. IsFaultOf (run_of T.apply job.now (Some inputs.now)) number.0 (Rose (T.faults tool.old) (T.faults tool.new)) e) }
+    ensures faults { T.faults tool.old ≤ T.faults tool.new }
+{
+    let made = tool.run(
+        alloc,
+        job.name.as_str(),
+        job.arguments.as_slice(),
+        inputs,
+        job.outputs.as_slice().len(),
+    );
+    match made {
+        Ok(outputs) => Ok(outputs),
+        Err(ToolFault::Declined) => Err(EvalFault::Declined(number)),
+        Err(ToolFault::Failed) => Err(EvalFault::ToolFailed(number)),
+        Err(ToolFault::Memory) => Err(EvalFault::Memory),
+    }
+}
+
+/// The value of each file, by number.
+pub fn evaluate<T: Tool>(
+    alloc: Global,
+    workflow: &Workflow,
+    tool: &mut T,
+) -> Result<Vec<Blob>, EvalFault>
+    requires { IsFirstForm workflow.now }
+    ensures answer { Evaluates T.apply workflow.now (Rose (T.faults tool.old) (T.faults tool.new)) result }
+    ensures faults { T.faults tool.old ≤ T.faults tool.new }
+{
+    let mut table = empty(alloc, workflow.files.as_slice().len())?;
+    for (i, job) in workflow.jobs.as_slice().iter().enumerate() {
+        let inputs = copies_of(alloc, &table, job.inputs.as_slice())?;
+        let outputs = run_job(alloc, JobId(i as u32), job, &inputs, tool)?;
+        place(&mut table, job.outputs.as_slice(), outputs);
+    }
+    Ok(into_blobs(alloc, table)?)
+}
