@@ -39,7 +39,7 @@ first_is apply w i j here made none =
 
 -- a job that gives nothing ends the evaluation
 pub ends_with : (apply : Apply) (w : Workflow) (i number old before new : ℕ) (j : Job) → IsJobAt w.jobs i j → number ≡ i → NoneBefore apply w i → old ≤ before → (made : Option (List (List ℕ))) → made_by apply w j ≡ made → (e : EvalFault) → IsFaultOf made number (Rose before new) e → Evaluates apply w (Rose old new) (Err e)
-ends_with apply w i number old before new j here is none le made made_is (Declined k) fault = first_is apply w i j here (made_is ∙ fault.0) none ∙ ap Some (sym (fault.1 ∙ is))
+ends_with apply w i number old before new j here is none le made made_is (Declined k) fault = (first_is apply w i j here (made_is ∙ fault.0) none ∙ ap Some (sym (fault.1 ∙ is)), omega (arith, here.below, fault.1, is))
 ends_with apply w i number old before new j here is none le made made_is (ToolFailed k) fault = (omega (arith, fault.0, le), omega (arith, here.below, fault.1, is))
 ends_with apply w i number old before new j here is none le made made_is Memory fault = tt
 

@@ -25,6 +25,6 @@ first_undefined apply w = first_undefined_from apply w 0 w.jobs
 -- The answer of an evaluation. `rose` says that the tool's count rose.
 abbrev pub Evaluates : Apply → Workflow → Type 0 → Result (Vec (List ℕ) Global) EvalFault → Type 0
 Evaluates apply w rose (Ok values) = AreValues apply w values.items × (first_undefined apply w ≡ None)
-Evaluates apply w rose (Err (Declined j)) = first_undefined apply w ≡ Some j.0
+Evaluates apply w rose (Err (Declined j)) = (first_undefined apply w ≡ Some j.0) × (j.0 < length w.jobs)
 Evaluates apply w rose (Err (ToolFailed j)) = rose × (j.0 < length w.jobs)
 Evaluates apply w rose (Err Memory) = Unit {0}
