@@ -43,7 +43,7 @@ impl From<memory::Memory> for HostFault {
 }
 
 /// A store of files. Its count never falls.
-pub trait Host: Drop + Send {
+pub trait Host: Drop {
     ghost use Rattle.outside.specs.Host.{Delivered};
 
     /// The delivered files, where they are told.

@@ -1,0 +1,4 @@
+pub mod Requests
+pub mod Fronts
+pub mod Marks
+pub mod Ends

@@ -1,0 +1,6 @@
+pub mod Words
+pub mod Request
+pub mod Course
+pub mod Deliveries
+pub mod Lines
+pub mod Answers
