@@ -1,1 +1,3 @@
 pub mod Producers
+pub mod Reading
+pub mod Written

@@ -2,7 +2,9 @@
 #![tactic(auto)]
 
 mod fault;
+mod tree;
 mod workflow;
+mod written;
 
 pub use fault::FirstFault;
 pub use workflow::{Job, Output, Workflow};
