@@ -1,3 +1,4 @@
+pub mod Numbering
 pub mod Producers
 pub mod Reading
 pub mod Written
