@@ -8,9 +8,9 @@ use Rattle.std.specs.Str.{bytes_eq}
 use Rattle.std.specs.Cmp.Lexicographic.{bytes_decides}
 use Rattle.workflow_reader.specs.Numbering.{distinct, number, with_name, with_names}
 
-pub with_names-append : (names xs ys : List (List ℕ)) → with_names names (xs ++ ys) ≡ with_names (with_names names xs) ys
-with_names-append names [] ys = refl
-with_names-append names (x ∷ xs) ys = with_names-append (with_name names x) xs ys
+pub appended : (names xs ys : List (List ℕ)) → with_names names (xs ++ ys) ≡ with_names (with_names names xs) ys
+appended names [] ys = refl
+appended names (x ∷ xs) ys = appended (with_name names x) xs ys
 
 -- those that are not yet among the names
 abbrev fresh : List (List ℕ) → List ℕ → Bool
@@ -85,8 +85,8 @@ all_pass [] = refl
 all_pass {X} (x ∷ xs) = ap (λ (ys : List X). x ∷ ys) (all_pass xs)
 
 -- names that are added one after the other to none are the distinct ones
-pub with_names_distinct : (ns : List (List ℕ)) → with_names [] ns ≡ distinct ns
-with_names_distinct ns = with_names_is [] ns ∙ all_pass (distinct ns)
+pub distinct_names : (ns : List (List ℕ)) → with_names [] ns ≡ distinct ns
+distinct_names ns = with_names_is [] ns ∙ all_pass (distinct ns)
 
 prefix_long : {X : Type 0} (p : X → Bool) (xs : List X) → prefix_len p xs ≤ length xs
 prefix_long p [] = omega arith

@@ -1,3 +1,4 @@
+pub mod Numbered
 pub mod Numbering
 pub mod Producers
 pub mod Reading

@@ -2,6 +2,7 @@
 #![tactic(auto)]
 
 mod fault;
+mod numbered;
 mod numbering;
 mod tree;
 mod workflow;
