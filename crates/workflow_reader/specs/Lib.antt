@@ -1,5 +1,7 @@
+pub mod Marks
 pub mod Numbered
 pub mod Numbering
 pub mod Producers
 pub mod Reading
+pub mod Sound
 pub mod Written

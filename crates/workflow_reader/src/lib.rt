@@ -4,6 +4,7 @@
 mod fault;
 mod numbered;
 mod numbering;
+mod sound;
 mod tree;
 mod workflow;
 mod written;
