@@ -1,3 +1,4 @@
 pub mod Fronts
 pub mod Names
+pub mod Tables
 pub mod Trees
