@@ -1,6 +1,6 @@
 -- A table that marks the files which some jobs make answers for these jobs.
-use Rattle.std.proofs.Common.{◌≡◌, ℕ, zero, suc, ◌+◌, ◌<◌, ◌≤◌, Bool, true, false, not, cond, ◌&&◌, ◌||◌, List, [], ◌∷◌, ◌++◌, length, take, map, refl, sym, ap, subst, ◌∙◌, nat_eq, nat_lt, append_assoc, arith}
-use Rattle.std.specs.Prelude.{slice_set, slice_index_or, replicate}
+use Rattle.std.proofs.Common.{◌≡◌, ℕ, zero, suc, ◌+◌, ◌<◌, ◌≤◌, Bool, true, false, not, cond, ◌&&◌, ◌||◌, List, [], ◌∷◌, ◌++◌, length, take, refl, sym, ap, subst, ◌∙◌, nat_eq, nat_lt, append_assoc, arith}
+use Rattle.std.specs.Prelude.{slice_set, replicate}
 use Rattle.std.proofs.lemmas.Grind.{common_steps}
 use Rattle.std.proofs.lemmas.List.{append-nil, length-set}
 use Rattle.std.proofs.lemmas.List.Folds.{list_any-append, list_all_more}
@@ -65,17 +65,17 @@ free_is files before known (o ∷ outs) table long is = by (nat_lt o (length tab
 
     by : (b : Bool) → nat_lt o (length table) ≡ b
         → (((f : ℕ) → is_marked (slice_set table o true) f ≡ (is_made before f || list_any (nat_eq f) (known ++ o ∷ [])))
-            → are_free (slice_set table o true) outs ≡ (list_all (λ f. nat_lt f files && not (is_made before f)) outs && are_new nat_eq (known ++ o ∷ []) outs))
+        → are_free (slice_set table o true) outs ≡ (list_all (λ f. nat_lt f files && not (is_made before f)) outs && are_new nat_eq (known ++ o ∷ []) outs))
         → (nat_lt o (length table) && (not (is_marked table o) && are_free (slice_set table o true) outs))
-            ≡ (((nat_lt o files && not (is_made before o)) && list_all (λ f. nat_lt f files && not (is_made before f)) outs) && (not (list_any (nat_eq o) known) && are_new nat_eq (known ++ o ∷ []) outs))
+        ≡ (((nat_lt o files && not (is_made before o)) && list_all (λ f. nat_lt f files && not (is_made before f)) outs) && (not (list_any (nat_eq o) known) && are_new nat_eq (known ++ o ∷ []) outs))
     by true e rest =
         let within : nat_lt o files ≡ true = ap (λ (n : ℕ). nat_lt o n) (sym long) ∙ e in
         let later = rest (λ f.
-          set_read table o f (below o (length table) e)
-          ∙ ap (λ (b : Bool). cond (nat_eq o f) true b) (is f)
-          ∙ pick (nat_eq o f) (is_made before f) (list_any (nat_eq f) known)
-          ∙ ap (λ (b : Bool). is_made before f || (list_any (nat_eq f) known || (b || false))) (eq_flip o f)
-          ∙ sym (ap (λ (b : Bool). is_made before f || b) (list_any-append (nat_eq f) known (o ∷ [])))) in
+        set_read table o f (below o (length table) e)
+        ∙ ap (λ (b : Bool). cond (nat_eq o f) true b) (is f)
+        ∙ pick (nat_eq o f) (is_made before f) (list_any (nat_eq f) known)
+        ∙ ap (λ (b : Bool). is_made before f || (list_any (nat_eq f) known || (b || false))) (eq_flip o f)
+        ∙ sym (ap (λ (b : Bool). is_made before f || b) (list_any-append (nat_eq f) known (o ∷ [])))) in
         ap (λ (b : Bool). b && (not (is_marked table o) && are_free (slice_set table o true) outs)) e
         ∙ ap (λ (b : Bool). not b && are_free (slice_set table o true) outs) (is o)
         ∙ ap (λ (b : Bool). not (is_made before o || list_any (nat_eq o) known) && b) later
@@ -114,10 +114,10 @@ stands_more : (files : ℕ) (before : List Job) (j : Job) (table : List Bool) �
 stands_more files before j table stands free = record {
   long = length_marked table (outputs_of j) ∙ stands.long;
   is = λ f.
-    marked_reads table (outputs_of j) f free
-    ∙ ap (λ (b : Bool). b || has_output f j) (stands.is f)
-    ∙ ap (λ (b : Bool). is_made before f || b) (sym (or_false (has_output f j)))
-    ∙ sym (list_any-append (has_output f) before (j ∷ []));
+      marked_reads table (outputs_of j) f free
+      ∙ ap (λ (b : Bool). b || has_output f j) (stands.is f)
+      ∙ ap (λ (b : Bool). is_made before f || b) (sym (or_false (has_output f j)))
+      ∙ sym (list_any-append (has_output f) before (j ∷ []));
 }
 
 -- the jobs fit the table where they are sound

@@ -1,3 +1,4 @@
+pub mod FirstForm
 pub mod Marks
 pub mod Numbered
 pub mod Numbering

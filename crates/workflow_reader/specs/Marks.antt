@@ -1,5 +1,5 @@
 -- A table with a mark at each file that is made.
-use Rattle.std.specs.Prelude.{ℕ, List, [], ◌∷◌, ◌&&◌, Bool, true, false, not, length, map, nat_eq, nat_lt, slice_set, slice_index_or}
+use Rattle.std.specs.Prelude.{ℕ, List, [], ◌∷◌, ◌&&◌, Bool, true, false, not, length, nat_eq, nat_lt, slice_set, slice_index_or}
 use Rattle.std.specs.List.{list_all}
 use Rattle.workflow_reader.specs.declared.workflow.Job.{Job}
 use Rattle.workflow_reader.specs.Producers.{inputs_of, outputs_of}

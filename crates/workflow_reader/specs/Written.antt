@@ -1,7 +1,7 @@
 -- What the document of a workflow writes, with no regard to what its names say of one another.
-use Rattle.std.specs.Prelude.{ℕ, List, ◌∷◌, ◌||◌, ◌&&◌, Bool, true, false, codes, if◌then◌else◌, Option, Some, None, Result, Ok, Err}
+use Rattle.std.specs.Prelude.{ℕ, List, ◌||◌, ◌&&◌, Bool, true, false, codes, if◌then◌else◌, Option, Some, None, Result, Ok, Err}
 use Rattle.std.specs.Str.{bytes_eq}
-use Rattle.serde_json.specs.Data.{Data, null, boolean, number, string, array, object}
+use Rattle.serde_json.specs.Data.{Data, boolean}
 use Rattle.serde_json.specs.Find as find
 use Rattle.workflow_reader.specs.declared.fault.FirstFault.{FirstFault}
 use Rattle.workflow_reader.specs.declared.fault.FirstFault.TheVariants.{OtherForm}

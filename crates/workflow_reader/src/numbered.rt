@@ -39,11 +39,7 @@ fn file_of(names: &Names, written: &WrittenUse) -> FileId
     FileId(names.number(&written.lfn) as u32)
 }
 
-fn inputs_among(
-    alloc: Global,
-    names: &Names,
-    uses: &[WrittenUse],
-) -> Result<Items<FileId>, Memory>
+fn inputs_among(alloc: Global, names: &Names, uses: &[WrittenUse]) -> Result<Items<FileId>, Memory>
     requires { length names.now ≤ 50000 }
     ensures { IfOk result (λ files. files ≡ inputs_among names.now uses.now) }
 {
@@ -56,11 +52,7 @@ fn inputs_among(
     Ok(Items::new(files))
 }
 
-fn outputs_among(
-    alloc: Global,
-    names: &Names,
-    uses: &[WrittenUse],
-) -> Result<Items<Output>, Memory>
+fn outputs_among(alloc: Global, names: &Names, uses: &[WrittenUse]) -> Result<Items<Output>, Memory>
     requires { length names.now ≤ 50000 }
     ensures { IfOk result (λ outputs. outputs ≡ outputs_among names.now uses.now) }
 {
@@ -91,11 +83,7 @@ fn numbered_job(alloc: Global, names: &Names, job: WrittenJob) -> Result<Job, Me
     })
 }
 
-fn numbered_jobs(
-    alloc: Global,
-    names: &Names,
-    jobs: Vec<WrittenJob>,
-) -> Result<Items<Job>, Memory>
+fn numbered_jobs(alloc: Global, names: &Names, jobs: Vec<WrittenJob>) -> Result<Items<Job>, Memory>
     requires { length names.now ≤ 50000 }
     ensures { IfOk result (λ numbered. numbered ≡ map (numbered_job names.now) jobs.items) }
 {
