@@ -13,3 +13,6 @@ mod written;
 pub use fault::FirstFault;
 pub use reading::read;
 pub use workflow::{Job, Output, Workflow};
+
+#[cfg(test)]
+mod tests;
