@@ -21,7 +21,6 @@ fn add_files_of(alloc: Global, names: &mut Names, job: &WrittenJob) -> Result<()
 }
 
 /// The names of all files.
-
 pub fn files_of(alloc: Global, jobs: &[WrittenJob]) -> Result<Names, Memory>
     ensures { IfOk result (λ names. names ≡ files_of jobs.now) }
 {
