@@ -1,0 +1,5 @@
+pub mod Forms
+pub mod Fronts
+pub mod Names
+pub mod Tables
+pub mod Trees
