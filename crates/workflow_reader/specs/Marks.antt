@@ -27,7 +27,6 @@ abbrev pub all_fit : List Bool → List Job → Bool
 all_fit table [] = true
 all_fit table (j ∷ js) = fits table j && all_fit (marked table (outputs_of j)) js
 
--- the table after all jobs
-abbrev pub marked_by : List Bool → List Job → List Bool
-marked_by table [] = table
-marked_by table (j ∷ js) = marked_by (marked table (outputs_of j)) js
+-- each output has a place among so many files
+abbrev pub are_in_range : ℕ → List Job → Bool
+are_in_range files js = list_all (λ j. list_all (λ f. nat_lt f files) (outputs_of j)) js

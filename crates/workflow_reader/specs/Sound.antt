@@ -1,5 +1,5 @@
 -- When a workflow is sound.
-use Rattle.std.specs.Prelude.{ℕ, zero, suc, List, [], ◌∷◌, ◌++◌, ◌&&◌, Bool, true, not, length, map, nat_eq, nat_lt, nat_le}
+use Rattle.std.specs.Prelude.{List, [], ◌∷◌, ◌++◌, ◌&&◌, Bool, true, not, length, map, nat_eq, nat_le}
 use Rattle.std.specs.List.{list_any, list_all}
 use Rattle.std.specs.Str.{bytes_eq}
 use Rattle.workflow_reader.specs.declared.workflow.Workflow.{Workflow}
@@ -18,19 +18,14 @@ are_distinct eq xs = are_new eq [] xs
 abbrev pub reads_soundly : List Job → Job → Bool
 reads_soundly before j = list_all (is_made before) (inputs_of j) && are_distinct nat_eq (inputs_of j)
 
--- It makes files that no job before it makes, each once. That they are below the count follows from how files are numbered.
-abbrev pub makes_soundly : ℕ → List Job → Job → Bool
-makes_soundly files before j = list_all (λ f. nat_lt f files && not (is_made before f)) (outputs_of j) && are_distinct nat_eq (outputs_of j)
+-- It makes files that no job before it makes, each once.
+abbrev pub makes_soundly : List Job → Job → Bool
+makes_soundly before j = list_all (λ f. not (is_made before f)) (outputs_of j) && are_distinct nat_eq (outputs_of j)
 
 -- each of the later jobs does, after the jobs before it
-abbrev pub are_sound_jobs : ℕ → List Job → List Job → Bool
-are_sound_jobs files before [] = true
-are_sound_jobs files before (j ∷ js) = (reads_soundly before j && makes_soundly files before j) && are_sound_jobs files (before ++ j ∷ []) js
-
--- a test holds of each number below the bound
-abbrev pub all_below : ℕ → (ℕ → Bool) → Bool
-all_below zero test = true
-all_below (suc n) test = all_below n test && test n
+abbrev pub are_sound_jobs : List Job → List Job → Bool
+are_sound_jobs before [] = true
+are_sound_jobs before (j ∷ js) = (reads_soundly before j && makes_soundly before j) && are_sound_jobs (before ++ j ∷ []) js
 
 abbrev pub are_few : Workflow → Bool
 are_few w = nat_le (length w.jobs) 10000 && nat_le (length w.files) 50000
@@ -38,7 +33,6 @@ are_few w = nat_le (length w.jobs) 10000 && nat_le (length w.files) 50000
 abbrev pub have_distinct_ids : List Job → Bool
 have_distinct_ids js = are_distinct bytes_eq (map (λ (j : Job). j.id) js)
 
--- Jobs and files are few, ids are distinct, each job is sound after those before it, and each file is made by some job.
--- The last follows from the others, since each file is some job's input or output.
+-- Jobs and files are few, ids are distinct, and each job is sound after those before it.
 abbrev pub is_sound : Workflow → Bool
-is_sound w = are_few w && (have_distinct_ids w.jobs && (are_sound_jobs (length w.files) [] w.jobs && all_below (length w.files) (is_made w.jobs)))
+is_sound w = are_few w && (have_distinct_ids w.jobs && are_sound_jobs [] w.jobs)

@@ -14,7 +14,7 @@ use crate::workflow::Workflow;
 use crate::written::Written;
 use std::alloc::Global;
 
-#[tactic(auto, using(crate::proofs::Forms::is_first_form, crate::proofs::Forms::not_few))]
+#[tactic(auto, using(crate::proofs::Forms::is_first_form, crate::proofs::Forms::not_few, crate::proofs::Uses::in_range))]
 fn if_sound(alloc: Global, written: Written) -> Result<Workflow, FirstFault>
     ensures answer { Reads result (if_sound (numbered written)) }
     ensures form { IfOk result IsFirstForm }

@@ -1,11 +1,11 @@
 //! Whether a workflow is sound.
 
-ghost use Rattle.std.specs.Prelude.{◌≡◌, ◌&&◌, [], map, length, nat_eq, IfOk, IsTrue};
+ghost use Rattle.std.specs.Prelude.{◌≡◌, true, [], map, length, nat_eq, IfOk, IsTrue};
 ghost use Rattle.std.specs.List.{list_all};
 ghost use Rattle.outside.specs.declared.numbers.FileId.{FileId};
-ghost use Rattle.workflow_reader.specs.Producers.{outputs_of, is_made};
-ghost use Rattle.workflow_reader.specs.Sound.{are_distinct, are_few, have_distinct_ids, are_sound_jobs, all_below, is_sound};
-ghost use Rattle.workflow_reader.specs.Marks.{is_marked, marked, are_free, fits, all_fit, marked_by};
+ghost use Rattle.workflow_reader.specs.Producers.{outputs_of};
+ghost use Rattle.workflow_reader.specs.Sound.{are_distinct, are_few, have_distinct_ids, are_sound_jobs, is_sound};
+ghost use Rattle.workflow_reader.specs.Marks.{is_marked, marked, are_free, fits, all_fit, are_in_range};
 
 use crate::workflow::{Job, Output, Workflow};
 use indexmap::IndexSet;
@@ -90,8 +90,7 @@ fn fits(alloc: Global, made: &mut [bool], job: &Job) -> Result<bool, Memory>
 }
 
 fn all_fit(alloc: Global, made: &mut [bool], jobs: &[Job]) -> Result<bool, Memory>
-    ensures answer { IfOk result (λ answer. answer ≡ all_fit made.old jobs.now) }
-    ensures marks { IfOk result (λ answer. IsTrue answer → made.new ≡ marked_by made.old jobs.now) }
+    ensures { IfOk result (λ answer. answer ≡ all_fit made.old jobs.now) }
 {
     for job in jobs {
         if !fits(alloc, made, job)? {
@@ -101,40 +100,24 @@ fn all_fit(alloc: Global, made: &mut [bool], jobs: &[Job]) -> Result<bool, Memor
     Ok(true)
 }
 
-fn are_all_marked(made: &[bool]) -> bool
-    ensures { result ≡ list_all (λ is_made. is_made) made.now }
-{
-    made.iter().all(|is_made| *is_made)
-}
-
-fn fit_and_fill(alloc: Global, made: &mut [bool], jobs: &[Job]) -> Result<bool, Memory>
-    ensures { IfOk result (λ answer. answer
-        ≡ (all_fit made.old jobs.now && list_all (λ is_made. is_made) (marked_by made.old jobs.now))) }
-{
-    if !all_fit(alloc, made, jobs)? {
-        return Ok(false);
-    }
-    Ok(are_all_marked(made))
-}
-
-/// Whether all files are made, one after the other.
 #[tactic(auto, using(crate::proofs::Tables::in_order))]
-fn are_made_in_order(alloc: Global, jobs: &[Job], files: usize) -> Result<bool, Memory>
-    ensures { IfOk result (λ answer. answer
-        ≡ (are_sound_jobs files [] jobs.now && all_below files (is_made jobs.now))) }
+fn are_sound_jobs(alloc: Global, jobs: &[Job], files: usize) -> Result<bool, Memory>
+    requires { are_in_range files jobs.now ≡ true }
+    ensures { IfOk result (λ answer. answer ≡ are_sound_jobs [] jobs.now) }
 {
     let mut made = vec![in alloc; false; files]?;
-    let answer = fit_and_fill(alloc, &mut made, jobs)?;
+    let answer = all_fit(alloc, &mut made, jobs)?;
     Ok(answer)
 }
 
 /// Whether the jobs of a workflow can run in their order.
 pub fn is_sound(alloc: Global, workflow: &Workflow) -> Result<bool, Memory>
+    requires { are_in_range (length workflow.now.files) workflow.now.jobs ≡ true }
     ensures { IfOk result (λ answer. answer ≡ is_sound workflow.now) }
 {
     let jobs = workflow.jobs.as_slice();
     if !are_few(workflow) || !have_distinct_ids(alloc, jobs)? {
         return Ok(false);
     }
-    are_made_in_order(alloc, jobs, workflow.files.as_slice().len())
+    are_sound_jobs(alloc, jobs, workflow.files.as_slice().len())
 }
