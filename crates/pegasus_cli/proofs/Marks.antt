@@ -88,13 +88,13 @@ picked_from apply w f (name ∷ names) [] values p q are named defined = absurd 
 picked_from apply w f (name ∷ names) (m ∷ marks) [] p q are named defined = absurd (omega arith)
 picked_from apply w f (name ∷ names) (m ∷ marks) (v ∷ values) p q are named defined =
     let rest = picked_from apply w (suc f) names marks values (omega arith) (omega arith)
-        (λ k h. are (suc k) (omega arith) ∙ ap (is_requested w) (next f k))
-        (λ k h. named (suc k) (omega arith) ∙ ap (λ (i : ℕ). get_or w.files i []) (next f k))
-        (λ k h. ap (value apply w) (sym (next f k)) ∙ defined (suc k) (omega arith)) in
+    (λ k h. are (suc k) (omega arith) ∙ ap (is_requested w) (next f k))
+    (λ k h. named (suc k) (omega arith) ∙ ap (λ (i : ℕ). get_or w.files i []) (next f k))
+    (λ k h. ap (value apply w) (sym (next f k)) ∙ defined (suc k) (omega arith)) in
     let mark_is : m ≡ is_requested w f = are 0 (omega arith) ∙ ap (is_requested w) (here f) in
     subst (λ (x : Bool). AreDeliveries apply w (cond (is_requested w f) (f ∷ requested_from w (suc f) names) (requested_from w (suc f) names)) (picked (x ∷ marks) (name ∷ names) (v ∷ values)))
-      (sym mark_is)
-      (at_mark apply w f name v names values marks (is_requested w f) (named 0 (omega arith) ∙ ap (λ (i : ℕ). get_or w.files i []) (here f)) (ap (value apply w) (sym (here f)) ∙ defined 0 (omega arith)) rest)
+    (sym mark_is)
+    (at_mark apply w f name v names values marks (is_requested w f) (named 0 (omega arith) ∙ ap (λ (i : ℕ). get_or w.files i []) (here f)) (ap (value apply w) (sym (here f)) ∙ defined 0 (omega arith)) rest)
 
 -- the chosen files are the requested ones, with their values
 pub chosen_are : (apply : Apply) (w : Workflow) (values : List (List ℕ)) → AreValues apply w values

@@ -91,4 +91,3 @@ abbrev pub DeliversEach : List Delivery → Option Files → Option Files → Li
 DeliversEach all old new before after rose (Ok u) = IsFront all old new before after all []
 DeliversEach all old new before after rose (Err Failed) = rose × (front : List Delivery) × (next : Delivery) × (rest : List Delivery) × IsFront all old new before after front (next ∷ rest)
 DeliversEach all old new before after rose (Err Memory) = (front : List Delivery) × (rest : List Delivery) × IsFront all old new before after front rest
-

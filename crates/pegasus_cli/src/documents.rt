@@ -57,7 +57,6 @@ fn fetch<D: Docs>(alloc: Global, docs: &mut D, name: &str) -> Result<Vec<u8>, Ea
     }
 }
 
-
 fn fetch_request<D: Docs>(alloc: Global, docs: &mut D, name: &str) -> Result<Text, Early>
     ensures answer { Gives (λ t. t)
         (Rose (D.faults docs.old) (D.faults docs.new)) (Rose (D.misses docs.old) (D.misses docs.new))

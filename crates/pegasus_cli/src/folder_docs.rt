@@ -4,10 +4,9 @@ ghost use Rattle.std.specs.Prelude.{◌≡◌, ◌≤◌, ℕ, List, [], Option,
 
 use outside::{DocFault, Docs};
 use std::alloc::Global;
-use std::fs;
-use std::io;
 use std::io::{ErrorKind, Read};
 use std::rt::Files;
+use std::{fs, io};
 
 /// Files by their paths. What they hold isn't told.
 #[derive(Drop)]

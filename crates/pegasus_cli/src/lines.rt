@@ -116,17 +116,15 @@ fn push_failed(alloc: Global, text: &mut Vec<u8>, fault: &RunFault) -> Result<()
 }
 
 /// Adds the line of an outcome, where it has one.
-pub(crate) fn push_line(
-    alloc: Global,
-    text: &mut Vec<u8>,
-    outcome: &Outcome,
-) -> Result<(), Memory>
+pub(crate) fn push_line(alloc: Global, text: &mut Vec<u8>, outcome: &Outcome) -> Result<(), Memory>
     ensures { OnOk result (text.new.items ≡ text.old.items ++ line_of outcome.now) }
 {
     match outcome {
         Outcome::Done => text.extend_from_slice(b"done\n")?,
         Outcome::Memory | Outcome::SinkFailed => {}
-        Outcome::Usage => text.extend_from_slice(b"usage: pegasus check|plan|eval|alone REQ, run REQ --workers N, audit|stat REQ RECORD, rehearse N [--workers N]\n")?,
+        Outcome::Usage => text.extend_from_slice(
+            b"usage: pegasus check|plan|eval|alone REQ, run REQ --workers N, audit|stat REQ RECORD, rehearse N [--workers N]\n",
+        )?,
         Outcome::DocAbsent(name) => push_named(text, b"no document ", name)?,
         Outcome::DocTooLong(name, limit) => push_too_long(alloc, text, name, *limit)?,
         Outcome::DocFailed(name) => push_named(text, b"document failed ", name)?,

@@ -21,10 +21,9 @@ use call::quick;
 use folder_docs::FolderDocs;
 use outside::MemoryHost;
 use std::alloc::Global;
-use std::env;
-use std::io;
 use std::process::ExitCode;
 use std::rt::Env;
+use std::{env, io};
 use stream_sink::StreamSink;
 use toolbox::Shipped;
 
@@ -50,3 +49,6 @@ fn main(rt: HostRuntime) -> ExitCode {
     let (outcome, _, _) = quick(alloc, &words, &mut docs, &mut out, host, Shipped::new());
     ExitCode::from(outcome.code())
 }
+
+#[cfg(test)]
+mod tests;

@@ -12,6 +12,7 @@ mod written;
 
 pub use fault::FirstFault;
 pub use reading::read;
+pub use tree::{name, parse};
 pub use workflow::{Job, Output, Workflow};
 
 #[cfg(test)]

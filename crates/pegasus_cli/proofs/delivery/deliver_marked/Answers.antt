@@ -10,14 +10,14 @@ returns-in-Err-clause-answer g c =
     let here = picked_here c.args.marks.now c.args.names.now c.args.values.now c.loop-i.i c.index-names-i.result c.index-values-i.result (omega arith) c.requires.names c.requires.values c.if-marks-i.true c.index-names-i.is c.index-values-i.is in
     let is_front = rw here at kept.so_far in
     one_refused (picked c.args.marks.now c.args.names.now c.args.values.now) kept.front _ _
-      (g.H.Host.delivered c.args.host.now) (g.H.Host.delivered c.loop-i.host) (g.H.Host.delivered c.deliver_one.new.host)
-      c.args.text.now.items c.loop-i.text.items c.deliver_one.new.text.items _ _ _ is_front
-      (λ rose. omega (arith, rose, kept.faults))
-      c.in-Err.ensures.answer
+    (g.H.Host.delivered c.args.host.now) (g.H.Host.delivered c.loop-i.host) (g.H.Host.delivered c.deliver_one.new.host)
+    c.args.text.now.items c.loop-i.text.items c.deliver_one.new.text.items _ _ _ is_front
+    (λ rose. omega (arith, rose, kept.faults))
+    c.in-Err.ensures.answer
 
 pub loop-i-preserved : goal.loop-i-preserved
 loop-i-preserved g c = elim c.if-marks-i.branch [
-    then-marks-i+in-Ok w ↦
+  | then-marks-i+in-Ok w ↦
       let kept = c.loop-i.invariant in
       let here = picked_here c.args.marks.now c.args.names.now c.args.values.now c.loop-i.i w.index-names-i.result w.index-values-i.result (omega arith) c.requires.names c.requires.values w.if-marks-i.true w.index-names-i.is w.index-values-i.is in
       let is_front = rw here at kept.so_far in
@@ -30,4 +30,4 @@ loop-i-preserved g c = elim c.if-marks-i.branch [
       let kept = c.loop-i.invariant in
       let here = picked_not_here c.args.marks.now c.args.names.now c.args.values.now c.loop-i.i (omega arith) c.requires.names c.requires.values w.if-marks-i.false in
       rw (w.host-is, w.text-is) record { faults = kept.faults; front = kept.front; so_far = rw here at kept.so_far }
-  ]
+]
