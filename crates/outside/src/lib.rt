@@ -33,3 +33,6 @@ pub use printed::{push_name, push_number};
 pub use sink::{Sink, SinkFault, write_all};
 pub use text::Text;
 pub use tool::{Tool, ToolFault};
+
+#[cfg(test)]
+mod tests;

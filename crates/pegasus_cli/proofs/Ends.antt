@@ -1,7 +1,7 @@
 -- How the steps of a call make its clauses.
-use Rattle.std.proofs.Common.{◌≡◌, ℕ, List, [], ◌∷◌, ◌++◌, take, refl, sym, ap, subst, ◌∙◌, inl, inr}
-use Rattle.std.specs.Prelude.{◌⊎◌, Option, Some, None, Result, Ok, Err, IfSome}
-use Rattle.std.specs.Io.KnownBytes.{Appends, Keeps}
+use Rattle.std.proofs.Common.{◌≡◌, ℕ, List, [], ◌∷◌, ◌++◌, refl, sym, ap, subst, ◌∙◌, inl, inr}
+use Rattle.std.specs.Prelude.{Option, Some, None, Result, Ok, Err}
+use Rattle.std.specs.Io.KnownBytes.{Appends}
 use Rattle.outside.specs.Files.{Files}
 use Rattle.outside.specs.Tool.{Apply}
 use Rattle.workflow_reader.specs.declared.workflow.Workflow.{Workflow}
@@ -13,10 +13,10 @@ use Rattle.pegasus_cli.specs.declared.early.Early.TheVariants as early
 use Rattle.pegasus_cli.specs.declared.fault.RunFault.TheVariants.{Declined, ToolFailed, HostFailed}
 use Rattle.pegasus_cli.specs.declared.outcome.Outcome.{Outcome}
 use Rattle.pegasus_cli.specs.declared.outcome.Outcome.TheVariants.{Done, Memory, Usage, DocAbsent, DocTooLong, DocFailed, Refused, NotBuilt, Failed, SinkFailed}
-use Rattle.pegasus_cli.specs.Course.{Refuses, TellsUsage}
-use Rattle.pegasus_cli.specs.Deliveries.{Delivery, IsFront, AreDeliveries, requested, chosen, set_all, lines_of}
+use Rattle.pegasus_cli.specs.Course.{TellsUsage}
+use Rattle.pegasus_cli.specs.Deliveries.{Delivery, IsFront, AreDeliveries, requested, chosen, lines_of}
 use Rattle.pegasus_cli.specs.Lines.{line_of}
-use Rattle.pegasus_cli.specs.Answers.{Expected, GoesOn, HasDelivered, AnswersFault, CanBeDone, Closes, IsDeclined, Comes, DeliversSome, Ends, IsAnswer, IsCutShort, IsDoneOrMemory, Leaves, NoneRose, OnlyUsage, Stops, StopsOrMemory, outcome_of}
+use Rattle.pegasus_cli.specs.Answers.{Expected, GoesOn, HasDelivered, AnswersFault, CanBeDone, Closes, IsDeclined, Comes, DeliversSome, Ends, IsAnswer, IsDoneOrMemory, Leaves, NoneRose, OnlyUsage, Stops, StopsOrMemory, outcome_of}
 use Rattle.pegasus_cli.proofs.Marks.{chosen_are}
 
 -- what is delivered of the chosen files

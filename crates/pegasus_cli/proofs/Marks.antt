@@ -1,6 +1,6 @@
 -- The marks of the requested files.
-use Rattle.std.proofs.Common.{◌≡◌, ℕ, zero, suc, ◌+◌, ◌<◌, ◌||◌, ◌&&◌, Bool, true, false, cond, List, [], ◌∷◌, ◌++◌, length, get_or, replicate, refl, sym, ap, subst, ◌∙◌, arith}
-use Rattle.std.specs.Prelude.{◌==◌, Option, Some, None, slice_set, slice_index_or}
+use Rattle.std.proofs.Common.{◌≡◌, ℕ, suc, ◌+◌, ◌<◌, ◌||◌, ◌&&◌, Bool, true, false, cond, List, [], ◌∷◌, length, get_or, replicate, refl, sym, ap, subst, ◌∙◌, arith}
+use Rattle.std.specs.Prelude.{◌==◌, Some, slice_set}
 use Rattle.std.specs.List.{list_any}
 use Rattle.std.proofs.lemmas.Grind.{common_steps}
 use Rattle.std.proofs.lemmas.Bool.Decides.{nat_tests}
@@ -10,7 +10,7 @@ use Rattle.workflow_reader.specs.declared.workflow.Job.{Job}
 use Rattle.workflow_reader.specs.declared.workflow.Output.{Output}
 use Rattle.workflow_eval.specs.Value.{value}
 use Rattle.workflow_eval.specs.Evaluated.{AreValues}
-use Rattle.pegasus_cli.specs.Deliveries.{Delivery, AreDeliveries, requests, is_requested, requested, requested_from, picked, marked, marked_by, chosen}
+use Rattle.pegasus_cli.specs.Deliveries.{AreDeliveries, requests, is_requested, requested, requested_from, picked, marked, marked_by, chosen}
 
 set_mark : (marks : List Bool) (k f : ℕ) → f < length marks → get_or (slice_set marks k true) f false ≡ ((k == f) || get_or marks f false)
 set_mark marks k f h = grind (arith, common_steps, nat_tests)

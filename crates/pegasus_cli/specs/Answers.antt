@@ -1,9 +1,8 @@
 -- When each answer comes, what the host holds then, and what was written.
-use Rattle.std.specs.Prelude.{◌≡◌, ◌≢◌, ◌⊎◌, ℕ, ◌<◌, ◌≤◌, ◌++◌, List, [], ◌∷◌, length, take, Option, Some, None, option_map, Result, Ok, Err, IfSome, MatchOption, slice_index_or}
+use Rattle.std.specs.Prelude.{◌≡◌, ◌⊎◌, ℕ, ◌<◌, ◌++◌, List, [], ◌∷◌, length, take, Option, Some, None, option_map, Result, Ok, Err, IfSome, slice_index_or}
 use Rattle.std.specs.Io.KnownBytes.{Appends, Keeps}
 use Rattle.outside.specs.Files.{Files}
 use Rattle.outside.specs.Tool.{Apply}
-use Rattle.outside.specs.declared.numbers.TaskId.{TaskId}
 use Rattle.workflow_reader.specs.declared.workflow.Workflow.{Workflow}
 use Rattle.workflow_reader.specs.declared.workflow.Job.{Job}
 use Rattle.workflow_eval.specs.Evaluated.{first_undefined}

@@ -1,5 +1,5 @@
 -- The first answer of a call, or the workflow that it goes on with.
-use Rattle.std.specs.Prelude.{◌≡◌, ℕ, List, [], ◌∷◌, Option, Some, None, Result, Ok, Err, IfSome, MatchOption, option_map}
+use Rattle.std.specs.Prelude.{◌≡◌, ℕ, List, Option, Some, None, Result, Ok, Err, IfSome, MatchOption}
 use Rattle.outside.specs.Files.{Files}
 use Rattle.outside.specs.Docs.{fetched}
 use Rattle.outside.specs.declared.docs.DocFault.{DocFault}

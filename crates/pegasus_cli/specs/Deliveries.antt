@@ -1,5 +1,5 @@
 -- What is delivered, and the lines that say so.
-use Rattle.std.specs.Prelude.{◌≡◌, ℕ, suc, ◌==◌, ◌&&◌, ◌++◌, Bool, List, [], ◌∷◌, codes, length, map as list_map, slice_index_or, slice_set, option_map, replicate, true, false, if◌then◌else◌, Option, Some, None, Result, Ok, Err}
+use Rattle.std.specs.Prelude.{◌≡◌, ℕ, suc, ◌==◌, ◌&&◌, ◌++◌, Bool, List, [], ◌∷◌, codes, length, slice_index_or, slice_set, option_map, replicate, true, false, if◌then◌else◌, Option, Some, Result, Ok, Err}
 use Rattle.std.specs.List.{list_any}
 use Rattle.std.specs.FinMap as map
 use Rattle.std.specs.Fmt.{decimal}

@@ -1,10 +1,15 @@
 use super::call::quick;
+use super::folder_docs::FolderDocs;
 use super::outcome::Outcome;
+use super::stream_sink::StreamSink;
 use outside::{
-    Blob, Failing, Host, Memory, MemoryDocs, MemoryHost, MemorySink, Text, Tool, ToolFault,
+    Blob, DocFault, Docs, Failing, Memory, MemoryDocs, MemoryHost, MemorySink, Sink, SinkFault,
+    Text, Tool, ToolFault, write_all,
 };
 use std::alloc::Global;
+use std::io::Write;
 use std::test::*;
+use std::{fs, io};
 use toolbox::Shipped;
 
 const HELLO: &str =
@@ -109,6 +114,17 @@ fn listed(alloc: Global, number: u64) -> Result<Vec<u64>, Memory> {
     Ok(numbers)
 }
 
+/// The words of a line, a bar between.
+fn words_of(alloc: Global, line: &str) -> Result<Vec<String>, Memory> {
+    let mut words = Vec::new(alloc);
+    if !line.is_empty() {
+        for word in line.split('|') {
+            words.push(String::from_str(alloc, word)?)?;
+        }
+    }
+    Ok(words)
+}
+
 /// What a call over objects in memory left.
 #[derive(Drop)]
 struct Ended {
@@ -125,7 +141,7 @@ impl Ended {
 
 fn call(
     alloc: Global,
-    words: &[&str],
+    line: &str,
     request: &str,
     workflow: &str,
     weather: Weather,
@@ -141,11 +157,8 @@ fn call(
         failing: Failing::new(listed(alloc, weather.run)?),
         faults: 0,
     };
-    let mut owned = Vec::new(alloc);
-    for word in words {
-        owned.push(String::from_str(alloc, word)?)?;
-    }
-    let (outcome, host, _) = quick(alloc, &owned, &mut docs, &mut sink, host, tool);
+    let words = words_of(alloc, line)?;
+    let (outcome, host, _) = quick(alloc, &words, &mut docs, &mut sink, host, tool);
     Ok(Ended {
         outcome,
         host,
@@ -154,7 +167,23 @@ fn call(
 }
 
 fn alone(alloc: Global, request: &str, workflow: &str, weather: Weather) -> Result<Ended, Memory> {
-    call(alloc, &["alone", "r.json"], request, workflow, weather)
+    call(alloc, "alone|r.json", request, workflow, weather)
+}
+
+/// A request of one byte past the limit.
+fn long_document(alloc: Global) -> Result<Ended, Memory> {
+    let long = vec![in alloc; b' '; 33_554_433]?;
+    let mut docs = MemoryDocs::new(alloc, Vec::new(alloc));
+    docs.put(alloc, "long.json", &long)?;
+    let mut sink = MemorySink::new(alloc, 100, 100, Vec::new(alloc))?;
+    let words = words_of(alloc, "alone|long.json")?;
+    let host = MemoryHost::new(alloc, Vec::new(alloc));
+    let (outcome, host, _) = quick(alloc, &words, &mut docs, &mut sink, host, Shipped::new());
+    Ok(Ended {
+        outcome,
+        host,
+        sink,
+    })
 }
 
 fn has(host: &MemoryHost, name: &str, bytes: &str) -> bool {
@@ -173,5 +202,204 @@ fn hello_through_join(rt: HostRuntime) -> Result<(), Fail> {
     assert_eq!(rt; ended.outcome.code(), 0);
     assert!(rt; has(&ended.host, "b.txt", "hello world\n"));
     assert!(rt; ended.host.delivered("a.txt").is_none());
+    Ok(())
+}
+
+#[test]
+fn join_of_nothing(rt: HostRuntime) -> Result<(), Fail> {
+    let ended = alone(rt.alloc(), TO_W, NOTHING, FAIR)?;
+    let want =
+        "delivered e.txt 0 e3b0c44298fc1c149afbf4c8996fb92427ae41e4649b934ca495991b7852b855\ndone\n";
+    assert_eq!(rt; ended.text(), want.as_bytes());
+    assert!(rt; has(&ended.host, "e.txt", ""));
+    Ok(())
+}
+
+#[test]
+fn reader_before_producer(rt: HostRuntime) -> Result<(), Fail> {
+    let ended = alone(rt.alloc(), TO_W, REVERSED, FAIR)?;
+    assert_eq!(rt; ended.text(), b"not built workflow\n".as_slice());
+    assert_eq!(rt; ended.outcome.code(), 9);
+    assert!(rt; ended.host.delivered("b.txt").is_none());
+    Ok(())
+}
+
+#[test]
+fn text_with_two_outputs(rt: HostRuntime) -> Result<(), Fail> {
+    let ended = alone(rt.alloc(), TO_W, TWO_OUTPUTS, FAIR)?;
+    assert_eq!(rt; ended.text(), b"failed declined A\n".as_slice());
+    assert_eq!(rt; ended.outcome.code(), 6);
+    Ok(())
+}
+
+#[test]
+fn absent_or_long_document(rt: HostRuntime) -> Result<(), Fail> {
+    let alloc = rt.alloc();
+    let absent = call(alloc, "alone|x.json", TO_W, HELLO, FAIR)?;
+    assert_eq!(rt; absent.text(), b"no document x.json\n".as_slice());
+    assert_eq!(rt; absent.outcome.code(), 3);
+    let absent = alone(alloc, "{\"workflow\":\"a b\"}", HELLO, FAIR)?;
+    assert_eq!(rt; absent.text(), b"no document a%20b\n".as_slice());
+    for (fetch, text) in [
+        (1, "document failed r.json\n"),
+        (2, "document failed w.json\n"),
+    ] {
+        let failed = alone(alloc, TO_W, HELLO, Weather { fetch, ..FAIR })?;
+        assert_eq!(rt; failed.text(), text.as_bytes());
+        assert_eq!(rt; failed.outcome.code(), 3);
+    }
+    let long = long_document(alloc)?;
+    assert_eq!(rt;
+        long.text(),
+        b"document too long long.json 33554432\n".as_slice()
+    );
+    assert_eq!(rt; long.outcome.code(), 3);
+    Ok(())
+}
+
+#[test]
+fn words_that_are_no_command(rt: HostRuntime) -> Result<(), Fail> {
+    let alloc = rt.alloc();
+    let lists = [
+        "",
+        "alone",
+        "alone|",
+        "alone|-r",
+        "alone|r.json|w.json",
+        "Alone|r.json",
+        "check|r.json",
+        "--help",
+    ];
+    for line in lists {
+        let ended = call(alloc, line, TO_W, HELLO, FAIR)?;
+        assert_eq!(rt; ended.text(), USAGE.as_bytes());
+        assert_eq!(rt; ended.outcome.code(), 2);
+    }
+    Ok(())
+}
+
+#[test]
+fn requests_of_another_form(rt: HostRuntime) -> Result<(), Fail> {
+    let alloc = rt.alloc();
+    let cases = [
+        ("", "refused request syntax\n", 4),
+        ("{\"workflow\":\"w.json\"", "refused request syntax\n", 4),
+        ("{\"workflow\":\"w.json\"} x", "refused request syntax\n", 4),
+        ("[]", "not built request\n", 9),
+        ("{}", "not built request\n", 9),
+        ("{\"workflow\":null}", "not built request\n", 9),
+        ("{\"workflow\":7}", "not built request\n", 9),
+        ("{\"workflow\":\"\"}", "not built request\n", 9),
+        (
+            "{\"workflow\":\"w.json\",\"force\":true}",
+            "not built request\n",
+            9,
+        ),
+        ("{\"Workflow\":\"w.json\"}", "not built request\n", 9),
+    ];
+    for (request, text, code) in cases {
+        let ended = alone(alloc, request, HELLO, FAIR)?;
+        assert_eq!(rt; ended.text(), text.as_bytes());
+        assert_eq!(rt; ended.outcome.code(), code);
+    }
+    // The request is looked at before the workflow.
+    let ended = alone(alloc, "[]", "{", FAIR)?;
+    assert_eq!(rt; ended.text(), b"not built request\n".as_slice());
+    let ended = alone(alloc, TO_W, "{", FAIR)?;
+    assert_eq!(rt; ended.text(), b"refused workflow syntax\n".as_slice());
+    Ok(())
+}
+
+#[test]
+fn calls_that_fail(rt: HostRuntime) -> Result<(), Fail> {
+    let alloc = rt.alloc();
+    let fair = alone(alloc, TO_W, TWO_FILES, FAIR)?;
+    let whole = format!(in alloc; "{ONE_LINE}{TWO_LINE}done\n")?;
+    assert_eq!(rt; fair.text(), whole.as_bytes());
+    assert!(rt; has(&fair.host, "one", "x\n"));
+    assert!(rt; has(&fair.host, "two %\u{e9}", ""));
+
+    let first = alone(alloc, TO_W, TWO_FILES, Weather { deliver: 1, ..FAIR })?;
+    assert_eq!(rt; first.text(), b"failed host -\n".as_slice());
+    assert!(rt; first.host.delivered("one").is_none());
+    let second = alone(alloc, TO_W, TWO_FILES, Weather { deliver: 2, ..FAIR })?;
+    let text = format!(in alloc; "{ONE_LINE}failed host -\n")?;
+    assert_eq!(rt; second.text(), text.as_bytes());
+    assert_eq!(rt; second.outcome.code(), 6);
+    assert!(rt; has(&second.host, "one", "x\n"));
+    assert!(rt; second.host.delivered("two %\u{e9}").is_none());
+
+    for (run, text) in [(1, "failed tool A\n"), (2, "failed tool B%20C\n")] {
+        let failed = alone(alloc, TO_W, TWO_FILES, Weather { run, ..FAIR })?;
+        assert_eq!(rt; failed.text(), text.as_bytes());
+        assert_eq!(rt; failed.outcome.code(), 6);
+        assert!(rt; failed.host.delivered("one").is_none());
+    }
+
+    for (write, most, taken) in [(1, 5, 0), (2, 5, 5), (4, 5, 15), (1, 1, 0), (9, 1, 8)] {
+        let cut = alone(
+            alloc,
+            TO_W,
+            TWO_FILES,
+            Weather {
+                write,
+                most,
+                ..FAIR
+            },
+        )?;
+        assert_eq!(rt; cut.outcome.code(), 7);
+        assert!(rt; whole.as_bytes().starts_with(cut.text()));
+        assert_eq!(rt; cut.text().len(), taken);
+        assert!(rt; has(&cut.host, "one", "x\n"));
+    }
+    let pieces = alone(alloc, TO_W, TWO_FILES, Weather { most: 1, ..FAIR })?;
+    assert_eq!(rt; pieces.text(), whole.as_bytes());
+    Ok(())
+}
+
+/// A writer that is full after a few bytes.
+#[derive(Drop)]
+struct Small {
+    room: usize,
+}
+
+impl Write for Small {
+    fn write(&mut self, piece: &[u8]) -> io::Result<usize> {
+        let count = piece.len().min(self.room).min(2);
+        self.room -= count;
+        Ok(count)
+    }
+
+    fn flush(&mut self) -> io::Result<()> {
+        Ok(())
+    }
+}
+
+#[test]
+fn a_stream_as_a_sink(rt: HostRuntime) -> Result<(), Fail> {
+    let mut out = StreamSink::new(Small { room: 5 });
+    assert!(rt; write_all(&mut out, b"hello") == Ok(()));
+    assert_eq!(rt; out.faults(), 0);
+    assert!(rt; write_all(&mut out, b"!") == Err(SinkFault::Failed));
+    assert_eq!(rt; out.faults(), 1);
+    Ok(())
+}
+
+#[test]
+fn documents_as_files(rt: HostRuntime) -> Result<(), Fail> {
+    let alloc = rt.alloc();
+    let place = "/tmp/pegasus_documents_as_files.json";
+    fs::write(&rt, place, "0123456789")?;
+    let mut docs = FolderDocs::new(rt.clone()?);
+    let mut into = Vec::new(alloc);
+    docs.fetch(alloc, place, 10, &mut into)?;
+    assert_eq!(rt; into.as_slice(), b"0123456789".as_slice());
+    let mut none = Vec::new(alloc);
+    assert!(rt; docs.fetch(alloc, place, 9, &mut none) == Err(DocFault::TooLong(9)));
+    assert!(rt; docs.fetch(alloc, "/tmp/no/such", 9, &mut none) == Err(DocFault::Absent));
+    assert_eq!(rt; docs.misses(), 2);
+    assert_eq!(rt; docs.faults(), 0);
+    assert!(rt; docs.fetch(alloc, "/tmp", 9, &mut none) == Err(DocFault::Failed));
+    assert_eq!(rt; docs.faults(), 1);
     Ok(())
 }

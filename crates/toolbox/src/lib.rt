@@ -10,3 +10,6 @@ mod transformation;
 
 pub use shipped::Shipped;
 pub use transformation::Transformation;
+
+#[cfg(test)]
+mod tests;

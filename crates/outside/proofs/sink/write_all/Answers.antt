@@ -1,4 +1,4 @@
-use Rattle.std.proofs.Common.{◌≡◌, ◌≤◌, length, drop, length-drop, arith}
+use Rattle.std.proofs.Common.{◌≤◌, length, drop, length-drop, arith}
 use Rattle.outside.proofs.Pieces.{appends_more}
 use Rattle.outside.proofs.sink.write_all.Goals as goal
 

@@ -1,4 +1,4 @@
-use Rattle.std.proofs.Common.{◌≡◌, List, [], inr, sym, ◌∙◌}
+use Rattle.std.proofs.Common.{inr}
 use Rattle.pegasus_cli.proofs.Ends.{delivered_front}
 use Rattle.pegasus_cli.proofs.call.answer.Goals as goal
 

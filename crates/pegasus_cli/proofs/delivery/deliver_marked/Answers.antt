@@ -1,6 +1,6 @@
-use Rattle.std.proofs.Common.{◌≡◌, ◌++◌, [], ◌∷◌, List, arith}
-use Rattle.pegasus_cli.specs.Deliveries.{Delivery, IsFront, picked}
-use Rattle.pegasus_cli.proofs.Fronts.{front_more, front_same, one_refused, picked_here, picked_not_here}
+use Rattle.std.proofs.Common.{◌++◌, [], ◌∷◌, arith}
+use Rattle.pegasus_cli.specs.Deliveries.{picked}
+use Rattle.pegasus_cli.proofs.Fronts.{front_more, one_refused, picked_here, picked_not_here}
 use Rattle.pegasus_cli.proofs.delivery.deliver_marked.Goals as goal
 use Rattle.pegasus_cli.proofs.delivery.deliver_marked.Goals.{then-marks-i+in-Ok, else-marks-i}
 

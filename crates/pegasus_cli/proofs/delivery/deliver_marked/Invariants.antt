@@ -1,4 +1,4 @@
-use Rattle.std.proofs.Common.{◌≡◌, ◌≤◌, ◌++◌, drop, List}
+use Rattle.std.proofs.Common.{◌≤◌, drop, List}
 use Rattle.pegasus_cli.specs.Deliveries.{Delivery, IsFront, picked}
 use Rattle.pegasus_cli.proofs.delivery.deliver_marked.Given as goal
 

@@ -1,4 +1,4 @@
-use Rattle.std.proofs.Common.{◌≡◌, ◌∙◌, [], sym, ap, length}
+use Rattle.std.proofs.Common.{◌∙◌, [], sym, ap, length}
 use Rattle.pegasus_cli.proofs.Marks.{length_all}
 use Rattle.pegasus_cli.proofs.Fronts.{nothing_yet}
 use Rattle.pegasus_cli.proofs.delivery.deliver_requested.Goals as goal

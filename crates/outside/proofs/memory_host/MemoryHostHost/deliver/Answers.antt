@@ -1,5 +1,4 @@
-use Rattle.std.proofs.Common.{◌≡◌, refl}
-use Rattle.std.specs.FinMap as map
+use Rattle.std.proofs.Common.{refl}
 use Rattle.outside.proofs.FileMaps.{files_insert}
 use Rattle.outside.proofs.memory_host.MemoryHostHost.deliver.Goals as goal
 
