@@ -1,0 +1,12 @@
+pub mod Bools
+pub mod Rows
+pub mod Noting
+pub mod Finding
+pub mod Peeling
+pub mod Placing
+pub mod Ways
+pub mod Searching
+pub mod Returning
+pub mod Edging
+pub mod Testing
+pub mod Valuing

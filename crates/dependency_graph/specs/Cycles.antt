@@ -1,0 +1,45 @@
+-- Ways along edges, distances, and the one cycle that is named. `e a b` tells whether an edge leads from a to b.
+use Rattle.std.specs.Prelude.{◌≡◌, ℕ, zero, suc, ◌≤◌, Bool, true, List, [], ◌∷◌}
+
+-- a list of exactly so many edges leads from a to b
+abbrev pub Way : (ℕ → ℕ → Bool) → ℕ → ℕ → ℕ → Type 0
+Way e zero a b = a ≡ b
+Way e (suc n) a b = (c : ℕ) × (e a c ≡ true) × Way e n c b
+
+-- a list of edges that isn't empty leads from a back to a
+abbrev pub Returns : (ℕ → ℕ → Bool) → ℕ → Type 0
+Returns e a = (n : ℕ) × Way e (suc n) a a
+
+-- the least number of edges that lead from a to s is d
+pub record IsDistance (e : ℕ → ℕ → Bool) (s a d : ℕ) : Type 0 where
+  pub way : Way e d a s
+  pub least : (n : ℕ) → Way e n a s → d ≤ n
+
+-- c is the least child of a with this distance to s
+pub record IsNext (e : ℕ → ℕ → Bool) (s a d c : ℕ) : Type 0 where
+  pub child : e a c ≡ true
+  pub distance : IsDistance e s c d
+  pub least : (b : ℕ) → e a b ≡ true → IsDistance e s b d → c ≤ b
+
+-- From a, at distance d from s: a, then the least child whose distance is one less, and so on; s itself doesn't come.
+abbrev pub Descends : (ℕ → ℕ → Bool) → ℕ → ℕ → ℕ → List ℕ → Type 0
+Descends e s zero a js = js ≡ []
+Descends e s (suc d) a [] = ⊥
+Descends e s (suc d) a (j ∷ js) = (j ≡ a) × ((c : ℕ) × IsNext e s a d c × Descends e s d c js)
+
+-- From s the list goes on with the child at the least distance, the least such, and descends.
+pub record IsCycleFrom (e : ℕ → ℕ → Bool) (s : ℕ) (js : List ℕ) : Type 0 where
+  pub second : ℕ
+  pub distance : ℕ
+  pub rest : List ℕ
+  pub is : js ≡ s ∷ rest
+  pub next : IsNext e s s distance second
+  pub nearest : (b d : ℕ) → e s b ≡ true → IsDistance e s b d → distance ≤ d
+  pub descent : Descends e s distance second rest
+
+-- the cycle from the least number that returns
+pub record IsNamedCycle (e : ℕ → ℕ → Bool) (js : List ℕ) : Type 0 where
+  pub start : ℕ
+  pub returns : Returns e start
+  pub least : (a : ℕ) → Returns e a → start ≤ a
+  pub cycle : IsCycleFrom e start js

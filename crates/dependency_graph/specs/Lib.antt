@@ -1,0 +1,9 @@
+pub mod Edges
+pub mod Cycles
+pub mod Lists
+pub mod Makers
+pub mod Order
+pub mod Distances
+pub mod Graph
+pub mod Built
+pub mod Value

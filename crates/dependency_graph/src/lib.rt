@@ -1,0 +1,27 @@
+//! The graph of a workflow's jobs.
+//!
+//! An edge leads from a job to one that reads a file it makes, or that is stated to come after it:
+//! `specs/Edges.antt`. [`build`] answers the graph (`specs/Graph.antt`) exactly where each file has
+//! at most one producer and no list of edges returns; `specs/Built.antt` has the faults, and
+//! `specs/Cycles.antt` the one cycle that a fault names.
+#![tactic(auto)]
+
+mod building;
+#[cfg(test)]
+mod checking;
+mod cycle;
+mod distance;
+mod fault;
+mod graph;
+mod law;
+mod lists;
+mod makers;
+mod order;
+mod sources;
+#[cfg(test)]
+mod tests;
+
+pub use building::build;
+pub use fault::GraphFault;
+pub use graph::Graph;
+pub use law::{makers_come_before, producer_is_the_first_maker, value_is_made_of_values};

@@ -1,0 +1,5 @@
+pub mod Trees
+pub mod Escapes
+pub mod FoundRows
+pub mod EntryByEntry
+pub mod Unescaped

@@ -1,0 +1,9 @@
+pub mod AfterTree
+pub mod Counts
+pub mod Entries
+pub mod Path
+pub mod Reading
+pub mod Tables
+pub mod Typed
+pub mod Unknown
+pub mod Version

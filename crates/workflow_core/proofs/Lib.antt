@@ -1,0 +1,3 @@
+pub mod Appearances
+pub mod Bools
+pub mod NumberedNames

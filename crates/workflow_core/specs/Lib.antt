@@ -1,0 +1,3 @@
+pub mod Numbering
+pub mod View
+pub mod WellFormed
