@@ -10,3 +10,5 @@ pub mod Returning
 pub mod Edging
 pub mod Testing
 pub mod Valuing
+pub mod Determining
+pub mod Flowing

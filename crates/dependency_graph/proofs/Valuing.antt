@@ -31,7 +31,7 @@ producer_at (x ∷ js) f j e = by (has_output f x) refl e (λ h. producer_at js 
     by true h g rest = let same : x ≡ j = cc in (0, omega arith, same, ap (has_output f) (sym same) ∙ h)
     by false h g rest = let found = rest g in (suc found.0, (let l : found.0 < length js = found.1 in omega arith), found.2, found.3)
 
-maker : (w : Workflow) (f : ℕ) (j : Job) → producer w.jobs f ≡ Some j → (a : ℕ) × Makes w a j f
+pub maker : (w : Workflow) (f : ℕ) (j : Job) → producer w.jobs f ≡ Some j → (a : ℕ) × Makes w a j f
 maker w f j e = let found = producer_at w.jobs f j e in (found.0, record { below = found.1; is = found.2; makes = found.3 })
 
 any_in : (p : ℕ → Bool) (g : ℕ) (fs : List ℕ) → is_among g fs ≡ true → p g ≡ true → list_any p fs ≡ true
@@ -43,7 +43,7 @@ any_in p g (f ∷ fs) h e = by (nat_eq f g) refl h (λ k. any_in p g fs k e)
     by false s k rest = ap (λ (b : Bool). p f || b) (rest k) ∙ or_true (p f)
 
 -- an edge leads from the producer of an input
-edge_in : (w : Workflow) (a b g : ℕ) (j q : Job) → a < length w.jobs → get_or w.jobs a j ≡ j → is_among g (inputs_of j) ≡ true → Makes w b q g → edge w b a ≡ true
+pub edge_in : (w : Workflow) (a b g : ℕ) (j q : Job) → a < length w.jobs → get_or w.jobs a j ≡ j → is_among g (inputs_of j) ≡ true → Makes w b q g → edge w b a ≡ true
 unfolding edge
 edge_in w a b g j q h is reads made =
     let read : read_by w a ≡ inputs_of j = get_or-map inputs_of w.jobs a j [] h ∙ ap inputs_of is in
@@ -52,18 +52,18 @@ edge_in w a b g j q h is reads made =
     let here : is_among g (written_by w b) ≡ true = ap (is_among g) written ∙ made.makes in
     ap (λ (t : Bool). t || is_paired w b a) (any_in (λ f. is_among f (written_by w b)) g (read_by w a) there here)
 
-same_all : (u v : ℕ → Option (List ℕ)) (gs : List ℕ) → ((g : ℕ) → is_among g gs ≡ true → u g ≡ v g) → map u gs ≡ map v gs
+pub same_all : (u v : ℕ → Option (List ℕ)) (gs : List ℕ) → ((g : ℕ) → is_among g gs ≡ true → u g ≡ v g) → map u gs ≡ map v gs
 same_all u v [] same = refl
 same_all u v (g ∷ gs) same =
     ap (λ (x : Option (List ℕ)). x ∷ map u gs) (same g (ap (λ (t : Bool). t || is_among g gs) (is_itself g)))
     ∙ ap (λ (xs : List (Option (List ℕ))). v g ∷ xs) (same_all u v gs (λ h e. same h (ap (λ (t : Bool). nat_eq g h || t) e ∙ or_true (nat_eq g h))))
 
-unmade : (apply : Apply) (js : List Job) (m f : ℕ) → producer js f ≡ None → value_within apply js m f ≡ None
+pub unmade : (apply : Apply) (js : List Job) (m f : ℕ) → producer js f ≡ None → value_within apply js m f ≡ None
 unfolding value_within
 unmade apply js zero f e = refl
 unmade apply js (suc m) f e = ap (option_and_then (λ (j : Job). option_and_then (part f (outputs_of j)) (run_of apply j (all_of (map (value_within apply js m) (inputs_of j)))))) e
 
-one_down : (apply : Apply) (js : List Job) (f m : ℕ) (j : Job) → producer js f ≡ Some j → value_within apply js (suc m) f ≡ option_and_then (part f (outputs_of j)) (run_of apply j (all_of (map (value_within apply js m) (inputs_of j))))
+pub one_down : (apply : Apply) (js : List Job) (f m : ℕ) (j : Job) → producer js f ≡ Some j → value_within apply js (suc m) f ≡ option_and_then (part f (outputs_of j)) (run_of apply j (all_of (map (value_within apply js m) (inputs_of j))))
 unfolding value_within
 one_down apply js f m j e = ap (option_and_then (λ (j : Job). option_and_then (part f (outputs_of j)) (run_of apply j (all_of (map (value_within apply js m) (inputs_of j)))))) e
 
@@ -72,7 +72,7 @@ abbrev pub LeadsTo : Workflow → List ℕ → ℕ → Type 0
 LeadsTo w vs f = (a : ℕ) (j : Job) → Makes w a j f → (v : ℕ) → is_among v vs ≡ true → (x : ℕ) × Way (edge w) (suc x) a v
 
 -- the producer is none of those to which it leads
-is_new : (w : Workflow) → IsSound w → (vs : List ℕ) (f a : ℕ) (j : Job) → Makes w a j f → LeadsTo w vs f → is_among a vs ≡ false
+pub is_new : (w : Workflow) → IsSound w → (vs : List ℕ) (f a : ℕ) (j : Job) → Makes w a j f → LeadsTo w vs f → is_among a vs ≡ false
 is_new w sound vs f a j made leads = by (is_among a vs) refl
   where
     by : (t : Bool) → is_among a vs ≡ t → is_among a vs ≡ false
@@ -80,7 +80,7 @@ is_new w sound vs f a j made leads = by (is_among a vs) refl
     by false h = h
 
 -- the producers of a job's inputs lead to it, and to all to which it leads
-leads_on : (w : Workflow) (vs : List ℕ) (f a g : ℕ) (j : Job) → Makes w a j f → LeadsTo w vs f → is_among g (inputs_of j) ≡ true → LeadsTo w (a ∷ vs) g
+pub leads_on : (w : Workflow) (vs : List ℕ) (f a g : ℕ) (j : Job) → Makes w a j f → LeadsTo w vs f → is_among g (inputs_of j) ≡ true → LeadsTo w (a ∷ vs) g
 leads_on w vs f a g j made leads reads b q makes v h = by (nat_eq a v) refl h
   where
     into : edge w b a ≡ true

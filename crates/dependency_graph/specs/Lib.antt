@@ -7,3 +7,4 @@ pub mod Distances
 pub mod Graph
 pub mod Built
 pub mod Value
+pub mod Flow

@@ -36,3 +36,11 @@ made_by apply w j = run_of apply j (all_of (map (value apply w) (inputs_of j)))
 -- each file has a producer
 abbrev pub AllMade : Workflow → Type 0
 AllMade w = (f : ℕ) → f < length w.files → is_some (producer w.jobs f) ≡ true
+
+-- what a file's producer makes for it of what stands at the producer's inputs: nothing where no job makes the file
+abbrev pub made_for : Apply → Workflow → (ℕ → Option (List ℕ)) → ℕ → Option (List ℕ)
+made_for apply w v f = option_and_then (λ j. option_and_then (part f (outputs_of j)) (run_of apply j (all_of (map v (inputs_of j))))) (producer w.jobs f)
+
+-- what stands at each file is what its producer makes for it
+abbrev pub IsValuation : Apply → Workflow → (ℕ → Option (List ℕ)) → Type 0
+IsValuation apply w v = (f : ℕ) → f < length w.files → v f ≡ made_for apply w v f

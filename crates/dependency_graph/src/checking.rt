@@ -117,6 +117,7 @@ fn are_few(workflow: &Workflow) -> bool
         && workflow.sizes.as_slice().len() == files
 }
 
+/// Whether a workflow is well formed, for a caller that made it without a reader.
 pub fn is_well_formed(alloc: Global, workflow: &Workflow) -> Result<bool, Memory>
     ensures { IfOk result (λ b. IsTrue b → IsWellFormed workflow.now) }
 {

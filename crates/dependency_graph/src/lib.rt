@@ -7,7 +7,6 @@
 #![tactic(auto)]
 
 mod building;
-#[cfg(test)]
 mod checking;
 mod cycle;
 mod distance;
@@ -22,6 +21,10 @@ mod sources;
 mod tests;
 
 pub use building::build;
+pub use checking::is_well_formed;
 pub use fault::GraphFault;
 pub use graph::Graph;
-pub use law::{makers_come_before, producer_is_the_first_maker, value_is_made_of_values};
+pub use law::{
+    makers_come_before, producer_is_the_first_maker, value_is_determined, value_is_made_of_values,
+    values_flow_in_order,
+};

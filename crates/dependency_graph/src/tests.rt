@@ -1,6 +1,5 @@
 //! Small workflows, their graphs and their faults.
 
-use super::checking::is_well_formed;
 use super::*;
 use outside::{FileId, Items, JobId, Memory, Text};
 use std::alloc::Global;

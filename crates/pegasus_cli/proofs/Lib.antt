@@ -1,4 +1,5 @@
-pub mod Requests
+pub mod Readings
+pub mod Ends
 pub mod Fronts
 pub mod Marks
-pub mod Ends
+pub mod Requests

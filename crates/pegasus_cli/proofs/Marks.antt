@@ -5,10 +5,10 @@ use Rattle.std.specs.List.{list_any}
 use Rattle.std.proofs.lemmas.Grind.{common_steps}
 use Rattle.std.proofs.lemmas.Bool.Decides.{nat_tests}
 use Rattle.outside.specs.Tool.{Apply}
-use Rattle.workflow_reader.specs.declared.workflow.Workflow.{Workflow}
-use Rattle.workflow_reader.specs.declared.workflow.Job.{Job}
-use Rattle.workflow_reader.specs.declared.workflow.Output.{Output}
-use Rattle.workflow_eval.specs.Value.{value}
+use Rattle.workflow_core.specs.declared.workflow.Workflow.{Workflow}
+use Rattle.workflow_core.specs.declared.workflow.Job.{Job}
+use Rattle.workflow_core.specs.declared.workflow.Output.{Output}
+use Rattle.dependency_graph.specs.Value.{value}
 use Rattle.workflow_eval.specs.Evaluated.{AreValues}
 use Rattle.pegasus_cli.specs.Deliveries.{AreDeliveries, requests, is_requested, requested, requested_from, picked, marked, marked_by, chosen}
 

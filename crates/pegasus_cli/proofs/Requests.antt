@@ -1,13 +1,21 @@
--- From a request's members to their keys.
-use Rattle.std.proofs.Common.{◌≡◌, Bool, List, [], ◌∷◌, ◌&&◌, map, refl, ap}
-use Rattle.std.specs.Prelude.{String, string_bytes}
-use Rattle.std.specs.declared.alloc.Global.{Global}
-use Rattle.std.specs.List.{list_all}
-use Rattle.serde_json.specs.View.{members_view}
-use Rattle.serde_json.specs.declared.value.Value.{Value}
-use Rattle.workflow_reader.specs.Reading.{keys_of}
-use Rattle.pegasus_cli.specs.Request.{is_request_key}
+-- What is no request.
+use Rattle.std.proofs.Common.{◌≡◌, List, ℕ, refl}
+use Rattle.std.specs.Prelude.{Result, Err}
+use Rattle.peg_json.specs.Reading.{Fails}
+use Rattle.peg_json.specs.declared.fault.TreeFault.{TreeFault}
+use Rattle.peg_json.specs.declared.fault.TreeFault.TheVariants as faults
+use Rattle.pegasus_cli.specs.declared.request.RequestFault.TheVariants.{OtherForm}
+use Rattle.pegasus_cli.specs.Request.{if_alone}
 
-pub keys_view : (ms : List (String Global × Value)) → list_all (λ k. is_request_key (string_bytes k)) (map (λ m. m.0) ms) ≡ list_all is_request_key (keys_of (members_view ms))
-keys_view [] = refl
-keys_view (m ∷ ms) = ap (λ (b : Bool). is_request_key (string_bytes m.0) && b) (keys_view ms)
+-- a fault but want of memory is the one that reading gives
+is_fault : {A : Type 0} (e : TreeFault) (read : Result A TreeFault) → (e ≡ faults.Memory → ⊥) → Fails e read → (f : TreeFault) × (read ≡ Err f)
+is_fault faults.Memory read isnt h = absurd (isnt refl)
+is_fault faults.Syntax read isnt h = (faults.Syntax, h)
+is_fault (faults.MissingKey p) read isnt h = (faults.MissingKey p, h)
+is_fault (faults.WrongKind p) read isnt h = (faults.WrongKind p, h)
+is_fault (faults.OutOfRange p n) read isnt h = (faults.OutOfRange p n, h)
+is_fault (faults.Unsupported p w) read isnt h = (faults.Unsupported p w, h)
+is_fault (faults.BadVersion t) read isnt h = (faults.BadVersion t, h)
+
+pub no_name : (e : TreeFault) (read : Result (List ℕ) TreeFault) (others : List (List ℕ)) → (e ≡ faults.Memory → ⊥) → Fails e read → if_alone read others ≡ Err OtherForm
+no_name e read others isnt h = let f = is_fault e read isnt h in rw f.1 refl

@@ -10,10 +10,10 @@ use Rattle.outside.specs.Printed.{printed_name}
 use Rattle.outside.specs.Tool.{Apply}
 use Rattle.outside.specs.declared.host.HostFault.{HostFault}
 use Rattle.outside.specs.declared.host.HostFault.TheVariants.{Failed, Memory}
-use Rattle.workflow_reader.specs.declared.workflow.Workflow.{Workflow}
-use Rattle.workflow_reader.specs.declared.workflow.Job.{Job}
-use Rattle.workflow_reader.specs.declared.workflow.Output.{Output}
-use Rattle.workflow_eval.specs.Value.{value}
+use Rattle.workflow_core.specs.declared.workflow.Workflow.{Workflow}
+use Rattle.workflow_core.specs.declared.workflow.Job.{Job}
+use Rattle.workflow_core.specs.declared.workflow.Output.{Output}
+use Rattle.dependency_graph.specs.Value.{value}
 
 -- an output of the job has the file, to be delivered
 abbrev pub requests : ℕ → Job → Bool

@@ -8,7 +8,7 @@ use hex::encode;
 use outside::{Blob, Host, HostFault, Memory, Text, push_name, push_number};
 use sha2::{Digest, Sha256};
 use std::alloc::Global;
-use workflow_reader::{Output, Workflow};
+use workflow_core::{Output, Workflow};
 
 fn mark_outputs(marks: &mut Vec<bool>, outputs: &[Output])
     ensures { marks.new.items ≡ marked outputs.now marks.old.items }

@@ -2,17 +2,19 @@
 
 ghost use Rattle.std.specs.Prelude.{◌≡◌, ◌≤◌, IfOk, option_map, map as list_map, string_bytes};
 ghost use Rattle.outside.specs.Counts.{Rose};
-ghost use Rattle.workflow_reader.specs.Producers.{IsFirstForm};
-ghost use Rattle.pegasus_cli.specs.Course.{Gives, OrMemory, bytes_at, course, doc_answer, documents_read, form_answer, request_at, workflow_at, NotUsage, TellsUsage};
+ghost use Rattle.workflow_core.specs.WellFormed.{IsWellFormed};
+ghost use Rattle.pegasus_cli.specs.Course.{Gives, GivesRead, GivesWorkflow, NotUsage, OrMemory, TellsCommand, bytes_at, course, doc_answer, documents_read, read_answer, request_answer, request_at, tree_answer, workflow_at};
 ghost use Rattle.pegasus_cli.specs.Words.{command as command_of};
 
 use crate::early::Early;
-use crate::fault::{Document, PlanFault, TreeFault};
-use crate::request::read_request;
-use crate::words::command;
+use crate::fault::{Document, PlanFault};
+use crate::request::{RequestFault, read_request};
+use crate::words::{Command, parse_words};
 use outside::{DocFault, Docs, Text};
+use peg_json::{ReadFault, TreeFault};
 use std::alloc::Global;
-use workflow_reader::{FirstFault, Workflow, read};
+use workflow_core::Workflow;
+use workflow_reader::read;
 
 /// The longest document, in bytes.
 const DOCUMENT_LIMIT: u64 = 33_554_432;
@@ -31,14 +33,42 @@ fn of_doc_fault(alloc: Global, name: &str, fault: DocFault) -> Early
     }
 }
 
-fn of_form_fault(which: Document, fault: FirstFault) -> Early
-    ensures { result ≡ form_answer which fault }
+fn of_request_fault(fault: RequestFault) -> Early
+    ensures { result ≡ request_answer fault }
 {
     match fault {
-        FirstFault::Syntax => Early::Refused(PlanFault::Tree(which, TreeFault::Syntax)),
-        FirstFault::OtherForm => Early::NotBuilt(which),
-        FirstFault::Memory => Early::Memory,
+        RequestFault::Syntax => Early::Refused(PlanFault::Tree(
+            Document::Request,
+            TreeFault::Syntax,
+        )),
+        RequestFault::OtherForm => Early::NotBuilt,
+        RequestFault::Memory => Early::Memory,
     }
+}
+
+#[tactic(auto, using(crate::proofs::Readings::tree_answer_but_memory))]
+fn of_tree_fault(which: Document, fault: TreeFault) -> Early
+    ensures { result ≡ tree_answer which fault }
+{
+    if let TreeFault::Memory = fault {
+        return Early::Memory;
+    }
+    Early::Refused(PlanFault::Tree(which, fault))
+}
+
+fn of_read_fault(which: Document, fault: ReadFault) -> Early
+    ensures { result ≡ read_answer which fault }
+{
+    let refused = match fault {
+        ReadFault::Tree(fault) => return of_tree_fault(which, fault),
+        ReadFault::TooMany(counted, count, limit) => PlanFault::TooMany(counted, count, limit),
+        ReadFault::DuplicateJob(id) => PlanFault::DuplicateJob(id),
+        ReadFault::DuplicateUse(id, lfn) => PlanFault::DuplicateUse(id, lfn),
+        ReadFault::UnknownJob(id) => PlanFault::UnknownJob(id),
+        ReadFault::DuplicateSite(name) => PlanFault::DuplicateSite(name),
+        ReadFault::DuplicateTransformation(name) => PlanFault::DuplicateTransformation(name),
+    };
+    Early::Refused(refused)
 }
 
 fn fetch<D: Docs>(alloc: Global, docs: &mut D, name: &str) -> Result<Vec<u8>, Early>
@@ -72,16 +102,17 @@ fn fetch_request<D: Docs>(alloc: Global, docs: &mut D, name: &str) -> Result<Tex
     };
     match read_request(alloc, &bytes) {
         Ok(workflow) => Ok(workflow),
-        Err(fault) => Err(of_form_fault(Document::Request, fault)),
+        Err(fault) => Err(of_request_fault(fault)),
     }
 }
 
+#[tactic(auto, using(crate::proofs::Readings::fault_comes, crate::proofs::Readings::workflow_comes))]
 fn fetch_workflow<D: Docs>(alloc: Global, docs: &mut D, name: &str) -> Result<Workflow, Early>
-    ensures answer { Gives (λ w. w)
+    ensures answer { GivesWorkflow
         (Rose (D.faults docs.old) (D.faults docs.new)) (Rose (D.misses docs.old) (D.misses docs.new))
         (option_map (workflow_at name.now) (D.told docs.old)) result }
     ensures usage { NotUsage result }
-    ensures form { IfOk result IsFirstForm }
+    ensures well_formed { IfOk result (λ w. IsWellFormed w) }
     ensures told { D.told docs.new ≡ D.told docs.old }
     ensures faults { D.faults docs.old ≤ D.faults docs.new }
     ensures misses { D.misses docs.old ≤ D.misses docs.new }
@@ -92,16 +123,16 @@ fn fetch_workflow<D: Docs>(alloc: Global, docs: &mut D, name: &str) -> Result<Wo
     };
     match read(alloc, &bytes) {
         Ok(workflow) => Ok(workflow),
-        Err(fault) => Err(of_form_fault(Document::Workflow, fault)),
+        Err(fault) => Err(of_read_fault(Document::Workflow, fault)),
     }
 }
 
 fn fetch_both<D: Docs>(alloc: Global, docs: &mut D, name: &str) -> Result<Workflow, Early>
-    ensures answer { Gives (λ w. w)
+    ensures answer { GivesWorkflow
         (Rose (D.faults docs.old) (D.faults docs.new)) (Rose (D.misses docs.old) (D.misses docs.new))
         (option_map (documents_read name.now) (D.told docs.old)) result }
     ensures usage { NotUsage result }
-    ensures form { IfOk result IsFirstForm }
+    ensures well_formed { IfOk result (λ w. IsWellFormed w) }
     ensures told { D.told docs.new ≡ D.told docs.old }
     ensures faults { D.faults docs.old ≤ D.faults docs.new }
     ensures misses { D.misses docs.old ≤ D.misses docs.new }
@@ -113,23 +144,33 @@ fn fetch_both<D: Docs>(alloc: Global, docs: &mut D, name: &str) -> Result<Workfl
     fetch_workflow(alloc, docs, workflow.as_str())
 }
 
-/// The workflow that a call goes on with, or its first answer.
-pub(crate) fn workflow_of<D: Docs>(
+/// A command and the workflow that it is for.
+#[derive(Drop)]
+pub(crate) struct Read {
+    pub(crate) command: Command,
+    pub(crate) workflow: Workflow,
+}
+
+/// The command and the workflow that a call goes on with, or its first answer.
+pub(crate) fn read_documents<D: Docs>(
     alloc: Global,
     words: &[String],
     docs: &mut D,
-) -> Result<Workflow, Early>
-    ensures answer { Gives (λ w. w)
+) -> Result<Read, Early>
+    ensures answer { GivesRead
         (Rose (D.faults docs.old) (D.faults docs.new)) (Rose (D.misses docs.old) (D.misses docs.new))
         (option_map (course (list_map string_bytes words.now)) (D.told docs.old)) result }
-    ensures usage { TellsUsage (command_of (list_map string_bytes words.now)) result }
-    ensures form { IfOk result IsFirstForm }
+    ensures command { TellsCommand (command_of (list_map string_bytes words.now)) result }
+    ensures well_formed { IfOk result (λ r. IsWellFormed r.workflow) }
     ensures told { D.told docs.new ≡ D.told docs.old }
     ensures faults { D.faults docs.old ≤ D.faults docs.new }
     ensures misses { D.misses docs.old ≤ D.misses docs.new }
 {
-    match command(words) {
-        Some(name) => fetch_both(alloc, docs, name),
-        None => Err(Early::Usage),
+    let Some((command, name)) = parse_words(words) else {
+        return Err(Early::Usage);
+    };
+    match fetch_both(alloc, docs, name) {
+        Ok(workflow) => Ok(Read { command, workflow }),
+        Err(early) => Err(early),
     }
 }

@@ -1,9 +1,9 @@
 //! Answers that come before the work.
 
-use crate::fault::{Document, PlanFault};
+use crate::fault::PlanFault;
 use outside::Text;
 
-/// An answer that comes before the work.
+/// An answer of the words and the documents alone.
 #[derive(Debug, Drop)]
 pub enum Early {
     Memory,
@@ -12,5 +12,6 @@ pub enum Early {
     DocTooLong(Text, u64),
     DocFailed(Text),
     Refused(PlanFault),
-    NotBuilt(Document),
+    /// The request has a form that isn't read yet.
+    NotBuilt,
 }

@@ -1,6 +1,7 @@
 //! Faults of documents and of runs.
 
-use outside::{TaskId, Text};
+use outside::{Items, TaskId, Text};
+use peg_json::{Counted, TreeFault};
 
 /// A document of a call.
 #[derive(Clone, Copy, Debug, PartialEq, Eq)]
@@ -9,17 +10,22 @@ pub enum Document {
     Workflow,
 }
 
-/// What is wrong with a document.
-#[derive(Clone, Copy, Debug, PartialEq, Eq)]
-pub enum TreeFault {
-    /// No JSON text, or one that is nested too deep.
-    Syntax,
-}
-
 /// Why a call was refused before its work.
-#[derive(Clone, Copy, Debug, PartialEq, Eq)]
+#[derive(Debug, Drop)]
 pub enum PlanFault {
     Tree(Document, TreeFault),
+    /// How many there are, and the limit.
+    TooMany(Counted, u64, u64),
+    DuplicateJob(Text),
+    /// The job's id and the file's name.
+    DuplicateUse(Text, Text),
+    UnknownJob(Text),
+    DuplicateSite(Text),
+    DuplicateTransformation(Text),
+    /// A file's name, and the ids of the first two jobs that make it.
+    TwoProducers(Text, Text, Text),
+    /// The ids of the jobs of a cycle.
+    Cycle(Items<Text>),
 }
 
 /// Why the work of a call failed.

@@ -3,40 +3,13 @@
 ghost use Rattle.std.specs.Prelude.{◌≡◌, ◌++◌, OnOk, codes};
 ghost use Rattle.std.specs.Fmt.{decimal};
 ghost use Rattle.outside.specs.Printed.{printed_name};
-ghost use Rattle.pegasus_cli.specs.Lines.{document_word as word_of_document, line_of, plan_words, run_words, task_word, tree_words};
+ghost use Rattle.pegasus_cli.specs.Lines.{document_word as word_of_document, line_of, plan_words, run_words, task_word};
 
-use crate::fault::{Document, PlanFault, RunFault, TreeFault};
+use crate::fault::{Document, PlanFault, RunFault};
 use crate::outcome::Outcome;
+use crate::refusals::{push_document, push_plan_fault};
 use outside::{Memory, TaskId, Text, push_name, push_number};
 use std::alloc::Global;
-
-fn push_document(text: &mut Vec<u8>, which: Document) -> Result<(), Memory>
-    ensures { OnOk result (text.new.items ≡ text.old.items ++ word_of_document which) }
-{
-    match which {
-        Document::Request => text.extend_from_slice(b"request")?,
-        Document::Workflow => text.extend_from_slice(b"workflow")?,
-    }
-    Ok(())
-}
-
-fn push_tree_fault(text: &mut Vec<u8>, fault: TreeFault) -> Result<(), Memory>
-    ensures { OnOk result (text.new.items ≡ text.old.items ++ tree_words fault) }
-{
-    match fault {
-        TreeFault::Syntax => text.extend_from_slice(b"syntax")?,
-    }
-    Ok(())
-}
-
-fn push_plan_fault(text: &mut Vec<u8>, fault: PlanFault) -> Result<(), Memory>
-    ensures { OnOk result (text.new.items ≡ text.old.items ++ plan_words fault) }
-{
-    let PlanFault::Tree(which, fault) = fault;
-    push_document(text, which)?;
-    text.extend_from_slice(b" ")?;
-    push_tree_fault(text, fault)
-}
 
 fn push_task(alloc: Global, text: &mut Vec<u8>, task: Option<TaskId>) -> Result<(), Memory>
     ensures { OnOk result (text.new.items ≡ text.old.items ++ task_word task) }
@@ -88,11 +61,11 @@ fn push_too_long(alloc: Global, text: &mut Vec<u8>, name: &Text, limit: u64) -> 
     Ok(())
 }
 
-fn push_refused(text: &mut Vec<u8>, fault: PlanFault) -> Result<(), Memory>
-    ensures { OnOk result (text.new.items ≡ text.old.items ++ (codes "refused " ++ plan_words fault ++ codes "\n")) }
+fn push_refused(alloc: Global, text: &mut Vec<u8>, fault: &PlanFault) -> Result<(), Memory>
+    ensures { OnOk result (text.new.items ≡ text.old.items ++ (codes "refused " ++ plan_words fault.now ++ codes "\n")) }
 {
     text.extend_from_slice(b"refused ")?;
-    push_plan_fault(text, fault)?;
+    push_plan_fault(alloc, text, fault)?;
     text.extend_from_slice(b"\n")?;
     Ok(())
 }
@@ -128,7 +101,7 @@ pub(crate) fn push_line(alloc: Global, text: &mut Vec<u8>, outcome: &Outcome) ->
         Outcome::DocAbsent(name) => push_named(text, b"no document ", name)?,
         Outcome::DocTooLong(name, limit) => push_too_long(alloc, text, name, *limit)?,
         Outcome::DocFailed(name) => push_named(text, b"document failed ", name)?,
-        Outcome::Refused(fault) => push_refused(text, *fault)?,
+        Outcome::Refused(fault) => push_refused(alloc, text, fault)?,
         Outcome::NotBuilt(which) => push_not_built(text, *which)?,
         Outcome::Failed(fault) => push_failed(alloc, text, fault)?,
     }

@@ -6,43 +6,48 @@
 #![tactic(auto)]
 
 mod call;
+mod check;
 mod delivery;
 mod documents;
 mod early;
 mod fault;
-mod folder_docs;
 mod lines;
 mod outcome;
+mod refusals;
 mod request;
-mod stream_sink;
 mod words;
+mod work;
 
 use call::quick;
-use folder_docs::FolderDocs;
-use outside::MemoryHost;
+use host_files::{FolderDocs, StreamSink};
+use outcome::Outcome;
+use outside::{Memory, MemoryHost};
 use std::alloc::Global;
 use std::process::ExitCode;
 use std::rt::Env;
 use std::{env, io};
-use stream_sink::StreamSink;
 use toolbox::Shipped;
 
 /// The user's words. Words that are no text are no command, as an empty list is.
-fn user_words<R: Env + AllocGlobal>(rt: &R) -> Vec<String> {
+fn user_words<R: Env + AllocGlobal>(rt: &R) -> Result<Vec<String>, Memory> {
     let mut words = Vec::new(rt.alloc());
-    if let Ok(args) = env::args(rt) {
-        for word in args.skip(1) {
-            if words.push(word).is_err() {
-                return Vec::new(rt.alloc());
+    match env::args(rt) {
+        Ok(args) => {
+            for word in args.skip(1) {
+                words.push(word)?;
             }
         }
+        Err(e) if e.kind() == io::ErrorKind::OutOfMemory => return Err(Memory),
+        Err(_) => {}
     }
-    words
+    Ok(words)
 }
 
 fn main(rt: HostRuntime) -> ExitCode {
     let alloc = rt.alloc();
-    let words = user_words(&rt);
+    let Ok(words) = user_words(&rt) else {
+        return ExitCode::from(Outcome::Memory.code());
+    };
     let mut out = StreamSink::new(io::writer(&rt));
     let host = MemoryHost::new(alloc, Vec::new(alloc));
     let mut docs = FolderDocs::new(rt);

@@ -1,10 +1,11 @@
 //! The outcome of a call.
 
 ghost use Rattle.std.specs.Prelude.{◌≡◌};
-ghost use Rattle.pegasus_cli.specs.Answers.{outcome_of};
+ghost use Rattle.pegasus_cli.specs.Answers.{graph_outcome, outcome_of};
 
 use crate::early::Early;
 use crate::fault::{Document, PlanFault, RunFault};
+use dependency_graph::GraphFault;
 use outside::Text;
 
 /// How a call ended.
@@ -58,6 +59,19 @@ pub(crate) fn of_early(early: Early) -> Outcome
         Early::DocTooLong(name, limit) => Outcome::DocTooLong(name, limit),
         Early::DocFailed(name) => Outcome::DocFailed(name),
         Early::Refused(fault) => Outcome::Refused(fault),
-        Early::NotBuilt(which) => Outcome::NotBuilt(which),
+        Early::NotBuilt => Outcome::NotBuilt(Document::Request),
+    }
+}
+
+/// A fault of the graph as an outcome.
+pub(crate) fn of_graph_fault(fault: GraphFault) -> Outcome
+    ensures { result ≡ graph_outcome fault }
+{
+    match fault {
+        GraphFault::TwoProducers(lfn, one, two) => {
+            Outcome::Refused(PlanFault::TwoProducers(lfn, one, two))
+        }
+        GraphFault::Cycle(ids) => Outcome::Refused(PlanFault::Cycle(ids)),
+        GraphFault::Memory => Outcome::Memory,
     }
 }

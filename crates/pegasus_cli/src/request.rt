@@ -1,41 +1,72 @@
 //! Request documents.
 
-ghost use Rattle.std.specs.Prelude.{◌≡◌, string_bytes};
-ghost use Rattle.std.specs.List.{list_all};
-ghost use Rattle.std.specs.BTreeMap.{keys};
+ghost use Rattle.std.specs.Prelude.{◌≡◌};
 ghost use Rattle.serde_json.specs.View.{view as tree_view};
-ghost use Rattle.workflow_reader.specs.Reading.{Reads, has_only};
-ghost use Rattle.pegasus_cli.specs.Request.{is_request_key, request_of};
+ghost use Rattle.peg_json.specs.Tables.{rows_of};
+ghost use Rattle.pegasus_cli.specs.Request.{Reads, request_in as form_of, request_of, request_rows};
 
-use outside::Text;
-use serde_json::{Map, Value};
+use outside::{Memory, Text};
+use peg_json::{KeyRow, KeyTable, Kind, TreeFault, gather, parse, root, typed};
+use serde_json::Value;
 use std::alloc::Global;
-use workflow_reader::{FirstFault, name, parse};
 
-fn have_one_key(members: &Map<String, Value>) -> bool
-    ensures { result ≡ list_all (λ k. is_request_key (string_bytes k)) (keys members.now) }
-{
-    members.keys().all(|k| k.as_str() == "workflow")
+/// Why bytes are no request.
+#[derive(Clone, Copy, Debug, PartialEq, Eq)]
+pub enum RequestFault {
+    Syntax,
+    OtherForm,
+    Memory,
 }
 
-#[tactic(auto, using(crate::proofs::Requests::keys_view))]
-fn is_request(value: &Value) -> bool
-    ensures { result ≡ has_only is_request_key (tree_view value.now) }
+impl From<Memory> for RequestFault {
+    ghost use Rattle.std.specs.Prelude.{◌≡◌};
+    ghost use Rattle.pegasus_cli.specs.declared.request.RequestFault.TheVariants as faults;
+
+    ghost from_gives = { λ _ e. e ≡ faults.Memory };
+
+    fn from(_e: Memory) -> RequestFault {
+        RequestFault::Memory
+    }
+}
+
+const REQUEST: [KeyRow; 1] = [KeyRow {
+    key: "workflow",
+    kind: Kind::Name,
+    required: true,
+}];
+
+fn request_table() -> KeyTable<1>
+    ensures rows { rows_of result.rows.now ≡ request_rows }
 {
-    match value.as_object() {
-        Some(members) => have_one_key(members),
-        None => false,
+    KeyTable { rows: &REQUEST }
+}
+
+#[tactic(auto, using(crate::proofs::Requests::no_name))]
+fn request_in(alloc: Global, value: &Value) -> Result<Text, RequestFault>
+    ensures { Reads result (form_of (tree_view value.now)) }
+{
+    let path = root(alloc)?;
+    let name = match typed::name(alloc, value, &path, "workflow") {
+        Ok(name) => name,
+        Err(TreeFault::Memory) => return Err(RequestFault::Memory),
+        Err(_) => return Err(RequestFault::OtherForm),
+    };
+    let mut others = Vec::new(alloc);
+    gather(alloc, value, &path, &request_table(), &mut others)?;
+    if others.is_empty() {
+        Ok(name)
+    } else {
+        Err(RequestFault::OtherForm)
     }
 }
 
 /// The name of the workflow document that a request names.
-pub(crate) fn read_request(alloc: Global, bytes: &[u8]) -> Result<Text, FirstFault>
+pub(crate) fn read_request(alloc: Global, bytes: &[u8]) -> Result<Text, RequestFault>
     ensures { Reads result (request_of bytes.now) }
 {
-    let value = parse(alloc, bytes)?;
-    if !is_request(&value) {
-        return Err(FirstFault::OtherForm);
+    match parse(alloc, bytes) {
+        Ok(value) => request_in(alloc, &value),
+        Err(TreeFault::Memory) => Err(RequestFault::Memory),
+        Err(_) => Err(RequestFault::Syntax),
     }
-    let workflow = name(alloc, value.get("workflow"))?;
-    Ok(workflow)
 }

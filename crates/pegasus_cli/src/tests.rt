@@ -1,15 +1,8 @@
 use super::call::quick;
-use super::folder_docs::FolderDocs;
 use super::outcome::Outcome;
-use super::stream_sink::StreamSink;
-use outside::{
-    Blob, DocFault, Docs, Failing, Memory, MemoryDocs, MemoryHost, MemorySink, Sink, SinkFault,
-    Text, Tool, ToolFault, write_all,
-};
+use outside::{Blob, Failing, Memory, MemoryDocs, MemoryHost, MemorySink, Text, Tool, ToolFault};
 use std::alloc::Global;
-use std::io::Write;
 use std::test::*;
-use std::{fs, io};
 use toolbox::Shipped;
 
 const HELLO: &str =
@@ -26,6 +19,12 @@ const TWO_OUTPUTS: &str =
 
 const TWO_FILES: &str =
     "{\"pegasus\":\"5.0\",\"name\":\"t\",\"jobs\":[{\"type\":\"job\",\"id\":\"A\",\"name\":\"text\",\"arguments\":[\"x\"],\"uses\":[{\"lfn\":\"one\",\"type\":\"output\"}]},{\"type\":\"job\",\"id\":\"B C\",\"name\":\"join\",\"uses\":[{\"lfn\":\"two %\\u00e9\",\"type\":\"output\"}]}]}";
+
+const UNMADE: &str =
+    "{\"pegasus\":\"5.0\",\"name\":\"u\",\"jobs\":[{\"type\":\"job\",\"id\":\"B\",\"name\":\"join\",\"uses\":[{\"lfn\":\"a.txt\",\"type\":\"input\"},{\"lfn\":\"b.txt\",\"type\":\"output\"}]}]}";
+
+const DIAMOND: &str =
+    "{\"x-pegasus\":{\"apiLang\":\"python\",\"createdBy\":\"user\",\"createdOn\":\"01-02-21T03:04:05Z\"},\"pegasus\":\"5.0\",\"name\":\"diamond\",\"jobs\":[{\"type\":\"job\",\"namespace\":\"diamond\",\"version\":\"4.0\",\"name\":\"preprocess\",\"id\":\"ID0000001\",\"arguments\":[\"-a\",\"preprocess\",\"-T\",\"60\",\"-i\",\"f.a\",\"-o\",\"f.b1\",\"f.b2\"],\"uses\":[{\"lfn\":\"f.a\",\"type\":\"input\"},{\"lfn\":\"f.b1\",\"type\":\"output\",\"stageOut\":false,\"registerReplica\":false},{\"lfn\":\"f.b2\",\"type\":\"output\",\"stageOut\":false,\"registerReplica\":false}]},{\"type\":\"job\",\"namespace\":\"diamond\",\"version\":\"4.0\",\"name\":\"findrange\",\"id\":\"ID0000002\",\"stdout\":\"f.log\",\"arguments\":[\"-a\",\"findrange\",\"-T\",60,\"-i\",\"f.b1\",\"-o\",\"f.c1\"],\"uses\":[{\"lfn\":\"f.b1\",\"type\":\"input\"},{\"lfn\":\"f.c1\",\"type\":\"output\",\"stageOut\":false,\"registerReplica\":false}]},{\"type\":\"job\",\"namespace\":\"diamond\",\"version\":\"4.0\",\"name\":\"findrange\",\"id\":\"ID0000003\",\"arguments\":[\"-a\",\"findrange\",\"-T\",60,\"-i\",\"f.b2\",\"-o\",\"f.c2\"],\"uses\":[{\"lfn\":\"f.b2\",\"type\":\"input\"},{\"lfn\":\"f.c2\",\"type\":\"output\",\"stageOut\":false,\"registerReplica\":false}]},{\"type\":\"job\",\"namespace\":\"diamond\",\"version\":\"4.0\",\"name\":\"analyze\",\"id\":\"ID0000004\",\"arguments\":[\"-a\",\"analyze\",\"-T\",\"60\",\"-i\",\"f.c1\",\"f.c2\",\"-o\",\"f.d\"],\"uses\":[{\"lfn\":\"f.c1\",\"type\":\"input\"},{\"lfn\":\"f.c2\",\"type\":\"input\"},{\"lfn\":\"f.d\",\"type\":\"output\",\"stageOut\":true,\"registerReplica\":true}]}],\"jobDependencies\":[{\"id\":\"ID0000001\",\"children\":[\"ID0000002\",\"ID0000003\"]},{\"id\":\"ID0000002\",\"children\":[\"ID0000004\"]},{\"id\":\"ID0000003\",\"children\":[\"ID0000004\"]}]}";
 
 const TO_W: &str = "{\"workflow\":\"w.json\"}";
 
@@ -139,16 +138,16 @@ impl Ended {
     }
 }
 
-fn call(
+fn call_over(
     alloc: Global,
     line: &str,
     request: &str,
-    workflow: &str,
+    workflow: &[u8],
     weather: Weather,
 ) -> Result<Ended, Memory> {
     let mut docs = MemoryDocs::new(alloc, listed(alloc, weather.fetch)?);
     docs.put(alloc, "r.json", request.as_bytes())?;
-    docs.put(alloc, "w.json", workflow.as_bytes())?;
+    docs.put(alloc, "w.json", workflow)?;
     let most = weather.most.max(1);
     let mut sink = MemorySink::new(alloc, 4096, most, listed(alloc, weather.write)?)?;
     let host = MemoryHost::new(alloc, listed(alloc, weather.deliver)?);
@@ -164,6 +163,16 @@ fn call(
         host,
         sink,
     })
+}
+
+fn call(
+    alloc: Global,
+    line: &str,
+    request: &str,
+    workflow: &str,
+    weather: Weather,
+) -> Result<Ended, Memory> {
+    call_over(alloc, line, request, workflow.as_bytes(), weather)
 }
 
 fn alone(alloc: Global, request: &str, workflow: &str, weather: Weather) -> Result<Ended, Memory> {
@@ -217,10 +226,188 @@ fn join_of_nothing(rt: HostRuntime) -> Result<(), Fail> {
 
 #[test]
 fn reader_before_producer(rt: HostRuntime) -> Result<(), Fail> {
-    let ended = alone(rt.alloc(), TO_W, REVERSED, FAIR)?;
+    let alloc = rt.alloc();
+    let ended = alone(alloc, TO_W, REVERSED, FAIR)?;
+    let want = format!(in alloc; "{B_LINE}done\n")?;
+    assert_eq!(rt; ended.text(), want.as_bytes());
+    assert_eq!(rt; ended.outcome.code(), 0);
+    assert!(rt; has(&ended.host, "b.txt", "hello world\n"));
+    Ok(())
+}
+
+#[test]
+fn file_without_producer(rt: HostRuntime) -> Result<(), Fail> {
+    let alloc = rt.alloc();
+    let ended = alone(alloc, TO_W, UNMADE, FAIR)?;
     assert_eq!(rt; ended.text(), b"not built workflow\n".as_slice());
     assert_eq!(rt; ended.outcome.code(), 9);
     assert!(rt; ended.host.delivered("b.txt").is_none());
+    let checked = call(alloc, "check|r.json", TO_W, UNMADE, FAIR)?;
+    assert_eq!(rt; checked.text(), b"workflow u 1 2 0\ndone\n".as_slice());
+    Ok(())
+}
+
+#[test]
+fn check_of_the_diamond(rt: HostRuntime) -> Result<(), Fail> {
+    let ended = call(rt.alloc(), "check|r.json", TO_W, DIAMOND, FAIR)?;
+    let want =
+        "workflow diamond 4 6 4\nignored workflow /jobs/1/stdout\nignored workflow /x-pegasus\ndone\n";
+    assert_eq!(rt; ended.text(), want.as_bytes());
+    assert_eq!(rt; ended.outcome.code(), 0);
+    assert!(rt; ended.host.delivered("f.d").is_none());
+    Ok(())
+}
+
+/// Both commands refuse the workflow with this text and this status.
+fn refuses(alloc: Global, workflow: &[u8], text: &str) -> Result<bool, Memory> {
+    let alone = call_over(alloc, "alone|r.json", TO_W, workflow, FAIR)?;
+    let check = call_over(alloc, "check|r.json", TO_W, workflow, FAIR)?;
+    Ok(
+        alone.text() == text.as_bytes()
+            && check.text() == text.as_bytes()
+            && alone.outcome.code() == 4
+            && check.outcome.code() == 4,
+    )
+}
+
+#[test]
+fn workflow_faults(rt: HostRuntime) -> Result<(), Fail> {
+    let alloc = rt.alloc();
+    let cases = [
+        ("{", "refused workflow syntax\n"),
+        ("[]", "refused workflow kind %\n"),
+        (
+            "{\"pegasus\":\"4.9\",\"name\":\"w\",\"jobs\":[]}",
+            "refused workflow version 4.9\n",
+        ),
+        (
+            "{\"pegasus\":\"5.0\",\"name\":\"w\",\"jobs\":[{\"type\":\"job\",\"id\":\"A\",\"name\":\"t\",\"uses\":[{\"lfn\":\"x\",\"type\":\"checkpoint\"}]}]}",
+            "refused workflow unsupported /jobs/0/uses/0/type checkpoint\n",
+        ),
+        (
+            "{\"pegasus\":\"5.0\",\"name\":\"w\",\"jobs\":[{\"type\":\"job\",\"id\":\"A\",\"name\":\"t\",\"uses\":[{\"lfn\":\"x\",\"type\":\"input\",\"size\":1099511627777}]}]}",
+            "refused workflow range /jobs/0/uses/0/size 1099511627777\n",
+        ),
+        (
+            "{\"pegasus\":\"5.0\",\"name\":\"w\",\"jobs\":[{\"type\":\"job\",\"name\":\"t\"}]}",
+            "refused workflow missing /jobs/0/id\n",
+        ),
+        (
+            "{\"pegasus\":\"5.0\",\"name\":\"w\",\"jobs\":[{\"type\":\"job\",\"id\":\"A\",\"name\":\"t\"},{\"type\":\"job\",\"id\":\"A\",\"name\":\"t\"}]}",
+            "refused twice job A\n",
+        ),
+        (
+            "{\"pegasus\":\"5.0\",\"name\":\"w\",\"jobs\":[{\"type\":\"job\",\"id\":\"A\",\"name\":\"t\",\"uses\":[{\"lfn\":\"x y\",\"type\":\"input\"},{\"lfn\":\"x y\",\"type\":\"input\"}]}]}",
+            "refused twice use A x%20y\n",
+        ),
+        (
+            "{\"pegasus\":\"5.0\",\"name\":\"w\",\"jobs\":[],\"jobDependencies\":[{\"id\":\"Z\",\"children\":[]}]}",
+            "refused unknown job Z\n",
+        ),
+    ];
+    for (workflow, text) in cases {
+        assert!(rt; refuses(alloc, workflow.as_bytes(), text)?);
+    }
+    Ok(())
+}
+
+/// Whether each text that is cut from the end is refused.
+fn refuses_each_front(alloc: Global, workflow: &[u8]) -> Result<bool, Memory> {
+    for end in 0..workflow.len() {
+        if !refuses(alloc, &workflow[..end], "refused workflow syntax\n")? {
+            return Ok(false);
+        }
+    }
+    Ok(true)
+}
+
+/// A list in a list, and so on, 200 deep.
+fn nested_lists(alloc: Global) -> Result<Vec<u8>, Memory> {
+    let mut text = vec![in alloc; b'['; 200]?;
+    text.resize(400, b']')?;
+    Ok(text)
+}
+
+#[test]
+fn hostile_documents(rt: HostRuntime) -> Result<(), Fail> {
+    let alloc = rt.alloc();
+    assert!(rt; refuses_each_front(alloc, HELLO.as_bytes())?);
+    let nested = nested_lists(alloc)?;
+    assert!(rt; refuses(alloc, &nested, "refused workflow syntax\n")?);
+    let bad = b"{\"pegasus\":\"5.0\",\"name\":\"\xff\",\"jobs\":[]}";
+    assert!(rt; refuses(alloc, bad, "refused workflow syntax\n")?);
+    let cases = [
+        (
+            "{\"pegasus\":\"5.0\",\"name\":\"w\",\"jobs\":[{\"type\":\"job\",\"id\":\"\",\"name\":\"t\"}]}",
+            "refused workflow kind /jobs/0/id\n",
+        ),
+        (
+            "{\"pegasus\":\"5.0\",\"name\":\"w\",\"jobs\":[{\"type\":\"subworkflow\",\"id\":\"A\",\"name\":\"t\"}]}",
+            "refused workflow unsupported /jobs/0/type subworkflow\n",
+        ),
+        (
+            "{\"pegasus\":\"5.0\",\"name\":null,\"jobs\":[]}",
+            "refused workflow missing /name\n",
+        ),
+        (
+            "{\"pegasus\":\"5.0\",\"name\":\"w\",\"jobs\":{}}",
+            "refused workflow kind /jobs\n",
+        ),
+    ];
+    for (workflow, text) in cases {
+        assert!(rt; refuses(alloc, workflow.as_bytes(), text)?);
+    }
+    Ok(())
+}
+
+#[test]
+fn one_more_key_at_each_object(rt: HostRuntime) -> Result<(), Fail> {
+    let workflow =
+        "{\"pegasus\":\"5.0\",\"name\":\"w\",\"a/b\":1,\"jobs\":[{\"type\":\"job\",\"id\":\"A\",\"name\":\"join\",\"~\":{},\"profiles\":{\"condor\":{}},\"uses\":[{\"lfn\":\"x\",\"type\":\"output\",\"m \":null}]}],\"jobDependencies\":[{\"id\":\"A\",\"children\":[],\"\":0}]}";
+    let ended = call(rt.alloc(), "check|r.json", TO_W, workflow, FAIR)?;
+    let want =
+        "workflow w 1 1 0\nignored workflow /a~1b\nignored workflow /jobDependencies/0/\nignored workflow /jobs/0/profiles/condor\nignored workflow /jobs/0/uses/0/m%20\nignored workflow /jobs/0/~0\ndone\n";
+    assert_eq!(rt; ended.text(), want.as_bytes());
+    Ok(())
+}
+
+#[test]
+fn two_producers(rt: HostRuntime) -> Result<(), Fail> {
+    let workflow =
+        "{\"pegasus\":\"5.0\",\"name\":\"w\",\"jobs\":[{\"type\":\"job\",\"id\":\"a\",\"name\":\"join\",\"uses\":[{\"lfn\":\"x\",\"type\":\"output\"}]},{\"type\":\"job\",\"id\":\"b\",\"name\":\"join\",\"uses\":[{\"lfn\":\"x\",\"type\":\"output\"}]}]}";
+    assert!(rt; refuses(rt.alloc(), workflow.as_bytes(), "refused producers x a b\n")?);
+    Ok(())
+}
+
+#[test]
+fn cycle_by_dependency(rt: HostRuntime) -> Result<(), Fail> {
+    let workflow =
+        "{\"pegasus\":\"5.0\",\"name\":\"w\",\"jobs\":[{\"type\":\"job\",\"id\":\"a\",\"name\":\"join\",\"uses\":[{\"lfn\":\"x\",\"type\":\"output\"}]},{\"type\":\"job\",\"id\":\"b\",\"name\":\"join\",\"uses\":[{\"lfn\":\"x\",\"type\":\"input\"}]}],\"jobDependencies\":[{\"id\":\"b\",\"children\":[\"a\"]}]}";
+    assert!(rt; refuses(rt.alloc(), workflow.as_bytes(), "refused cycle a b\n")?);
+    Ok(())
+}
+
+/// A workflow of 10,001 jobs.
+fn many_jobs(alloc: Global) -> Result<String, Memory> {
+    let mut text = String::from_str(alloc, "{\"pegasus\":\"5.0\",\"name\":\"w\",\"jobs\":[")?;
+    for _ in 0..10_000 {
+        text.push_str("{\"type\":\"job\",\"id\":\"A\",\"name\":\"t\"},")?;
+    }
+    text.push_str("{\"type\":\"job\",\"id\":\"A\",\"name\":\"t\"}]}")?;
+    Ok(text)
+}
+
+#[test]
+fn too_many_jobs(rt: HostRuntime) -> Result<(), Fail> {
+    let alloc = rt.alloc();
+    let workflow = many_jobs(alloc)?;
+    assert!(rt;
+        refuses(
+            alloc,
+            workflow.as_bytes(),
+            "refused many jobs 10001 10000\n"
+        )?
+    );
     Ok(())
 }
 
@@ -267,7 +454,9 @@ fn words_that_are_no_command(rt: HostRuntime) -> Result<(), Fail> {
         "alone|-r",
         "alone|r.json|w.json",
         "Alone|r.json",
-        "check|r.json",
+        "check",
+        "check|-r.json",
+        "plan|r.json",
         "--help",
     ];
     for line in lists {
@@ -296,6 +485,11 @@ fn requests_of_another_form(rt: HostRuntime) -> Result<(), Fail> {
             9,
         ),
         ("{\"Workflow\":\"w.json\"}", "not built request\n", 9),
+        (
+            "{\"workflow\":\"w.json\",\"sites\":null}",
+            "not built request\n",
+            9,
+        ),
     ];
     for (request, text, code) in cases {
         let ended = alone(alloc, request, HELLO, FAIR)?;
@@ -354,52 +548,5 @@ fn calls_that_fail(rt: HostRuntime) -> Result<(), Fail> {
     }
     let pieces = alone(alloc, TO_W, TWO_FILES, Weather { most: 1, ..FAIR })?;
     assert_eq!(rt; pieces.text(), whole.as_bytes());
-    Ok(())
-}
-
-/// A writer that is full after a few bytes.
-#[derive(Drop)]
-struct Small {
-    room: usize,
-}
-
-impl Write for Small {
-    fn write(&mut self, piece: &[u8]) -> io::Result<usize> {
-        let count = piece.len().min(self.room).min(2);
-        self.room -= count;
-        Ok(count)
-    }
-
-    fn flush(&mut self) -> io::Result<()> {
-        Ok(())
-    }
-}
-
-#[test]
-fn a_stream_as_a_sink(rt: HostRuntime) -> Result<(), Fail> {
-    let mut out = StreamSink::new(Small { room: 5 });
-    assert!(rt; write_all(&mut out, b"hello") == Ok(()));
-    assert_eq!(rt; out.faults(), 0);
-    assert!(rt; write_all(&mut out, b"!") == Err(SinkFault::Failed));
-    assert_eq!(rt; out.faults(), 1);
-    Ok(())
-}
-
-#[test]
-fn documents_as_files(rt: HostRuntime) -> Result<(), Fail> {
-    let alloc = rt.alloc();
-    let place = "/tmp/pegasus_documents_as_files.json";
-    fs::write(&rt, place, "0123456789")?;
-    let mut docs = FolderDocs::new(rt.clone()?);
-    let mut into = Vec::new(alloc);
-    docs.fetch(alloc, place, 10, &mut into)?;
-    assert_eq!(rt; into.as_slice(), b"0123456789".as_slice());
-    let mut none = Vec::new(alloc);
-    assert!(rt; docs.fetch(alloc, place, 9, &mut none) == Err(DocFault::TooLong(9)));
-    assert!(rt; docs.fetch(alloc, "/tmp/no/such", 9, &mut none) == Err(DocFault::Absent));
-    assert_eq!(rt; docs.misses(), 2);
-    assert_eq!(rt; docs.faults(), 0);
-    assert!(rt; docs.fetch(alloc, "/tmp", 9, &mut none) == Err(DocFault::Failed));
-    assert_eq!(rt; docs.faults(), 1);
     Ok(())
 }

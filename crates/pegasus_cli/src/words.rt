@@ -1,7 +1,16 @@
 //! The words of a command line.
 
 ghost use Rattle.std.specs.Prelude.{◌≡◌, map as list_map, option_map, string_bytes};
-ghost use Rattle.pegasus_cli.specs.Words.{command as command_of, is_document_word as is_document};
+ghost use Rattle.pegasus_cli.specs.Words.{command as command_of, command_named as named, is_document_word as is_document};
+
+/// What is asked for.
+#[derive(Clone, Copy, Debug, PartialEq, Eq)]
+pub enum Command {
+    /// Reads the workflow and lists what isn't acted on.
+    Check,
+    /// Runs the workflow's jobs one after the other.
+    Alone,
+}
 
 fn is_document_word(word: &str) -> bool
     ensures { result ≡ is_document word.now }
@@ -12,14 +21,25 @@ fn is_document_word(word: &str) -> bool
     }
 }
 
-/// The document that `alone REQ` names, where the words are this command.
-pub(crate) fn command(words: &[String]) -> Option<&str>
-    ensures { option_map (λ s. s.now) result ≡ command_of (list_map string_bytes words.now) }
+fn command_named(word: &str) -> Option<Command>
+    ensures { result ≡ named word.now }
+{
+    match word {
+        "check" => Some(Command::Check),
+        "alone" => Some(Command::Alone),
+        _ => None,
+    }
+}
+
+/// The command and the document that the words name.
+pub(crate) fn parse_words(words: &[String]) -> Option<(Command, &str)>
+    ensures { option_map (λ c. (c.0, c.1.now)) result ≡ command_of (list_map string_bytes words.now) }
 {
     match words {
-        [word, name] if word.as_str() == "alone" && is_document_word(name.as_str()) => {
-            Some(name.as_str())
-        }
+        [word, name] => match command_named(word.as_str()) {
+            Some(command) if is_document_word(name.as_str()) => Some((command, name.as_str())),
+            _ => None,
+        },
         _ => None,
     }
 }

@@ -2,4 +2,4 @@ pub mod Tables
 pub mod Placing
 pub mod Jobs
 pub mod Ends
-pub mod Laws
+pub mod Testing

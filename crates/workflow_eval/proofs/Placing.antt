@@ -1,12 +1,11 @@
 -- What stands in a table after outputs are placed.
 use Rattle.std.proofs.Common.{◌≡◌, ℕ, ◌<◌, ◌||◌, Bool, true, false, cond, List, [], ◌∷◌, length, refl, ap, ◌∙◌, All, arith}
 use Rattle.std.specs.Prelude.{◌==◌, Option, Some, IsSome, slice_set}
-use Rattle.std.specs.List.{list_any}
+use Rattle.std.specs.List.{list_any, AllByRecursion}
 use Rattle.std.proofs.lemmas.Grind.{common_steps}
 use Rattle.std.proofs.lemmas.List.Elements.{All-nil, All-cons}
-use Rattle.workflow_reader.specs.declared.workflow.Output.{Output}
-use Rattle.workflow_reader.specs.Producers.{AreBelow}
-use Rattle.workflow_eval.specs.Value.{part}
+use Rattle.workflow_core.specs.declared.workflow.Output.{Output}
+use Rattle.dependency_graph.specs.Value.{part}
 use Rattle.workflow_eval.specs.Tables.{files_of, at, placed}
 
 pub length_placed : (os : List ℕ) (vs : List (List ℕ)) (table : List (Option (List ℕ))) → length (placed os vs table) ≡ length table
@@ -18,7 +17,7 @@ set_read : (table : List (Option (List ℕ))) (o f : ℕ) (x : Option (List ℕ)
 set_read table o f x h = grind (arith, common_steps)
 
 -- what is read after the outputs are placed
-pub at_placed : (os : List ℕ) (vs : List (List ℕ)) (table : List (Option (List ℕ))) (f : ℕ) → AreBelow (length table) os → length os ≡ length vs → at (placed os vs table) f ≡ cond (list_any (λ o. o == f) os) (part f os vs) (at table f)
+pub at_placed : (os : List ℕ) (vs : List (List ℕ)) (table : List (Option (List ℕ))) (f : ℕ) → AllByRecursion (λ p. p < length table) os → length os ≡ length vs → at (placed os vs table) f ≡ cond (list_any (λ o. o == f) os) (part f os vs) (at table f)
 at_placed [] vs table f below same = refl
 at_placed (o ∷ os) [] table f below same = absurd (omega arith)
 at_placed (o ∷ os) (v ∷ vs) table f below same =
@@ -41,6 +40,6 @@ part_there (o ∷ os) (v ∷ vs) f same is = by_test (o == f) (Some v) (part f o
     by_test false x y p q r = q r
 
 -- each output's file has a place
-pub all_below : (n : ℕ) (os : List Output) → AreBelow n (files_of os) → All (λ (o : Output). o.file.0 < n) os
+pub all_below : (n : ℕ) (os : List Output) → AllByRecursion (λ p. p < n) (files_of os) → All (λ (o : Output). o.file.0 < n) os
 all_below n [] below = All-nil (λ (o : Output). o.file.0 < n)
 all_below n (o ∷ os) below = All-cons (λ (o : Output). o.file.0 < n) o os below.0 (all_below n os below.1)

@@ -1,7 +1,7 @@
 -- Looking up one file after the other.
 use Rattle.std.proofs.Common.{◌≡◌, ℕ, suc, ◌+◌, ◌-◌, ◌<◌, ◌≤◌, List, [], ◌∷◌, ◌++◌, length, take, drop, get_or, refl, sym, ap, ◌∙◌, length-append, drop-cons, arith}
 use Rattle.std.proofs.lemmas.List.{take_more}
-use Rattle.workflow_reader.specs.declared.workflow.Output.{Output}
+use Rattle.workflow_core.specs.declared.workflow.Output.{Output}
 use Rattle.workflow_eval.specs.Tables.{files_of, placed}
 use Rattle.std.specs.Prelude.{Option, Some, None, slice_set, slice_index_or}
 

@@ -1,4 +1,2 @@
-pub mod Value
-pub mod Valuation
 pub mod Tables
 pub mod Evaluated

@@ -2,10 +2,10 @@
 use Rattle.std.specs.Prelude.{◌≡◌, ℕ, List, [], ◌∷◌, map, Option, Some, None, slice_set, slice_index_or, Vec}
 use Rattle.std.specs.declared.alloc.Global.{Global}
 use Rattle.outside.specs.declared.numbers.FileId.{FileId}
-use Rattle.workflow_reader.specs.declared.workflow.Output.{Output}
+use Rattle.workflow_core.specs.declared.workflow.Output.{Output}
 use Rattle.workflow_eval.specs.declared.fault.EvalFault.{EvalFault}
 use Rattle.workflow_eval.specs.declared.fault.EvalFault.TheVariants.{Declined, ToolFailed, Memory}
-use Rattle.workflow_eval.specs.Value.{all_of}
+use Rattle.dependency_graph.specs.Value.{all_of}
 
 -- the numbers of files
 abbrev pub numbers : List FileId → List ℕ

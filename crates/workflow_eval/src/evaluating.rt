@@ -2,16 +2,18 @@
 
 ghost use Rattle.std.specs.Prelude.{◌≡◌, ◌≤◌, Some, length, IfOk, IfErr};
 ghost use Rattle.outside.specs.Counts.{Rose};
-ghost use Rattle.workflow_reader.specs.Producers.{IsFirstForm};
-ghost use Rattle.workflow_eval.specs.Value.{run_of};
+ghost use Rattle.workflow_core.specs.WellFormed.{IsWellFormed};
+ghost use Rattle.dependency_graph.specs.Graph.{IsGraphOf};
+ghost use Rattle.dependency_graph.specs.Value.{run_of, AllMade};
 ghost use Rattle.workflow_eval.specs.Tables.{IsFaultOf};
 ghost use Rattle.workflow_eval.specs.Evaluated.{Evaluates};
 
 use crate::fault::EvalFault;
 use crate::table::{copies_of, empty, into_blobs, place};
+use dependency_graph::{Graph, values_flow_in_order};
 use outside::{Blob, JobId, Tool, ToolFault};
 use std::alloc::Global;
-use workflow_reader::{Job, Workflow};
+use workflow_core::{Job, Workflow};
 
 /// Runs a job's tool.
 fn run_job<T: Tool>(
@@ -28,7 +30,7 @@ fn run_job<T: Tool>(
 {
     let made = tool.run(
         alloc,
-        job.name.as_str(),
+        job.transformation.name.as_str(),
         job.arguments.as_slice(),
         inputs,
         job.outputs.as_slice().len(),
@@ -45,16 +47,22 @@ fn run_job<T: Tool>(
 pub fn evaluate<T: Tool>(
     alloc: Global,
     workflow: &Workflow,
+    graph: &Graph,
     tool: &mut T,
 ) -> Result<Vec<Blob>, EvalFault>
-    requires { IsFirstForm workflow.now }
-    ensures answer { Evaluates T.apply workflow.now (Rose (T.faults tool.old) (T.faults tool.new)) result }
+    requires well_formed { IsWellFormed workflow.now }
+    requires graph { IsGraphOf workflow.now graph.now }
+    requires made { AllMade workflow.now }
+    ensures answer { Evaluates T.apply workflow.now graph.now.ordered (Rose (T.faults tool.old) (T.faults tool.new)) result }
     ensures faults { T.faults tool.old ≤ T.faults tool.new }
 {
+    values_flow_in_order();
+    let jobs = workflow.jobs.as_slice();
     let mut table = empty(alloc, workflow.files.as_slice().len())?;
-    for (i, job) in workflow.jobs.as_slice().iter().enumerate() {
+    for number in graph.ordered() {
+        let job = &jobs[number.0 as usize];
         let inputs = copies_of(alloc, &table, job.inputs.as_slice())?;
-        let outputs = run_job(alloc, JobId(i as u32), job, &inputs, tool)?;
+        let outputs = run_job(alloc, *number, job, &inputs, tool)?;
         place(&mut table, job.outputs.as_slice(), outputs);
     }
     Ok(into_blobs(alloc, table)?)

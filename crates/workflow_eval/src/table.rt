@@ -1,12 +1,12 @@
 //! A table with a place for each file, filled job by job.
 
 ghost use Rattle.std.specs.Prelude.{◌≡◌, ◌<◌, Option, Some, length, IfOk, IsSome, All};
-ghost use Rattle.workflow_eval.specs.Value.{all_of};
+ghost use Rattle.dependency_graph.specs.Value.{all_of};
 ghost use Rattle.workflow_eval.specs.Tables.{numbers, files_of, looked_up, placed, IsLookedUp};
 
 use outside::{Blob, FileId, Memory};
 use std::alloc::Global;
-use workflow_reader::Output;
+use workflow_core::Output;
 
 /// A table with nothing at each place.
 pub fn empty(alloc: Global, files: usize) -> Result<Vec<Option<Blob>>, Memory>

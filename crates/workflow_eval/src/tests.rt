@@ -1,14 +1,18 @@
-//! A chain of two jobs, evaluated.
+//! Small workflows and their values.
 
-ghost use Rattle.std.specs.Prelude.{◌≡◌, ◌++◌, replicate, IfOk};
+ghost use Rattle.std.specs.Prelude.{◌≡◌, ◌++◌, replicate, IfOk, IsTrue};
 ghost use Rattle.std.specs.List.{concat};
-ghost use Rattle.workflow_reader.specs.Producers.{IsFirstForm};
+ghost use Rattle.workflow_core.specs.WellFormed.{IsWellFormed};
+ghost use Rattle.dependency_graph.specs.Graph.{IsGraphOf};
+ghost use Rattle.dependency_graph.specs.Value.{AllMade};
 
 use super::*;
+use dependency_graph::{Graph, build, is_well_formed, producer_is_the_first_maker};
 use outside::{Blob, FileId, Items, Memory, Text, Tool, ToolFault};
 use std::alloc::Global;
+use std::process::Abort;
 use std::test::Fail;
-use workflow_reader::{Job, Output, Workflow};
+use workflow_core::{Inlined, Job, Output, Transformation, Workflow};
 
 /// Each output is the name, and all inputs after it.
 #[derive(Drop)]
@@ -69,52 +73,219 @@ fn copies(alloc: Global, bytes: &[u8], many: usize) -> Result<Vec<Blob>, Memory>
     Ok(blobs)
 }
 
-fn output(number: u32) -> Output
-    ensures { result.file.0 ≡ number }
-{
-    Output {
-        file: FileId(number),
-        stage_out: true,
-    }
+/// It makes nothing: it declines, or fails where it is broken.
+#[derive(Drop)]
+struct Idle {
+    broken: bool,
+    faults: u64,
 }
 
-fn job(alloc: Global, name: &str, inputs: Vec<FileId>, outputs: Vec<Output>) -> Result<Job, Memory>
-    ensures { IfOk result (λ j. (j.inputs ≡ inputs.items) × (j.outputs ≡ outputs.items)) }
-{
+impl Tool for Idle {
+    ghost use Rattle.std.specs.Prelude.{None, true};
+
+    ghost apply = { λ name args ins outs. None };
+
+    ghost known = { λ _. true };
+
+    ghost faults = { λ t. t.faults };
+
+    fn faults(&self) -> u64 {
+        self.faults
+    }
+
+    fn knows(&self, _name: &str) -> bool {
+        true
+    }
+
+    fn run(
+        &mut self,
+        _alloc: Global,
+        _name: &str,
+        _args: &[Text],
+        _ins: &[Blob],
+        _outs: usize,
+    ) -> Result<Vec<Blob>, ToolFault> {
+        if !self.broken {
+            return Err(ToolFault::Declined);
+        }
+        self.faults = self.faults.saturating_add(1);
+        Err(ToolFault::Failed)
+    }
+
+    ghost as_many = { λ name args ins outs made e. absurd (Prim.cc) };
+}
+
+/// A job's transformation, and the numbers of the files that it reads and of those that it makes.
+#[derive(Clone, Copy)]
+struct Uses<'a>(&'a str, &'a [u32], &'a [u32]);
+
+fn job(alloc: Global, number: usize, uses: &Uses<'_>) -> Result<Job, Fail> {
+    let mut inputs = Vec::new(alloc);
+    for file in uses.1 {
+        inputs.push(FileId(*file))?;
+    }
+    let mut outputs = Vec::new(alloc);
+    for file in uses.2 {
+        outputs.push(Output {
+            file: FileId(*file),
+            stage_out: false,
+            register: false,
+        })?;
+    }
     Ok(Job {
-        id: Text::copy_of(alloc, name)?,
-        name: Text::copy_of(alloc, name)?,
+        id: Text::new(format!(in alloc; "j{number}")?),
+        transformation: Transformation {
+            namespace: None,
+            name: Text::copy_of(alloc, uses.0)?,
+            version: None,
+        },
         arguments: Items::new(Vec::new(alloc)),
         inputs: Items::new(inputs),
         outputs: Items::new(outputs),
+        label: None,
+        cluster_size: None,
+        cluster_num: None,
+        pinned: None,
     })
 }
 
-/// One job makes file 1, of which another makes file 0.
-fn chain(alloc: Global) -> Result<Workflow, Memory>
-    ensures { IfOk result IsFirstForm }
-{
-    let first = job(alloc, "a", Vec::new(alloc), vec![in alloc; output(1)]?)?;
-    let second = job(
-        alloc,
-        "b",
-        vec![in alloc; FileId(1)]?,
-        vec![in alloc; output(0)]?,
-    )?;
-    let names = vec![in alloc; Text::copy_of(alloc, "x")?, Text::copy_of(alloc, "y")?]?;
+/// A workflow of jobs `j0`, `j1` .. over files `f0`, `f1` ...
+fn workflow(alloc: Global, files: usize, uses: &[Uses<'_>]) -> Result<Workflow, Fail> {
+    let mut names = Vec::new(alloc);
+    let mut sizes = Vec::new(alloc);
+    for file in 0..files {
+        names.push(Text::new(format!(in alloc; "f{file}")?))?;
+        sizes.push(None)?;
+    }
+    let mut jobs = Vec::new(alloc);
+    for (i, uses) in uses.iter().enumerate() {
+        jobs.push(job(alloc, i, uses)?)?;
+    }
     Ok(Workflow {
-        name: Text::copy_of(alloc, "chain")?,
-        jobs: Items::new(vec![in alloc; first, second]?),
+        name: Text::copy_of(alloc, "w")?,
+        jobs: Items::new(jobs),
+        pairs: Items::new(Vec::new(alloc)),
         files: Items::new(names),
+        sizes: Items::new(sizes),
+        inlined: Inlined {
+            sites: None,
+            replicas: None,
+            transformations: None,
+        },
+        ignored: Items::new(Vec::new(alloc)),
     })
+}
+
+fn are_made(workflow: &Workflow, graph: &Graph) -> bool
+    requires well_formed { IsWellFormed workflow.now }
+    requires graph { IsGraphOf workflow.now graph.now }
+    ensures { IsTrue result → AllMade workflow.now }
+{
+    producer_is_the_first_maker();
+    for file in 0..workflow.files.as_slice().len() {
+        if graph.producer(FileId(file as u32)).is_none() {
+            return false;
+        }
+    }
+    true
+}
+
+/// The values one after the other, or the fault.
+fn told(alloc: Global, answer: &Result<Vec<Blob>, EvalFault>) -> Result<String, Fail> {
+    let mut line = String::new(alloc);
+    match answer {
+        Ok(values) => {
+            for value in values {
+                line.push_str(" ")?;
+                for byte in value.as_slice() {
+                    line.push(char::from(*byte))?;
+                }
+            }
+        }
+        Err(EvalFault::Declined(job)) => {
+            let number = job.0;
+            line.push_str(format!(in alloc; "declined {number}")?.as_str())?;
+        }
+        Err(EvalFault::ToolFailed(job)) => {
+            let number = job.0;
+            line.push_str(format!(in alloc; "failed {number}")?.as_str())?;
+        }
+        Err(EvalFault::Memory) => line.push_str("memory")?,
+    }
+    Ok(line)
+}
+
+/// Checks the answer for a workflow over so many files.
+fn expect<T: Tool>(
+    rt: &(impl Abort + AllocGlobal),
+    name: &str,
+    files: usize,
+    uses: &[Uses<'_>],
+    tool: &mut T,
+    wanted: &str,
+) -> Result<(), Fail> {
+    let alloc = rt.alloc();
+    let workflow = workflow(alloc, files, uses)?;
+    if !is_well_formed(alloc, &workflow)? {
+        return Err("not well formed".into());
+    }
+    let graph = match build(alloc, &workflow) {
+        Ok(graph) => graph,
+        Err(_) => return Err("no graph".into()),
+    };
+    if !are_made(&workflow, &graph) {
+        return Err("a file that no job makes".into());
+    }
+    let line = told(alloc, &evaluate(alloc, &workflow, &graph, tool))?;
+    assert_eq!(rt; line.as_str(), wanted, "{name}");
+    Ok(())
 }
 
 #[test]
-fn values_flow_along_a_chain(rt: HostRuntime) -> Result<(), Fail> {
-    let workflow = chain(rt.alloc())?;
-    let values = evaluate(rt.alloc(), &workflow, &mut Joining)?;
-    assert_eq!(rt; values.len(), 2);
-    assert_eq!(rt; values[0].as_slice(), b"ba".as_slice());
-    assert_eq!(rt; values[1].as_slice(), b"a".as_slice());
-    Ok(())
+fn values_flow_along_the_graph(rt: HostRuntime) -> Result<(), Fail> {
+    let chain = [Uses("a", &[], &[1]), Uses("b", &[1], &[0])];
+    expect(&rt, "a chain", 2, &chain, &mut Joining, " ba a")?;
+    let turned = [Uses("b", &[1], &[0]), Uses("a", &[], &[1])];
+    expect(
+        &rt,
+        "out of document order",
+        2,
+        &turned,
+        &mut Joining,
+        " ba a",
+    )?;
+    let diamond = [
+        Uses("a", &[1, 2], &[3]),
+        Uses("b", &[0], &[1]),
+        Uses("c", &[0, 4], &[2]),
+        Uses("d", &[], &[4, 0]),
+    ];
+    expect(
+        &rt,
+        "a diamond",
+        5,
+        &diamond,
+        &mut Joining,
+        " d bd cdd abdcdd d",
+    )?;
+    expect(&rt, "no job", 0, &[], &mut Joining, "")
+}
+
+#[test]
+fn the_first_in_order_ends(rt: HostRuntime) -> Result<(), Fail> {
+    let turned = [
+        Uses("c", &[1], &[0]),
+        Uses("b", &[2], &[1]),
+        Uses("a", &[], &[2]),
+    ];
+    let mut idle = Idle {
+        broken: false,
+        faults: 0,
+    };
+    expect(&rt, "declines", 3, &turned, &mut idle, "declined 2")?;
+    let mut broken = Idle {
+        broken: true,
+        faults: 0,
+    };
+    expect(&rt, "fails", 3, &turned, &mut broken, "failed 2")
 }

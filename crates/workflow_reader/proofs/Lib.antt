@@ -1,7 +1,4 @@
 pub mod Bools
-pub mod Forms
-pub mod Fronts
-pub mod Names
-pub mod Tables
-pub mod Trees
-pub mod Uses
+pub mod Repeating
+pub mod Sizing
+pub mod WellLinked

@@ -1,19 +1,31 @@
-//! Workflow documents: a workflow is the one that its document's definition gives, `read_of` of `specs/FirstForm.antt`.
+//! Workflow documents: a workflow is the one that its document's definition gives, `read_of` of `specs/Read.antt`.
+//!
+//! The tree part has one file for each object of the format: its table, its reading and its unknown keys
+//! (`root`, `job_entry`, `use_entry`, the profiles, `dependency`). `linking` makes the workflow of what
+//! was read.
 #![tactic(auto)]
 
-mod fault;
-mod numbered;
-mod numbering;
-mod reading;
-mod sound;
-mod tree;
-mod workflow;
-mod written;
+mod argument;
+mod dependency;
+mod document;
+mod duplicates;
+mod files;
+mod job_entry;
+mod job_linking;
+mod linking;
+mod lists;
+mod pairs;
+mod pegasus_profiles;
+mod profiles;
+mod reader;
+mod root;
+mod selector_profiles;
+mod use_entry;
+mod word;
 
-pub use fault::FirstFault;
-pub use reading::read;
-pub use tree::{name, parse};
-pub use workflow::{Job, Output, Workflow};
+pub use reader::{from_tree, read};
 
 #[cfg(test)]
-mod tests;
+mod linking_tests;
+#[cfg(test)]
+mod read_tests;

@@ -1,21 +1,17 @@
-use Rattle.std.proofs.Common.{inr}
-use Rattle.pegasus_cli.proofs.Ends.{delivered_front}
+use Rattle.std.proofs.Common.{List, ℕ, ◌++◌, ap, ◌∙◌}
+use Rattle.pegasus_cli.specs.Checks.{check_lines}
+use Rattle.pegasus_cli.proofs.Ends.{check_answered, graph_answered, work_answered}
 use Rattle.pegasus_cli.proofs.call.answer.Goals as goal
 
-pub returns-in-Ok-deliver_requested-clause-leaves : goal.returns-in-Ok-deliver_requested-clause-leaves
-returns-in-Ok-deliver_requested-clause-leaves g c =
-    let values = c.in-Ok-evaluate.ensures.answer.0 in
-    let front = rw c.deref.ensures.value at c.in-Ok-deliver_requested.ensures.answer in
-    (_, delivered_front g.T.Tool.apply _ c.in-Ok.workflow _ _ _ _ _ _ _ c.in-Ok.ensures.answer values c.requires front)
+pub returns-in-Err-build : goal.returns-in-Err-build
+returns-in-Err-build g c =
+    rw (c.requires, c.of_graph_fault.ensures) (graph_answered _ _ _ _ g.T.Tool.apply _ _ _ c.in-Ok.read c.in-Err-build.fault c.in-Ok.ensures.command c.in-Ok.ensures.answer c.in-Err-build.ensures.answer)
 
-pub returns-in-Err-Failed-clause-leaves : goal.returns-in-Err-Failed-clause-leaves
-returns-in-Err-Failed-clause-leaves g c =
-    let values = c.in-Ok-evaluate.ensures.answer.0 in
-    let front = rw (c.in-Err-Failed.field-0-is, c.deref.ensures.value) at c.in-Err-Failed.ensures.answer in
-    (_, _, _, delivered_front g.T.Tool.apply _ c.in-Ok.workflow _ _ _ _ _ _ _ c.in-Ok.ensures.answer values c.requires front.4)
+pub returns-in-Alone : goal.returns-in-Alone
+returns-in-Alone g c =
+    work_answered _ _ _ _ g.T.Tool.apply _ _ c.in-Ok.read c.in-Ok-build.graph _ _ _ _ c.in-Ok.ensures.command c.in-Alone.is c.in-Ok.ensures.answer c.in-Ok-build.ensures.answer c.work.ensures.answer
 
-pub returns-clause-leaves : goal.returns-clause-leaves
-returns-clause-leaves g c =
-    let values = c.in-Ok-evaluate.ensures.answer.0 in
-    let front = rw (c.in-Err-Memory.field-0-is, c.deref.ensures.value) at c.in-Err-Memory.ensures.answer in
-    inr (_, _, _, delivered_front g.T.Tool.apply _ c.in-Ok.workflow _ _ _ _ _ _ _ c.in-Ok.ensures.answer values c.requires front.2)
+pub returns-in-Ok-push_check : goal.returns-in-Ok-push_check
+returns-in-Ok-push_check g c =
+    check_answered _ _ _ _ g.T.Tool.apply _ _ _ c.in-Ok.read _ c.in-Ok.ensures.command c.in-Check.is c.in-Ok.ensures.answer c.in-Ok-build.ensures.answer.sound
+    (c.in-Ok-push_check.ensures ∙ ap (λ (x : List ℕ). x ++ check_lines c.in-Ok.read.workflow) c.requires)

@@ -1,6 +1,6 @@
 use Rattle.std.proofs.Common.{◌≡◌}
 use Rattle.std.specs.Vec.Iter.{into_iter_items}
-use Rattle.workflow_eval.specs.Value.{all_of}
+use Rattle.dependency_graph.specs.Value.{all_of}
 use Rattle.workflow_eval.proofs.Tables.{with_front}
 use Rattle.workflow_eval.proofs.table.take_out.Given as goal
 

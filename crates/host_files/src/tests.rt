@@ -1,0 +1,71 @@
+//! A file and a stream.
+
+use super::*;
+use outside::{DocFault, Docs, Sink, SinkFault, write_all};
+use std::alloc::Global;
+use std::fs;
+use std::rt::Files;
+use std::test::Fail;
+
+const NAME: &str = "host_files_document.txt";
+
+/// What a fetch gave: the text, or the fault.
+fn told<R: Files>(
+    alloc: Global,
+    docs: &mut FolderDocs<R>,
+    name: &str,
+    limit: u64,
+) -> Result<String, Fail> {
+    let mut into = Vec::new(alloc);
+    let answer = docs.fetch(alloc, name, limit, &mut into);
+    let mut line = String::new(alloc);
+    for byte in &into {
+        line.push(char::from(*byte))?;
+    }
+    line.push_str(match answer {
+        Ok(()) => "",
+        Err(DocFault::Absent) => "absent",
+        Err(DocFault::Failed) => "failed",
+        Err(DocFault::TooLong(4)) => "longer than 4",
+        Err(DocFault::TooLong(_)) => "longer",
+        Err(DocFault::Memory) => "memory",
+    })?;
+    Ok(line)
+}
+
+#[test]
+fn documents_of_a_folder(rt: HostRuntime) -> Result<(), Fail> {
+    let alloc = rt.alloc();
+    fs::write(&rt, NAME, "hello")?;
+    let mut docs = FolderDocs::new(rt);
+    let cases = [
+        ("whole", NAME, 5, "hello"),
+        ("at the limit", NAME, 6, "hello"),
+        ("too long", NAME, 4, "longer than 4"),
+        ("absent", "host_files_nothing.txt", 5, "absent"),
+        ("a folder", ".", 5, "failed"),
+    ];
+    for (case, name, limit, wanted) in cases {
+        let line = told(alloc, &mut docs, name, limit)?;
+        assert_eq!(rt; line.as_str(), wanted, "{case}");
+    }
+    assert_eq!(rt; docs.faults(), 1);
+    assert_eq!(rt; docs.misses(), 2);
+    fs::remove_file(&rt, NAME)?;
+    Ok(())
+}
+
+#[test]
+fn a_stream(rt: HostRuntime) -> Result<(), Fail> {
+    let mut bytes = Vec::new(rt.alloc());
+    let mut sink = StreamSink::new(&mut bytes);
+    assert!(rt; write_all(&mut sink, b"hello") == Ok(()));
+    assert_eq!(rt; sink.faults(), 0);
+    assert_eq!(rt; bytes.as_slice(), b"hello".as_slice());
+    let mut room = [0u8; 3];
+    let mut full = StreamSink::new(&mut room[..]);
+    assert!(rt; write_all(&mut full, b"hello") == Err(SinkFault::Failed));
+    assert_eq!(rt; full.faults(), 1);
+    assert_eq!(rt; room.as_slice(), b"hel".as_slice());
+    Ok(())
+}

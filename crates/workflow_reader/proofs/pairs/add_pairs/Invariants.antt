@@ -1,0 +1,6 @@
+use Rattle.std.proofs.Common.{◌≡◌, ◌++◌, drop, map, ℕ, List}
+use Rattle.workflow_reader.specs.Linked.{job_of, pairs_from}
+use Rattle.workflow_reader.proofs.pairs.add_pairs.Given as goal
+
+abbrev pub invariant-loop-child : goal.invariant-loop-child
+invariant-loop-child l = l.pairs.items ++ map (λ (c : List ℕ). (job_of l.ids l.dependency.id, job_of l.ids c)) (drop l.child-index l.dependency.children) ≡ l.fn.pairs.items ++ pairs_from l.ids l.dependency

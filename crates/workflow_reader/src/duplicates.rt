@@ -1,0 +1,85 @@
+//! Jobs that have one id, and a job's uses of one file.
+
+ghost use Rattle.std.specs.Prelude.{◌≡◌, [], not, IfOk, OnOk};
+ghost use Rattle.std.specs.List.{list_any};
+ghost use Rattle.std.specs.Str.{bytes_eq};
+ghost use Rattle.peg_json.specs.AfterTree.{GivesRead};
+ghost use Rattle.peg_json.specs.declared.read_fault.ReadFault.TheVariants.{DuplicateJob};
+ghost use Rattle.workflow_core.specs.Numbering.{with_name};
+ghost use Rattle.workflow_reader.specs.Repeats.{first_repeat, refused};
+ghost use Rattle.workflow_reader.specs.Known.{is_named, inputs_with, outputs_with};
+ghost use Rattle.workflow_reader.specs.Linked.{ids_of, used_once, all_used_once};
+
+use crate::document::{Direction, JobEntry, Use};
+use outside::{Memory, Text};
+use peg_json::ReadFault;
+use std::alloc::Global;
+use workflow_core::Names;
+
+/// The ids of jobs, each once.
+pub fn ids_of(alloc: Global, jobs: &[JobEntry]) -> Result<Names, ReadFault>
+    ensures answer { GivesRead (λ _. tt) result (refused DuplicateJob (first_repeat bytes_eq [] (ids_of jobs.now))) }
+    ensures ids { IfOk result (λ ids. ids ≡ ids_of jobs.now) }
+{
+    let mut ids = Names::new(alloc);
+    for job in jobs {
+        if ids.contains(&job.id) {
+            return Err(ReadFault::DuplicateJob(job.id.copied(alloc)?));
+        }
+        ids.add(alloc, &job.id)?;
+    }
+    Ok(ids)
+}
+
+/// Adds a name, and says whether it is new.
+fn insert(alloc: Global, names: &mut Names, name: &Text) -> Result<bool, Memory>
+    ensures new { IfOk result (λ b. b ≡ not (list_any (bytes_eq name.now) names.old)) }
+    ensures added { OnOk result (names.new ≡ with_name names.old name.now) }
+{
+    let is_new = !names.contains(name);
+    names.add(alloc, name)?;
+    Ok(is_new)
+}
+
+/// Adds a use's file to the inputs or to the outputs, and says whether it is new there.
+fn insert_use(
+    alloc: Global,
+    inputs: &mut Names,
+    outputs: &mut Names,
+    used: &Use,
+) -> Result<bool, Memory>
+    ensures new { IfOk result (λ b. b ≡ not (is_named inputs.old outputs.old used.now)) }
+    ensures inputs { OnOk result (inputs.new ≡ inputs_with inputs.old used.now) }
+    ensures outputs { OnOk result (outputs.new ≡ outputs_with outputs.old used.now) }
+{
+    match used.direction {
+        Direction::Input => insert(alloc, inputs, &used.lfn),
+        Direction::Output => insert(alloc, outputs, &used.lfn),
+    }
+}
+
+fn used_once(alloc: Global, job: &JobEntry) -> Result<(), ReadFault>
+    ensures { GivesRead (λ u. u) result (used_once job.now) }
+{
+    let mut inputs = Names::new(alloc);
+    let mut outputs = Names::new(alloc);
+    for used in job.uses.as_slice() {
+        let is_new = insert_use(alloc, &mut inputs, &mut outputs, used)?;
+        if !is_new {
+            let id = job.id.copied(alloc)?;
+            let lfn = used.lfn.copied(alloc)?;
+            return Err(ReadFault::DuplicateUse(id, lfn));
+        }
+    }
+    Ok(())
+}
+
+/// Refuses a use that is there before in its job.
+pub fn all_used_once(alloc: Global, jobs: &[JobEntry]) -> Result<(), ReadFault>
+    ensures { GivesRead (λ u. u) result (all_used_once jobs.now) }
+{
+    for job in jobs {
+        used_once(alloc, job)?;
+    }
+    Ok(())
+}

@@ -1,0 +1,107 @@
+//! A job's profiles.
+
+ghost use Rattle.std.specs.Prelude.{◌≡◌};
+ghost use Rattle.serde_json.specs.View.{view as tree_view};
+ghost use Rattle.peg_json.specs.Reading.{Gives};
+ghost use Rattle.peg_json.specs.Tables.{rows_of};
+ghost use Rattle.workflow_reader.specs.JobProfiles.{profiles_rows, no_profiles, profiles_or_none};
+
+use crate::pegasus_profiles::PegasusProfiles;
+use crate::selector_profiles::SelectorProfiles;
+use outside::{Memory, Text};
+use peg_json::{
+    FromTree, KeyRow, KeyTable, Kind, Listed, TreeFault, checked, gather, gather_object, row,
+};
+use serde_json::Value;
+use std::alloc::Global;
+
+#[derive(Drop)]
+pub struct Profiles {
+    pub pegasus: PegasusProfiles,
+    pub selector: SelectorProfiles,
+}
+
+const PROFILES: [KeyRow; 2] = [
+    KeyRow {
+        key: "pegasus",
+        kind: Kind::Object,
+        required: false,
+    },
+    KeyRow {
+        key: "selector",
+        kind: Kind::Object,
+        required: false,
+    },
+];
+
+fn profiles_table() -> KeyTable<2>
+    ensures { rows_of result.rows.now ≡ profiles_rows }
+{
+    KeyTable { rows: &PROFILES }
+}
+
+impl Profiles {
+    /// Absent profiles say nothing.
+    pub fn none() -> Profiles
+        ensures { result ≡ no_profiles }
+    {
+        Profiles {
+            pegasus: PegasusProfiles::none(),
+            selector: SelectorProfiles::none(),
+        }
+    }
+}
+
+impl FromTree for Profiles {
+    ghost use Rattle.workflow_reader.specs.declared.profiles.Profiles as declared;
+    ghost use Rattle.workflow_reader.specs.JobProfiles.{profiles_of};
+
+    ghost Seen = { declared.Profiles };
+
+    ghost seen = { λ p. p };
+
+    ghost reads = { profiles_of };
+
+    #[tactic(auto, unfolding(crate::specs::JobProfiles::profiles_of))]
+    fn from_tree(alloc: Global, value: &Value, path: &Text) -> Result<Profiles, TreeFault> {
+        checked(alloc, value, path, &profiles_table())?;
+        let pegasus = row!(alloc, value, path, "pegasus", optional Object PegasusProfiles);
+        let selector = row!(alloc, value, path, "selector", optional Object SelectorProfiles);
+        Ok(Profiles {
+            pegasus: pegasus.unwrap_or(PegasusProfiles::none()),
+            selector: selector.unwrap_or(SelectorProfiles::none()),
+        })
+    }
+}
+
+/// The profiles at a key, or those that say nothing.
+pub fn profiles_or_none(
+    alloc: Global,
+    value: &Value,
+    path: &Text,
+    key: &str,
+) -> Result<Profiles, TreeFault>
+    ensures { Gives (λ p. p) result
+        (profiles_or_none path.now (tree_view value.now) key.now) }
+{
+    let found = row!(alloc, value, path, key, optional Object Profiles);
+    Ok(found.unwrap_or(Profiles::none()))
+}
+
+impl Listed for Profiles {
+    ghost use Rattle.workflow_reader.specs.JobProfiles.{unknown_profiles};
+
+    ghost unknown = { unknown_profiles };
+
+    #[tactic(auto, unfolding(crate::specs::JobProfiles::unknown_profiles))]
+    fn gather(
+        alloc: Global,
+        value: &Value,
+        path: &Text,
+        into: &mut Vec<Text>,
+    ) -> Result<(), Memory> {
+        gather(alloc, value, path, &profiles_table(), into)?;
+        gather_object::<PegasusProfiles>(alloc, value, path, "pegasus", into)?;
+        gather_object::<SelectorProfiles>(alloc, value, path, "selector", into)
+    }
+}

@@ -1,0 +1,50 @@
+//! The reader of whole workflows.
+
+ghost use Rattle.std.specs.Prelude.{◌≡◌, IfOk};
+ghost use Rattle.std.specs.List.Sorted.{IsPermutation, IsSorted};
+ghost use Rattle.std.specs.Ordering.{nat_cmp};
+ghost use Rattle.std.specs.Cmp.Lexicographic.{slice_cmp};
+ghost use Rattle.serde_json.specs.View.{view as tree_view};
+ghost use Rattle.peg_json.specs.AfterTree.{GivesRead};
+ghost use Rattle.workflow_core.specs.View.{view};
+ghost use Rattle.workflow_core.specs.WellFormed.{IsWellFormed};
+ghost use Rattle.workflow_reader.specs.Read.{from_tree_of, read_of, unknown_in_text};
+ghost use Rattle.workflow_reader.specs.Root.{unknown_of};
+
+use crate::document::Document;
+use crate::linking::workflow_of;
+use outside::Text;
+use peg_json::{FromTree, ReadFault, ignored_below, parse, root};
+use serde_json::Value;
+use std::alloc::Global;
+use workflow_core::Workflow;
+
+/// Reads the tree of a workflow's document, which stands under a path.
+#[tactic(auto, unfolding(crate::specs::Read::from_tree_of))]
+pub fn from_tree(alloc: Global, value: &Value, path: &Text) -> Result<Workflow, ReadFault>
+    ensures answer { GivesRead view result (from_tree_of path.now (tree_view value.now)) }
+    ensures ignored { IfOk result
+        (λ w. IsPermutation (unknown_of path.now (tree_view value.now)) w.ignored) }
+    ensures order { IfOk result (λ w. IsSorted (slice_cmp nat_cmp) w.ignored) }
+    ensures well_formed { IfOk result (λ w. IsWellFormed w) }
+{
+    let document = Document::from_tree(alloc, value, path)?;
+    let ignored = ignored_below::<Document>(alloc, value, path)?;
+    let workflow = workflow_of(alloc, document, ignored)?;
+    Ok(workflow)
+}
+
+/// Reads a workflow's document of at most 10,000 jobs and 50,000 files.
+#[tactic(auto, unfolding(crate::specs::Read::read_of, crate::specs::Read::unknown_in_text))]
+pub fn read(alloc: Global, bytes: &[u8]) -> Result<Workflow, ReadFault>
+    ensures answer { GivesRead view result (read_of bytes.now) }
+    ensures ignored { IfOk result
+        (λ w. IsPermutation (unknown_in_text bytes.now) w.ignored) }
+    ensures order { IfOk result (λ w. IsSorted (slice_cmp nat_cmp) w.ignored) }
+    ensures well_formed { IfOk result (λ w. IsWellFormed w) }
+{
+    let value = parse(alloc, bytes)?;
+    let start = root(alloc)?;
+    let workflow = from_tree(alloc, &value, &start)?;
+    Ok(workflow)
+}

@@ -1,0 +1,71 @@
+//! A job's profiles of `selector`.
+
+ghost use Rattle.std.specs.Prelude.{◌≡◌};
+ghost use Rattle.peg_json.specs.Tables.{rows_of};
+ghost use Rattle.workflow_reader.specs.SelectorProfile.{selector_rows, no_selector};
+
+use outside::{Memory, Text};
+use peg_json::{FromTree, KeyRow, KeyTable, Kind, Listed, TreeFault, checked, gather, row};
+use serde_json::Value;
+use std::alloc::Global;
+
+/// The site that a job is pinned to.
+#[derive(Drop)]
+pub struct SelectorProfiles {
+    pub site: Option<Text>,
+}
+
+const SELECTOR: [KeyRow; 1] = [KeyRow {
+    key: "execution.site",
+    kind: Kind::Text,
+    required: false,
+}];
+
+fn selector_table() -> KeyTable<1>
+    ensures { rows_of result.rows.now ≡ selector_rows }
+{
+    KeyTable { rows: &SELECTOR }
+}
+
+impl SelectorProfiles {
+    /// Absent profiles say nothing.
+    pub fn none() -> SelectorProfiles
+        ensures { result ≡ no_selector }
+    {
+        SelectorProfiles { site: None }
+    }
+}
+
+impl FromTree for SelectorProfiles {
+    ghost use Rattle.workflow_reader.specs.declared.selector_profiles.SelectorProfiles as declared;
+    ghost use Rattle.workflow_reader.specs.SelectorProfile.{selector_of};
+
+    ghost Seen = { declared.SelectorProfiles };
+
+    ghost seen = { λ p. p };
+
+    ghost reads = { selector_of };
+
+    #[tactic(auto, unfolding(crate::specs::SelectorProfile::selector_of))]
+    fn from_tree(alloc: Global, value: &Value, path: &Text) -> Result<SelectorProfiles, TreeFault> {
+        checked(alloc, value, path, &selector_table())?;
+        let site = row!(alloc, value, path, "execution.site", optional Text);
+        Ok(SelectorProfiles { site })
+    }
+}
+
+impl Listed for SelectorProfiles {
+    ghost use Rattle.workflow_reader.specs.SelectorProfile.{unknown_selector};
+
+    ghost unknown = { unknown_selector };
+
+    #[tactic(auto, unfolding(crate::specs::SelectorProfile::unknown_selector))]
+    fn gather(
+        alloc: Global,
+        value: &Value,
+        path: &Text,
+        into: &mut Vec<Text>,
+    ) -> Result<(), Memory> {
+        gather(alloc, value, path, &selector_table(), into)
+    }
+}
