@@ -1,5 +1,5 @@
 -- What the objects in memory hold.
-use Rattle.std.specs.Prelude.{ℕ, ◌+◌, ◌-◌, ◌^◌, ◌==◌, min, Bool, List}
+use Rattle.std.specs.Prelude.{ℕ, ◌+◌, ◌-◌, ◌^◌, ◌==◌, ◌&&◌, ◌||◌, min, Bool, nat_lt, nat_le, length, List}
 use Rattle.std.specs.List.{list_any}
 use Rattle.outside.specs.Files.{Files, files_of}
 use Rattle.outside.specs.declared.memory_docs.MemoryDocs.{MemoryDocs}
@@ -25,6 +25,12 @@ docs_files d = files_of d.files.entries
 abbrev pub docs_failing : MemoryDocs → Failing
 docs_failing d = d.failing
 
+abbrev pub docs_faults : MemoryDocs → ℕ
+docs_faults d = d.faults
+
+abbrev pub docs_misses : MemoryDocs → ℕ
+docs_misses d = d.misses
+
 -- the bytes written
 abbrev pub sink_bytes : MemorySink → List ℕ
 sink_bytes s = s.bytes.items
@@ -32,9 +38,30 @@ sink_bytes s = s.bytes.items
 abbrev pub sink_failing : MemorySink → Failing
 sink_failing s = s.failing
 
+abbrev pub sink_faults : MemorySink → ℕ
+sink_faults s = s.faults
+
+-- how many bytes it takes in all, and how many in one write
+abbrev pub sink_room : MemorySink → ℕ
+sink_room s = s.room
+
+abbrev pub sink_most : MemorySink → ℕ
+sink_most s = s.most
+
+-- the write of a piece is to fail: its number is listed, or there is a byte to write and no room
+abbrev pub refuses_next : MemorySink → List ℕ → Bool
+refuses_next s piece = fails_next s.failing || (nat_lt 0 (length piece) && nat_le s.room (length s.bytes.items))
+
+-- how many bytes of a piece a write takes that does not fail
+abbrev pub takes_next : MemorySink → List ℕ → ℕ
+takes_next s piece = min (min (length piece) s.most) (s.room - length s.bytes.items)
+
 -- the files delivered
 abbrev pub host_files : MemoryHost → Files
 host_files h = files_of h.delivered.entries
 
 abbrev pub host_failing : MemoryHost → Failing
 host_failing h = h.failing
+
+abbrev pub host_faults : MemoryHost → ℕ
+host_faults h = h.faults

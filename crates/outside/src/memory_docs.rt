@@ -20,13 +20,15 @@ pub struct MemoryDocs {
 }
 
 impl MemoryDocs {
-    ghost use Rattle.outside.specs.Memories.{docs_files, docs_failing, failing_calls, calls_made};
+    ghost use Rattle.outside.specs.Memories.{docs_files, docs_failing, docs_faults, docs_misses, failing_calls, calls_made};
 
     /// No document. `failing` lists the fetches that are to fail, by number from 1.
     pub fn new(alloc: Global, failing: Vec<u64>) -> MemoryDocs
         ensures files { docs_files result ≡ map.empty }
         ensures failing { failing_calls (docs_failing result) ≡ failing.items }
         ensures calls { calls_made (docs_failing result) ≡ 0 }
+        ensures faults { docs_faults result ≡ 0 }
+        ensures misses { docs_misses result ≡ 0 }
     {
         MemoryDocs {
             files: BTreeMap::new(alloc),
@@ -41,6 +43,8 @@ impl MemoryDocs {
         ensures ok { OnOk result (docs_files self.new ≡ map.insert (docs_files self.old) name.now bytes.now) }
         ensures err { OnErr result (docs_files self.new ≡ docs_files self.old) }
         ensures failing { docs_failing self.new ≡ docs_failing self.old }
+        ensures faults { docs_faults self.new ≡ docs_faults self.old }
+        ensures misses { docs_misses self.new ≡ docs_misses self.old }
     {
         let name = String::from_str(alloc, name)?;
         let bytes = Vec::from_slice(alloc, bytes)?;

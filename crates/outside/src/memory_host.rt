@@ -19,13 +19,14 @@ pub struct MemoryHost {
 }
 
 impl MemoryHost {
-    ghost use Rattle.outside.specs.Memories.{host_files, host_failing, failing_calls, calls_made};
+    ghost use Rattle.outside.specs.Memories.{host_files, host_failing, host_faults, failing_calls, calls_made};
 
     /// No file. `failing` lists the calls that are to fail, by number from 1.
     pub fn new(alloc: Global, failing: Vec<u64>) -> MemoryHost
         ensures files { host_files result ≡ map.empty }
         ensures failing { failing_calls (host_failing result) ≡ failing.items }
         ensures calls { calls_made (host_failing result) ≡ 0 }
+        ensures faults { host_faults result ≡ 0 }
     {
         MemoryHost {
             delivered: BTreeMap::new(alloc),

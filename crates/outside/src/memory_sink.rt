@@ -1,6 +1,6 @@
 //! A sink in memory.
 
-ghost use Rattle.std.specs.Prelude.{◌≡◌, ◌≤◌, ◌<◌, ℕ, List, [], Option, Some, IfOk};
+ghost use Rattle.std.specs.Prelude.{◌≡◌, ◌≤◌, ◌<◌, ℕ, List, [], Option, Some, IfOk, vec_capacity, length};
 
 use crate::failing::Failing;
 use crate::memory::Memory;
@@ -16,10 +16,12 @@ pub struct MemorySink {
     failing: Failing,
     faults: u64,
     ghost most_is_not_none: { 0 < most },
+    ghost room_is_reserved: { room ≤ vec_capacity bytes },
+    ghost room_is_kept: { length bytes.items ≤ room },
 }
 
 impl MemorySink {
-    ghost use Rattle.outside.specs.Memories.{sink_bytes, sink_failing, failing_calls, calls_made};
+    ghost use Rattle.outside.specs.Memories.{sink_bytes, sink_failing, sink_faults, sink_room, sink_most, failing_calls, calls_made};
 
     /// Nothing written. `failing` lists the writes that are to fail, by number from 1.
     pub fn new(
@@ -32,6 +34,9 @@ impl MemorySink {
         ensures bytes { IfOk result (λ s. sink_bytes s ≡ []) }
         ensures failing { IfOk result (λ s. failing_calls (sink_failing s) ≡ failing.items) }
         ensures calls { IfOk result (λ s. calls_made (sink_failing s) ≡ 0) }
+        ensures faults { IfOk result (λ s. sink_faults s ≡ 0) }
+        ensures room { IfOk result (λ s. sink_room s ≡ room) }
+        ensures most { IfOk result (λ s. sink_most s ≡ most) }
     {
         let bytes = Vec::with_capacity(alloc, room)?;
         Ok(MemorySink {
@@ -53,7 +58,8 @@ impl MemorySink {
 impl Sink for MemorySink {
     ghost use Rattle.outside.specs.Counts.{Rose};
     ghost use Rattle.outside.specs.Sink.{Wrote};
-    ghost use Rattle.std.specs.Prelude.{Some};
+    ghost use Rattle.std.specs.Prelude.{Some, true, ◌↔◌, IsErr};
+    ghost use Rattle.outside.specs.Memories.{sink_bytes, refuses_next, takes_next};
 
     ghost written = { λ s. Some s.bytes.items };
 
@@ -63,7 +69,12 @@ impl Sink for MemorySink {
         self.faults
     }
 
-    fn write(&mut self, piece: &[u8]) -> Result<usize, SinkFault> {
+    fn write(&mut self, piece: &[u8]) -> Result<usize, SinkFault>
+        ensures answer { Wrote (Some (sink_bytes self.old)) (Some (sink_bytes self.new)) (Rose self.old.faults self.new.faults) piece.now result }
+        ensures faults { self.old.faults ≤ self.new.faults }
+        ensures failed { IsErr result ↔ (refuses_next self.old piece.now ≡ true) }
+        ensures taken { IfOk result (λ n. n ≡ takes_next self.old piece.now) }
+    {
         let fails = self.failing.call();
         let full = self.bytes.len() >= self.room && !piece.is_empty();
         if fails || full {
