@@ -1,3 +1,4 @@
 pub mod Appearances
 pub mod Bools
+pub mod Checked
 pub mod NumberedNames

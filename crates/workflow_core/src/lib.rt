@@ -4,8 +4,14 @@
 //! and every planning call asks of one.
 #![tactic(auto)]
 
+mod checking;
+mod law;
 mod names;
+#[cfg(test)]
+mod tests;
 mod workflow;
 
+pub use checking::is_well_formed;
+pub use law::names_are_numbered;
 pub use names::Names;
 pub use workflow::{Inlined, Job, Output, Transformation, Workflow};
