@@ -113,51 +113,63 @@ fn told(rt: HostRuntime, fault: TreeFault) -> Result<String, Fail> {
     }
 }
 
+/// The first fault of a text as a line, or `none`.
+fn fault_of(rt: HostRuntime, text: &str) -> Result<String, Fail> {
+    match read_sample(rt.alloc(), text.as_bytes()) {
+        Ok(_) => Ok(String::from_str(rt.alloc(), "none")?),
+        Err(fault) => told(rt, fault),
+    }
+}
+
 #[test]
-fn first_faults(rt: HostRuntime) -> Result<(), Fail> {
+fn faults_of_one_key(rt: HostRuntime) -> Result<(), Fail> {
     let cases = [
         ("{\"name\": \"a\"}", "none"),
         ("{\"name\": \"a\"", "syntax"),
         ("{\"name\": \"a\",}", "syntax"),
         ("[]", "kind "),
         ("{}", "missing /name"),
-        ("{\"name\": null, \"flag\": 1}", "missing /name"),
         ("{\"name\": \"\"}", "kind /name"),
-        ("{\"flag\": 1, \"text\": 2, \"name\": \"a\"}", "kind /text"),
-        (
-            "{\"name\": \"a\", \"flag\": null, \"parts\": {}}",
-            "kind /parts",
-        ),
         ("{\"name\": \"a\", \"sizes\": []}", "kind /sizes"),
         ("{\"name\": \"a\", \"count\": true}", "kind /count"),
         ("{\"name\": \"a\", \"a/b~c\": [1, {}]}", "none"),
+    ];
+    for (text, wanted) in cases {
+        assert_eq!(rt; fault_of(rt, text)?.as_str(), wanted);
+    }
+    Ok(())
+}
+
+#[test]
+fn faults_behind_others(rt: HostRuntime) -> Result<(), Fail> {
+    let cases = [
+        ("\"name\": null, \"flag\": 1", "missing /name"),
+        ("\"flag\": 1, \"text\": 2, \"name\": \"a\"", "kind /text"),
         (
-            "{\"name\": \"a\", \"parts\": [\"p\", \"\", 3]}",
-            "kind /parts/1",
-        ),
-        (
-            "{\"name\": \"a\", \"parts\": [\"p\", null]}",
-            "kind /parts/1",
-        ),
-        (
-            "{\"name\": \"a\", \"size\": 1099511627777, \"parts\": [3]}",
-            "range /size 1099511627777",
-        ),
-        (
-            "{\"name\": \"a\", \"parts\": 3, \"size\": 1099511627777}",
+            "\"name\": \"a\", \"flag\": null, \"parts\": {}",
             "kind /parts",
         ),
         (
-            "{\"name\": \"a\", \"sizes\": {\"b\": 1, \"a/\": null}}",
+            "\"name\": \"a\", \"parts\": [\"p\", \"\", 3]",
+            "kind /parts/1",
+        ),
+        ("\"name\": \"a\", \"parts\": [\"p\", null]", "kind /parts/1"),
+        (
+            "\"name\": \"a\", \"size\": 1099511627777, \"parts\": [3]",
+            "range /size 1099511627777",
+        ),
+        (
+            "\"name\": \"a\", \"parts\": 3, \"size\": 1099511627777",
+            "kind /parts",
+        ),
+        (
+            "\"name\": \"a\", \"sizes\": {\"b\": 1, \"a/\": null}",
             "kind /sizes/a~1",
         ),
     ];
-    for (text, wanted) in cases {
-        let line = match read_sample(rt.alloc(), text.as_bytes()) {
-            Ok(_) => String::from_str(rt.alloc(), "none")?,
-            Err(fault) => told(rt, fault)?,
-        };
-        assert_eq!(rt; line.as_str(), wanted);
+    for (members, wanted) in cases {
+        let text = format!(in rt.alloc(); "{{{members}}}")?;
+        assert_eq!(rt; fault_of(rt, text.as_str())?.as_str(), wanted);
     }
     Ok(())
 }

@@ -3,14 +3,10 @@ use Rattle.std.proofs.Common.{◌≡◌, ℕ, ◌+◌, ◌≤◌, Bool, true, fa
 use Rattle.std.proofs.lemmas.Grind.{common_steps}
 use Rattle.std.proofs.lemmas.List.Folds.{list_any-append}
 use Rattle.std.proofs.lemmas.List.{append-nil}
-use Rattle.std.specs.List.{list_any, position, prefix_len, flat_map}
+use Rattle.std.specs.List.{list_any, position, prefix_len}
 use Rattle.std.specs.Str.{bytes_eq}
 use Rattle.std.specs.Cmp.Lexicographic.{bytes_decides}
 use Rattle.workflow_core.specs.Numbering.{distinct, number, with_name, with_names}
-
-pub appended : (names xs ys : List (List ℕ)) → with_names names (xs ++ ys) ≡ with_names (with_names names xs) ys
-appended names [] ys = refl
-appended names (x ∷ xs) ys = appended (with_name names x) xs ys
 
 -- those that are not yet among the names
 abbrev fresh : List (List ℕ) → List ℕ → Bool
@@ -101,17 +97,3 @@ number_within names n = prefix_long (λ x. not (bytes_eq n x)) names
 
 pub number_found : (names : List (List ℕ)) (n : List ℕ) → unwrap_or (position (bytes_eq n) names) (length names) ≡ number names n
 number_found names n = grind (arith, common_steps, number_within names n)
-
--- a loop over what holds names
-pub named_more : {A : Type 0} (f : A → List (List ℕ)) (names new all : List (List ℕ)) (xs rest : List A) (x : A) → xs ≡ x ∷ rest → new ≡ with_names names (f x) → with_names names (flat_map f xs) ≡ all → with_names new (flat_map f rest) ≡ all
-named_more {A} f names new all xs rest x cut grows so_far =
-    ap (λ (ns : List (List ℕ)). with_names ns (flat_map f rest)) grows
-    ∙ sym (appended names (f x) (flat_map f rest))
-    ∙ sym (ap (λ (ys : List A). with_names names (flat_map f ys)) cut)
-    ∙ so_far
-
-pub named_all : {A : Type 0} (f : A → List (List ℕ)) (names : List (List ℕ)) (xs rest : List A) → rest ≡ [] → with_names names (flat_map f rest) ≡ with_names [] (flat_map f xs) → names ≡ distinct (flat_map f xs)
-named_all {A} f names xs rest nothing so_far =
-    sym (ap (λ (ys : List A). with_names names (flat_map f ys)) nothing)
-    ∙ so_far
-    ∙ distinct_names (flat_map f xs)

@@ -1,5 +1,5 @@
 -- Tests joined by and, or and not.
-use Rattle.std.proofs.Common.{◌≡◌, ℕ, ◌<◌, Bool, true, false, not, ◌&&◌, ◌||◌, refl, ap, ◌∙◌, nat_lt, arith}
+use Rattle.std.proofs.Common.{◌≡◌, ℕ, ◌<◌, Bool, true, false, ◌&&◌, ◌||◌, refl, ap, ◌∙◌, nat_lt, arith}
 
 pub and_both : (a b : Bool) → a ≡ true → b ≡ true → (a && b) ≡ true
 and_both a b h k = ap (λ (c : Bool). c && b) h ∙ k
@@ -19,9 +19,8 @@ pub or_second : (a b : Bool) → b ≡ true → (a || b) ≡ true
 or_second true b h = refl
 or_second false b h = h
 
-pub not_true : (b : Bool) → not b ≡ true → b ≡ false
-not_true true h = absurd cc
-not_true false h = refl
-
 pub below : (f n : ℕ) → nat_lt f n ≡ true → f < n
 below f n h = grind arith
+
+pub is_below : (f n : ℕ) → f < n → nat_lt f n ≡ true
+is_below f n h = grind arith

@@ -7,8 +7,7 @@ use Rattle.workflow_core.specs.declared.workflow.Workflow.{Workflow}
 use Rattle.workflow_core.specs.declared.workflow.Job.{Job}
 use Rattle.workflow_core.specs.WellFormed.{are_distinct, inputs_of, outputs_of, before, after, IsJobOver, IsWellFormed}
 use Rattle.workflow_core.specs.Checks.{are_files, is_job_over, is_pair_of, are_few, are_named, are_numbered, passes}
-use Rattle.workflow_core.proofs.Bools.{and_both, and_first, and_second, below}
-use Rattle.workflow_core.proofs.NumberedNames.{lt_test}
+use Rattle.workflow_core.proofs.Bools.{and_both, and_first, and_second, below, is_below}
 
 -- a test at each element
 all_of : {A : Type 0} (p : A → Bool) (P : A → Type 0) → ((x : A) → p x ≡ true → P x) → (xs : List A) → list_all p xs ≡ true → AllByRecursion P xs
@@ -35,7 +34,7 @@ files_below : (n : ℕ) (fs : List ℕ) → are_files n fs ≡ true → AllByRec
 files_below n fs h = all_of (λ f. nat_lt f n) (λ f. f < n) (λ f. below f n) fs (and_first _ _ h)
 
 below_files : (n : ℕ) (fs : List ℕ) → AllByRecursion (λ f. f < n) fs → are_distinct nat_eq fs ≡ true → are_files n fs ≡ true
-below_files n fs h once = and_both _ _ (each_of (λ f. nat_lt f n) (λ f. f < n) (λ f. lt_test f n) fs h) once
+below_files n fs h once = and_both _ _ (each_of (λ f. nat_lt f n) (λ f. f < n) (λ f. is_below f n) fs h) once
 
 job_passes : (n : ℕ) (j : Job) → is_job_over n j ≡ true → IsJobOver n j
 job_passes n j h =
@@ -58,7 +57,7 @@ pair_passes : (n : ℕ) (p : JobId × JobId) → is_pair_of n p ≡ true → IsP
 pair_passes n p h = (below (before p) n (and_first _ _ h), below (after p) n (and_second _ _ h))
 
 passes_pair : (n : ℕ) (p : JobId × JobId) → IsPairOf n p → is_pair_of n p ≡ true
-passes_pair n p h = and_both _ _ (lt_test (before p) n h.0) (lt_test (after p) n h.1)
+passes_pair n p h = and_both _ _ (is_below (before p) n h.0) (is_below (after p) n h.1)
 
 passed : (w : Workflow) → passes w ≡ true → IsWellFormed w
 passed w h =

@@ -1,5 +1,5 @@
 -- The numbers of distinct names.
-use Rattle.std.proofs.Common.{◌≡◌, ℕ, zero, suc, ◌+◌, ◌<◌, Bool, true, false, not, cond, ◌&&◌, ◌||◌, List, [], ◌∷◌, ◌++◌, length, filter, get_or, refl, sym, ap, subst, ◌∙◌, nat_lt, nat_eq, append_assoc, arith}
+use Rattle.std.proofs.Common.{◌≡◌, ℕ, ◌+◌, ◌<◌, Bool, true, false, not, cond, ◌||◌, List, [], ◌∷◌, ◌++◌, length, refl, sym, ap, subst, ◌∙◌, nat_eq, append_assoc, arith}
 use Rattle.std.proofs.lemmas.List.Folds.{list_any-append}
 use Rattle.std.specs.List.{list_any, list_all}
 use Rattle.std.specs.Str.{bytes_eq}
@@ -9,19 +9,8 @@ use Rattle.workflow_core.specs.WellFormed.{are_new, are_distinct}
 use Rattle.workflow_core.proofs.Appearances.{distinct_names}
 use Rattle.workflow_core.proofs.Bools.{and_both, and_first, and_second, or_first, or_second}
 
-pub weaken : {X : Type 0} (p q : X → Bool) → ((x : X) → p x ≡ true → q x ≡ true) → (xs : List X) → list_all p xs ≡ true → list_all q xs ≡ true
-weaken p q so [] h = refl
-weaken p q so (x ∷ xs) h = and_both (q x) (list_all q xs) (so x (and_first (p x) (list_all p xs) h)) (weaken p q so xs (and_second (p x) (list_all p xs) h))
-
 pub own_name : (n : List ℕ) → bytes_eq n n ≡ true
 own_name n = (bytes_decides n n).1 refl
-
-pub not_other : (m n : List ℕ) → bytes_eq n m ≡ false → bytes_eq m n ≡ false
-not_other m n h = by (bytes_eq m n) refl
-  where
-    by : (b : Bool) → bytes_eq m n ≡ b → b ≡ false
-    by true e = absurd (let is : bytes_eq n m ≡ true = (bytes_decides n m).1 (sym ((bytes_decides m n).0 e)) in cc)
-    by false e = refl
 
 pub number_known : (names : List (List ℕ)) (m : List ℕ) → list_any (bytes_eq m) names ≡ true → number names m < length names
 number_known [] m h = absurd cc
@@ -52,73 +41,6 @@ with_names_keep names (n ∷ ns) m h = with_names_keep (with_name names n) ns m 
 pub all_known : (names ns : List (List ℕ)) → list_all (λ m. list_any (bytes_eq m) (with_names names ns)) ns ≡ true
 all_known names [] = refl
 all_known names (n ∷ ns) = and_both _ _ (with_names_keep (with_name names n) ns n (with_name_has names n)) (all_known (with_name names n) ns)
-
-pub lt_test : (f n : ℕ) → f < n → nat_lt f n ≡ true
-lt_test f n h = grind arith
-
-pub all_numbered : (ns : List (List ℕ)) → list_all (λ m. nat_lt (number (distinct ns) m) (length (distinct ns))) ns ≡ true
-all_numbered ns =
-    weaken (λ m. list_any (bytes_eq m) (distinct ns)) (λ m. nat_lt (number (distinct ns) m) (length (distinct ns)))
-    (λ m known. lt_test (number (distinct ns) m) (length (distinct ns)) (number_known (distinct ns) m known))
-    ns
-    (subst (λ (names : List (List ℕ)). list_all (λ m. list_any (bytes_eq m) names) ns ≡ true) (distinct_names ns) (all_known [] ns))
-
--- each name is none of the later ones
-abbrev pub apart : List (List ℕ) → Bool
-apart [] = true
-apart (n ∷ ns) = not (list_any (bytes_eq n) ns) && apart ns
-
-pub none_filtered : {X : Type 0} (p q : X → Bool) (xs : List X) → not (list_any p xs) ≡ true → not (list_any p (filter q xs)) ≡ true
-none_filtered p q [] h = refl
-none_filtered {X} p q (x ∷ xs) h = by (p x) (q x) h (λ rest. none_filtered p q xs rest) refl
-  where
-    by : (a b : Bool) → not (a || list_any p xs) ≡ true → (not (list_any p xs) ≡ true → not (list_any p (filter q xs)) ≡ true) → p x ≡ a → not (list_any p (cond b (x ∷ filter q xs) (filter q xs))) ≡ true
-    by true b k rest e = absurd cc
-    by false true k rest e = ap (λ (c : Bool). not (c || list_any p (filter q xs))) e ∙ rest k
-    by false false k rest e = rest k
-
-pub apart_filtered : (q : List ℕ → Bool) (ns : List (List ℕ)) → apart ns ≡ true → apart (filter q ns) ≡ true
-apart_filtered q [] h = refl
-apart_filtered q (n ∷ ns) h = by (q n) (apart_filtered q ns (and_second (not (list_any (bytes_eq n) ns)) (apart ns) h))
-  where
-    by : (b : Bool) → apart (filter q ns) ≡ true → apart (cond b (n ∷ filter q ns) (filter q ns)) ≡ true
-    by true rest = and_both _ _ (none_filtered (bytes_eq n) q ns (and_first (not (list_any (bytes_eq n) ns)) (apart ns) h)) rest
-    by false rest = rest
-
-pub others : (n : List ℕ) (ns : List (List ℕ)) → not (list_any (bytes_eq n) (filter (λ m. not (bytes_eq m n)) ns)) ≡ true
-others n [] = refl
-others n (m ∷ ns) = by (bytes_eq m n) refl (others n ns)
-  where
-    by : (b : Bool) → bytes_eq m n ≡ b → not (list_any (bytes_eq n) (filter (λ m. not (bytes_eq m n)) ns)) ≡ true → not (list_any (bytes_eq n) (cond (not b) (m ∷ filter (λ m. not (bytes_eq m n)) ns) (filter (λ m. not (bytes_eq m n)) ns))) ≡ true
-    by true e rest = rest
-    by false e rest = ap (λ (c : Bool). not (c || list_any (bytes_eq n) (filter (λ m. not (bytes_eq m n)) ns))) (not_other n m e) ∙ rest
-
-pub distinct_apart : (ns : List (List ℕ)) → apart (distinct ns) ≡ true
-distinct_apart [] = refl
-distinct_apart (n ∷ ns) = and_both _ _ (others n (distinct ns)) (apart_filtered (λ m. not (bytes_eq m n)) (distinct ns) (distinct_apart ns))
-
-pub none_at : (n : List ℕ) (ns : List (List ℕ)) (i : ℕ) (d : List ℕ) → not (list_any (bytes_eq n) ns) ≡ true → i < length ns → bytes_eq n (get_or ns i d) ≡ false
-none_at n [] i d h k = absurd (omega arith)
-none_at n (m ∷ ns) zero d h k = by (bytes_eq n m) h
-  where
-    by : (a : Bool) → not (a || list_any (bytes_eq n) ns) ≡ true → a ≡ false
-    by true e = absurd cc
-    by false e = refl
-none_at n (m ∷ ns) (suc i) d h k = none_at n ns i d (by (bytes_eq n m) h) (omega arith)
-  where
-    by : (a : Bool) → not (a || list_any (bytes_eq n) ns) ≡ true → not (list_any (bytes_eq n) ns) ≡ true
-    by true e = absurd cc
-    by false e = e
-
--- the name at a place has that number
-pub number_at : (names : List (List ℕ)) (i : ℕ) (d : List ℕ) → apart names ≡ true → i < length names → number names (get_or names i d) ≡ i
-number_at [] i d h k = absurd (omega arith)
-number_at (n ∷ names) zero d h k = ap (λ (b : Bool). cond (not b) (1 + number names n) 0) (own_name n)
-number_at (n ∷ names) (suc i) d h k =
-    let m = get_or names i d in
-    ap (λ (b : Bool). cond (not b) (1 + number names (get_or names i d)) 0) (not_other (get_or names i d) n (none_at n names i d (and_first (not (list_any (bytes_eq n) names)) (apart names) h) (omega arith)))
-    ∙ ap (λ (j : ℕ). 1 + j) (number_at names i d (and_second (not (list_any (bytes_eq n) names)) (apart names) h) (omega arith))
-    ∙ (let e : 1 + i ≡ suc i = omega arith in e)
 
 -- a number belongs to one name
 pub same_number : (names : List (List ℕ)) (a b : List ℕ) → list_any (bytes_eq a) names ≡ true → number names a ≡ number names b → bytes_eq a b ≡ true
