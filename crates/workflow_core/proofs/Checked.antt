@@ -7,16 +7,22 @@ use Rattle.workflow_core.specs.declared.workflow.Workflow.{Workflow}
 use Rattle.workflow_core.specs.declared.workflow.Job.{Job}
 use Rattle.workflow_core.specs.WellFormed.{are_distinct, inputs_of, outputs_of, before, after, IsJobOver, IsWellFormed}
 use Rattle.workflow_core.specs.Checks.{are_files, is_job_over, is_pair_of, are_few, are_named, are_numbered, passes}
-use Rattle.workflow_core.proofs.Bools.{and_both, and_first, and_second, below, is_below}
+use Rattle.std.proofs.lemmas.Bool.{and_from, and_parts}
 
 -- a test at each element
 all_of : {A : Type 0} (p : A → Bool) (P : A → Type 0) → ((x : A) → p x ≡ true → P x) → (xs : List A) → list_all p xs ≡ true → AllByRecursion P xs
 all_of p P so [] h = tt
-all_of p P so (x ∷ xs) h = (so x (and_first (p x) (list_all p xs) h), all_of p P so xs (and_second (p x) (list_all p xs) h))
+all_of p P so (x ∷ xs) h = (so x (and_parts (p x) (list_all p xs) h).0, all_of p P so xs (and_parts (p x) (list_all p xs) h).1)
 
 each_of : {A : Type 0} (p : A → Bool) (P : A → Type 0) → ((x : A) → P x → p x ≡ true) → (xs : List A) → AllByRecursion P xs → list_all p xs ≡ true
 each_of p P so [] h = refl
-each_of p P so (x ∷ xs) h = and_both (p x) (list_all p xs) (so x h.0) (each_of p P so xs h.1)
+each_of p P so (x ∷ xs) h = and_from (p x) (list_all p xs) (so x h.0) (each_of p P so xs h.1)
+
+below : (f n : ℕ) → nat_lt f n ≡ true → f < n
+below f n h = grind arith
+
+is_below : (f n : ℕ) → f < n → nat_lt f n ≡ true
+is_below f n h = grind arith
 
 at_most : (a b : ℕ) → nat_le a b ≡ true → a ≤ b
 at_most a b h = grind arith
@@ -31,57 +37,57 @@ eq_test : (a b : ℕ) → a ≡ b → nat_eq a b ≡ true
 eq_test a b h = grind arith
 
 files_below : (n : ℕ) (fs : List ℕ) → are_files n fs ≡ true → AllByRecursion (λ f. f < n) fs
-files_below n fs h = all_of (λ f. nat_lt f n) (λ f. f < n) (λ f. below f n) fs (and_first _ _ h)
+files_below n fs h = all_of (λ f. nat_lt f n) (λ f. f < n) (λ f. below f n) fs (and_parts _ _ h).0
 
 below_files : (n : ℕ) (fs : List ℕ) → AllByRecursion (λ f. f < n) fs → are_distinct nat_eq fs ≡ true → are_files n fs ≡ true
-below_files n fs h once = and_both _ _ (each_of (λ f. nat_lt f n) (λ f. f < n) (λ f. is_below f n) fs h) once
+below_files n fs h once = and_from _ _ (each_of (λ f. nat_lt f n) (λ f. f < n) (λ f. is_below f n) fs h) once
 
 job_passes : (n : ℕ) (j : Job) → is_job_over n j ≡ true → IsJobOver n j
 job_passes n j h =
-    let ins = and_first (are_files n (inputs_of j)) (are_files n (outputs_of j)) h in
-    let outs = and_second (are_files n (inputs_of j)) (are_files n (outputs_of j)) h in
+    let ins = (and_parts (are_files n (inputs_of j)) (are_files n (outputs_of j)) h).0 in
+    let outs = (and_parts (are_files n (inputs_of j)) (are_files n (outputs_of j)) h).1 in
     record {
       inputs = files_below n (inputs_of j) ins;
       outputs = files_below n (outputs_of j) outs;
-      inputs_once = and_second _ _ ins;
-      outputs_once = and_second _ _ outs;
+      inputs_once = (and_parts _ _ ins).1;
+      outputs_once = (and_parts _ _ outs).1;
     }
 
 passes_job : (n : ℕ) (j : Job) → IsJobOver n j → is_job_over n j ≡ true
-passes_job n j h = and_both _ _ (below_files n (inputs_of j) h.inputs h.inputs_once) (below_files n (outputs_of j) h.outputs h.outputs_once)
+passes_job n j h = and_from _ _ (below_files n (inputs_of j) h.inputs h.inputs_once) (below_files n (outputs_of j) h.outputs h.outputs_once)
 
 abbrev IsPairOf : ℕ → JobId × JobId → Type 0
 IsPairOf n p = (before p < n) × (after p < n)
 
 pair_passes : (n : ℕ) (p : JobId × JobId) → is_pair_of n p ≡ true → IsPairOf n p
-pair_passes n p h = (below (before p) n (and_first _ _ h), below (after p) n (and_second _ _ h))
+pair_passes n p h = (below (before p) n (and_parts _ _ h).0, below (after p) n (and_parts _ _ h).1)
 
 passes_pair : (n : ℕ) (p : JobId × JobId) → IsPairOf n p → is_pair_of n p ≡ true
-passes_pair n p h = and_both _ _ (is_below (before p) n h.0) (is_below (after p) n h.1)
+passes_pair n p h = and_from _ _ (is_below (before p) n h.0) (is_below (after p) n h.1)
 
 passed : (w : Workflow) → passes w ≡ true → IsWellFormed w
 passed w h =
-    let few = and_first (are_few w) (are_named w && are_numbered w) h in
-    let rest = and_second (are_few w) (are_named w && are_numbered w) h in
-    let named = and_first (are_named w) (are_numbered w) rest in
-    let numbered = and_second (are_named w) (are_numbered w) rest in
+    let few = (and_parts (are_few w) (are_named w && are_numbered w) h).0 in
+    let rest = (and_parts (are_few w) (are_named w && are_numbered w) h).1 in
+    let named = (and_parts (are_named w) (are_numbered w) rest).0 in
+    let numbered = (and_parts (are_named w) (are_numbered w) rest).1 in
     record {
-      few_jobs = at_most (length w.jobs) 10000 (and_first _ _ few);
-      few_files = at_most (length w.files) 50000 (and_first _ _ (and_second _ _ few));
-      sizes = same (length w.sizes) (length w.files) (and_second _ _ (and_second _ _ few));
-      ids = and_first _ _ named;
-      names = and_second _ _ named;
-      jobs = all_of (is_job_over (length w.files)) (IsJobOver (length w.files)) (job_passes (length w.files)) w.jobs (and_first _ _ numbered);
-      pairs = all_of (is_pair_of (length w.jobs)) (IsPairOf (length w.jobs)) (pair_passes (length w.jobs)) w.pairs (and_second _ _ numbered);
+      few_jobs = at_most (length w.jobs) 10000 (and_parts _ _ few).0;
+      few_files = at_most (length w.files) 50000 (and_parts _ _ (and_parts _ _ few).1).0;
+      sizes = same (length w.sizes) (length w.files) (and_parts _ _ (and_parts _ _ few).1).1;
+      ids = (and_parts _ _ named).0;
+      names = (and_parts _ _ named).1;
+      jobs = all_of (is_job_over (length w.files)) (IsJobOver (length w.files)) (job_passes (length w.files)) w.jobs (and_parts _ _ numbered).0;
+      pairs = all_of (is_pair_of (length w.jobs)) (IsPairOf (length w.jobs)) (pair_passes (length w.jobs)) w.pairs (and_parts _ _ numbered).1;
     }
 
 has_passed : (w : Workflow) → IsWellFormed w → passes w ≡ true
 has_passed w h =
-    and_both (are_few w) (are_named w && are_numbered w)
-    (and_both _ _ (le_test (length w.jobs) 10000 h.few_jobs) (and_both _ _ (le_test (length w.files) 50000 h.few_files) (eq_test (length w.sizes) (length w.files) h.sizes)))
-    (and_both (are_named w) (are_numbered w)
-    (and_both _ _ h.ids h.names)
-    (and_both _ _
+    and_from (are_few w) (are_named w && are_numbered w)
+    (and_from _ _ (le_test (length w.jobs) 10000 h.few_jobs) (and_from _ _ (le_test (length w.files) 50000 h.few_files) (eq_test (length w.sizes) (length w.files) h.sizes)))
+    (and_from (are_named w) (are_numbered w)
+    (and_from _ _ h.ids h.names)
+    (and_from _ _
     (each_of (is_job_over (length w.files)) (IsJobOver (length w.files)) (passes_job (length w.files)) w.jobs h.jobs)
     (each_of (is_pair_of (length w.jobs)) (IsPairOf (length w.jobs)) (passes_pair (length w.jobs)) w.pairs h.pairs)))
 

@@ -1,4 +1,3 @@
 pub mod Appearances
-pub mod Bools
 pub mod Checked
 pub mod NumberedNames

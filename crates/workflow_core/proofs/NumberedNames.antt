@@ -7,7 +7,8 @@ use Rattle.std.specs.Cmp.Lexicographic.{bytes_decides}
 use Rattle.workflow_core.specs.Numbering.{distinct, number, with_name, with_names}
 use Rattle.workflow_core.specs.WellFormed.{are_new, are_distinct}
 use Rattle.workflow_core.proofs.Appearances.{distinct_names}
-use Rattle.workflow_core.proofs.Bools.{and_both, and_first, and_second, or_first, or_second}
+use Rattle.std.proofs.lemmas.Bool.{and_from, and_parts}
+use Rattle.std.proofs.Math.Bool.{or-true}
 
 pub own_name : (n : List ℕ) → bytes_eq n n ≡ true
 own_name n = (bytes_decides n n).1 refl
@@ -25,14 +26,14 @@ with_name_has names n = by (list_any (bytes_eq n) names) refl
   where
     by : (b : Bool) → list_any (bytes_eq n) names ≡ b → list_any (bytes_eq n) (cond b names (names ++ n ∷ [])) ≡ true
     by true e = e
-    by false e = list_any-append (bytes_eq n) names (n ∷ []) ∙ or_second (list_any (bytes_eq n) names) (bytes_eq n n || false) (or_first (bytes_eq n n) false (own_name n))
+    by false e = list_any-append (bytes_eq n) names (n ∷ []) ∙ ap (λ (b : Bool). list_any (bytes_eq n) names || (b || false)) (own_name n) ∙ or-true (list_any (bytes_eq n) names)
 
 pub with_name_keeps : (names : List (List ℕ)) (n m : List ℕ) → list_any (bytes_eq m) names ≡ true → list_any (bytes_eq m) (with_name names n) ≡ true
 with_name_keeps names n m h = by (list_any (bytes_eq n) names)
   where
     by : (b : Bool) → list_any (bytes_eq m) (cond b names (names ++ n ∷ [])) ≡ true
     by true = h
-    by false = list_any-append (bytes_eq m) names (n ∷ []) ∙ or_first (list_any (bytes_eq m) names) (bytes_eq m n || false) h
+    by false = list_any-append (bytes_eq m) names (n ∷ []) ∙ ap (λ (b : Bool). b || (bytes_eq m n || false)) h
 
 pub with_names_keep : (names ns : List (List ℕ)) (m : List ℕ) → list_any (bytes_eq m) names ≡ true → list_any (bytes_eq m) (with_names names ns) ≡ true
 with_names_keep names [] m h = h
@@ -40,7 +41,7 @@ with_names_keep names (n ∷ ns) m h = with_names_keep (with_name names n) ns m 
 
 pub all_known : (names ns : List (List ℕ)) → list_all (λ m. list_any (bytes_eq m) (with_names names ns)) ns ≡ true
 all_known names [] = refl
-all_known names (n ∷ ns) = and_both _ _ (with_names_keep (with_name names n) ns n (with_name_has names n)) (all_known (with_name names n) ns)
+all_known names (n ∷ ns) = and_from _ _ (with_names_keep (with_name names n) ns n (with_name_has names n)) (all_known (with_name names n) ns)
 
 -- a number belongs to one name
 pub same_number : (names : List (List ℕ)) (a b : List ℕ) → list_any (bytes_eq a) names ≡ true → number names a ≡ number names b → bytes_eq a b ≡ true
@@ -62,14 +63,14 @@ other_number names a b known other = by (nat_eq (number names a) (number names b
 
 -- what is one more of those before
 new_more : (known xs : List (List ℕ)) (n : List ℕ) → are_new bytes_eq known xs ≡ true → list_any (bytes_eq n) (known ++ xs) ≡ false → are_new bytes_eq known (xs ++ n ∷ []) ≡ true
-new_more known [] n h free = and_both _ _ (ap not (ap (λ (ks : List (List ℕ)). list_any (bytes_eq n) ks) (sym (append_nil known)) ∙ free)) refl
+new_more known [] n h free = and_from _ _ (ap not (ap (λ (ks : List (List ℕ)). list_any (bytes_eq n) ks) (sym (append_nil known)) ∙ free)) refl
   where
     append_nil : (ks : List (List ℕ)) → ks ++ [] ≡ ks
     append_nil [] = refl
     append_nil (k ∷ ks) = ap (λ (ls : List (List ℕ)). k ∷ ls) (append_nil ks)
 new_more known (x ∷ xs) n h free =
-    and_both _ _ (and_first (not (list_any (bytes_eq x) known)) _ h)
-    (new_more (known ++ x ∷ []) xs n (and_second (not (list_any (bytes_eq x) known)) _ h) (ap (λ (ks : List (List ℕ)). list_any (bytes_eq n) ks) (append_assoc known (x ∷ []) xs) ∙ free))
+    and_from _ _ (and_parts (not (list_any (bytes_eq x) known)) _ h).0
+    (new_more (known ++ x ∷ []) xs n (and_parts (not (list_any (bytes_eq x) known)) _ h).1 (ap (λ (ks : List (List ℕ)). list_any (bytes_eq n) ks) (append_assoc known (x ∷ []) xs) ∙ free))
 
 with_name_new : (names : List (List ℕ)) (n : List ℕ) → are_distinct bytes_eq names ≡ true → are_distinct bytes_eq (with_name names n) ≡ true
 with_name_new names n h = by (list_any (bytes_eq n) names) refl
