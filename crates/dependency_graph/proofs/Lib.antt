@@ -8,7 +8,6 @@ pub mod Ways
 pub mod Searching
 pub mod Returning
 pub mod Edging
-pub mod Testing
 pub mod Valuing
 pub mod Determining
 pub mod Flowing

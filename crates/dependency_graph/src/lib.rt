@@ -7,7 +7,6 @@
 #![tactic(auto)]
 
 mod building;
-mod checking;
 mod cycle;
 mod distance;
 mod fault;
@@ -21,7 +20,6 @@ mod sources;
 mod tests;
 
 pub use building::build;
-pub use checking::is_well_formed;
 pub use fault::GraphFault;
 pub use graph::Graph;
 pub use law::{

@@ -5,7 +5,7 @@ use outside::{FileId, Items, JobId, Memory, Text};
 use std::alloc::Global;
 use std::process::Abort;
 use std::test::Fail;
-use workflow_core::{Inlined, Job, Output, Transformation, Workflow};
+use workflow_core::{Inlined, Job, Output, Transformation, Workflow, is_well_formed};
 
 /// The numbers of the files that a job reads, and of those that it makes.
 #[derive(Clone, Copy)]

@@ -7,12 +7,12 @@ ghost use Rattle.dependency_graph.specs.Graph.{IsGraphOf};
 ghost use Rattle.dependency_graph.specs.Value.{AllMade};
 
 use super::*;
-use dependency_graph::{Graph, build, is_well_formed, producer_is_the_first_maker};
+use dependency_graph::{Graph, build, producer_is_the_first_maker};
 use outside::{Blob, FileId, Items, Memory, Text, Tool, ToolFault};
 use std::alloc::Global;
 use std::process::Abort;
 use std::test::Fail;
-use workflow_core::{Inlined, Job, Output, Transformation, Workflow};
+use workflow_core::{Inlined, Job, Output, Transformation, Workflow, is_well_formed};
 
 /// Each output is the name, and all inputs after it.
 #[derive(Drop)]
