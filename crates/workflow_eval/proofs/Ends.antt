@@ -1,7 +1,7 @@
 -- How an evaluation ends: at a job that gives nothing, or after the last one.
-use Rattle.std.proofs.Common.{◌≡◌, ℕ, zero, suc, ◌+◌, ◌<◌, ◌≤◌, cond, List, [], ◌∷◌, length, take, drop, map, refl, sym, ap, subst, ◌∙◌, drop-cons, add-one, arith}
+use Rattle.std.proofs.Common.{◌≡◌, ℕ, zero, suc, ◌+◌, ◌<◌, ◌≤◌, Bool, true, false, cond, List, [], ◌∷◌, ◌++◌, length, take, drop, map, refl, sym, ap, subst, ◌∙◌, drop-cons, add-one, arith}
 use Rattle.std.specs.Prelude.{Option, Some, None, IsSome, is_some, option_map, Err, slice_index_or}
-use Rattle.std.proofs.lemmas.List.{length-map, get_or-map}
+use Rattle.std.proofs.lemmas.List.{length-map, get_or-map, take_more, take-append-drop}
 use Rattle.outside.specs.Tool.{Apply}
 use Rattle.outside.specs.Counts.{Rose}
 use Rattle.outside.specs.declared.numbers.JobId.{JobId}
@@ -12,30 +12,53 @@ use Rattle.dependency_graph.specs.Flow.{is_written, FlowsAlong}
 use Rattle.workflow_eval.specs.declared.fault.EvalFault.{EvalFault}
 use Rattle.workflow_eval.specs.declared.fault.EvalFault.TheVariants.{Declined, ToolFailed, Memory}
 use Rattle.workflow_eval.specs.Tables.{at, IsFaultOf}
-use Rattle.workflow_eval.specs.Evaluated.{AreValues, first_undefined, Evaluates}
-use Rattle.workflow_eval.proofs.Jobs.{IsJobAt, Evaluated}
+use Rattle.workflow_eval.specs.Evaluated.{AreValues, made_by_number, first_undefined, IsReached, Evaluates}
+use Rattle.workflow_eval.proofs.Jobs.{IsAt, IsJobAt, Evaluated}
 
--- the first undefined job of all is that of the i-th and later ones
+-- each of the first i jobs makes something
 abbrev pub NoneBefore : Apply → Workflow → List JobId → ℕ → Type 0
-NoneBefore apply w order i = first_undefined apply w (drop i order) ≡ first_undefined apply w order
+NoneBefore apply w order i = first_undefined apply w (take i order) ≡ None
 
-from_here : (apply : Apply) (w : Workflow) (order : List JobId) (i : ℕ) (a : JobId) (j : Job) → IsJobAt w order i a j → first_undefined apply w (drop i order) ≡ cond (is_some (made_by apply w j)) (first_undefined apply w (drop (suc i) order)) (Some a.0)
+pub none_at_first : (apply : Apply) (w : Workflow) (order : List JobId) → NoneBefore apply w order 0
 unfolding first_undefined
-from_here apply w order i a j here =
-    ap (first_undefined apply w) (drop-cons order i a here.place.below ∙ ap (λ (b : JobId). b ∷ drop (suc i) order) here.place.is)
-    ∙ ap (λ (m : Option (List (List ℕ))). cond (is_some m) (first_undefined apply w (drop (suc i) order)) (Some a.0)) (get_or-map (made_by apply w) w.jobs a.0 j None here.number.below ∙ ap (made_by apply w) here.number.is)
+none_at_first apply w order = refl
+
+-- after jobs that make something
+undefined_after : (apply : Apply) (w : Workflow) (xs ys : List JobId) → first_undefined apply w xs ≡ None → first_undefined apply w (xs ++ ys) ≡ first_undefined apply w ys
+unfolding first_undefined
+undefined_after apply w [] ys none = refl
+undefined_after apply w (a ∷ xs) ys none = by_first (is_some (made_by_number apply w a.0)) (undefined_after apply w xs ys) none
+  where
+    by_first : (b : Bool) → (first_undefined apply w xs ≡ None → first_undefined apply w (xs ++ ys) ≡ first_undefined apply w ys) → cond b (first_undefined apply w xs) (Some a.0) ≡ None → cond b (first_undefined apply w (xs ++ ys)) (Some a.0) ≡ first_undefined apply w ys
+    by_first true so e = so e
+    by_first false so e = absurd cc
+
+-- from a job on
+from_here : (apply : Apply) (w : Workflow) (a : JobId) (j : Job) (later : List JobId) → IsAt w.jobs a.0 j → first_undefined apply w (a ∷ later) ≡ cond (is_some (made_by apply w j)) (first_undefined apply w later) (Some a.0)
+unfolding first_undefined
+from_here apply w a j later here = ap (λ (m : Option (List (List ℕ))). cond (is_some m) (first_undefined apply w later) (Some a.0)) (get_or-map (made_by apply w) w.jobs a.0 j None here.below ∙ ap (made_by apply w) here.is)
+
+nothing_undefined : (apply : Apply) (w : Workflow) → first_undefined apply w [] ≡ None
+unfolding first_undefined
+nothing_undefined apply w = refl
 
 -- a job that makes something
 pub none_before_more : (apply : Apply) (w : Workflow) (order : List JobId) (i : ℕ) (a : JobId) (j : Job) (parts : List (List ℕ)) → IsJobAt w order i a j → made_by apply w j ≡ Some parts → NoneBefore apply w order i → NoneBefore apply w order (i + 1)
 none_before_more apply w order i a j parts here made none =
-    ap (λ (n : ℕ). first_undefined apply w (drop n order)) (add-one i)
-    ∙ sym (from_here apply w order i a j here ∙ ap (λ (m : Option (List (List ℕ))). cond (is_some m) (first_undefined apply w (drop (suc i) order)) (Some a.0)) made)
-    ∙ none
+    ap (first_undefined apply w) (take_more order i a here.place.below ∙ ap (λ (b : JobId). take i order ++ b ∷ []) here.place.is)
+    ∙ undefined_after apply w (take i order) (a ∷ []) none
+    ∙ from_here apply w a j [] here.number
+    ∙ ap (λ (m : Option (List (List ℕ))). cond (is_some m) (first_undefined apply w []) (Some a.0)) made
+    ∙ nothing_undefined apply w
 
 -- a job that makes nothing
 first_is : (apply : Apply) (w : Workflow) (order : List JobId) (i : ℕ) (a : JobId) (j : Job) → IsJobAt w order i a j → made_by apply w j ≡ None → NoneBefore apply w order i → first_undefined apply w order ≡ Some a.0
 first_is apply w order i a j here made none =
-    sym none ∙ from_here apply w order i a j here ∙ ap (λ (m : Option (List (List ℕ))). cond (is_some m) (first_undefined apply w (drop (suc i) order)) (Some a.0)) made
+    ap (first_undefined apply w) (sym (take-append-drop i order))
+    ∙ undefined_after apply w (take i order) (drop i order) none
+    ∙ ap (first_undefined apply w) (drop-cons order i a here.place.below ∙ ap (λ (b : JobId). b ∷ drop (suc i) order) here.place.is)
+    ∙ from_here apply w a j (drop (suc i) order) here.number
+    ∙ ap (λ (m : Option (List (List ℕ))). cond (is_some m) (first_undefined apply w (drop (suc i) order)) (Some a.0)) made
 
 -- a job that gives nothing ends the evaluation
 pub ends_with : (apply : Apply) (w : Workflow) (order : List JobId) (i old before new : ℕ) (a : JobId) (j : Job) → IsJobAt w order i a j → NoneBefore apply w order i → old ≤ before → (made : Option (List (List ℕ))) → made_by apply w j ≡ made
@@ -44,9 +67,20 @@ ends_with apply w order i old before new a j here none le made made_is (Declined
 ends_with apply w order i old before new a j here none le made made_is (ToolFailed k) fault = (omega (arith, fault.0, le), omega (arith, here.number.below, fault.1))
 ends_with apply w order i old before new a j here none le made made_is Memory fault = tt
 
-drop_all : (xs : List JobId) → drop (length xs) xs ≡ []
-drop_all [] = refl
-drop_all (x ∷ xs) = drop_all xs
+-- a job at which the tool failed
+pub is_reached : (apply : Apply) (w : Workflow) (order : List JobId) (i : ℕ) (a : JobId) (j : Job) → IsJobAt w order i a j → NoneBefore apply w order i → (made : Option (List (List ℕ))) (rose : Type 0)
+    → (e : EvalFault) → IsFaultOf made a.0 rose e → (k : JobId) → e ≡ ToolFailed k → IsReached apply w order k
+is_reached apply w order i a j here none made rose (Declined m) fault k is = absurd cc
+is_reached apply w order i a j here none made rose (ToolFailed m) fault k is = record {
+  place = i;
+  below = here.place.below;
+  is = subst (λ (x : JobId). slice_index_or order i x ≡ x) same here.place.is;
+  before = none;
+}
+  where
+    same : a ≡ k
+    same = let failed : m ≡ k = cc in sym (ap (λ (n : ℕ). record { 0 = n }) fault.1) ∙ failed
+is_reached apply w order i a j here none made rose Memory fault k is = absurd cc
 
 take_all : (xs : List JobId) → take (length xs) xs ≡ xs
 take_all [] = refl
@@ -54,8 +88,7 @@ take_all (x ∷ xs) = ap (λ (ys : List JobId). x ∷ ys) (take_all xs)
 
 -- after the last job
 none_undefined : (apply : Apply) (w : Workflow) (order : List JobId) → NoneBefore apply w order (length order) → first_undefined apply w order ≡ None
-unfolding first_undefined
-none_undefined apply w order none = sym none ∙ ap (first_undefined apply w) (drop_all order)
+none_undefined apply w order none = ap (first_undefined apply w) (sym (take_all order)) ∙ none
 
 -- a table with something at each place has all of them
 each_all : (table : List (Option (List ℕ))) → ((f : ℕ) → f < length table → IsSome (at table f)) → IsSome (all_of table)

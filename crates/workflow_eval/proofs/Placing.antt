@@ -1,12 +1,12 @@
 -- What stands in a table after outputs are placed.
-use Rattle.std.proofs.Common.{◌≡◌, ℕ, ◌<◌, ◌||◌, Bool, true, false, cond, List, [], ◌∷◌, length, refl, ap, ◌∙◌, All, arith}
+use Rattle.std.proofs.Common.{◌≡◌, ℕ, ◌<◌, ◌||◌, Bool, true, false, cond, List, [], ◌∷◌, length, map, refl, ap, ◌∙◌, All, arith}
 use Rattle.std.specs.Prelude.{◌==◌, Option, Some, IsSome, slice_set}
 use Rattle.std.specs.List.{list_any, AllByRecursion}
 use Rattle.std.proofs.lemmas.Grind.{common_steps}
 use Rattle.std.proofs.lemmas.List.Elements.{All-nil, All-cons}
 use Rattle.workflow_core.specs.declared.workflow.Output.{Output}
 use Rattle.dependency_graph.specs.Value.{part}
-use Rattle.workflow_eval.specs.Tables.{files_of, at, placed}
+use Rattle.workflow_eval.specs.Tables.{at, placed}
 
 pub length_placed : (os : List ℕ) (vs : List (List ℕ)) (table : List (Option (List ℕ))) → length (placed os vs table) ≡ length table
 length_placed [] vs table = refl
@@ -40,6 +40,6 @@ part_there (o ∷ os) (v ∷ vs) f same is = by_test (o == f) (Some v) (part f o
     by_test false x y p q r = q r
 
 -- each output's file has a place
-pub all_below : (n : ℕ) (os : List Output) → AllByRecursion (λ p. p < n) (files_of os) → All (λ (o : Output). o.file.0 < n) os
+pub all_below : (n : ℕ) (os : List Output) → AllByRecursion (λ p. p < n) (map (λ (o : Output). o.file.0) os) → All (λ (o : Output). o.file.0 < n) os
 all_below n [] below = All-nil (λ (o : Output). o.file.0 < n)
 all_below n (o ∷ os) below = All-cons (λ (o : Output). o.file.0 < n) o os below.0 (all_below n os below.1)

@@ -1,9 +1,8 @@
 -- Looking up one file after the other.
 use Rattle.std.proofs.Common.{◌≡◌, ℕ, suc, ◌+◌, ◌-◌, ◌<◌, ◌≤◌, List, [], ◌∷◌, ◌++◌, length, take, drop, get_or, refl, sym, ap, ◌∙◌, length-append, drop-cons, arith}
 use Rattle.std.proofs.lemmas.List.{take_more}
-use Rattle.workflow_core.specs.declared.workflow.Output.{Output}
-use Rattle.workflow_eval.specs.Tables.{files_of, placed}
-use Rattle.std.specs.Prelude.{Option, Some, None, slice_set, slice_index_or}
+use Rattle.workflow_eval.specs.Tables.{placed}
+use Rattle.std.specs.Prelude.{Option, Some, None, slice_set}
 
 -- what was found before, and what is still looked up
 abbrev pub with_front : List (List ℕ) → Option (List (List ℕ)) → Option (List (List ℕ))
@@ -36,9 +35,10 @@ uncut xs a d h k =
     drop-cons xs (a - 1) d (omega arith) ∙ ap (λ (n : ℕ). get_or xs (a - 1) d ∷ drop n xs) one_less
 
 -- one output more, counted from the last
-pub place_more : (os : List Output) (vs : List (List ℕ)) (a : ℕ) (v : List ℕ) (d : Output) (table first : List (Option (List ℕ))) → 0 < a → a ≤ length os → length os ≡ length vs → v ≡ get_or vs (a - 1) v
-    → table ≡ placed (files_of (drop a os)) (drop a vs) first → slice_set table (slice_index_or os (a - 1) d).file.0 (Some v) ≡ placed (files_of (drop (a - 1) os)) (drop (a - 1) vs) first
-place_more os vs a v d table first h k same is so_far =
-    ap (λ (t : List (Option (List ℕ))). slice_set t (slice_index_or os (a - 1) d).file.0 (Some v)) so_far
-    ∙ ap (λ (w : List ℕ). slice_set (placed (files_of (drop a os)) (drop a vs) first) (slice_index_or os (a - 1) d).file.0 (Some w)) is
-    ∙ sym (ap (λ (x : List Output). placed (files_of x) (drop (a - 1) vs) first) (uncut os a d h k) ∙ ap (λ (y : List (List ℕ)). placed (files_of (get_or os (a - 1) d ∷ drop a os)) y first) (uncut vs a v h (omega arith)))
+pub place_more : (os : List ℕ) (vs : List (List ℕ)) (a o : ℕ) (v : List ℕ) (table first : List (Option (List ℕ))) → 0 < a → a ≤ length os → length os ≡ length vs → get_or os (a - 1) o ≡ o → v ≡ get_or vs (a - 1) v
+    → table ≡ placed (drop a os) (drop a vs) first → slice_set table o (Some v) ≡ placed (drop (a - 1) os) (drop (a - 1) vs) first
+place_more os vs a o v table first h k same is_output is so_far =
+    ap (λ (t : List (Option (List ℕ))). slice_set t o (Some v)) so_far
+    ∙ ap (λ (w : List ℕ). slice_set (placed (drop a os) (drop a vs) first) o (Some w)) is
+    ∙ ap (λ (p : ℕ). slice_set (placed (drop a os) (drop a vs) first) p (Some (get_or vs (a - 1) v))) (sym is_output)
+    ∙ sym (ap (λ (x : List ℕ). placed x (drop (a - 1) vs) first) (uncut os a o h k) ∙ ap (λ (y : List (List ℕ)). placed (get_or os (a - 1) o ∷ drop a os) y first) (uncut vs a v h (omega arith)))

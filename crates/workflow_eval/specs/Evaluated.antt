@@ -1,5 +1,5 @@
 -- What an evaluation answers.
-use Rattle.std.specs.Prelude.{◌≡◌, ℕ, ◌<◌, List, [], ◌∷◌, length, map, if◌then◌else◌, is_some, Option, Some, None, Result, Ok, Err, Vec, slice_index_or}
+use Rattle.std.specs.Prelude.{◌≡◌, ℕ, ◌<◌, List, [], ◌∷◌, length, map, take, if◌then◌else◌, is_some, Option, Some, None, Result, Ok, Err, Vec, slice_index_or}
 use Rattle.std.specs.declared.alloc.Global.{Global}
 use Rattle.outside.specs.Tool.{Apply}
 use Rattle.outside.specs.declared.numbers.JobId.{JobId}
@@ -21,6 +21,13 @@ made_by_number apply w a = slice_index_or (map (made_by apply w) w.jobs) a None
 unfoldable pub first_undefined : Apply → Workflow → List JobId → Option ℕ
 first_undefined apply w [] = None
 first_undefined apply w (a ∷ order) = if is_some (made_by_number apply w a.0) then first_undefined apply w order else Some a.0
+
+-- The job comes in this order, and each job before it makes something.
+pub record IsReached (apply : Apply) (w : Workflow) (order : List JobId) (j : JobId) : Type 0 where
+  pub place : ℕ
+  pub below : place < length order
+  pub is : slice_index_or order place j ≡ j
+  pub before : first_undefined apply w (take place order) ≡ None
 
 -- The answer of an evaluation in this order. `rose` says that the tool's count rose.
 abbrev pub Evaluates : Apply → Workflow → List JobId → Type 0 → Result (Vec (List ℕ) Global) EvalFault → Type 0

@@ -1,19 +1,9 @@
 -- A table with a place for each file, and what stands there so far.
 use Rattle.std.specs.Prelude.{◌≡◌, ℕ, List, [], ◌∷◌, map, Option, Some, None, slice_set, slice_index_or, Vec}
 use Rattle.std.specs.declared.alloc.Global.{Global}
-use Rattle.outside.specs.declared.numbers.FileId.{FileId}
-use Rattle.workflow_core.specs.declared.workflow.Output.{Output}
 use Rattle.workflow_eval.specs.declared.fault.EvalFault.{EvalFault}
 use Rattle.workflow_eval.specs.declared.fault.EvalFault.TheVariants.{Declined, ToolFailed, Memory}
 use Rattle.dependency_graph.specs.Value.{all_of}
-
--- the numbers of files
-abbrev pub numbers : List FileId → List ℕ
-numbers fs = map (λ (f : FileId). f.0) fs
-
--- the numbers of the files of outputs
-abbrev pub files_of : List Output → List ℕ
-files_of os = map (λ (o : Output). o.file.0) os
 
 -- what stands at a file's place
 abbrev pub at : List (Option (List ℕ)) → ℕ → Option (List ℕ)

@@ -1,12 +1,14 @@
 //! The values of a workflow's files.
 
-ghost use Rattle.std.specs.Prelude.{◌≡◌, ◌≤◌, Some, length, IfOk, IfErr};
+ghost use Rattle.std.specs.Prelude.{◌≡◌, ◌≤◌, Some, Err, length, IfOk, IfErr};
 ghost use Rattle.outside.specs.Counts.{Rose};
+ghost use Rattle.outside.specs.declared.numbers.JobId.{JobId};
 ghost use Rattle.workflow_core.specs.WellFormed.{IsWellFormed};
 ghost use Rattle.dependency_graph.specs.Graph.{IsGraphOf};
 ghost use Rattle.dependency_graph.specs.Value.{run_of, AllMade};
 ghost use Rattle.workflow_eval.specs.Tables.{IsFaultOf};
-ghost use Rattle.workflow_eval.specs.Evaluated.{Evaluates};
+ghost use Rattle.workflow_eval.specs.declared.fault.EvalFault.TheVariants.{ToolFailed};
+ghost use Rattle.workflow_eval.specs.Evaluated.{Evaluates, IsReached};
 
 use crate::fault::EvalFault;
 use crate::table::{copies_of, empty, into_blobs, place};
@@ -54,16 +56,18 @@ pub fn evaluate<T: Tool>(
     requires graph { IsGraphOf workflow.now graph.now }
     requires made { AllMade workflow.now }
     ensures answer { Evaluates T.apply workflow.now graph.now.ordered (Rose (T.faults tool.old) (T.faults tool.new)) result }
+    ensures reached { (j : JobId) → result ≡ Err (ToolFailed j) → IsReached T.apply workflow.now graph.now.ordered j }
     ensures faults { T.faults tool.old ≤ T.faults tool.new }
 {
+    // A law for the proof: it does nothing.
     values_flow_in_order();
     let jobs = workflow.jobs.as_slice();
     let mut table = empty(alloc, workflow.files.as_slice().len())?;
     for number in graph.ordered() {
         let job = &jobs[number.0 as usize];
-        let inputs = copies_of(alloc, &table, job.inputs.as_slice())?;
+        let inputs = copies_of(alloc, &table, job)?;
         let outputs = run_job(alloc, *number, job, &inputs, tool)?;
-        place(&mut table, job.outputs.as_slice(), outputs);
+        place(&mut table, job, outputs);
     }
     Ok(into_blobs(alloc, table)?)
 }
