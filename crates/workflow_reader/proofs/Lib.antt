@@ -1,4 +1,4 @@
-pub mod Bools
+pub mod Gathering
 pub mod Repeating
 pub mod Sizing
 pub mod WellLinked

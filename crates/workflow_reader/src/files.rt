@@ -8,7 +8,7 @@ ghost use Rattle.workflow_reader.specs.Known.{with_size, with_sizes};
 use crate::document::{JobEntry, Use};
 use outside::{Items, Memory};
 use std::alloc::Global;
-use workflow_core::Names;
+use workflow_core::{Names, names_are_numbered};
 
 fn add_files(alloc: Global, files: &mut Names, job: &JobEntry) -> Result<(), Memory>
     ensures { OnOk result (files.new ≡ with_names files.old (lfns_in job.now)) }
@@ -23,6 +23,8 @@ fn add_files(alloc: Global, files: &mut Names, job: &JobEntry) -> Result<(), Mem
 pub fn files_of(alloc: Global, jobs: &[JobEntry]) -> Result<Names, Memory>
     ensures { IfOk result (λ files. files ≡ files_of jobs.now) }
 {
+    // A law for the proof: it does nothing.
+    names_are_numbered();
     let mut files = Names::new(alloc);
     for job in jobs {
         add_files(alloc, &mut files, job)?;
@@ -56,6 +58,8 @@ pub fn sizes_of(
     requires { files.now ≡ files_of jobs.now }
     ensures { IfOk result (λ sizes. sizes ≡ sizes_of jobs.now) }
 {
+    // A law for the proof: it does nothing.
+    names_are_numbered();
     let mut sizes = vec![in alloc; None; files.len()]?;
     for job in jobs {
         add_sizes(&mut sizes, files, job);

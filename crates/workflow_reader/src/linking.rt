@@ -16,7 +16,7 @@ use crate::pairs::{all_known, pairs_of};
 use outside::{Items, Memory, Text};
 use peg_json::{Counted, ReadFault, at_most};
 use std::alloc::Global;
-use workflow_core::{Names, Workflow};
+use workflow_core::{Names, Workflow, names_are_numbered};
 
 const MAX_JOBS: u64 = 10_000;
 
@@ -94,6 +94,8 @@ pub fn workflow_of(
     ensures ignored { IfOk result (λ w. w.ignored ≡ ignored.items) }
     ensures well_formed { IfOk result (λ w. IsWellFormed w) }
 {
+    // A law for the proof: it does nothing.
+    names_are_numbered();
     let tables = tables_of(alloc, &document)?;
     let workflow = numbered(alloc, document, tables, ignored)?;
     Ok(workflow)

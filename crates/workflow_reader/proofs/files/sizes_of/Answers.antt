@@ -17,4 +17,4 @@ pub returns : goal.returns
 returns c =
     let nothing : drop c.loop-job.job-index c.args.jobs.now ≡ [] = grind (arith, common_steps) in
     c.new.ensures
-    ∙ sized_all c.args.files.now _ c.args.jobs.now (drop c.loop-job.job-index c.args.jobs.now) c.requires nothing c.loop-job.invariant
+    ∙ sized_all c.names_are_numbered.ensures c.args.files.now _ c.args.jobs.now (drop c.loop-job.job-index c.args.jobs.now) c.requires nothing c.loop-job.invariant
