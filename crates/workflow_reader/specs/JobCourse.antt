@@ -12,7 +12,7 @@ use Rattle.workflow_reader.specs.Arguments.{argument_of}
 use Rattle.workflow_reader.specs.Lists.{list_or_none}
 use Rattle.workflow_reader.specs.JobProfiles.{profiles_or_none, unknown_profiles}
 use Rattle.workflow_reader.specs.UseEntry.{use_of, unknown_use}
-use Rattle.workflow_reader.specs.Words.{word_at}
+use Rattle.workflow_reader.specs.ConstantText.{constant_at}
 
 abbrev pub job_rows : List Row
 job_rows =
@@ -30,7 +30,7 @@ job_rows =
 unfoldable pub job_of : List ℕ → Data → Result JobEntry TreeFault
 job_of path d = do
   u ← checks path d job_rows
-  t ← word_at (codes "job") path d (codes "type")
+  t ← constant_at (codes "job") path d (codes "type")
   id ← required name_of path d (codes "id")
   name ← required name_of path d (codes "name")
   namespace ← optional text_of path d (codes "namespace")

@@ -1,5 +1,5 @@
 pub mod Documents
-pub mod Words
+pub mod ConstantText
 pub mod Lists
 pub mod Arguments
 pub mod UseEntry

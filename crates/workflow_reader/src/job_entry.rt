@@ -5,10 +5,10 @@ ghost use Rattle.peg_json.specs.Tables.{rows_of};
 ghost use Rattle.workflow_reader.specs.JobCourse.{job_rows};
 
 use crate::argument::arguments;
+use crate::constant_text::checked_constant;
 use crate::document::{JobEntry, Use};
 use crate::lists::list_or_none;
 use crate::profiles::{Profiles, profiles_or_none};
-use crate::word::checked_word;
 use outside::{Memory, Text};
 use peg_json::{
     FromTree, KeyRow, KeyTable, Kind, Listed, TreeFault, checked, gather, gather_list,
@@ -80,7 +80,7 @@ impl FromTree for JobEntry {
     #[tactic(auto, unfolding(crate::specs::JobCourse::job_of))]
     fn from_tree(alloc: Global, value: &Value, path: &Text) -> Result<JobEntry, TreeFault> {
         checked(alloc, value, path, &job_table())?;
-        checked_word(alloc, value, path, "type", "job")?;
+        checked_constant(alloc, value, path, "type", "job")?;
         let id = row!(alloc, value, path, "id", Name);
         let name = row!(alloc, value, path, "name", Name);
         let namespace = row!(alloc, value, path, "namespace", optional Text);

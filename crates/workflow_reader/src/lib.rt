@@ -6,6 +6,7 @@
 #![tactic(auto)]
 
 mod argument;
+mod constant_text;
 mod dependency;
 mod document;
 mod duplicates;
@@ -21,7 +22,6 @@ mod reader;
 mod root;
 mod selector_profiles;
 mod use_entry;
-mod word;
 
 pub use reader::{from_tree, read};
 
