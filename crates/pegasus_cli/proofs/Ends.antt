@@ -91,7 +91,7 @@ worked F M T H apply name expected w graph old new lines (NotBuilt documents.Wor
 worked F M T H apply name expected w graph old new lines (Failed (Declined id)) goes is h =
     record { comes = (refl, (w, goes, record { made = h.0; graph = graph; is_graph = is; place = h.1.0; within = h.1.1; first = h.1.2; named = h.1.3 })); usage = tt; leaves = h.2 }
 worked F M T H apply name expected w graph old new lines (Failed (ToolFailed id)) goes is h =
-    record { comes = (h.1, refl, (w, goes, record { sound = is.sound; made = h.0; place = h.2.0; within = h.2.1; named = h.2.2 })); usage = tt; leaves = h.3 }
+    record { comes = (h.1, refl, (w, goes, record { made = h.0; graph = graph; is_graph = is; job = h.2.0; within = h.2.1; reached = h.2.2; named = h.2.3 })); usage = tt; leaves = h.3 }
 worked F M T H apply name expected w graph old new lines (Failed (HostFailed t)) goes is h =
     record { comes = (h.2, h.3, refl, (w, goes, record { made = h.0; graph = graph; is_graph = is; defined = h.1 })); usage = tt; leaves = (w, goes, h.4) }
 worked F M T H apply name expected w graph old new lines SinkFailed goes is h = absurd h

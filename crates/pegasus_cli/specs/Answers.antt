@@ -12,7 +12,7 @@ use Rattle.dependency_graph.specs.Built.{AreTwoProducers, AreCycle}
 use Rattle.dependency_graph.specs.Value.{AllMade}
 use Rattle.dependency_graph.specs.declared.fault.GraphFault.{GraphFault}
 use Rattle.dependency_graph.specs.declared.fault.GraphFault.TheVariants as graph_faults
-use Rattle.workflow_eval.specs.Evaluated.{first_undefined, made_by_number}
+use Rattle.workflow_eval.specs.Evaluated.{IsReached, first_undefined, made_by_number}
 use Rattle.workflow_eval.specs.declared.fault.EvalFault.{EvalFault}
 use Rattle.workflow_eval.specs.declared.fault.EvalFault.TheVariants as eval_faults
 use Rattle.pegasus_cli.specs.declared.words.Command.{Command}
@@ -86,13 +86,15 @@ pub record IsDeclined (apply : Apply) (id : List ℕ) (w : Workflow) : Type 0 wh
   pub first : first_undefined apply w graph.ordered ≡ Some place
   pub named : IsIdOf w place id
 
--- Each file has a producer, and a job has this id.
-pub record IsJob (id : List ℕ) (w : Workflow) : Type 0 where
-  pub sound : IsSound w
+-- A job with this id is reached in the graph's order: each job before it makes something of its inputs' values.
+pub record IsTried (apply : Apply) (id : List ℕ) (w : Workflow) : Type 0 where
   pub made : AllMade w
-  pub place : ℕ
-  pub within : place < length w.jobs
-  pub named : IsIdOf w place id
+  pub graph : Links
+  pub is_graph : IsGraphOf w graph
+  pub job : JobId
+  pub within : job.0 < length w.jobs
+  pub reached : IsReached apply w graph.ordered job
+  pub named : IsIdOf w job.0 id
 
 -- what a command asks of its workflow to be done
 abbrev pub FinishesAs : Apply → Workflow → Command → Type 0
@@ -114,7 +116,7 @@ Comes faulted missed tool host sink apply command expected (outcomes.Refused fau
 Comes faulted missed tool host sink apply command expected (outcomes.NotBuilt documents.Request) = Refuses faulted missed expected early.NotBuilt
 Comes faulted missed tool host sink apply command expected (outcomes.NotBuilt documents.Workflow) = IsAlone command × ForRead expected IsUnmade
 Comes faulted missed tool host sink apply command expected (outcomes.Failed (Declined id)) = IsAlone command × ForRead expected (IsDeclined apply id)
-Comes faulted missed tool host sink apply command expected (outcomes.Failed (ToolFailed id)) = tool × IsAlone command × ForRead expected (IsJob id)
+Comes faulted missed tool host sink apply command expected (outcomes.Failed (ToolFailed id)) = tool × IsAlone command × ForRead expected (IsTried apply id)
 Comes faulted missed tool host sink apply command expected (outcomes.Failed (HostFailed task)) = host × (task ≡ None) × IsAlone command × ForRead expected (IsDefined apply)
 Comes faulted missed tool host sink apply command expected outcomes.SinkFailed = sink
 
@@ -219,7 +221,7 @@ Works tool host apply w order old new lines outcomes.Done = AllMade w × (first_
 Works tool host apply w order old new lines outcomes.Memory = (new ≡ old) ⊎ DeliversFirst apply old new w
 Works tool host apply w order old new lines (outcomes.NotBuilt documents.Workflow) = ((f : ℕ) × (f < length w.files) × (is_some (producer w.jobs f) ≡ false)) × IsUntouched old new lines
 Works tool host apply w order old new lines (outcomes.Failed (Declined id)) = AllMade w × ((p : ℕ) × (p < length w.jobs) × (first_undefined apply w order ≡ Some p) × IsIdOf w p id) × IsUntouched old new lines
-Works tool host apply w order old new lines (outcomes.Failed (ToolFailed id)) = AllMade w × tool × ((p : ℕ) × (p < length w.jobs) × IsIdOf w p id) × IsUntouched old new lines
+Works tool host apply w order old new lines (outcomes.Failed (ToolFailed id)) = AllMade w × tool × ((j : JobId) × (j.0 < length w.jobs) × IsReached apply w order j × IsIdOf w j.0 id) × IsUntouched old new lines
 Works tool host apply w order old new lines (outcomes.Failed (HostFailed task)) = AllMade w × (first_undefined apply w order ≡ None) × host × (task ≡ None) × DeliversFront apply old new lines w
 Works tool host apply w order old new lines _ = ⊥
 
