@@ -6,6 +6,7 @@ use Rattle.outside.specs.Files.{Files}
 use Rattle.outside.specs.Tool.{Apply}
 use Rattle.outside.specs.declared.numbers.JobId.{JobId}
 use Rattle.workflow_core.specs.declared.workflow.Workflow.{Workflow}
+use Rattle.workflow_core.specs.Requested.{requested}
 use Rattle.workflow_core.specs.View.{view}
 use Rattle.dependency_graph.specs.Graph.{Links, IsGraphOf, IsSound}
 use Rattle.dependency_graph.specs.Built.{Builds, AreTwoProducers}
@@ -24,7 +25,7 @@ use Rattle.pegasus_cli.specs.declared.outcome.Outcome.{Outcome}
 use Rattle.pegasus_cli.specs.declared.outcome.Outcome.TheVariants.{Done, Memory, Usage, DocAbsent, DocTooLong, DocFailed, Refused, NotBuilt, Failed, SinkFailed}
 use Rattle.pegasus_cli.specs.Checks.{check_lines}
 use Rattle.pegasus_cli.specs.Course.{IsReadAs, ReadWorkflow, Refuses, TellsCommand}
-use Rattle.pegasus_cli.specs.Deliveries.{Delivery, IsFront, AreDeliveries, requested, chosen, lines_of}
+use Rattle.pegasus_cli.specs.Deliveries.{Delivery, IsFront, AreDeliveries, chosen, lines_of}
 use Rattle.pegasus_cli.specs.Lines.{line_of}
 use Rattle.pegasus_cli.specs.Answers.{CanBeDone, Closes, Comes, Commanded, DeliversSome, Ends, Expected, Finishes, ForRead, GoesOn, GraphRefuses, HasDelivered, IsAnswer, IsAnswered, IsDeclined, IsDoneOrMemory, IsUnmade, Leaves, LeavesDone, NoneRose, OnlyUsage, Stops, StopsOrMemory, Works, graph_outcome, outcome_of}
 use Rattle.pegasus_cli.proofs.Marks.{chosen_are}

@@ -8,9 +8,10 @@ use Rattle.outside.specs.Tool.{Apply}
 use Rattle.workflow_core.specs.declared.workflow.Workflow.{Workflow}
 use Rattle.workflow_core.specs.declared.workflow.Job.{Job}
 use Rattle.workflow_core.specs.declared.workflow.Output.{Output}
+use Rattle.workflow_core.specs.Requested.{requests, is_requested, requested, requested_from}
 use Rattle.dependency_graph.specs.Value.{value}
 use Rattle.workflow_eval.specs.Evaluated.{AreValues}
-use Rattle.pegasus_cli.specs.Deliveries.{AreDeliveries, requests, is_requested, requested, requested_from, picked, marked, marked_by, chosen}
+use Rattle.pegasus_cli.specs.Deliveries.{AreDeliveries, picked, marked, marked_by, chosen}
 
 set_mark : (marks : List Bool) (k f : ℕ) → f < length marks → get_or (slice_set marks k true) f false ≡ ((k == f) || get_or marks f false)
 set_mark marks k f h = grind (arith, common_steps, nat_tests)

@@ -6,6 +6,7 @@ use Rattle.outside.specs.Tool.{Apply}
 use Rattle.outside.specs.declared.numbers.JobId.{JobId}
 use Rattle.workflow_core.specs.declared.workflow.Workflow.{Workflow}
 use Rattle.workflow_core.specs.declared.workflow.Job.{Job}
+use Rattle.workflow_core.specs.Requested.{requested}
 use Rattle.dependency_graph.specs.Edges.{producer}
 use Rattle.dependency_graph.specs.Graph.{Links, IsGraphOf, IsSound}
 use Rattle.dependency_graph.specs.Built.{AreTwoProducers, AreCycle}
@@ -27,7 +28,7 @@ use Rattle.pegasus_cli.specs.declared.outcome.Outcome.{Outcome}
 use Rattle.pegasus_cli.specs.declared.outcome.Outcome.TheVariants as outcomes
 use Rattle.pegasus_cli.specs.Checks.{check_lines}
 use Rattle.pegasus_cli.specs.Course.{IsReadAs, ReadWorkflow, Refuses}
-use Rattle.pegasus_cli.specs.Deliveries.{Delivery, AreDeliveries, requested, set_all, lines_of}
+use Rattle.pegasus_cli.specs.Deliveries.{Delivery, AreDeliveries, set_all, lines_of}
 use Rattle.pegasus_cli.specs.Lines.{line_of}
 
 -- the course over told documents, where they are told

@@ -1,6 +1,5 @@
 -- What is delivered, and the lines that say so.
-use Rattle.std.specs.Prelude.{◌≡◌, ℕ, suc, ◌==◌, ◌&&◌, ◌++◌, Bool, List, [], ◌∷◌, codes, length, slice_index_or, slice_set, option_map, replicate, true, false, if◌then◌else◌, Option, Some, Result, Ok, Err}
-use Rattle.std.specs.List.{list_any}
+use Rattle.std.specs.Prelude.{◌≡◌, ℕ, ◌++◌, Bool, List, [], ◌∷◌, codes, length, slice_index_or, slice_set, option_map, replicate, true, false, if◌then◌else◌, Option, Some, Result, Ok, Err}
 use Rattle.std.specs.FinMap as map
 use Rattle.std.specs.Fmt.{decimal}
 use Rattle.hex.specs.Hex.{encode_lower}
@@ -14,22 +13,6 @@ use Rattle.workflow_core.specs.declared.workflow.Workflow.{Workflow}
 use Rattle.workflow_core.specs.declared.workflow.Job.{Job}
 use Rattle.workflow_core.specs.declared.workflow.Output.{Output}
 use Rattle.dependency_graph.specs.Value.{value}
-
--- an output of the job has the file, to be delivered
-abbrev pub requests : ℕ → Job → Bool
-requests f j = list_any (λ (o : Output). o.stage_out && (o.file.0 == f)) j.outputs
-
-abbrev pub is_requested : Workflow → ℕ → Bool
-is_requested w f = list_any (requests f) w.jobs
-
--- of the files with these names, the first of which has number f, the requested ones
-abbrev pub requested_from : Workflow → ℕ → List (List ℕ) → List ℕ
-requested_from w f [] = []
-requested_from w f (name ∷ names) = if is_requested w f then f ∷ requested_from w (suc f) names else requested_from w (suc f) names
-
--- the numbers of the requested files, rising
-abbrev pub requested : Workflow → List ℕ
-requested w = requested_from w 0 w.files
 
 -- a file's name and its bytes
 pub record Delivery : Type 0 where
