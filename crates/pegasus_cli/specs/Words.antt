@@ -1,6 +1,11 @@
 -- The words of a command line.
-use Rattle.std.specs.Prelude.{ℕ, ◌==◌, not, Bool, false, List, [], ◌∷◌, codes, if◌then◌else◌, Option, Some, None}
+use Rattle.std.specs.Prelude.{◌≡◌, ℕ, ◌==◌, not, Bool, false, List, [], ◌∷◌, codes, drop, if◌then◌else◌, Option, Some, None, Result, Ok, Err}
 use Rattle.std.specs.Str.{bytes_eq}
+use Rattle.std.specs.IoError.{error_kind}
+use Rattle.std.specs.Vec.Iter.{into_iter_items}
+use Rattle.std.specs.declared.vec.IntoIter.{IntoIter}
+use Rattle.std.specs.declared.io.Error.{Error}
+use Rattle.std.specs.declared.io.ErrorKind.TheVariants.{OutOfMemory}
 use Rattle.pegasus_cli.specs.declared.words.Command.{Command}
 use Rattle.pegasus_cli.specs.declared.words.Command.TheVariants.{Check, Alone}
 
@@ -22,3 +27,13 @@ with_document name (Some c) = if is_document_word name then Some (c, name) else 
 abbrev pub command : List (List ℕ) → Option (Command × List ℕ)
 command (word ∷ name ∷ []) = with_document name (command_named word)
 command _ = None
+
+-- the user's words among a program's arguments: all but the first, which is the program's name; none, where the arguments are no texts
+abbrev pub words_given : {X Z : Type 0} → Result (IntoIter X Z) Error → List X
+words_given (Ok args) = drop 1 (into_iter_items args)
+words_given (Err e) = []
+
+-- memory ran out as the arguments were read
+abbrev pub IsForMemory : {X : Type 0} → Result X Error → Type 0
+IsForMemory (Ok args) = ⊥
+IsForMemory (Err e) = error_kind e ≡ OutOfMemory

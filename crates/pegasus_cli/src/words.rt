@@ -1,7 +1,12 @@
 //! The words of a command line.
 
-ghost use Rattle.std.specs.Prelude.{◌≡◌, map as list_map, option_map, string_bytes};
-ghost use Rattle.pegasus_cli.specs.Words.{command as command_of, command_named as named, is_document_word as is_document};
+ghost use Rattle.std.specs.Prelude.{◌≡◌, IfOk, IsErr, map as list_map, option_map, string_bytes};
+ghost use Rattle.pegasus_cli.specs.Words.{IsForMemory, command as command_of, command_named as named, is_document_word as is_document, words_given};
+
+use outside::Memory;
+use std::alloc::Global;
+use std::env::Args;
+use std::io;
 
 /// What is asked for.
 #[derive(Clone, Copy, Debug, PartialEq, Eq)]
@@ -42,4 +47,24 @@ pub(crate) fn parse_words(words: &[String]) -> Option<(Command, &str)>
         },
         _ => None,
     }
+}
+
+/// The user's words of the program's arguments. Arguments that are no text are no command, as an
+/// empty list is.
+pub(crate) fn user_words(alloc: Global, args: io::Result<Args>) -> Result<Vec<String>, Memory>
+    ensures words { IfOk result (λ words. words.items ≡ words_given args) }
+    ensures memory { IsForMemory args → IsErr result }
+{
+    let mut words = Vec::new(alloc);
+    match args {
+        Ok(mut args) => {
+            let _program = args.next();
+            for word in args {
+                words.push(word)?;
+            }
+        }
+        Err(e) if e.kind() == io::ErrorKind::OutOfMemory => return Err(Memory),
+        Err(_) => {}
+    }
+    Ok(words)
 }
