@@ -5,7 +5,7 @@ use Rattle.std.specs.Option.{option_or}
 use Rattle.std.specs.List.{list_any, flat_map}
 use Rattle.std.specs.Str.{bytes_eq}
 use Rattle.std.specs.Cmp.Lexicographic.{bytes_decides}
-use Rattle.std.proofs.lemmas.Bool.{and_from, and_parts, not-true}
+use Rattle.std.proofs.lemmas.Bool.{and_from, and_parts, both_ways, not-true}
 use Rattle.std.proofs.lemmas.List.Folds.{list_any-append}
 use Rattle.std.proofs.Math.Bool.{or-true}
 use Rattle.workflow_core.specs.Numbering.{number}
@@ -39,11 +39,7 @@ none_new known [] n there new = refl
 none_new known (m ∷ ns) n there new = by (bytes_eq n m) refl (none_new (known ++ m ∷ []) ns n (list_any-append (bytes_eq n) known (m ∷ []) ∙ ap (λ (b : Bool). b || (bytes_eq n m || false)) there) (and_parts _ _ new).1)
   where
     by : (b : Bool) → bytes_eq n m ≡ b → not (list_any (bytes_eq n) ns) ≡ true → not (b || list_any (bytes_eq n) ns) ≡ true
-    by true e rest = absurd (
-      let known_too : list_any (bytes_eq m) known ≡ true = ap (λ (k : List ℕ). list_any (bytes_eq k) known) (sym ((bytes_decides n m).0 e)) ∙ there in
-      let not_known : list_any (bytes_eq m) known ≡ false = not-true _ (and_parts _ _ new).0 in
-      cc
-    )
+    by true e rest = absurd (both_ways (list_any (bytes_eq m) known) (not-true _ (and_parts _ _ new).0) (ap (λ (k : List ℕ). list_any (bytes_eq k) known) (sym ((bytes_decides n m).0 e)) ∙ there))
     by false e rest = rest
 
 new_apart : (known ns : List (List ℕ)) → are_new bytes_eq known ns ≡ true → apart ns ≡ true

@@ -29,3 +29,5 @@ pub use reader::{from_tree, read};
 mod linking_tests;
 #[cfg(test)]
 mod read_tests;
+#[cfg(test)]
+mod test_support;

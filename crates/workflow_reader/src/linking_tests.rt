@@ -2,12 +2,13 @@
 
 use super::document::{Dependency, Direction, Document, JobEntry, Use};
 use super::linking::workflow_of;
+use super::test_support::{check_pairs, check_texts};
 use outside::{Items, Memory, Text};
 use peg_json::ReadFault;
 use std::alloc::Global;
 use std::process::Abort;
 use std::test::*;
-use workflow_core::{Inlined, Transformation};
+use workflow_core::{Inlined, Job, Transformation, Workflow};
 
 fn text(alloc: Global, text: &str) -> Result<Text, Memory> {
     Text::copy_of(alloc, text)
@@ -137,9 +138,8 @@ fn expect(
     Ok(())
 }
 
-#[test]
-fn numbers_files_and_jobs(rt: HostRuntime) -> Result<(), Fail> {
-    let alloc = rt.alloc();
+/// Two jobs that use three files, one after the other.
+fn two_jobs(alloc: Global) -> Result<Workflow, Fail> {
     let first = vec![in alloc; use_of(alloc, "<x", None)?, use_of(alloc, ">y", Some(5))?]?;
     let second = vec![in alloc;
         use_of(alloc, ">z", None)?,
@@ -149,33 +149,38 @@ fn numbers_files_and_jobs(rt: HostRuntime) -> Result<(), Fail> {
     let jobs = vec![in alloc; job_of(alloc, "A", first)?, job_of(alloc, "B", second)?]?;
     let after = vec![in alloc; dependency(alloc, "A B B")?, dependency(alloc, "B A")?]?;
     let ignored = vec![in alloc; text(alloc, "/x")?]?;
-    let workflow = workflow_of(alloc, document(alloc, jobs, after)?, ignored)?;
-    let ([x, y, z], [path]) = (workflow.files.as_slice(), workflow.ignored.as_slice()) else {
-        return Err(Fail::new("three files, and a path"));
-    };
+    Ok(workflow_of(alloc, document(alloc, jobs, after)?, ignored)?)
+}
+
+/// Checks a job's inputs and outputs by number, in order.
+fn check_files(rt: &impl Abort, job: &Job, inputs: &[u32], outputs: &[u32]) {
+    assert_eq!(rt; job.inputs.as_slice().len(), inputs.len());
+    for (file, wanted) in job.inputs.as_slice().iter().zip(inputs.iter()) {
+        assert_eq!(rt; file.0, *wanted);
+    }
+    assert_eq!(rt; job.outputs.as_slice().len(), outputs.len());
+    for (output, wanted) in job.outputs.as_slice().iter().zip(outputs.iter()) {
+        assert_eq!(rt; output.file.0, *wanted);
+    }
+}
+
+#[test]
+fn numbers_files_and_jobs(rt: HostRuntime) -> Result<(), Fail> {
+    let workflow = two_jobs(rt.alloc())?;
     let [a, b] = workflow.jobs.as_slice() else {
         return Err(Fail::new("two jobs"));
     };
-    let ([a_in], [a_out]) = (a.inputs.as_slice(), a.outputs.as_slice()) else {
-        return Err(Fail::new("an input and an output of A"));
+    let [made] = b.outputs.as_slice() else {
+        return Err(Fail::new("an output of B"));
     };
-    let ([b_in, b_too], [b_out]) = (b.inputs.as_slice(), b.outputs.as_slice()) else {
-        return Err(Fail::new("two inputs and an output of B"));
-    };
-    let [one, two, three] = workflow.pairs.as_slice() else {
-        return Err(Fail::new("three pairs"));
-    };
-    assert_eq!(rt; x.as_str(), "x");
-    assert_eq!(rt; y.as_str(), "y");
-    assert_eq!(rt; z.as_str(), "z");
-    assert_eq!(rt; path.as_str(), "/x");
+    check_texts(&rt, workflow.files.as_slice(), &["x", "y", "z"]);
+    check_texts(&rt, workflow.ignored.as_slice(), &["/x"]);
     assert!(rt; workflow.sizes.as_slice() == [Some(3), Some(5), None].as_slice());
     assert_eq!(rt; b.id.as_str(), "B");
-    assert!(rt; a_in.0 == 0 && a_out.file.0 == 1);
-    assert!(rt; b_in.0 == 1 && b_too.0 == 0 && b_out.file.0 == 2);
-    assert!(rt; b_out.stage_out && !b_out.register);
-    assert!(rt; one.0.0 == 0 && one.1.0 == 1 && two.0.0 == 0 && two.1.0 == 1);
-    assert!(rt; three.0.0 == 1 && three.1.0 == 0);
+    check_files(&rt, a, &[0], &[1]);
+    check_files(&rt, b, &[1, 0], &[2]);
+    assert!(rt; made.stage_out && !made.register);
+    check_pairs(&rt, workflow.pairs.as_slice(), &[(0, 1), (0, 1), (1, 0)]);
     Ok(())
 }
 
