@@ -119,15 +119,13 @@ impl Ended {
         text.as_bytes().starts_with(written) && written.len() == taken && self.outcome.code() == 7
     }
 
-    fn has(&self, name: &str, bytes: &str) -> bool {
-        match self.host.delivered(name) {
-            Some(found) => found == bytes.as_bytes(),
-            None => false,
+    /// Whether the file is delivered with these bytes, or, with none given, isn't delivered.
+    fn holds(&self, name: &str, bytes: Option<&str>) -> bool {
+        match (self.host.delivered(name), bytes) {
+            (Some(found), Some(bytes)) => found == bytes.as_bytes(),
+            (None, None) => true,
+            _ => false,
         }
-    }
-
-    fn lacks(&self, name: &str) -> bool {
-        self.host.delivered(name).is_none()
     }
 }
 
@@ -158,12 +156,16 @@ fn call(
     })
 }
 
+const ALONE: &str = "alone|r.json";
+
+const CHECK: &str = "check|r.json";
+
 fn alone(alloc: Global, workflow: &str, weather: Weather) -> Result<Ended, Memory> {
-    let request = TO_W.as_bytes();
-    call(alloc, "alone|r.json", request, workflow.as_bytes(), weather)
+    call(alloc, ALONE, TO_W.as_bytes(), workflow.as_bytes(), weather)
 }
 
-fn check(alloc: Global, workflow: &str) -> Result<Ended, Memory> {
-    let request = TO_W.as_bytes();
-    call(alloc, "check|r.json", request, workflow.as_bytes(), FAIR)
+/// Whether a call over a workflow ends so.
+fn ends(alloc: Global, line: &str, workflow: &[u8], text: &str, code: u8) -> Result<bool, Memory> {
+    let ended = call(alloc, line, TO_W.as_bytes(), workflow, FAIR)?;
+    Ok(ended.is(text, code))
 }

@@ -1,6 +1,6 @@
 //! The words, the documents and the request.
 
-use super::{Ended, FAIR, HELLO, TO_W, Weather, alone, call};
+use super::{ALONE, FAIR, HELLO, TO_W, Weather, alone, call};
 use outside::Memory;
 use std::alloc::Global;
 use std::test::*;
@@ -44,64 +44,61 @@ const REQUESTS: [(&str, &str, u8); 11] = [
     ),
 ];
 
-/// `alone` over a request and a workflow.
-fn ask(alloc: Global, request: &str, workflow: &str) -> Result<Ended, Memory> {
-    let request = request.as_bytes();
-    call(alloc, "alone|r.json", request, workflow.as_bytes(), FAIR)
+/// Whether a call over a request and a workflow ends so.
+fn answers(
+    alloc: Global,
+    line: &str,
+    request: &[u8],
+    workflow: &str,
+    text: &str,
+    code: u8,
+) -> Result<bool, Memory> {
+    let ended = call(alloc, line, request, workflow.as_bytes(), FAIR)?;
+    Ok(ended.is(text, code))
 }
 
-/// A call over a request of one byte past the limit.
-fn long_request(alloc: Global) -> Result<Ended, Memory> {
+/// Whether a request of one byte past the limit is answered so.
+fn answers_long(alloc: Global, text: &str) -> Result<bool, Memory> {
     let long = vec![in alloc; b' '; 33_554_433]?;
-    call(alloc, "alone|r.json", &long, HELLO.as_bytes(), FAIR)
+    answers(alloc, ALONE, &long, HELLO, text, 3)
 }
 
-/// Whether the call with this number among the fetches fails with this text.
+/// Whether a call whose fetch of this number fails is answered so.
 fn fails_at(alloc: Global, fetch: u64, text: &str) -> Result<bool, Memory> {
     let failed = alone(alloc, HELLO, Weather { fetch, ..FAIR })?;
     Ok(failed.is(text, 3))
-}
-
-#[test]
-fn absent_or_long_document(rt: HostRuntime) -> Result<(), Fail> {
-    let alloc = rt.alloc();
-    let absent = call(
-        alloc,
-        "alone|x.json",
-        TO_W.as_bytes(),
-        HELLO.as_bytes(),
-        FAIR,
-    )?;
-    assert!(rt; absent.is("no document x.json\n", 3));
-    let absent = ask(alloc, "{\"workflow\":\"a b\"}", HELLO)?;
-    assert!(rt; absent.is("no document a%20b\n", 3));
-    assert!(rt; fails_at(alloc, 1, "document failed r.json\n")?);
-    assert!(rt; fails_at(alloc, 2, "document failed w.json\n")?);
-    let long = long_request(alloc)?;
-    assert!(rt; long.is("document too long r.json 33554432\n", 3));
-    Ok(())
-}
-
-#[test]
-fn words_that_are_no_command(rt: HostRuntime) -> Result<(), Fail> {
-    let alloc = rt.alloc();
-    for line in NO_COMMANDS {
-        let ended = call(alloc, line, TO_W.as_bytes(), HELLO.as_bytes(), FAIR)?;
-        assert!(rt; ended.is(USAGE, 2));
-    }
-    Ok(())
 }
 
 /// The place of the first request that isn't answered as it has to be.
 fn first_wrong(alloc: Global, cases: &[(&str, &str, u8)]) -> Result<Option<usize>, Memory> {
     for i in 0..cases.len() {
         let (request, text, code) = cases[i];
-        let ended = ask(alloc, request, HELLO)?;
-        if !ended.is(text, code) {
+        if !answers(alloc, ALONE, request.as_bytes(), HELLO, text, code)? {
             return Ok(Some(i));
         }
     }
     Ok(None)
+}
+
+#[test]
+fn absent_or_long_document(rt: HostRuntime) -> Result<(), Fail> {
+    let alloc = rt.alloc();
+    let other = b"{\"workflow\":\"a b\"}";
+    let absent = "no document x.json\n";
+    assert!(rt; answers(alloc, "alone|x.json", TO_W.as_bytes(), HELLO, absent, 3)?);
+    assert!(rt; answers(alloc, ALONE, other, HELLO, "no document a%20b\n", 3)?);
+    assert!(rt; fails_at(alloc, 1, "document failed r.json\n")?);
+    assert!(rt; fails_at(alloc, 2, "document failed w.json\n")?);
+    assert!(rt; answers_long(alloc, "document too long r.json 33554432\n")?);
+    Ok(())
+}
+
+#[test]
+fn words_that_are_no_command(rt: HostRuntime) -> Result<(), Fail> {
+    for line in NO_COMMANDS {
+        assert!(rt; answers(rt.alloc(), line, TO_W.as_bytes(), HELLO, USAGE, 2)?);
+    }
+    Ok(())
 }
 
 #[test]
@@ -112,9 +109,9 @@ fn requests_of_another_form(rt: HostRuntime) -> Result<(), Fail> {
 
 #[test]
 fn request_before_workflow(rt: HostRuntime) -> Result<(), Fail> {
-    let first = ask(rt.alloc(), "[]", "{")?;
-    assert!(rt; first.is("not built request\n", 9));
-    let second = ask(rt.alloc(), TO_W, "{")?;
-    assert!(rt; second.is("refused workflow syntax\n", 4));
+    let alloc = rt.alloc();
+    assert!(rt; answers(alloc, ALONE, b"[]", "{", "not built request\n", 9)?);
+    let text = "refused workflow syntax\n";
+    assert!(rt; answers(alloc, ALONE, TO_W.as_bytes(), "{", text, 4)?);
     Ok(())
 }

@@ -1,6 +1,8 @@
 //! Whole workflows.
 
-use super::{FAIR, HELLO, alone, check};
+use super::{ALONE, CHECK, FAIR, HELLO, TO_W, alone, call, ends};
+use outside::Memory;
+use std::alloc::Global;
 use std::test::*;
 
 const REVERSED: &str =
@@ -27,52 +29,68 @@ const NOTHING_TEXT: &str =
 const DIAMOND_TEXT: &str =
     "workflow diamond 4 6 4\nignored workflow /jobs/1/stdout\nignored workflow /x-pegasus\ndone\n";
 
+/// Whether `alone` over a workflow ends so, and one file is as told.
+fn delivers(
+    alloc: Global,
+    workflow: &str,
+    text: &str,
+    code: u8,
+    file: (&str, Option<&str>),
+) -> Result<bool, Memory> {
+    let ended = alone(alloc, workflow, FAIR)?;
+    Ok(ended.is(text, code) && ended.holds(file.0, file.1))
+}
+
 #[test]
 fn hello_through_join(rt: HostRuntime) -> Result<(), Fail> {
     let ended = alone(rt.alloc(), HELLO, FAIR)?;
     assert!(rt; ended.is(HELLO_TEXT, 0));
-    assert!(rt; ended.has("b.txt", "hello world\n"));
-    assert!(rt; ended.lacks("a.txt"));
+    assert!(rt; ended.holds("b.txt", Some("hello world\n")));
+    assert!(rt; ended.holds("a.txt", None));
     Ok(())
 }
 
 #[test]
 fn join_of_nothing(rt: HostRuntime) -> Result<(), Fail> {
-    let ended = alone(rt.alloc(), NOTHING, FAIR)?;
-    assert!(rt; ended.is(NOTHING_TEXT, 0));
-    assert!(rt; ended.has("e.txt", ""));
+    assert!(rt; delivers(rt.alloc(), NOTHING, NOTHING_TEXT, 0, ("e.txt", Some("")))?);
     Ok(())
 }
 
 #[test]
 fn reader_before_producer(rt: HostRuntime) -> Result<(), Fail> {
-    let ended = alone(rt.alloc(), REVERSED, FAIR)?;
-    assert!(rt; ended.is(HELLO_TEXT, 0));
-    assert!(rt; ended.has("b.txt", "hello world\n"));
+    let b = ("b.txt", Some("hello world\n"));
+    assert!(rt; delivers(rt.alloc(), REVERSED, HELLO_TEXT, 0, b)?);
     Ok(())
 }
 
 #[test]
 fn file_without_producer(rt: HostRuntime) -> Result<(), Fail> {
-    let ended = alone(rt.alloc(), UNMADE, FAIR)?;
-    assert!(rt; ended.is("not built workflow\n", 9));
-    assert!(rt; ended.lacks("b.txt"));
-    let checked = check(rt.alloc(), UNMADE)?;
-    assert!(rt; checked.is("workflow u 1 2 0\ndone\n", 0));
+    let alloc = rt.alloc();
+    assert!(rt; delivers(alloc, UNMADE, "not built workflow\n", 9, ("b.txt", None))?);
+    let text = "workflow u 1 2 0\ndone\n";
+    assert!(rt; ends(alloc, CHECK, UNMADE.as_bytes(), text, 0)?);
     Ok(())
 }
 
 #[test]
 fn check_of_the_diamond(rt: HostRuntime) -> Result<(), Fail> {
-    let ended = check(rt.alloc(), DIAMOND)?;
+    let request = TO_W.as_bytes();
+    let ended = call(rt.alloc(), CHECK, request, DIAMOND.as_bytes(), FAIR)?;
     assert!(rt; ended.is(DIAMOND_TEXT, 0));
-    assert!(rt; ended.lacks("f.d"));
+    assert!(rt; ended.holds("f.d", None));
     Ok(())
 }
 
 #[test]
 fn text_with_two_outputs(rt: HostRuntime) -> Result<(), Fail> {
-    let ended = alone(rt.alloc(), TWO_OUTPUTS, FAIR)?;
-    assert!(rt; ended.is("failed declined A\n", 6));
+    assert!(rt;
+        ends(
+            rt.alloc(),
+            ALONE,
+            TWO_OUTPUTS.as_bytes(),
+            "failed declined A\n",
+            6
+        )?
+    );
     Ok(())
 }

@@ -1,6 +1,6 @@
 //! Calls of a host, a tool and a sink that fail.
 
-use super::{Ended, FAIR, Weather, alone};
+use super::{FAIR, Weather, alone};
 use outside::Memory;
 use std::alloc::Global;
 use std::test::*;
@@ -18,55 +18,61 @@ const CUT_SHORT: &str =
 /// Of a failing write its number, how many bytes a write takes, and how many are taken in all.
 const WRITES: [(u64, usize, usize); 5] = [(1, 5, 0), (2, 5, 5), (4, 5, 15), (1, 1, 0), (9, 1, 8)];
 
-fn two_files(alloc: Global, weather: Weather) -> Result<Ended, Memory> {
-    alone(alloc, TWO_FILES, weather)
+const TWO: &str = "two %\u{e9}";
+
+/// Whether `alone` in this weather ends so, and the two files are as told.
+fn two_files(
+    alloc: Global,
+    weather: Weather,
+    text: &str,
+    code: u8,
+    files: [Option<&str>; 2],
+) -> Result<bool, Memory> {
+    let ended = alone(alloc, TWO_FILES, weather)?;
+    let [one, two] = files;
+    Ok(ended.is(text, code) && ended.holds("one", one) && ended.holds(TWO, two))
+}
+
+/// Whether what is written is cut so, and the first file is delivered.
+fn cuts(alloc: Global, write: u64, most: usize, taken: usize) -> Result<bool, Memory> {
+    let weather = Weather {
+        write,
+        most,
+        ..FAIR
+    };
+    let cut = alone(alloc, TWO_FILES, weather)?;
+    Ok(cut.is_cut(WHOLE, taken) && cut.holds("one", Some("x\n")))
 }
 
 #[test]
 fn calls_that_do_not_fail(rt: HostRuntime) -> Result<(), Fail> {
-    let fair = two_files(rt.alloc(), FAIR)?;
-    assert!(rt; fair.is(WHOLE, 0));
-    assert!(rt; fair.has("one", "x\n"));
-    assert!(rt; fair.has("two %\u{e9}", ""));
-    let pieces = two_files(rt.alloc(), Weather { most: 1, ..FAIR })?;
-    assert!(rt; pieces.is(WHOLE, 0));
+    let both = [Some("x\n"), Some("")];
+    let alloc = rt.alloc();
+    assert!(rt; two_files(alloc, FAIR, WHOLE, 0, both)?);
+    assert!(rt; two_files(alloc, Weather { most: 1, ..FAIR }, WHOLE, 0, both)?);
     Ok(())
 }
 
 #[test]
-fn deliveries_that_fail(rt: HostRuntime) -> Result<(), Fail> {
-    let first = two_files(rt.alloc(), Weather { deliver: 1, ..FAIR })?;
-    assert!(rt; first.is("failed host -\n", 6));
-    assert!(rt; first.lacks("one"));
-    let second = two_files(rt.alloc(), Weather { deliver: 2, ..FAIR })?;
-    assert!(rt; second.is(CUT_SHORT, 6));
-    assert!(rt; second.has("one", "x\n"));
-    assert!(rt; second.lacks("two %\u{e9}"));
-    Ok(())
-}
-
-#[test]
-fn runs_that_fail(rt: HostRuntime) -> Result<(), Fail> {
-    let first = two_files(rt.alloc(), Weather { run: 1, ..FAIR })?;
-    assert!(rt; first.is("failed tool A\n", 6));
-    assert!(rt; first.lacks("one"));
-    let second = two_files(rt.alloc(), Weather { run: 2, ..FAIR })?;
-    assert!(rt; second.is("failed tool B%20C\n", 6));
-    assert!(rt; second.lacks("one"));
+fn calls_that_fail(rt: HostRuntime) -> Result<(), Fail> {
+    let none = [None, None];
+    let first = [Some("x\n"), None];
+    let alloc = rt.alloc();
+    let weather = Weather { deliver: 1, ..FAIR };
+    assert!(rt; two_files(alloc, weather, "failed host -\n", 6, none)?);
+    let weather = Weather { deliver: 2, ..FAIR };
+    assert!(rt; two_files(alloc, weather, CUT_SHORT, 6, first)?);
+    let weather = Weather { run: 1, ..FAIR };
+    assert!(rt; two_files(alloc, weather, "failed tool A\n", 6, none)?);
+    let weather = Weather { run: 2, ..FAIR };
+    assert!(rt; two_files(alloc, weather, "failed tool B%20C\n", 6, none)?);
     Ok(())
 }
 
 #[test]
 fn writes_that_fail(rt: HostRuntime) -> Result<(), Fail> {
     for (write, most, taken) in WRITES {
-        let weather = Weather {
-            write,
-            most,
-            ..FAIR
-        };
-        let cut = two_files(rt.alloc(), weather)?;
-        assert!(rt; cut.is_cut(WHOLE, taken));
-        assert!(rt; cut.has("one", "x\n"));
+        assert!(rt; cuts(rt.alloc(), write, most, taken)?);
     }
     Ok(())
 }

@@ -1,6 +1,6 @@
 //! Workflows that are refused, and keys that aren't acted on.
 
-use super::{FAIR, HELLO, TO_W, call, check};
+use super::{ALONE, CHECK, HELLO, ends};
 use outside::Memory;
 use std::alloc::Global;
 use std::test::*;
@@ -72,9 +72,7 @@ const CYCLE: &str =
 
 /// Whether both commands refuse the workflow with this text.
 fn refuses(alloc: Global, workflow: &[u8], text: &str) -> Result<bool, Memory> {
-    let alone = call(alloc, "alone|r.json", TO_W.as_bytes(), workflow, FAIR)?;
-    let check = call(alloc, "check|r.json", TO_W.as_bytes(), workflow, FAIR)?;
-    Ok(alone.is(text, 4) && check.is(text, 4))
+    Ok(ends(alloc, ALONE, workflow, text, 4)? && ends(alloc, CHECK, workflow, text, 4)?)
 }
 
 /// The place of the first workflow that isn't refused with its text.
@@ -135,8 +133,7 @@ fn hostile_documents(rt: HostRuntime) -> Result<(), Fail> {
 
 #[test]
 fn one_more_key_at_each_object(rt: HostRuntime) -> Result<(), Fail> {
-    let ended = check(rt.alloc(), MORE_KEYS)?;
-    assert!(rt; ended.is(MORE_KEYS_TEXT, 0));
+    assert!(rt; ends(rt.alloc(), CHECK, MORE_KEYS.as_bytes(), MORE_KEYS_TEXT, 0)?);
     Ok(())
 }
 
