@@ -3,3 +3,4 @@ pub mod Ends
 pub mod Fronts
 pub mod Marks
 pub mod Requests
+pub mod Asked

@@ -179,6 +179,11 @@ abbrev pub IsAnswer : Outcome → Type 0
 IsAnswer outcomes.SinkFailed = ⊥
 IsAnswer _ = Unit {0}
 
+-- a document that could not be had is one of these
+abbrev pub EndsAmong : (List ℕ → Type 0) → Outcome → Type 0
+EndsAmong asked (outcomes.DocFailed name) = asked name
+EndsAmong asked _ = Unit {0}
+
 -- What is written at the end: the text and the answer's line, a front of them where the sink failed, nothing at want of memory.
 abbrev pub Ends : Option (List ℕ) → Option (List ℕ) → Type 0 → List ℕ → Outcome → Outcome → Type 0
 Ends old new rose text answer outcomes.Memory = Keeps old new

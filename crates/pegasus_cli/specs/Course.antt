@@ -1,5 +1,5 @@
 -- The first answer of the words and the documents, or the workflow that a call goes on with.
-use Rattle.std.specs.Prelude.{◌≡◌, ℕ, List, Option, Some, None, Result, Ok, Err, IfSome, MatchOption}
+use Rattle.std.specs.Prelude.{◌≡◌, ◌⊎◌, ℕ, List, Option, Some, None, Result, Ok, Err, IfSome, MatchOption}
 use Rattle.std.specs.List.Sorted.{IsPermutation, IsSorted}
 use Rattle.std.specs.Ordering.{nat_cmp}
 use Rattle.std.specs.Cmp.Lexicographic.{slice_cmp}
@@ -140,6 +140,19 @@ GivesWorkflow faulted missed expected (Err early) = Refuses faulted missed expec
 abbrev pub GivesRead : Type 0 → Type 0 → Option (Result ReadWorkflow Early) → Result Read Early → Type 0
 GivesRead faulted missed expected (Ok r) = IfSome expected (λ e. IsReadAs e r.workflow)
 GivesRead faulted missed expected (Err early) = Refuses faulted missed expected early
+
+-- a document that a call asks for: the one of its words, or the one that the request there, if it is told, names
+abbrev pub IsAsked : List ℕ → Option Files → List ℕ → Type 0
+IsAsked request told name = (name ≡ request) ⊎ IfSome told (λ files. request_at request files ≡ Ok name)
+
+abbrev pub IsAskedBy : Option (Command × List ℕ) → Option Files → List ℕ → Type 0
+IsAskedBy None told name = ⊥
+IsAskedBy (Some c) told name = IsAsked c.1 told name
+
+-- a document that could not be had is one of these
+abbrev pub FailsAmong : (List ℕ → Type 0) → Early → Type 0
+FailsAmong asked (DocFailed name) = asked name
+FailsAmong asked _ = Unit {0}
 
 -- an answer that may give way to want of memory
 abbrev pub OrMemory : Early → Early → Type 0

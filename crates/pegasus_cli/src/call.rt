@@ -2,8 +2,8 @@
 
 ghost use Rattle.std.specs.Prelude.{◌≡◌, [], map as list_map, option_map, string_bytes};
 ghost use Rattle.outside.specs.Counts.{Rose};
-ghost use Rattle.pegasus_cli.specs.Answers.{CanBeDone, Closes, Comes, Ends, IsAnswer, IsAnswered, IsDoneOrMemory, NoneRose, OnlyUsage, StopsOrMemory};
-ghost use Rattle.pegasus_cli.specs.Course.{course};
+ghost use Rattle.pegasus_cli.specs.Answers.{CanBeDone, Closes, Comes, Ends, EndsAmong, IsAnswer, IsAnswered, IsDoneOrMemory, NoneRose, OnlyUsage, StopsOrMemory};
+ghost use Rattle.pegasus_cli.specs.Course.{IsAskedBy, course};
 ghost use Rattle.pegasus_cli.specs.Words.{command};
 
 use crate::check::push_check;
@@ -26,10 +26,11 @@ fn answer<D: Docs, H: Host, T: Tool>(
     text: &mut Vec<u8>,
 ) -> Outcome
     requires { text.old.items ≡ [] }
-    ensures { IsAnswered (Rose (D.faults docs.old) (D.faults docs.new)) (Rose (D.misses docs.old) (D.misses docs.new))
+    ensures answered { IsAnswered (Rose (D.faults docs.old) (D.faults docs.new)) (Rose (D.misses docs.old) (D.misses docs.new))
         (Rose (T.faults tool.old) (T.faults tool.new)) (Rose (H.faults host.old) (H.faults host.new))
         T.apply (command (list_map string_bytes words.now)) (option_map (course (list_map string_bytes words.now)) (D.told docs.old))
         (H.delivered host.old) (H.delivered host.new) text.new.items result }
+    ensures failed { EndsAmong (IsAskedBy (command (list_map string_bytes words.now)) (D.told docs.old)) result }
 {
     let read = match read_documents(alloc, words, docs) {
         Ok(read) => read,
@@ -84,6 +85,8 @@ pub fn quick<D: Docs, K: Sink, H: Host, T: Tool>(
         (Rose (T.faults tool) (T.faults result.2)) (Rose (H.faults host) (H.faults result.1)) (Rose (K.faults out.old) (K.faults out.new))
         T.apply (command (list_map string_bytes words.now)) (option_map (course (list_map string_bytes words.now)) (D.told docs.old)) result.0 }
     ensures usage { OnlyUsage (Rose (K.faults out.old) (K.faults out.new)) (command (list_map string_bytes words.now)) result.0 }
+    // A document that could not be had is one that the call asks for.
+    ensures failed { EndsAmong (IsAskedBy (command (list_map string_bytes words.now)) (D.told docs.old)) result.0 }
     // What the host holds and what was written at each outcome.
     ensures closes { Closes (Rose (D.faults docs.old) (D.faults docs.new)) (Rose (D.misses docs.old) (D.misses docs.new))
         (Rose (T.faults tool) (T.faults result.2)) (Rose (H.faults host) (H.faults result.1))

@@ -1,9 +1,9 @@
 //! The documents of a call, fetched and read in their order.
 
-ghost use Rattle.std.specs.Prelude.{◌≡◌, ◌≤◌, IfOk, option_map, map as list_map, string_bytes};
+ghost use Rattle.std.specs.Prelude.{◌≡◌, ◌≤◌, IfErr, IfOk, option_map, map as list_map, string_bytes};
 ghost use Rattle.outside.specs.Counts.{Rose};
 ghost use Rattle.workflow_core.specs.WellFormed.{IsWellFormed};
-ghost use Rattle.pegasus_cli.specs.Course.{Gives, GivesRead, GivesWorkflow, NotUsage, OrMemory, TellsCommand, bytes_at, course, doc_answer, documents_read, read_answer, request_answer, request_at, tree_answer, workflow_at};
+ghost use Rattle.pegasus_cli.specs.Course.{FailsAmong, Gives, GivesRead, GivesWorkflow, IsAsked, IsAskedBy, NotUsage, OrMemory, TellsCommand, bytes_at, course, doc_answer, documents_read, read_answer, request_answer, request_at, tree_answer, workflow_at};
 ghost use Rattle.pegasus_cli.specs.Words.{command as command_of};
 
 use crate::early::Early;
@@ -71,11 +71,13 @@ fn of_read_fault(which: Document, fault: ReadFault) -> Early
     Early::Refused(refused)
 }
 
+#[tactic(auto, using(crate::proofs::Asked::fetch_named))]
 fn fetch<D: Docs>(alloc: Global, docs: &mut D, name: &str) -> Result<Vec<u8>, Early>
     ensures answer { Gives (λ v. v.items)
         (Rose (D.faults docs.old) (D.faults docs.new)) (Rose (D.misses docs.old) (D.misses docs.new))
         (option_map (bytes_at name.now) (D.told docs.old)) result }
     ensures usage { NotUsage result }
+    ensures failed { IfErr result (FailsAmong (λ n. n ≡ name.now)) }
     ensures told { D.told docs.new ≡ D.told docs.old }
     ensures faults { D.faults docs.old ≤ D.faults docs.new }
     ensures misses { D.misses docs.old ≤ D.misses docs.new }
@@ -87,11 +89,13 @@ fn fetch<D: Docs>(alloc: Global, docs: &mut D, name: &str) -> Result<Vec<u8>, Ea
     }
 }
 
+#[tactic(auto, using(crate::proofs::Asked::request_named))]
 fn fetch_request<D: Docs>(alloc: Global, docs: &mut D, name: &str) -> Result<Text, Early>
     ensures answer { Gives (λ t. t)
         (Rose (D.faults docs.old) (D.faults docs.new)) (Rose (D.misses docs.old) (D.misses docs.new))
         (option_map (request_at name.now) (D.told docs.old)) result }
     ensures usage { NotUsage result }
+    ensures failed { IfErr result (FailsAmong (λ n. n ≡ name.now)) }
     ensures told { D.told docs.new ≡ D.told docs.old }
     ensures faults { D.faults docs.old ≤ D.faults docs.new }
     ensures misses { D.misses docs.old ≤ D.misses docs.new }
@@ -106,13 +110,14 @@ fn fetch_request<D: Docs>(alloc: Global, docs: &mut D, name: &str) -> Result<Tex
     }
 }
 
-#[tactic(auto, using(crate::proofs::Readings::fault_comes, crate::proofs::Readings::workflow_comes))]
+#[tactic(auto, using(crate::proofs::Readings::fault_comes, crate::proofs::Readings::workflow_comes, crate::proofs::Asked::read_named))]
 fn fetch_workflow<D: Docs>(alloc: Global, docs: &mut D, name: &str) -> Result<Workflow, Early>
     ensures answer { GivesWorkflow
         (Rose (D.faults docs.old) (D.faults docs.new)) (Rose (D.misses docs.old) (D.misses docs.new))
         (option_map (workflow_at name.now) (D.told docs.old)) result }
     ensures usage { NotUsage result }
     ensures well_formed { IfOk result (λ w. IsWellFormed w) }
+    ensures failed { IfErr result (FailsAmong (λ n. n ≡ name.now)) }
     ensures told { D.told docs.new ≡ D.told docs.old }
     ensures faults { D.faults docs.old ≤ D.faults docs.new }
     ensures misses { D.misses docs.old ≤ D.misses docs.new }
@@ -127,12 +132,14 @@ fn fetch_workflow<D: Docs>(alloc: Global, docs: &mut D, name: &str) -> Result<Wo
     }
 }
 
+#[tactic(auto, using(crate::proofs::Asked::first_asked, crate::proofs::Asked::next_asked))]
 fn fetch_both<D: Docs>(alloc: Global, docs: &mut D, name: &str) -> Result<Workflow, Early>
     ensures answer { GivesWorkflow
         (Rose (D.faults docs.old) (D.faults docs.new)) (Rose (D.misses docs.old) (D.misses docs.new))
         (option_map (documents_read name.now) (D.told docs.old)) result }
     ensures usage { NotUsage result }
     ensures well_formed { IfOk result (λ w. IsWellFormed w) }
+    ensures failed { IfErr result (FailsAmong (IsAsked name.now (D.told docs.old))) }
     ensures told { D.told docs.new ≡ D.told docs.old }
     ensures faults { D.faults docs.old ≤ D.faults docs.new }
     ensures misses { D.misses docs.old ≤ D.misses docs.new }
@@ -162,6 +169,7 @@ pub(crate) fn read_documents<D: Docs>(
         (option_map (course (list_map string_bytes words.now)) (D.told docs.old)) result }
     ensures command { TellsCommand (command_of (list_map string_bytes words.now)) result }
     ensures well_formed { IfOk result (λ r. IsWellFormed r.workflow) }
+    ensures failed { IfErr result (FailsAmong (IsAskedBy (command_of (list_map string_bytes words.now)) (D.told docs.old))) }
     ensures told { D.told docs.new ≡ D.told docs.old }
     ensures faults { D.faults docs.old ≤ D.faults docs.new }
     ensures misses { D.misses docs.old ≤ D.misses docs.new }
