@@ -4,6 +4,9 @@
 //! `specs/Edges.antt`. [`build`] answers the graph (`specs/Graph.antt`) exactly where each file has
 //! at most one producer and no list of edges returns; `specs/Built.antt` has the faults, and
 //! `specs/Cycles.antt` the one cycle that a fault names.
+//!
+//! The value of a file is defined in `specs/Value.antt`. Laws in `law.rt` say that nothing else fits
+//! together so, and that values flow along the graph's order (`specs/Flow.antt`).
 #![tactic(auto)]
 
 mod building;

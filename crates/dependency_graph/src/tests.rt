@@ -143,45 +143,42 @@ fn expect(
     Ok(())
 }
 
+/// Pairs of four jobs that use no file, and the answer.
+const PAIRED: [(&str, &[(u32, u32)], &str); 7] = [
+    ("no pair", &[], "order 0 1 2 3"),
+    ("a self edge", &[(1, 1)], "cycle j1"),
+    (
+        "two cycles",
+        &[(2, 3), (3, 2), (1, 0), (0, 1)],
+        "cycle j0 j1",
+    ),
+    (
+        "two shortest ways",
+        &[(0, 2), (0, 1), (1, 0), (2, 0)],
+        "cycle j0 j1",
+    ),
+    (
+        "a longer way first",
+        &[(0, 1), (1, 2), (2, 0), (0, 3), (3, 0)],
+        "cycle j0 j3",
+    ),
+    (
+        "a self edge on a longer cycle",
+        &[(0, 1), (1, 0), (0, 0)],
+        "cycle j0",
+    ),
+    (
+        "a tail before and after",
+        &[(3, 1), (1, 2), (2, 1), (2, 0)],
+        "cycle j1 j2",
+    ),
+];
+
 #[test]
 fn cycles_by_pairs(rt: HostRuntime) -> Result<(), Fail> {
     let none: &[u32] = &[];
-    let four = [
-        Uses(none, none),
-        Uses(none, none),
-        Uses(none, none),
-        Uses(none, none),
-    ];
-    let cases: [(&str, &[(u32, u32)], &str); 7] = [
-        ("no pair", &[], "order 0 1 2 3"),
-        ("a self edge", &[(1, 1)], "cycle j1"),
-        (
-            "two cycles",
-            &[(2, 3), (3, 2), (1, 0), (0, 1)],
-            "cycle j0 j1",
-        ),
-        (
-            "two shortest ways",
-            &[(0, 2), (0, 1), (1, 0), (2, 0)],
-            "cycle j0 j1",
-        ),
-        (
-            "a longer way first",
-            &[(0, 1), (1, 2), (2, 0), (0, 3), (3, 0)],
-            "cycle j0 j3",
-        ),
-        (
-            "a self edge on a longer cycle",
-            &[(0, 1), (1, 0), (0, 0)],
-            "cycle j0",
-        ),
-        (
-            "a tail before and after",
-            &[(3, 1), (1, 2), (2, 1), (2, 0)],
-            "cycle j1 j2",
-        ),
-    ];
-    for (name, pairs, wanted) in cases {
+    let four = [Uses(none, none); 4];
+    for (name, pairs, wanted) in PAIRED {
         expect(&rt, name, 0, &four, pairs, wanted)?;
     }
     Ok(())
