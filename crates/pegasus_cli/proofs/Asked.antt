@@ -1,6 +1,6 @@
 -- The documents that a call asks for.
 use Rattle.std.proofs.Common.{◌≡◌, ℕ, List, sym, ap, subst, ◌∙◌, inl, inr}
-use Rattle.std.specs.Prelude.{Option, Some, None, Result, Ok, IfSome, option_map}
+use Rattle.std.specs.Prelude.{Option, Some, None, Ok, IfSome, option_map}
 use Rattle.outside.specs.Files.{Files}
 use Rattle.outside.specs.Tool.{Apply}
 use Rattle.outside.specs.declared.docs.DocFault.{DocFault}
