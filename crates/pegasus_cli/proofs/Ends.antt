@@ -194,7 +194,7 @@ sink_usage : (S : Type 0) (command : Commanded) → S → OnlyUsage S command Si
 sink_usage S None s = s
 sink_usage S (Some c) s = tt
 
-pub memory_usage : (S : Type 0) (command : Commanded) → OnlyUsage S command Memory
+memory_usage : (S : Type 0) (command : Commanded) → OnlyUsage S command Memory
 memory_usage S None = tt
 memory_usage S (Some c) = tt
 

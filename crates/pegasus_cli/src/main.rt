@@ -5,11 +5,6 @@
 //! user's folder and standard output. The definitions stand in `specs/`, over those of the crates below.
 #![tactic(auto)]
 
-ghost use Rattle.std.specs.Prelude.{map as list_map, string_bytes};
-ghost use Rattle.outside.specs.Counts.{Rose};
-ghost use Rattle.pegasus_cli.specs.Answers.{OnlyUsage};
-ghost use Rattle.pegasus_cli.specs.Words.{command, words_given};
-
 mod call;
 mod check;
 mod delivery;
@@ -26,40 +21,22 @@ mod work;
 use call::quick;
 use host_files::{FolderDocs, StreamSink};
 use outcome::Outcome;
-use outside::{Docs, Memory, MemoryHost, Sink};
-use std::alloc::Global;
-use std::env::Args;
+use outside::MemoryHost;
 use std::process::ExitCode;
 use std::{env, io};
 use toolbox::Shipped;
 use words::user_words;
 
-/// A call with the words that the program's arguments give.
-#[tactic(auto, using(crate::proofs::Ends::memory_usage))]
-fn run<D: Docs, K: Sink>(
-    alloc: Global,
-    args: io::Result<Args>,
-    docs: &mut D,
-    out: &mut K,
-) -> Outcome
-    // Usage comes exactly where those words are no command.
-    ensures usage { OnlyUsage (Rose (K.faults out.old) (K.faults out.new)) (command (list_map string_bytes (words_given args))) result }
-{
-    let words = match user_words(alloc, args) {
-        Ok(words) => words,
-        Err(Memory) => return Outcome::Memory,
-    };
-    let host = MemoryHost::new(alloc, Vec::new(alloc));
-    let (outcome, _, _) = quick(alloc, &words, docs, out, host, Shipped::new());
-    outcome
-}
-
 fn main(rt: HostRuntime) -> ExitCode {
     let alloc = rt.alloc();
-    let args = env::args(&rt);
+    let Ok(words) = user_words(alloc, env::args(&rt)) else {
+        return ExitCode::from(Outcome::Memory.code());
+    };
     let mut out = StreamSink::new(io::writer(&rt));
+    let host = MemoryHost::new(alloc, Vec::new(alloc));
     let mut docs = FolderDocs::new(rt);
-    ExitCode::from(run(alloc, args, &mut docs, &mut out).code())
+    let (outcome, _, _) = quick(alloc, &words, &mut docs, &mut out, host, Shipped::new());
+    ExitCode::from(outcome.code())
 }
 
 #[cfg(test)]
