@@ -5,9 +5,9 @@ ghost use Rattle.std.specs.Prelude.{◌≡◌};
 use crate::reading::{Reading, read_within};
 use outside::{DocFault, Docs};
 use std::alloc::Global;
+use std::fs;
 use std::io::ErrorKind;
 use std::rt::Files;
-use std::{fs, io};
 
 /// Files by their paths. What they hold isn't told.
 #[derive(Drop)]
@@ -28,10 +28,6 @@ impl<R: Files> FolderDocs<R> {
             misses: 0,
         }
     }
-}
-
-fn is_absence(e: &io::Error) -> bool {
-    e.kind() == ErrorKind::NotFound
 }
 
 impl<R: Files> Docs for FolderDocs<R> {
@@ -62,11 +58,11 @@ impl<R: Files> Docs for FolderDocs<R> {
     ) -> Result<(), DocFault> {
         let mut file = match fs::open(&self.rt, name) {
             Ok(file) => file,
-            Err(e) => {
-                if is_absence(&e) {
-                    self.misses = self.misses.saturating_add(1);
-                    return Err(DocFault::Absent);
-                }
+            Err(e) if e.kind() == ErrorKind::NotFound => {
+                self.misses = self.misses.saturating_add(1);
+                return Err(DocFault::Absent);
+            }
+            Err(_) => {
                 self.faults = self.faults.saturating_add(1);
                 return Err(DocFault::Failed);
             }
