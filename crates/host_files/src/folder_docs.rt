@@ -3,7 +3,7 @@
 ghost use Rattle.std.specs.Prelude.{◌≡◌};
 
 use crate::reading::{Reading, read_within};
-use outside::{DocFault, Docs};
+use outside::{Counts, DocFault, Docs};
 use std::alloc::Global;
 use std::fs;
 use std::io::ErrorKind;
@@ -13,40 +13,33 @@ use std::rt::Files;
 #[derive(Drop)]
 pub struct FolderDocs<R> {
     rt: R,
-    faults: u64,
-    misses: u64,
+    counts: Counts,
 }
 
 impl<R: Files> FolderDocs<R> {
     pub fn new(rt: R) -> FolderDocs<R>
-        ensures faults { ⟦<FolderDocs<R> as Docs>⟧.faults result ≡ 0 }
-        ensures misses { ⟦<FolderDocs<R> as Docs>⟧.misses result ≡ 0 }
+        ensures { ⟦<FolderDocs<R> as Docs>⟧.counts result ≡ record { faults = 0; misses = 0 } }
     {
         FolderDocs {
             rt,
-            faults: 0,
-            misses: 0,
+            counts: Counts::zero(),
         }
     }
 }
 
 impl<R: Files> Docs for FolderDocs<R> {
     ghost use Rattle.std.specs.Prelude.{None};
-    ghost use Rattle.outside.specs.Counts.{Rose};
-    ghost use Rattle.outside.specs.Docs.{Fetched};
 
     ghost told = { λ _. None };
 
-    ghost faults = { λ d. d.faults };
-
-    ghost misses = { λ d. d.misses };
+    ghost counts = { λ d. d.counts };
 
     fn faults(&self) -> u64 {
-        self.faults
+        self.counts.faults
     }
 
     fn misses(&self) -> u64 {
-        self.misses
+        self.counts.misses
     }
 
     fn fetch(
@@ -59,11 +52,11 @@ impl<R: Files> Docs for FolderDocs<R> {
         let mut file = match fs::open(&self.rt, name) {
             Ok(file) => file,
             Err(e) if e.kind() == ErrorKind::NotFound => {
-                self.misses = self.misses.saturating_add(1);
+                self.counts.add_miss();
                 return Err(DocFault::Absent);
             }
             Err(_) => {
-                self.faults = self.faults.saturating_add(1);
+                self.counts.add_fault();
                 return Err(DocFault::Failed);
             }
         };
@@ -71,12 +64,12 @@ impl<R: Files> Docs for FolderDocs<R> {
             Reading::Whole => Ok(()),
             Reading::Longer => {
                 into.clear();
-                self.misses = self.misses.saturating_add(1);
+                self.counts.add_miss();
                 Err(DocFault::TooLong(limit))
             }
             Reading::Failed => {
                 into.clear();
-                self.faults = self.faults.saturating_add(1);
+                self.counts.add_fault();
                 Err(DocFault::Failed)
             }
             Reading::Memory => {

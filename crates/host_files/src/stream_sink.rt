@@ -22,9 +22,6 @@ impl<W: Write> StreamSink<W> {
 }
 
 impl<W: Write> Sink for StreamSink<W> {
-    ghost use Rattle.outside.specs.Counts.{Rose};
-    ghost use Rattle.outside.specs.Sink.{Wrote};
-
     ghost written = { λ s. W.contents s.out };
 
     ghost faults = { λ s. s.faults };

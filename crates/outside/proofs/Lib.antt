@@ -1,2 +1,2 @@
-pub mod FileMaps
-pub mod Pieces
+pub mod FileMapLemmas
+pub mod SinkLemmas

@@ -1,7 +1,9 @@
 -- Documents under names, and what a fetch answers.
-use Rattle.std.specs.Prelude.{◌≡◌, ℕ, List, [], length, nat_lt, if◌then◌else◌, Option, Some, None, Result, Ok, Err, IfSome}
+use Rattle.std.specs.Prelude.{◌≡◌, ℕ, ◌≤◌, List, [], length, nat_lt, if◌then◌else◌, Option, Some, None, Result, Ok, Err, IfSome}
 use Rattle.std.specs.FinMap as map
-use Rattle.outside.specs.Files.{Files}
+use Rattle.outside.specs.Counts.{HasFailed, HasMissed}
+use Rattle.outside.specs.FileMap.{Files}
+use Rattle.outside.specs.declared.counts.Counts.{Counts}
 use Rattle.outside.specs.declared.docs.DocFault.{DocFault}
 use Rattle.outside.specs.declared.docs.DocFault.TheVariants.{Absent, Failed, TooLong, Memory}
 
@@ -14,15 +16,11 @@ within limit (Some bytes) = if nat_lt limit (length bytes) then Err (TooLong lim
 abbrev pub fetched : Files → List ℕ → ℕ → Result (List ℕ) DocFault
 fetched files name limit = within limit (map.get files name)
 
--- what a refusal says: of told documents its cause, of others that a count rose
-abbrev pub Refusal : Option Files → List ℕ → ℕ → Type 0 → DocFault → Type 0
-Refusal None name limit rose e = rose
-Refusal (Some files) name limit rose e = fetched files name limit ≡ Err e
-
--- The answers of a fetch. `faulted` and `missed` say that the count of faults and that of misses rose.
-abbrev pub Fetched : Option Files → List ℕ → ℕ → Type 0 → Type 0 → Result (Unit {0}) DocFault → List ℕ → Type 0
-Fetched told name limit faulted missed (Ok u) into = IfSome told (λ files. fetched files name limit ≡ Ok into)
-Fetched told name limit faulted missed (Err Absent) into = (into ≡ []) × Refusal told name limit missed Absent
-Fetched told name limit faulted missed (Err (TooLong n)) into = (into ≡ []) × (n ≡ limit) × Refusal told name limit missed (TooLong n)
-Fetched told name limit faulted missed (Err Failed) into = (into ≡ []) × faulted
-Fetched told name limit faulted missed (Err Memory) into = into ≡ []
+-- The answers of a fetch. Each says what was counted: a miss where the document is absent or too long, a fault where the
+-- source failed, else nothing. A document that comes is within the limit, told or not.
+abbrev pub Fetched : Option Files → List ℕ → ℕ → Counts → Counts → Result (Unit {0}) DocFault → List ℕ → Type 0
+Fetched told name limit before after (Ok u) into = (after ≡ before) × (length into ≤ limit) × IfSome told (λ files. fetched files name limit ≡ Ok into)
+Fetched told name limit before after (Err Absent) into = (into ≡ []) × HasMissed before after × IfSome told (λ files. fetched files name limit ≡ Err Absent)
+Fetched told name limit before after (Err (TooLong n)) into = (into ≡ []) × HasMissed before after × (n ≡ limit) × IfSome told (λ files. fetched files name limit ≡ Err (TooLong n))
+Fetched told name limit before after (Err Failed) into = (into ≡ []) × HasFailed before after
+Fetched told name limit before after (Err Memory) into = (into ≡ []) × (after ≡ before)

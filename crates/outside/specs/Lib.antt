@@ -1,8 +1,14 @@
+-- What the traits and the plain values mean.
 pub mod Counts
-pub mod Files
+pub mod FileMap
 pub mod Docs
 pub mod Sink
 pub mod Host
 pub mod Tool
-pub mod Memories
 pub mod Printed
+pub mod Line
+-- What the objects in memory hold, for tests of what stands above.
+pub mod Failing
+pub mod MemoryDocs
+pub mod MemorySink
+pub mod MemoryHost

@@ -1,4 +1,4 @@
--- Words of the product's texts.
+-- Names as words of a text.
 use Rattle.std.specs.Prelude.{ℕ, ◌+◌, ◌/◌, ◌%◌, ◌==◌, ◌&&◌, ◌++◌, nat_lt, nat_le, not, Bool, List, [], ◌∷◌, if◌then◌else◌}
 
 -- a byte that stands for itself in a name: a visible ASCII character but the percent sign

@@ -1,11 +1,14 @@
 //! Documents under names.
 
-ghost use Rattle.std.specs.Prelude.{◌≡◌, ◌≤◌, ℕ, List, [], Option};
-ghost use Rattle.outside.specs.declared.docs.DocFault.TheVariants.{Memory};
-ghost use Rattle.outside.specs.Counts.{Rose};
-ghost use Rattle.outside.specs.Files.{Files};
+ghost use Rattle.std.specs.Prelude.{◌≡◌, [], Option};
+ghost use Rattle.outside.specs.declared.docs.DocFault.TheVariants as doc_faults;
+ghost use Rattle.outside.specs.Counts.{IsLater};
+ghost use Rattle.outside.specs.FileMap.{Files};
+ghost use Rattle.outside.specs.declared.counts.Counts.{Counts};
 
-use std::alloc::{AllocError, AllocFailed, Global};
+use crate::counts::Counts;
+use crate::memory::Memory;
+use std::alloc::Global;
 use thiserror::Error;
 
 /// Why a document could not be fetched.
@@ -21,40 +24,29 @@ pub enum DocFault {
     Memory,
 }
 
-impl From<AllocError> for DocFault {
-    ghost from_gives = { λ _ e. e ≡ Memory };
+impl From<Memory> for DocFault {
+    ghost from_gives = { λ _ e. e ≡ doc_faults.Memory };
 
-    fn from(_e: AllocError) -> DocFault {
+    fn from(_e: Memory) -> DocFault {
         DocFault::Memory
     }
 }
 
-impl<T: Drop> From<AllocFailed<T>> for DocFault {
-    ghost from_gives = { λ _ e. e ≡ Memory };
-
-    fn from(_e: AllocFailed<T>) -> DocFault {
-        DocFault::Memory
-    }
-}
-
-/// A source of documents. Neither count ever falls.
+/// A source of documents.
 pub trait Docs {
     ghost use Rattle.outside.specs.Docs.{Fetched};
 
     /// The documents, where they are told.
     ghost told: { Self → Option Files };
 
-    /// How often a call has failed.
-    ghost faults: { Self → ℕ };
-
-    /// How often a document was absent or too long.
-    ghost misses: { Self → ℕ };
+    /// How often a call has failed, and how often a document was absent or too long.
+    ghost counts: { Self → Counts };
 
     fn faults(&self) -> u64
-        ensures { result ≡ faults self.now };
+        ensures { result ≡ (counts self.now).faults };
 
     fn misses(&self) -> u64
-        ensures { result ≡ misses self.now };
+        ensures { result ≡ (counts self.now).misses };
 
     /// Reads the document of a name into an empty vector, which stays empty after a refusal.
     fn fetch(
@@ -65,10 +57,7 @@ pub trait Docs {
         into: &mut Vec<u8>,
     ) -> Result<(), DocFault>
         requires { into.old.items ≡ [] }
-        ensures answer { Fetched (told self.old) name.now limit
-            (Rose (faults self.old) (faults self.new)) (Rose (misses self.old) (misses self.new))
-            result into.new.items }
+        ensures answer { Fetched (told self.old) name.now limit (counts self.old) (counts self.new) result into.new.items }
         ensures told { told self.new ≡ told self.old }
-        ensures faults { faults self.old ≤ faults self.new }
-        ensures misses { misses self.old ≤ misses self.new };
+        ensures later { IsLater (counts self.old) (counts self.new) };
 }

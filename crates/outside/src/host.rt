@@ -1,12 +1,15 @@
 //! Where a run's files are kept.
 
-ghost use Rattle.std.specs.Prelude.{◌≡◌, ◌≤◌, ℕ, List, Option};
-ghost use Rattle.outside.specs.declared.host.HostFault.TheVariants.{Memory};
-ghost use Rattle.outside.specs.Counts.{Rose};
-ghost use Rattle.outside.specs.Files.{Files};
+ghost use Rattle.std.specs.Prelude.{◌≡◌, Option};
+ghost use Rattle.outside.specs.declared.host.HostFault.TheVariants as host_faults;
+ghost use Rattle.outside.specs.Counts.{IsLater};
+ghost use Rattle.outside.specs.declared.counts.Counts.{Counts};
+ghost use Rattle.outside.specs.declared.store.Store.{Store};
 
-use crate::memory;
-use std::alloc::{AllocError, AllocFailed, Global};
+use crate::counts::Counts;
+use crate::memory::Memory;
+use crate::store::Store;
+use std::alloc::Global;
 use thiserror::Error;
 
 /// Why a host did nothing.
@@ -18,46 +21,32 @@ pub enum HostFault {
     Memory,
 }
 
-impl From<AllocError> for HostFault {
-    ghost from_gives = { λ _ e. e ≡ Memory };
+impl From<Memory> for HostFault {
+    ghost from_gives = { λ _ e. e ≡ host_faults.Memory };
 
-    fn from(_e: AllocError) -> HostFault {
+    fn from(_e: Memory) -> HostFault {
         HostFault::Memory
     }
 }
 
-impl<T: Drop> From<AllocFailed<T>> for HostFault {
-    ghost from_gives = { λ _ e. e ≡ Memory };
-
-    fn from(_e: AllocFailed<T>) -> HostFault {
-        HostFault::Memory
-    }
-}
-
-impl From<memory::Memory> for HostFault {
-    ghost from_gives = { λ _ e. e ≡ Memory };
-
-    fn from(_e: memory::Memory) -> HostFault {
-        HostFault::Memory
-    }
-}
-
-/// A store of files. Its count never falls.
+/// A store of files. It tells all that it holds, or nothing.
 pub trait Host: Drop {
     ghost use Rattle.outside.specs.Host.{Delivered};
 
-    /// The delivered files, where they are told.
-    ghost delivered: { Self → Option Files };
+    /// What it holds, where it is told.
+    ghost told: { Self → Option Store };
 
-    /// How often a call has failed.
-    ghost faults: { Self → ℕ };
+    /// How often a call has failed, and how often a file was absent or too long.
+    ghost counts: { Self → Counts };
 
     fn faults(&self) -> u64
-        ensures { result ≡ faults self.now };
+        ensures { result ≡ (counts self.now).faults };
 
-    /// Delivers a file under its name, in place of an earlier one. A refusal leaves all names as they were.
+    fn misses(&self) -> u64
+        ensures { result ≡ (counts self.now).misses };
+
+    /// Delivers a file under its name, in place of an earlier one. A refusal leaves all as it was.
     fn deliver(&mut self, alloc: Global, name: &str, bytes: &[u8]) -> Result<(), HostFault>
-        ensures answer { Delivered (delivered self.old) (delivered self.new)
-            (Rose (faults self.old) (faults self.new)) name.now bytes.now result }
-        ensures faults { faults self.old ≤ faults self.new };
+        ensures answer { Delivered (told self.old) (told self.new) (counts self.old) (counts self.new) name.now bytes.now result }
+        ensures later { IsLater (counts self.old) (counts self.new) };
 }

@@ -5,10 +5,13 @@
 #![tactic(auto)]
 
 mod blob;
+mod counts;
 mod docs;
 mod failing;
+mod file_map;
 mod host;
 mod items;
+mod line;
 mod memory;
 mod memory_docs;
 mod memory_host;
@@ -16,21 +19,25 @@ mod memory_sink;
 mod numbers;
 mod printed;
 mod sink;
+mod store;
 mod text;
 mod tool;
 
 pub use blob::Blob;
+pub use counts::Counts;
 pub use docs::{DocFault, Docs};
 pub use failing::Failing;
+pub use file_map::FileMap;
 pub use host::{Host, HostFault};
 pub use items::Items;
+pub use line::{Word, push_line};
 pub use memory::Memory;
 pub use memory_docs::MemoryDocs;
 pub use memory_host::MemoryHost;
 pub use memory_sink::MemorySink;
 pub use numbers::{FileId, JobId, PairId, SiteId, TaskId};
-pub use printed::{push_name, push_number};
 pub use sink::{Sink, SinkFault, write_all};
+pub use store::Store;
 pub use text::Text;
 pub use tool::{Tool, ToolFault};
 

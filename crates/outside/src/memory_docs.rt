@@ -1,40 +1,38 @@
 //! Documents in memory.
 
-ghost use Rattle.std.specs.Prelude.{◌≡◌, ◌≤◌, ◌+◌, ℕ, List, [], Option, Some, OnOk, OnErr};
+ghost use Rattle.std.specs.Prelude.{◌≡◌, [], OnOk, OnErr};
 ghost use Rattle.std.specs.FinMap as map;
-ghost use Rattle.outside.specs.Files.{Files, files_of};
 
+use crate::counts::Counts;
 use crate::docs::{DocFault, Docs};
 use crate::failing::Failing;
+use crate::file_map::FileMap;
 use crate::memory::Memory;
 use std::alloc::Global;
-use std::collections::BTreeMap;
 
 /// Documents that are told, of whose fetches the listed ones fail.
 #[derive(Drop)]
 pub struct MemoryDocs {
-    files: BTreeMap<String, Vec<u8>>,
+    files: FileMap,
     failing: Failing,
-    faults: u64,
-    misses: u64,
+    counts: Counts,
 }
 
 impl MemoryDocs {
-    ghost use Rattle.outside.specs.Memories.{docs_files, docs_failing, docs_faults, docs_misses, failing_calls, calls_made};
+    ghost use Rattle.outside.specs.Failing.{calls_made, failing_calls};
+    ghost use Rattle.outside.specs.MemoryDocs.{docs_counts, docs_failing, docs_files};
 
     /// No document. `failing` lists the fetches that are to fail, by number from 1.
     pub fn new(alloc: Global, failing: Vec<u64>) -> MemoryDocs
         ensures files { docs_files result ≡ map.empty }
         ensures failing { failing_calls (docs_failing result) ≡ failing.items }
         ensures calls { calls_made (docs_failing result) ≡ 0 }
-        ensures faults { docs_faults result ≡ 0 }
-        ensures misses { docs_misses result ≡ 0 }
+        ensures counts { docs_counts result ≡ record { faults = 0; misses = 0 } }
     {
         MemoryDocs {
-            files: BTreeMap::new(alloc),
+            files: FileMap::new(alloc),
             failing: Failing::new(failing),
-            faults: 0,
-            misses: 0,
+            counts: Counts::zero(),
         }
     }
 
@@ -43,37 +41,40 @@ impl MemoryDocs {
         ensures ok { OnOk result (docs_files self.new ≡ map.insert (docs_files self.old) name.now bytes.now) }
         ensures err { OnErr result (docs_files self.new ≡ docs_files self.old) }
         ensures failing { docs_failing self.new ≡ docs_failing self.old }
-        ensures faults { docs_faults self.new ≡ docs_faults self.old }
-        ensures misses { docs_misses self.new ≡ docs_misses self.old }
+        ensures counts { docs_counts self.new ≡ docs_counts self.old }
     {
-        let name = String::from_str(alloc, name)?;
-        let bytes = Vec::from_slice(alloc, bytes)?;
-        self.files.insert(name, bytes)?;
-        Ok(())
+        self.files.insert(alloc, name, bytes)
     }
 }
 
+fn copy_into(into: &mut Vec<u8>, bytes: &[u8]) -> Result<(), Memory>
+    requires { into.old.items ≡ [] }
+    ensures ok { OnOk result (into.new.items ≡ bytes.now) }
+    ensures err { OnErr result (into.new.items ≡ []) }
+{
+    into.extend_from_slice(bytes)?;
+    Ok(())
+}
+
 impl Docs for MemoryDocs {
-    ghost use Rattle.std.specs.Prelude.{Some, true, ◌↔◌, IsErrOf};
-    ghost use Rattle.outside.specs.Counts.{Rose};
+    ghost use Rattle.std.specs.Prelude.{[], ◌↔◌, IsErrOf, Some, true};
+    ghost use Rattle.outside.specs.Counts.{IsLater};
     ghost use Rattle.outside.specs.Docs.{Fetched};
-    ghost use Rattle.outside.specs.Memories.{docs_files, docs_failing, fails_next};
+    ghost use Rattle.outside.specs.Failing.{IsNextCall, fails_next};
+    ghost use Rattle.outside.specs.MemoryDocs.{counted, docs_counts, docs_failing, docs_files};
 
-    ghost told = { λ m. Some (files_of m.files.entries) };
+    ghost told = { λ m. Some m.files };
 
-    ghost faults = { λ m. m.faults };
-
-    ghost misses = { λ m. m.misses };
+    ghost counts = { λ m. m.counts };
 
     fn faults(&self) -> u64 {
-        self.faults
+        self.counts.faults
     }
 
     fn misses(&self) -> u64 {
-        self.misses
+        self.counts.misses
     }
 
-    #[tactic(auto, using(crate::proofs::FileMaps::get_files_of))]
     fn fetch(
         &mut self,
         _alloc: Global,
@@ -82,32 +83,27 @@ impl Docs for MemoryDocs {
         into: &mut Vec<u8>,
     ) -> Result<(), DocFault>
         requires { into.old.items ≡ [] }
-        ensures answer { Fetched (Some (docs_files self.old)) name.now limit
-            (Rose self.old.faults self.new.faults) (Rose self.old.misses self.new.misses)
-            result into.new.items }
+        ensures answer { Fetched (Some (docs_files self.old)) name.now limit (docs_counts self.old) (docs_counts self.new) result into.new.items }
         ensures told { Some (docs_files self.new) ≡ Some (docs_files self.old) }
-        ensures faults { self.old.faults ≤ self.new.faults }
-        ensures misses { self.old.misses ≤ self.new.misses }
+        ensures later { IsLater (docs_counts self.old) (docs_counts self.new) }
         // A fetch fails exactly where its number is listed.
         ensures failed { IsErrOf result DocFault.Failed ↔ (fails_next (docs_failing self.old) ≡ true) }
+        ensures call { IsNextCall (docs_failing self.old) (docs_failing self.new) }
+        ensures by_one { docs_counts self.new ≡ counted result (docs_counts self.old) }
     {
         if self.failing.call() {
-            self.faults = self.faults.saturating_add(1);
+            self.counts.add_fault();
             return Err(DocFault::Failed);
         }
-        match self.files.get(name) {
-            None => {
-                self.misses = self.misses.saturating_add(1);
-                Err(DocFault::Absent)
-            }
-            Some(bytes) => {
-                if bytes.len() as u64 > limit {
-                    self.misses = self.misses.saturating_add(1);
-                    return Err(DocFault::TooLong(limit));
-                }
-                into.extend_from_slice(bytes)?;
-                Ok(())
-            }
+        let Some(bytes) = self.files.get(name) else {
+            self.counts.add_miss();
+            return Err(DocFault::Absent);
+        };
+        if bytes.len() as u64 > limit {
+            self.counts.add_miss();
+            return Err(DocFault::TooLong(limit));
         }
+        copy_into(into, bytes)?;
+        Ok(())
     }
 }

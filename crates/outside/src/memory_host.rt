@@ -1,79 +1,83 @@
 //! A store in memory.
 
-ghost use Rattle.std.specs.Prelude.{◌≡◌, ◌≤◌, ℕ, List, Option, Some, option_map};
+ghost use Rattle.std.specs.Prelude.{◌≡◌, option_map};
 ghost use Rattle.std.specs.FinMap as map;
-ghost use Rattle.outside.specs.Counts.{Rose};
-ghost use Rattle.outside.specs.Files.{Files, files_of};
 
+use crate::counts::Counts;
 use crate::failing::Failing;
+use crate::file_map::FileMap;
 use crate::host::{Host, HostFault};
+use crate::store::Store;
 use std::alloc::Global;
-use std::collections::BTreeMap;
 
-/// A store that tells its files, of whose calls the listed ones fail.
+/// A store that tells what it holds, of whose calls the listed ones fail.
 #[derive(Drop)]
 pub struct MemoryHost {
-    delivered: BTreeMap<String, Vec<u8>>,
+    store: Store,
     failing: Failing,
-    faults: u64,
+    counts: Counts,
 }
 
 impl MemoryHost {
-    ghost use Rattle.outside.specs.Memories.{host_files, host_failing, host_faults, failing_calls, calls_made};
+    ghost use Rattle.outside.specs.Failing.{calls_made, failing_calls};
+    ghost use Rattle.outside.specs.MemoryHost.{host_counts, host_failing, host_store};
 
     /// No file. `failing` lists the calls that are to fail, by number from 1.
     pub fn new(alloc: Global, failing: Vec<u64>) -> MemoryHost
-        ensures files { host_files result ≡ map.empty }
+        ensures store { host_store result ≡ record { delivered = map.empty } }
         ensures failing { failing_calls (host_failing result) ≡ failing.items }
         ensures calls { calls_made (host_failing result) ≡ 0 }
-        ensures faults { host_faults result ≡ 0 }
+        ensures counts { host_counts result ≡ record { faults = 0; misses = 0 } }
     {
         MemoryHost {
-            delivered: BTreeMap::new(alloc),
+            store: Store {
+                delivered: FileMap::new(alloc),
+            },
             failing: Failing::new(failing),
-            faults: 0,
+            counts: Counts::zero(),
         }
     }
 
     /// The bytes that were delivered under a name.
-    #[tactic(auto, using(crate::proofs::FileMaps::get_files_of))]
     pub fn delivered(&self, name: &str) -> Option<&[u8]>
-        ensures { option_map (λ b. b.now) result ≡ map.get (host_files self.now) name.now }
+        ensures { option_map (λ b. b.now) result ≡ map.get (host_store self.now).delivered name.now }
     {
-        match self.delivered.get(name) {
-            Some(bytes) => Some(bytes.as_slice()),
-            None => None,
-        }
+        self.store.delivered.get(name)
     }
 }
 
 impl Host for MemoryHost {
-    ghost use Rattle.std.specs.Prelude.{Some, true, ◌↔◌, IsErrOf};
+    ghost use Rattle.std.specs.Prelude.{◌↔◌, IsErrOf, Some, true};
+    ghost use Rattle.outside.specs.Counts.{IsLater};
+    ghost use Rattle.outside.specs.Failing.{IsNextCall, fails_next};
     ghost use Rattle.outside.specs.Host.{Delivered};
-    ghost use Rattle.outside.specs.Memories.{host_files, host_failing, fails_next};
+    ghost use Rattle.outside.specs.MemoryHost.{counted, host_counts, host_failing, host_store};
 
-    ghost delivered = { λ h. Some (files_of h.delivered.entries) };
+    ghost told = { λ h. Some h.store };
 
-    ghost faults = { λ h. h.faults };
+    ghost counts = { λ h. h.counts };
 
     fn faults(&self) -> u64 {
-        self.faults
+        self.counts.faults
+    }
+
+    fn misses(&self) -> u64 {
+        self.counts.misses
     }
 
     fn deliver(&mut self, alloc: Global, name: &str, bytes: &[u8]) -> Result<(), HostFault>
-        ensures answer { Delivered (Some (host_files self.old)) (Some (host_files self.new))
-            (Rose self.old.faults self.new.faults) name.now bytes.now result }
-        ensures faults { self.old.faults ≤ self.new.faults }
-        // A delivery fails exactly where its number is listed.
+        ensures answer { Delivered (Some (host_store self.old)) (Some (host_store self.new)) (host_counts self.old) (host_counts self.new) name.now bytes.now result }
+        ensures later { IsLater (host_counts self.old) (host_counts self.new) }
+        // A call fails exactly where its number is listed.
         ensures failed { IsErrOf result HostFault.Failed ↔ (fails_next (host_failing self.old) ≡ true) }
+        ensures call { IsNextCall (host_failing self.old) (host_failing self.new) }
+        ensures by_one { host_counts self.new ≡ counted result (host_counts self.old) }
     {
         if self.failing.call() {
-            self.faults = self.faults.saturating_add(1);
+            self.counts.add_fault();
             return Err(HostFault::Failed);
         }
-        let name = String::from_str(alloc, name)?;
-        let bytes = Vec::from_slice(alloc, bytes)?;
-        self.delivered.insert(name, bytes)?;
+        self.store.delivered.insert(alloc, name, bytes)?;
         Ok(())
     }
 }

@@ -1,6 +1,6 @@
 //! A sink in memory.
 
-ghost use Rattle.std.specs.Prelude.{◌≡◌, ◌≤◌, ◌<◌, ℕ, List, [], Option, Some, IfOk, vec_capacity, length};
+ghost use Rattle.std.specs.Prelude.{◌≡◌, ◌≤◌, ◌<◌, [], IfOk, vec_capacity, length};
 
 use crate::failing::Failing;
 use crate::memory::Memory;
@@ -21,7 +21,8 @@ pub struct MemorySink {
 }
 
 impl MemorySink {
-    ghost use Rattle.outside.specs.Memories.{sink_bytes, sink_failing, sink_faults, sink_room, sink_most, failing_calls, calls_made};
+    ghost use Rattle.outside.specs.Failing.{calls_made, failing_calls};
+    ghost use Rattle.outside.specs.MemorySink.{sink_bytes, sink_failing, sink_faults, sink_most, sink_room};
 
     /// Nothing written. `failing` lists the writes that are to fail, by number from 1.
     pub fn new(
@@ -56,10 +57,10 @@ impl MemorySink {
 }
 
 impl Sink for MemorySink {
-    ghost use Rattle.outside.specs.Counts.{Rose};
+    ghost use Rattle.std.specs.Prelude.{◌↔◌, IsErr, Some, true};
+    ghost use Rattle.outside.specs.Failing.{IsNextCall};
+    ghost use Rattle.outside.specs.MemorySink.{counted, refuses_next, sink_bytes, sink_failing, sink_faults, sink_most, sink_room, takes_next};
     ghost use Rattle.outside.specs.Sink.{Wrote};
-    ghost use Rattle.std.specs.Prelude.{Some, true, ◌↔◌, IsErr};
-    ghost use Rattle.outside.specs.Memories.{sink_bytes, refuses_next, takes_next};
 
     ghost written = { λ s. Some s.bytes.items };
 
@@ -70,10 +71,15 @@ impl Sink for MemorySink {
     }
 
     fn write(&mut self, piece: &[u8]) -> Result<usize, SinkFault>
-        ensures answer { Wrote (Some (sink_bytes self.old)) (Some (sink_bytes self.new)) (Rose self.old.faults self.new.faults) piece.now result }
+        ensures answer { Wrote (Some (sink_bytes self.old)) (Some (sink_bytes self.new)) self.old.faults self.new.faults piece.now result }
         ensures faults { self.old.faults ≤ self.new.faults }
+        // A write fails exactly where its number is listed, or no room is left for its first byte.
         ensures failed { IsErr result ↔ (refuses_next self.old piece.now ≡ true) }
         ensures taken { IfOk result (λ n. n ≡ takes_next self.old piece.now) }
+        ensures call { IsNextCall (sink_failing self.old) (sink_failing self.new) }
+        ensures room { sink_room self.new ≡ sink_room self.old }
+        ensures most { sink_most self.new ≡ sink_most self.old }
+        ensures by_one { sink_faults self.new ≡ counted result (sink_faults self.old) }
     {
         let fails = self.failing.call();
         let full = self.bytes.len() >= self.room && !piece.is_empty();

@@ -1,11 +1,9 @@
-//! Words of the product's texts.
+//! Names as words of a text.
 
 ghost use Rattle.std.specs.Prelude.{◌≡◌, ◌++◌, ◌<◌, OnOk};
-ghost use Rattle.std.specs.Fmt.{decimal};
 ghost use Rattle.outside.specs.Printed.{printed_byte, printed_bytes, printed_name, upper_digit};
 
 use crate::memory::Memory;
-use std::alloc::Global;
 
 fn upper_digit_of(n: u8) -> u8
     requires { n < 16 }
@@ -37,7 +35,7 @@ fn push_bytes(text: &mut Vec<u8>, bytes: &[u8]) -> Result<(), Memory>
 }
 
 /// Adds a name, each byte that isn't plain as a percent sign and two digits.
-pub fn push_name(text: &mut Vec<u8>, name: &[u8]) -> Result<(), Memory>
+pub(crate) fn push_name(text: &mut Vec<u8>, name: &[u8]) -> Result<(), Memory>
     ensures { OnOk result (text.new.items ≡ text.old.items ++ printed_name name.now) }
 {
     if name.is_empty() {
@@ -45,14 +43,5 @@ pub fn push_name(text: &mut Vec<u8>, name: &[u8]) -> Result<(), Memory>
     } else {
         push_bytes(text, name)?;
     }
-    Ok(())
-}
-
-/// Adds a number in decimal digits.
-pub fn push_number(alloc: Global, text: &mut Vec<u8>, number: u64) -> Result<(), Memory>
-    ensures { OnOk result (text.new.items ≡ text.old.items ++ decimal number) }
-{
-    let digits = format!(in alloc; "{number}")?;
-    text.extend_from_slice(digits.as_bytes())?;
     Ok(())
 }

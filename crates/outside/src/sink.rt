@@ -1,7 +1,6 @@
 //! Where bytes are written.
 
 ghost use Rattle.std.specs.Prelude.{◌≡◌, ◌≤◌, ℕ, List, Option};
-ghost use Rattle.outside.specs.Counts.{Rose};
 
 use thiserror::Error;
 
@@ -12,22 +11,22 @@ pub enum SinkFault {
     Failed,
 }
 
-/// A sink of bytes. Its count never falls.
+/// A sink of bytes.
 pub trait Sink {
     ghost use Rattle.outside.specs.Sink.{Wrote};
 
     /// The bytes written, where they are told.
     ghost written: { Self → Option (List ℕ) };
 
-    /// How often a call has failed.
+    /// How often a call has failed. It never falls.
     ghost faults: { Self → ℕ };
 
     fn faults(&self) -> u64
         ensures { result ≡ faults self.now };
 
-    /// Writes a front of the piece, of one byte at least where there is one, and tells its length.
+    /// Writes a prefix of the piece, of one byte at least where there is one, and tells its length.
     fn write(&mut self, piece: &[u8]) -> Result<usize, SinkFault>
-        ensures answer { Wrote (written self.old) (written self.new) (Rose (faults self.old) (faults self.new)) piece.now result }
+        ensures answer { Wrote (written self.old) (written self.new) (faults self.old) (faults self.new) piece.now result }
         ensures faults { faults self.old ≤ faults self.new };
 }
 
@@ -35,7 +34,7 @@ ghost use Rattle.outside.specs.Sink.{WroteAll};
 
 /// Writes a whole text, in as many pieces as the sink wants.
 pub fn write_all<K: Sink>(out: &mut K, text: &[u8]) -> Result<(), SinkFault>
-    ensures answer { WroteAll (K.written out.old) (K.written out.new) (Rose (K.faults out.old) (K.faults out.new)) text.now result }
+    ensures answer { WroteAll (K.written out.old) (K.written out.new) (K.faults out.old) (K.faults out.new) text.now result }
     ensures faults { K.faults out.old ≤ K.faults out.new }
 {
     let mut at = 0;

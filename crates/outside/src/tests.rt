@@ -46,22 +46,23 @@ fn a_store_in_memory(rt: HostRuntime) -> Result<(), Fail> {
 }
 
 #[test]
-fn names_in_texts(rt: HostRuntime) -> Result<(), Fail> {
+fn a_line(rt: HostRuntime) -> Result<(), Fail> {
     let alloc = rt.alloc();
-    let cases = [
-        ("", "%"),
-        ("f.a", "f.a"),
-        ("a b%\n~\u{7f}", "a%20b%25%0A~%7F"),
-        ("\u{e9}/", "%C3%A9/"),
+    let names = [
+        Text::copy_of(alloc, "a b%\n~\u{7f}")?,
+        Text::copy_of(alloc, "\u{e9}/")?,
     ];
-    for (name, word) in cases {
-        let mut text = Vec::new(alloc);
-        push_name(&mut text, name.as_bytes())?;
-        assert_eq!(rt; text.as_slice(), word.as_bytes());
-    }
+    let words = [
+        Word::Plain("as it is"),
+        Word::Name(b"f.a"),
+        Word::Name(b""),
+        Word::Names(&names),
+        Word::Number(1_099_511_627_776),
+    ];
     let mut text = Vec::new(alloc);
-    push_number(alloc, &mut text, 1_099_511_627_776)?;
-    assert_eq!(rt; text.as_slice(), b"1099511627776".as_slice());
+    push_line(alloc, &mut text, "first", &words)?;
+    let wanted = "first as it is f.a % a%20b%25%0A~%7F %C3%A9/ 1099511627776\n";
+    assert_eq!(rt; text.as_slice(), wanted.as_bytes());
     Ok(())
 }
 

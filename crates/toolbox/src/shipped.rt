@@ -1,10 +1,11 @@
 //! The shipped transformations as a tool.
 
+ghost use Rattle.std.specs.Prelude.{◌≡◌, ◌∷◌, [], IfOk};
 ghost use Rattle.toolbox.specs.Transformations.{made, Makes};
 
 use crate::pieces::{all_inputs, line_of};
 use crate::transformation::Transformation;
-use outside::{Blob, Text, Tool, ToolFault};
+use outside::{Blob, Memory, Text, Tool, ToolFault};
 use std::alloc::Global;
 
 /// The tool of the shipped transformations. It never fails.
@@ -15,6 +16,14 @@ impl Shipped {
     pub fn new() -> Shipped {
         Shipped
     }
+}
+
+fn one(alloc: Global, output: Blob) -> Result<Vec<Blob>, Memory>
+    ensures { IfOk result (λ outputs. outputs.items ≡ output ∷ []) }
+{
+    let mut outputs = Vec::new(alloc);
+    outputs.push(output)?;
+    Ok(outputs)
 }
 
 /// Makes the one output of a transformation.
@@ -39,9 +48,7 @@ fn make(
         }
         Transformation::Join => all_inputs(alloc, ins)?,
     };
-    let mut outputs = Vec::new(alloc);
-    outputs.push(output)?;
-    Ok(outputs)
+    Ok(one(alloc, output)?)
 }
 
 impl Tool for Shipped {

@@ -1,6 +1,6 @@
 use Rattle.std.proofs.Common.{◌≡◌, ◌+◌, ◌<◌, ◌≤◌, ℕ, [], length, take, length-append, ap, arith}
 use Rattle.std.proofs.lemmas.List.{length-replicate}
-use Rattle.host_files.proofs.Pieces.{nothing_read, read_more, all_read, too_much}
+use Rattle.host_files.proofs.ReadingLemmas.{nothing_read, read_more, all_read, too_much}
 use Rattle.host_files.proofs.reading.read_within.Goals as goal
 
 pub loop-init : goal.loop-init

@@ -1,5 +1,5 @@
 use Rattle.std.proofs.Common.{◌≤◌, length, drop, length-drop, arith}
-use Rattle.outside.proofs.Pieces.{appends_more}
+use Rattle.outside.proofs.SinkLemmas.{appends_more}
 use Rattle.outside.proofs.sink.write_all.Goals as goal
 
 pub loop-at-preserved : goal.loop-at-preserved

@@ -12,7 +12,7 @@ use Rattle.std.specs.FinMap as map
 use Rattle.std.specs.FinMap.{find, get-from_entries, get-insert, same_map, slice_cmp-IsAntisymmetric, nat_cmp-IsAntisymmetric}
 use Rattle.std.proofs.lemmas.Cmp.{nat_list_cmp_total, nat_list_eq_equiv}
 use Rattle.std.proofs.lemmas.Map.Text.{is_eq-slice_cmp, btree_map_updates_text}
-use Rattle.outside.specs.Files.{named, files_of}
+use Rattle.outside.specs.FileMap.{named, files_of}
 
 abbrev Texts : Type 0
 Texts = List (String Global × Vec ℕ Global)

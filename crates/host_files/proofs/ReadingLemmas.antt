@@ -1,15 +1,8 @@
 -- Bytes read so far, where they are told.
-use Rattle.std.proofs.Common.{◌≡◌, ℕ, ◌+◌, ◌<◌, List, [], ◌∷◌, ◌++◌, length, refl, sym, ap, ◌∙◌, length-append, arith}
+use Rattle.std.proofs.Common.{◌≡◌, ℕ, ◌+◌, ◌<◌, List, [], ◌∷◌, ◌++◌, length, refl, sym, ap, ◌∙◌, length-append, append_assoc, arith}
+use Rattle.std.proofs.lemmas.List.{append-nil}
 use Rattle.std.specs.Prelude.{Option, Some, None, IfSome}
 use Rattle.std.specs.Io.KnownBytes.{Consumes, IsAtEnd}
-
-append_nil : (xs : List ℕ) → xs ++ [] ≡ xs
-append_nil [] = refl
-append_nil (x ∷ xs) = ap (λ (ys : List ℕ). x ∷ ys) (append_nil xs)
-
-append_assoc : (xs ys zs : List ℕ) → (xs ++ ys) ++ zs ≡ xs ++ (ys ++ zs)
-append_assoc [] ys zs = refl
-append_assoc (x ∷ xs) ys zs = ap (λ (us : List ℕ). x ∷ us) (append_assoc xs ys zs)
 
 pub nothing_read : (known : Option (List ℕ)) → Consumes known known []
 nothing_read None = tt
@@ -27,7 +20,7 @@ pub all_read : (first old new : Option (List ℕ)) (read : List ℕ) → Consume
 all_read None old new read before now end = tt
 all_read (Some xs) None new read before now end = absurd before
 all_read (Some xs) (Some ys) None read before now end = absurd now
-all_read (Some xs) (Some ys) (Some zs) read before now end = sym (before ∙ ap (λ (us : List ℕ). read ++ us) (now ∙ end) ∙ append_nil read)
+all_read (Some xs) (Some ys) (Some zs) read before now end = sym (before ∙ ap (λ (us : List ℕ). read ++ us) (now ∙ end) ∙ append-nil read)
 
 -- a piece that is too much
 pub too_much : (first old new : Option (List ℕ)) (read piece : List ℕ) (limit : ℕ) → Consumes first old read → Consumes old new piece → limit < length read + length piece → IfSome first (λ bytes. limit < length bytes)

@@ -1,6 +1,0 @@
-use Rattle.std.proofs.Common.{refl}
-use Rattle.outside.proofs.FileMaps.{files_insert}
-use Rattle.outside.proofs.memory_docs.MemoryDocs.put.Goals as goal
-
-pub returns-clause-ok : goal.returns-clause-ok
-returns-clause-ok c = rw (files_insert c.args.self.now.files c.insert.new.self c.in_ok-name.name c.in_ok-bytes.bytes c.in_ok-insert.ensures.updates, c.in_ok-name.ensures.ok, c.in_ok-bytes.ensures.items) refl
