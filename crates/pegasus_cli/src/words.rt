@@ -51,7 +51,7 @@ pub(crate) fn parse_words(words: &[String]) -> Option<(Command, &str)>
 
 /// The user's words of the program's arguments. Arguments that are no text are no command, as an
 /// empty list is.
-pub(crate) fn user_words(alloc: Global, args: io::Result<Args>) -> Result<Vec<String>, Memory>
+pub fn user_words(alloc: Global, args: io::Result<Args>) -> Result<Vec<String>, Memory>
     ensures words { IfOk result (λ words. words.items ≡ words_given args) }
     ensures memory { IsForMemory args → IsErr result }
 {

@@ -1,31 +1,13 @@
-//! The command line `pegasus`.
-//!
-//! `quick` of `call.rt` is the whole program over documents, a sink, a host and a tool; its clauses say
-//! when each outcome comes, what the host holds then and what was written. `main` hands it files of the
-//! user's folder and standard output. The definitions stand in `specs/`, over those of the crates below.
+//! The command line `pegasus`: `pegasus_cli::quick` over files of the user's folder, standard output, a
+//! store and the shipped tools. What it does is said in the contract of that call.
 #![tactic(auto)]
 
-mod call;
-mod check;
-mod delivery;
-mod documents;
-mod early;
-mod fault;
-mod lines;
-mod outcome;
-mod refusals;
-mod request;
-mod words;
-mod work;
-
-use call::quick;
 use host_files::{FolderDocs, StreamSink};
-use outcome::Outcome;
 use outside::MemoryHost;
+use pegasus_cli::{Outcome, quick, user_words};
 use std::process::ExitCode;
 use std::{env, io};
 use toolbox::Shipped;
-use words::user_words;
 
 fn main(rt: HostRuntime) -> ExitCode {
     let alloc = rt.alloc();
@@ -38,6 +20,3 @@ fn main(rt: HostRuntime) -> ExitCode {
     let (outcome, _, _) = quick(alloc, &words, &mut docs, &mut out, host, Shipped::new());
     ExitCode::from(outcome.code())
 }
-
-#[cfg(test)]
-mod tests;
