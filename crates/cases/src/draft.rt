@@ -60,25 +60,34 @@ impl Draft {
 
     /// The case, where nothing is missing.
     pub fn finish(self, common: &Setup) -> Result<Case, Complaint> {
-        if self.setup.calls.is_empty() && common.calls.is_empty() {
+        let Draft {
+            line: _,
+            name,
+            setup,
+            weather,
+            cut,
+            ending,
+            delivered,
+        } = self;
+        if setup.calls.is_empty() && common.calls.is_empty() {
             return Err(Complaint::NoWords);
         }
-        if let Some(name) = &self.cut {
-            let name = name.as_str();
-            if !self.setup.has_document(name) && !common.has_document(name) {
+        if let Some(cut) = &cut {
+            let cut = cut.as_str();
+            if !setup.has_document(cut) && !common.has_document(cut) {
                 return Err(Complaint::NoFronts);
             }
         }
-        let Some(ending) = self.ending else {
+        let Some(ending) = ending else {
             return Err(Complaint::NoStatus);
         };
         Ok(Case {
-            name: self.name,
-            setup: self.setup,
-            weather: self.weather,
-            cut: self.cut,
+            name,
+            setup,
+            weather,
+            cut,
             ending,
-            delivered: self.delivered,
+            delivered,
         })
     }
 }

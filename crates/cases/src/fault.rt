@@ -65,3 +65,11 @@ pub struct FileFault {
     pub line: usize,
     pub complaint: Complaint,
 }
+
+/// The answer, with the line that it is about.
+pub fn at_line<T>(line: usize, answer: Result<T, Complaint>) -> Result<T, FileFault> {
+    match answer {
+        Ok(value) => Ok(value),
+        Err(complaint) => Err(FileFault { line, complaint }),
+    }
+}

@@ -17,6 +17,8 @@ pub enum Header {
 /// A section as far as it is read.
 #[derive(Drop)]
 pub struct Section {
+    /// The line at which it begins.
+    pub line: usize,
     pub header: Header,
     /// Whether the end of the last line is left out.
     pub is_cut: bool,
@@ -24,13 +26,14 @@ pub struct Section {
 }
 
 impl Section {
-    /// The section that these words begin.
-    pub fn new(alloc: Global, words: &str) -> Result<Section, Complaint> {
+    /// The section that these words begin at a line.
+    pub fn new(alloc: Global, line: usize, words: &str) -> Result<Section, Complaint> {
         let (words, is_cut) = match words.strip_suffix(" cut") {
             Some(words) => (words, true),
             None => (words, false),
         };
         Ok(Section {
+            line,
             header: header_of(alloc, words)?,
             is_cut,
             text: String::new(alloc),

@@ -34,12 +34,7 @@ impl Piece {
     }
 }
 
-fn push_repeated(
-    alloc: Global,
-    into: &mut Vec<u8>,
-    text: &str,
-    times: u64,
-) -> Result<(), Memory> {
+fn push_repeated(alloc: Global, into: &mut Vec<u8>, text: &str, times: u64) -> Result<(), Memory> {
     let mut parts = Vec::new(alloc);
     for part in text.split("<n>") {
         parts.push(part)?;

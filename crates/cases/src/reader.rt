@@ -2,7 +2,7 @@
 
 use crate::case::{CaseFile, Setup};
 use crate::draft::Draft;
-use crate::fault::{Complaint, FileFault};
+use crate::fault::{Complaint, FileFault, at_line};
 use crate::header::{Header, Section, words_between};
 use crate::piece::Piece;
 use crate::setting::{add_setting, add_words};
@@ -34,14 +34,15 @@ impl Reader {
         }
     }
 
-    /// Notes what is wrong with a line; then the rest of its case is passed over.
-    fn note(&mut self, line: usize, answer: Result<(), Complaint>) -> Result<(), Memory> {
-        let complaint = match answer {
-            Ok(()) => return Ok(()),
-            Err(Complaint::Memory) => return Err(Memory),
-            Err(complaint) => complaint,
+    /// Notes a fault; then the rest of its case is passed over.
+    fn note(&mut self, answer: Result<(), FileFault>) -> Result<(), Memory> {
+        let Err(fault) = answer else {
+            return Ok(());
         };
-        self.file.faults.push(FileFault { line, complaint })?;
+        if let Complaint::Memory = fault.complaint {
+            return Err(Memory);
+        }
+        self.file.faults.push(fault)?;
         self.draft = None;
         self.section = None;
         self.skips = true;
@@ -49,95 +50,93 @@ impl Reader {
     }
 
     /// Adds a line that begins no case.
-    fn add_line(&mut self, alloc: Global, line: &str) -> Result<(), Complaint> {
+    fn add_line(&mut self, alloc: Global, number: usize, line: &str) -> Result<(), FileFault> {
         if let Some(words) = words_between(line) {
             self.end_section(alloc)?;
-            self.section = Some(Section::new(alloc, words)?);
+            let section = at_line(number, Section::new(alloc, number, words))?;
+            self.section = Some(section);
             return Ok(());
         }
         match &mut self.section {
-            Some(section) => section.add_line(line),
+            Some(section) => at_line(number, section.add_line(line)),
             None if line.is_empty() || line.starts_with('#') => Ok(()),
-            None => self.add_setting(alloc, line),
+            None => at_line(number, self.add_setting(alloc, line)),
         }
     }
 
     fn add_setting(&mut self, alloc: Global, line: &str) -> Result<(), Complaint> {
-        match &mut self.draft {
-            None if add_words(alloc, &mut self.file.common, line)? => Ok(()),
-            None => Err(Complaint::SettingOfNoCase),
-            Some(draft) => {
-                if add_words(alloc, &mut draft.setup, line)? {
-                    return Ok(());
-                }
-                add_setting(alloc, draft, line)
+        let Some(draft) = &mut self.draft else {
+            if add_words(alloc, &mut self.file.common, line)? {
+                return Ok(());
             }
+            return Err(Complaint::SettingOfNoCase);
+        };
+        if add_words(alloc, &mut draft.setup, line)? {
+            return Ok(());
         }
+        add_setting(alloc, draft, line)
     }
 
-    fn end_section(&mut self, alloc: Global) -> Result<(), Complaint> {
+    fn end_section(&mut self, alloc: Global) -> Result<(), FileFault> {
         let Some(section) = self.section.take() else {
             return Ok(());
         };
+        let line = section.line;
         let (header, text) = section.finish();
-        match (&mut self.draft, header) {
-            (Some(draft), header) => draft.add_section(alloc, header, text),
-            (None, Header::Document(name, form)) => {
-                let piece = Piece { text, form };
-                self.file.common.add_piece(alloc, name, piece)?;
-                Ok(())
-            }
-            (None, _) => Err(Complaint::SectionOfNoCase),
+        at_line(line, self.add_section(alloc, header, text))
+    }
+
+    fn add_section(
+        &mut self,
+        alloc: Global,
+        header: Header,
+        text: String,
+    ) -> Result<(), Complaint> {
+        if let Some(draft) = &mut self.draft {
+            return draft.add_section(alloc, header, text);
         }
+        let Header::Document(name, form) = header else {
+            return Err(Complaint::SectionOfNoCase);
+        };
+        let piece = Piece { text, form };
+        self.file.common.add_piece(alloc, name, piece)?;
+        Ok(())
+    }
+
+    /// Begins the case of a name at this line.
+    fn begin_case(
+        &mut self,
+        alloc: Global,
+        number: usize,
+        name: Result<String, Complaint>,
+    ) -> Result<(), FileFault> {
+        self.skips = false;
+        let name = at_line(number, name)?;
+        self.draft = Some(Draft::new(alloc, number, name));
+        Ok(())
     }
 
     /// Ends the open case, and its last section without an empty line at the end.
-    fn end_case(&mut self, alloc: Global) -> Result<(), Complaint> {
+    fn end_case(&mut self, alloc: Global) -> Result<(), FileFault> {
         if let Some(section) = &mut self.section {
             section.drop_empty_line();
         }
         self.end_section(alloc)?;
-        if let Some(draft) = self.draft.take() {
-            let case = draft.finish(&self.file.common)?;
-            self.file.cases.push(case)?;
+        match self.draft.take() {
+            Some(draft) => at_line(draft.line, self.add_case(draft)),
+            None => Ok(()),
         }
+    }
+
+    fn add_case(&mut self, draft: Draft) -> Result<(), Complaint> {
+        let case = draft.finish(&self.file.common)?;
+        self.file.cases.push(case)?;
         Ok(())
-    }
-
-    /// Ends what is open before this line; what is wrong with a case as a whole stands at its first.
-    fn close(&mut self, alloc: Global, line: usize) -> Result<(), Memory> {
-        let line = match &self.draft {
-            Some(draft) => draft.line,
-            None => line,
-        };
-        let answer = self.end_case(alloc);
-        self.note(line, answer)
-    }
-
-    /// Begins the case of a name at this line.
-    fn open(
-        &mut self,
-        alloc: Global,
-        line: usize,
-        name: Result<String, Complaint>,
-    ) -> Result<(), Memory> {
-        self.skips = false;
-        match name {
-            Ok(name) => {
-                self.draft = Some(Draft::new(alloc, line, name));
-                Ok(())
-            }
-            Err(complaint) => self.note(line, Err(complaint)),
-        }
     }
 }
 
 /// Notes the name of a case, where no case has it yet.
-fn take_name(
-    alloc: Global,
-    names: &mut BTreeSet<String>,
-    name: &str,
-) -> Result<String, Complaint> {
+fn take_name(alloc: Global, names: &mut BTreeSet<String>, name: &str) -> Result<String, Complaint> {
     if name.is_empty() || name.contains(' ') {
         return Err(Complaint::NoName);
     }
@@ -156,28 +155,27 @@ fn case_name(line: &str) -> Option<&str> {
 }
 
 /// The cases of a file's text. Their names are noted among `names`, where none of them may be yet.
-pub fn parse(
-    alloc: Global,
-    text: &str,
-    names: &mut BTreeSet<String>,
-) -> Result<CaseFile, Memory> {
+pub fn parse(alloc: Global, text: &str, names: &mut BTreeSet<String>) -> Result<CaseFile, Memory> {
     let mut reader = Reader::new(alloc);
     let mut number = 0usize;
     let lines = text.strip_suffix('\n').unwrap_or(text);
     for line in lines.split('\n') {
         number = number.saturating_add(1);
         if let Some(name) = case_name(line) {
-            reader.close(alloc, number)?;
-            reader.open(alloc, number, take_name(alloc, names, name))?;
+            let answer = reader.end_case(alloc);
+            reader.note(answer)?;
+            let answer = reader.begin_case(alloc, number, take_name(alloc, names, name));
+            reader.note(answer)?;
         } else if !reader.skips {
-            let answer = reader.add_line(alloc, line);
-            reader.note(number, answer)?;
+            let answer = reader.add_line(alloc, number, line);
+            reader.note(answer)?;
         }
     }
-    if text.ends_with('\n') {
-        reader.close(alloc, number)?;
+    let answer = if text.ends_with('\n') {
+        reader.end_case(alloc)
     } else {
-        reader.note(number, Err(Complaint::NoEnd))?;
-    }
+        at_line(number, Err(Complaint::NoEnd))
+    };
+    reader.note(answer)?;
     Ok(reader.file)
 }

@@ -66,7 +66,11 @@ impl Report {
     fn add_case(&mut self, alloc: Global, common: &Setup, case: &Case) -> Result<(), Memory> {
         self.cases = self.cases.saturating_add(1);
         let difference = first_difference(alloc, common, case)?;
-        let verdict = if difference.is_some() { "differs" } else { "ok" };
+        let verdict = if difference.is_some() {
+            "differs"
+        } else {
+            "ok"
+        };
         let name = Word::Plain(case.name.as_str());
         push_line(alloc, &mut self.text, verdict, &[name])?;
         if let Some(difference) = &difference {
@@ -85,7 +89,11 @@ impl Report {
 
     /// The status that the program ends with.
     pub fn status(&self) -> u8 {
-        if self.differing == 0 && self.unread == 0 { 0 } else { 1 }
+        if self.differing == 0 && self.unread == 0 {
+            0
+        } else {
+            1
+        }
     }
 }
 

@@ -124,7 +124,14 @@ fn members_and_entries(rt: HostRuntime) -> Result<(), Fail> {
         return Err(Fail::new("a wrong kind"));
     };
     assert_eq!(rt; place.as_str(), "/s/7/a~1");
-    let nine = number_at(alloc, typed::any(alloc, &value, &path, "size").ok().ok_or("a size")?, &path, 9);
+    let nine = number_at(
+        alloc,
+        typed::any(alloc, &value, &path, "size")
+            .ok()
+            .ok_or("a size")?,
+        &path,
+        9,
+    );
     assert_eq!(rt; nine.ok().ok_or("a number")?, 9);
     Ok(())
 }

@@ -67,7 +67,11 @@ fn jobs_files_and_catalogues(rt: HostRuntime) -> Result<(), Fail> {
     let [a, b] = workflow.jobs.as_slice() else {
         return Err(Fail::new("two jobs"));
     };
-    check_job(&rt, a, &[Some(""), None, Some("L"), Some("3"), Some("03"), Some("s")]);
+    check_job(
+        &rt,
+        a,
+        &[Some(""), None, Some("L"), Some("3"), Some("03"), Some("s")],
+    );
     check_job(&rt, b, &[None, Some("4"), None, None, None, None]);
     check_numbers(&rt, &workflow, a, b);
     let kept = workflow.inlined.replicas.as_ref().ok_or("a catalogue")?;
