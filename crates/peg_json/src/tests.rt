@@ -113,7 +113,7 @@ fn members_and_entries(rt: HostRuntime) -> Result<(), Fail> {
     let alloc = rt.alloc();
     let value = parse(alloc, TEXT).ok().ok_or("a tree")?;
     let path = root(alloc).ok().ok_or("a path")?;
-    let table = KeyTable { rows: &ROWS };
+    let table: KeyTable<3> = KeyTable { rows: &ROWS };
     let found = members(alloc, &value, &path, &table).ok().ok_or("members")?;
     assert_eq!(rt; found.len(), 3);
     assert!(rt; found[0].is_some() && found[1].is_none() && found[2].is_some());
@@ -133,5 +133,6 @@ fn members_and_entries(rt: HostRuntime) -> Result<(), Fail> {
         9,
     );
     assert_eq!(rt; nine.ok().ok_or("a number")?, 9);
+    assert!(rt; at_most(Counted::Jobs, 3, 3).is_ok());
     Ok(())
 }
