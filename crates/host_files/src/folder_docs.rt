@@ -1,6 +1,7 @@
 //! Documents as files.
 
 ghost use Rattle.std.specs.Prelude.{◌≡◌};
+ghost use Rattle.outside.specs.Counts.{no_calls};
 
 use crate::reading::{Reading, read_within};
 use outside::{Counts, DocFault, Docs};
@@ -18,7 +19,7 @@ pub struct FolderDocs<R> {
 
 impl<R: Files> FolderDocs<R> {
     pub fn new(rt: R) -> FolderDocs<R>
-        ensures { ⟦<FolderDocs<R> as Docs>⟧.counts result ≡ record { faults = 0; misses = 0 } }
+        ensures { ⟦<FolderDocs<R> as Docs>⟧.counts result ≡ no_calls }
     {
         FolderDocs {
             rt,
@@ -61,7 +62,10 @@ impl<R: Files> Docs for FolderDocs<R> {
             }
         };
         match read_within(&mut file, limit, into) {
-            Reading::Whole => Ok(()),
+            Reading::Whole => {
+                self.counts.add_done();
+                Ok(())
+            }
             Reading::Longer => {
                 into.clear();
                 self.counts.add_miss();

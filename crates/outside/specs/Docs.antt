@@ -1,7 +1,7 @@
 -- Documents under names, and what a fetch answers.
 use Rattle.std.specs.Prelude.{◌≡◌, ℕ, ◌≤◌, List, [], length, nat_lt, if◌then◌else◌, Option, Some, None, Result, Ok, Err, IfSome}
 use Rattle.std.specs.FinMap as map
-use Rattle.outside.specs.Counts.{HasFailed, HasMissed}
+use Rattle.outside.specs.Counts.{one_done, one_fault, one_miss}
 use Rattle.outside.specs.FileMap.{Files}
 use Rattle.outside.specs.declared.counts.Counts.{Counts}
 use Rattle.outside.specs.declared.docs.DocFault.{DocFault}
@@ -16,11 +16,10 @@ within limit (Some bytes) = if nat_lt limit (length bytes) then Err (TooLong lim
 abbrev pub fetched : Files → List ℕ → ℕ → Result (List ℕ) DocFault
 fetched files name limit = within limit (map.get files name)
 
--- The answers of a fetch. Each says what was counted: a miss where the document is absent or too long, a fault where the
--- source failed, else nothing. A document that comes is within the limit, told or not.
+-- The answers of a fetch. Each counts itself, but want of memory. A document that comes is within the limit, told or not.
 abbrev pub Fetched : Option Files → List ℕ → ℕ → Counts → Counts → Result (Unit {0}) DocFault → List ℕ → Type 0
-Fetched told name limit before after (Ok u) into = (after ≡ before) × (length into ≤ limit) × IfSome told (λ files. fetched files name limit ≡ Ok into)
-Fetched told name limit before after (Err Absent) into = (into ≡ []) × HasMissed before after × IfSome told (λ files. fetched files name limit ≡ Err Absent)
-Fetched told name limit before after (Err (TooLong n)) into = (into ≡ []) × HasMissed before after × (n ≡ limit) × IfSome told (λ files. fetched files name limit ≡ Err (TooLong n))
-Fetched told name limit before after (Err Failed) into = (into ≡ []) × HasFailed before after
-Fetched told name limit before after (Err Memory) into = (into ≡ []) × (after ≡ before)
+Fetched told name limit before after (Ok u) into = (after ≡ one_done before) × (length into ≤ limit) × IfSome told (λ files. fetched files name limit ≡ Ok into)
+Fetched told name limit before after (Err Absent) into = (after ≡ one_miss before) × (into ≡ []) × IfSome told (λ files. fetched files name limit ≡ Err Absent)
+Fetched told name limit before after (Err (TooLong n)) into = (after ≡ one_miss before) × (into ≡ []) × (n ≡ limit) × IfSome told (λ files. fetched files name limit ≡ Err (TooLong n))
+Fetched told name limit before after (Err Failed) into = (after ≡ one_fault before) × (into ≡ [])
+Fetched told name limit before after (Err Memory) into = (after ≡ before) × (into ≡ [])

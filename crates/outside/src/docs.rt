@@ -39,7 +39,7 @@ pub trait Docs {
     /// The documents, where they are told.
     ghost told: { Self → Option Files };
 
-    /// How often a call has failed, and how often a document was absent or too long.
+    /// How many documents came, how many calls failed, and how many documents were absent or too long.
     ghost counts: { Self → Counts };
 
     fn faults(&self) -> u64

@@ -36,7 +36,7 @@ pub trait Host: Drop {
     /// What it holds, where it is told.
     ghost told: { Self → Option Store };
 
-    /// How often a call has failed, and how often a file was absent or too long.
+    /// How many calls were done, how many failed, and how many found a file absent or too long.
     ghost counts: { Self → Counts };
 
     fn faults(&self) -> u64

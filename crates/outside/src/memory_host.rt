@@ -19,6 +19,7 @@ pub struct MemoryHost {
 }
 
 impl MemoryHost {
+    ghost use Rattle.outside.specs.Counts.{no_calls};
     ghost use Rattle.outside.specs.Failing.{calls_made, failing_calls};
     ghost use Rattle.outside.specs.MemoryHost.{host_counts, host_failing, host_store};
 
@@ -27,7 +28,7 @@ impl MemoryHost {
         ensures store { host_store result ≡ record { delivered = map.empty } }
         ensures failing { failing_calls (host_failing result) ≡ failing.items }
         ensures calls { calls_made (host_failing result) ≡ 0 }
-        ensures counts { host_counts result ≡ record { faults = 0; misses = 0 } }
+        ensures counts { host_counts result ≡ no_calls }
     {
         MemoryHost {
             store: Store {
@@ -51,7 +52,7 @@ impl Host for MemoryHost {
     ghost use Rattle.outside.specs.Counts.{IsLater};
     ghost use Rattle.outside.specs.Failing.{IsNextCall, fails_next};
     ghost use Rattle.outside.specs.Host.{Delivered};
-    ghost use Rattle.outside.specs.MemoryHost.{counted, host_counts, host_failing, host_store};
+    ghost use Rattle.outside.specs.MemoryHost.{host_counts, host_failing, host_store};
 
     ghost told = { λ h. Some h.store };
 
@@ -71,13 +72,13 @@ impl Host for MemoryHost {
         // A call fails exactly where its number is listed.
         ensures failed { IsErrOf result HostFault.Failed ↔ (fails_next (host_failing self.old) ≡ true) }
         ensures call { IsNextCall (host_failing self.old) (host_failing self.new) }
-        ensures by_one { host_counts self.new ≡ counted result (host_counts self.old) }
     {
         if self.failing.call() {
             self.counts.add_fault();
             return Err(HostFault::Failed);
         }
         self.store.delivered.insert(alloc, name, bytes)?;
+        self.counts.add_done();
         Ok(())
     }
 }
