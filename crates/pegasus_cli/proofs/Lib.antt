@@ -1,6 +1,6 @@
-pub mod Readings
-pub mod Ends
-pub mod Fronts
-pub mod Marks
-pub mod Requests
-pub mod Asked
+pub mod CourseLemmas
+pub mod CallLemmas
+pub mod DeliveryLemmas
+pub mod RequestLemmas
+pub mod SurveyLemmas
+pub mod AloneLemmas

@@ -1,10 +1,12 @@
--- The first answer of the words and the documents, or the workflow that a call goes on with.
-use Rattle.std.specs.Prelude.{◌≡◌, ◌⊎◌, ℕ, List, Option, Some, None, Result, Ok, Err, IfSome, MatchOption}
+-- The documents of a call: which is asked for, what is made of it, and what comes of it.
+use Rattle.std.specs.Prelude.{◌≡◌, ◌⊎◌, ℕ, ◌≤◌, List, [], length, Option, Result, Ok, Err, IfSome}
 use Rattle.std.specs.List.Sorted.{IsPermutation, IsSorted}
 use Rattle.std.specs.Ordering.{nat_cmp}
 use Rattle.std.specs.Cmp.Lexicographic.{slice_cmp}
-use Rattle.outside.specs.Files.{Files}
-use Rattle.outside.specs.Docs.{fetched}
+use Rattle.outside.specs.Counts.{IsLater, one_done}
+use Rattle.outside.specs.Docs.{Fetched, fetched}
+use Rattle.outside.specs.FileMap.{Files}
+use Rattle.outside.specs.declared.counts.Counts.{Counts}
 use Rattle.outside.specs.declared.docs.DocFault.{DocFault}
 use Rattle.outside.specs.declared.docs.DocFault.TheVariants as doc_faults
 use Rattle.peg_json.specs.declared.fault.TreeFault.{TreeFault}
@@ -14,43 +16,84 @@ use Rattle.peg_json.specs.declared.read_fault.ReadFault.TheVariants as reads
 use Rattle.workflow_core.specs.declared.workflow.Workflow.{Workflow as WorkflowValue}
 use Rattle.workflow_core.specs.View.{WorkflowEntry, view}
 use Rattle.workflow_reader.specs.Read.{read_of, unknown_in_text}
-use Rattle.pegasus_cli.specs.declared.words.Command.{Command}
-use Rattle.pegasus_cli.specs.declared.documents.Read.{Read}
 use Rattle.pegasus_cli.specs.declared.early.Early.{Early}
-use Rattle.pegasus_cli.specs.declared.early.Early.TheVariants.{Memory, Usage, DocAbsent, DocTooLong, DocFailed, Refused, NotBuilt}
-use Rattle.pegasus_cli.specs.declared.fault.Document.{Document}
-use Rattle.pegasus_cli.specs.declared.fault.Document.TheVariants.{Request, Workflow}
-use Rattle.pegasus_cli.specs.declared.fault.PlanFault.TheVariants as plan
+use Rattle.pegasus_cli.specs.declared.early.Early.TheVariants.{Memory, DocAbsent, DocTooLong, DocFailed, Refused, NotBuilt}
+use Rattle.pegasus_cli.specs.declared.plan_fault.Document.{Document}
+use Rattle.pegasus_cli.specs.declared.plan_fault.Document.TheVariants.{Request, Workflow}
+use Rattle.pegasus_cli.specs.declared.plan_fault.PlanFault.TheVariants as plan
 use Rattle.pegasus_cli.specs.declared.request.RequestFault.{RequestFault}
 use Rattle.pegasus_cli.specs.declared.request.RequestFault.TheVariants as request_faults
-use Rattle.pegasus_cli.specs.Words.{command}
 use Rattle.pegasus_cli.specs.Request.{request_of}
+use Rattle.pegasus_cli.specs.Moments.{DocsMoment}
+
+-- A course over documents: it ends with a value or an early answer, or asks for a document and goes on with its bytes.
+pub data Course (A : Type 0) : Type 0 where
+  Ends : Result A Early → Course A
+  Asks : List ℕ → (List ℕ → Course A) → Course A
+
+-- one course after another, with the value of the first
+abbrev pub ends_then : {A B : Type 0} → Result A Early → (A → Course B) → Course B
+ends_then (Ok a) f = f a
+ends_then (Err e) f = Ends (Err e)
+
+abbrev pub and_then : {A B : Type 0} → Course A → (A → Course B) → Course B
+and_then (Ends r) f = ends_then r f
+and_then (Asks name next) f = Asks name (λ bytes. and_then (next bytes) f)
+
+-- the course of one document
+abbrev pub document : {A : Type 0} → List ℕ → (List ℕ → Result A Early) → Course A
+document name answered = Asks name (λ bytes. Ends (answered bytes))
 
 -- the longest document, in bytes
 abbrev pub document_limit : ℕ
 document_limit = 33554432
 
-infixl 10 ◌>>=◌
-abbrev pub ◌>>=◌ : {A B : Type 0} → Result A Early → (A → Result B Early) → Result B Early
-(Ok x) >>= f = f x
-(Err e) >>= f = Err e
-
--- how a fault of the documents is answered
+-- the answer for a document that could not be had
 abbrev pub doc_answer : List ℕ → DocFault → Early
 doc_answer name doc_faults.Absent = DocAbsent name
 doc_answer name doc_faults.Failed = DocFailed name
 doc_answer name (doc_faults.TooLong limit) = DocTooLong name limit
 doc_answer name doc_faults.Memory = Memory
 
-abbrev pub doc_answered : List ℕ → Result (List ℕ) DocFault → Result (List ℕ) Early
-doc_answered name (Ok bytes) = Ok bytes
-doc_answered name (Err e) = Err (doc_answer name e)
+-- what a course gives for told documents
+abbrev pub goes_on : {A : Type 0} → Result (List ℕ) DocFault → List ℕ → (List ℕ → Result A Early) → Result A Early
+goes_on (Ok bytes) name next = next bytes
+goes_on (Err fault) name next = Err (doc_answer name fault)
 
--- the bytes of a document, or the answer
-abbrev pub bytes_at : List ℕ → Files → Result (List ℕ) Early
-bytes_at name files = doc_answered name (fetched files name document_limit)
+abbrev pub read_from : {A : Type 0} → Files → Course A → Result A Early
+read_from files (Ends r) = r
+read_from files (Asks name next) = goes_on (fetched files name document_limit) name (λ bytes. read_from files (next bytes))
 
--- how a fault of a request is answered
+-- what came is what is given: a value that stands for the one given, or the same answer
+abbrev pub Matches : {A X : Type 0} → (A → X → Type 0) → Result A Early → Result X Early → Type 0
+Matches R (Ok a) (Ok x) = R a x
+Matches R (Err e) (Err came) = came ≡ e
+Matches R _ _ = ⊥
+
+-- a document that came is within the limit, and the one of its name where documents are told
+pub record IsDocument (told : Option Files) (name bytes : List ℕ) : Type 0 where
+  pub within : length bytes ≤ document_limit
+  pub told_is : IfSome told (λ files. fetched files name document_limit ≡ Ok bytes)
+
+-- What came of a course, told or not. Each document that was asked for came and was counted, up to one that could not be had.
+abbrev pub Gives : {A X : Type 0} → (A → X → Type 0) → Option Files → Course A → Counts → Counts → Result X Early → Type 0
+Gives R told (Ends r) before after result = (after ≡ before) × Matches R r result
+Gives R told (Asks name next) before after result =
+    ((bytes : List ℕ) × IsDocument told name bytes × Gives R told (next bytes) (one_done before) after result)
+    ⊎ ((fault : DocFault) × Fetched told name document_limit before after (Err fault) [] × Matches R (Err (doc_answer name fault)) result)
+
+-- memory ran out, or this holds
+abbrev pub ButMemory : {X : Type 0} → Result X Early → Type 0 → Type 0
+ButMemory (Err Memory) P = Unit {0}
+ButMemory _ P = P
+
+-- A step over documents: what came of a course between two moments.
+pub record IsStep {A X : Type 0} (R : A → X → Type 0) (course : Course A) (before after : DocsMoment) (result : Result X Early) : Type 0 where
+  pub told : after.told ≡ before.told
+  pub later : IsLater before.counts after.counts
+  pub gives : ButMemory result (Gives R before.told course before.counts after.counts result)
+
+-- the answer for a request that can't be read
 abbrev pub request_answer : RequestFault → Early
 request_answer request_faults.Syntax = Refused (plan.Tree Request faults.Syntax)
 request_answer request_faults.OtherForm = NotBuilt
@@ -60,21 +103,16 @@ abbrev pub request_answered : Result (List ℕ) RequestFault → Result (List �
 request_answered (Ok name) = Ok name
 request_answered (Err e) = Err (request_answer e)
 
--- the name of the workflow document, or the answer
-abbrev pub request_at : List ℕ → Files → Result (List ℕ) Early
-request_at name files = bytes_at name files >>= λ bytes. request_answered (request_of bytes)
+-- the name of the workflow that a request names, or the answer
+abbrev pub request_in_bytes : List ℕ → Result (List ℕ) Early
+request_in_bytes bytes = request_answered (request_of bytes)
 
--- how a fault of a document's tree is answered
+-- the answer for a document's tree that can't be read
 abbrev pub tree_answer : Document → TreeFault → Early
-tree_answer which faults.Syntax = Refused (plan.Tree which faults.Syntax)
-tree_answer which (faults.MissingKey path) = Refused (plan.Tree which (faults.MissingKey path))
-tree_answer which (faults.WrongKind path) = Refused (plan.Tree which (faults.WrongKind path))
-tree_answer which (faults.OutOfRange path n) = Refused (plan.Tree which (faults.OutOfRange path n))
-tree_answer which (faults.Unsupported path what) = Refused (plan.Tree which (faults.Unsupported path what))
-tree_answer which (faults.BadVersion text) = Refused (plan.Tree which (faults.BadVersion text))
 tree_answer which faults.Memory = Memory
+tree_answer which fault = Refused (plan.Tree which fault)
 
--- how a fault of a document is answered
+-- the answer for a document that can't be read
 abbrev pub read_answer : Document → ReadFault → Early
 read_answer which (reads.Tree fault) = tree_answer which fault
 read_answer which (reads.TooMany counted count limit) = Refused (plan.TooMany counted count limit)
@@ -89,85 +127,19 @@ pub record ReadWorkflow : Type 0 where
   pub says : WorkflowEntry
   pub unknown : List (List ℕ)
 
-abbrev pub read_answered : List (List ℕ) → Result WorkflowEntry ReadFault → Result ReadWorkflow Early
-read_answered unknown (Ok says) = Ok (record { says = says; unknown = unknown })
-read_answered unknown (Err e) = Err (read_answer Workflow e)
-
--- the workflow, or the answer
-abbrev pub workflow_at : List ℕ → Files → Result ReadWorkflow Early
-workflow_at name files = bytes_at name files >>= λ bytes. read_answered (unknown_in_text bytes) (read_of bytes)
-
--- the request first, then the workflow that it names
-abbrev pub documents_read : List ℕ → Files → Result ReadWorkflow Early
-documents_read name files = request_at name files >>= λ workflow. workflow_at workflow files
-
-abbrev pub commanded : Option (Command × List ℕ) → Files → Result ReadWorkflow Early
-commanded None files = Err Usage
-commanded (Some c) files = documents_read c.1 files
-
--- the words, then the documents
-abbrev pub course : List (List ℕ) → Files → Result ReadWorkflow Early
-course words files = commanded (command words) files
-
--- When an early answer comes. `expected` is the course over told documents; `faulted` and `missed` say that the documents' counts rose.
-abbrev pub Refuses : {A : Type 0} → Type 0 → Type 0 → Option (Result A Early) → Early → Type 0
-Refuses faulted missed expected Memory = Unit {0}
-Refuses faulted missed expected Usage = IfSome expected (λ e. e ≡ Err Usage)
-Refuses faulted missed expected (DocAbsent name) = MatchOption expected missed (λ e. e ≡ Err (DocAbsent name))
-Refuses faulted missed expected (DocTooLong name limit) = MatchOption expected missed (λ e. e ≡ Err (DocTooLong name limit))
-Refuses faulted missed expected (DocFailed name) = faulted
-Refuses faulted missed expected (Refused fault) = IfSome expected (λ e. e ≡ Err (Refused fault))
-Refuses faulted missed expected NotBuilt = IfSome expected (λ e. e ≡ Err NotBuilt)
-
--- what a step of the course gives
-abbrev pub Gives : {X A : Type 0} → (X → A) → Type 0 → Type 0 → Option (Result A Early) → Result X Early → Type 0
-Gives view faulted missed expected (Ok x) = IfSome expected (λ e. e ≡ Ok (view x))
-Gives view faulted missed expected (Err early) = Refuses faulted missed expected early
-
--- The course gives this workflow, and the paths that aren't acted on are in byte order.
-pub record IsReadAs (e : Result ReadWorkflow Early) (w : WorkflowValue) : Type 0 where
-  pub unknown : List (List ℕ)
-  pub is : e ≡ Ok (record { says = view w; unknown = unknown })
-  pub all : IsPermutation unknown w.ignored
+-- the workflow says this, and its ignored paths are these in byte order
+pub record IsReadAs (read : ReadWorkflow) (w : WorkflowValue) : Type 0 where
+  pub says : view w ≡ read.says
+  pub all : IsPermutation read.unknown w.ignored
   pub sorted : IsSorted (slice_cmp nat_cmp) w.ignored
 
--- the same of a workflow
-abbrev pub GivesWorkflow : Type 0 → Type 0 → Option (Result ReadWorkflow Early) → Result WorkflowValue Early → Type 0
-GivesWorkflow faulted missed expected (Ok w) = IfSome expected (λ e. IsReadAs e w)
-GivesWorkflow faulted missed expected (Err early) = Refuses faulted missed expected early
+abbrev pub workflow_answered : List (List ℕ) → Result WorkflowEntry ReadFault → Result ReadWorkflow Early
+workflow_answered unknown (Ok says) = Ok (record { says = says; unknown = unknown })
+workflow_answered unknown (Err e) = Err (read_answer Workflow e)
 
--- the same of a command and its workflow
-abbrev pub GivesRead : Type 0 → Type 0 → Option (Result ReadWorkflow Early) → Result Read Early → Type 0
-GivesRead faulted missed expected (Ok r) = IfSome expected (λ e. IsReadAs e r.workflow)
-GivesRead faulted missed expected (Err early) = Refuses faulted missed expected early
+abbrev pub workflow_in_bytes : List ℕ → Result ReadWorkflow Early
+workflow_in_bytes bytes = workflow_answered (unknown_in_text bytes) (read_of bytes)
 
--- a document that a call asks for: the one of its words, or the one that the request there, if it is told, names
-abbrev pub IsAsked : List ℕ → Option Files → List ℕ → Type 0
-IsAsked request told name = (name ≡ request) ⊎ IfSome told (λ files. request_at request files ≡ Ok name)
-
-abbrev pub IsAskedBy : Option (Command × List ℕ) → Option Files → List ℕ → Type 0
-IsAskedBy None told name = ⊥
-IsAskedBy (Some c) told name = IsAsked c.1 told name
-
--- a document that could not be had is one of these
-abbrev pub FailsAmong : (List ℕ → Type 0) → Early → Type 0
-FailsAmong asked (DocFailed name) = asked name
-FailsAmong asked _ = Unit {0}
-
--- an answer that may give way to want of memory
-abbrev pub OrMemory : Early → Early → Type 0
-OrMemory wanted Memory = Unit {0}
-OrMemory wanted early = early ≡ wanted
-
--- the words were a command
-abbrev pub NotUsage : {X : Type 0} → Result X Early → Type 0
-NotUsage (Err Usage) = ⊥
-NotUsage _ = Unit {0}
-
--- Usage comes exactly where the words are no command; else the command is the words'
-abbrev pub TellsCommand : Option (Command × List ℕ) → Result Read Early → Type 0
-TellsCommand None (Err Usage) = Unit {0}
-TellsCommand None _ = ⊥
-TellsCommand (Some c) (Err Usage) = ⊥
-TellsCommand (Some c) (Err early) = Unit {0}
-TellsCommand (Some c) (Ok r) = r.command ≡ c.0
+-- a call's documents: the request first, then the workflow that it names
+abbrev pub documents : List ℕ → Course ReadWorkflow
+documents request = and_then (document request request_in_bytes) (λ workflow. document workflow workflow_in_bytes)

@@ -1,7 +1,15 @@
+-- The clause of the call, from the top. A reader begins with Call and the commands.
+pub mod Call
+pub mod Commands
+pub mod CommandSpec
+pub mod Moments
 pub mod Words
-pub mod Request
 pub mod Course
-pub mod Checks
-pub mod Deliveries
-pub mod Lines
-pub mod Answers
+pub mod Request
+pub mod Survey
+pub mod Delivery
+pub mod CheckText
+-- The lines and the status of an outcome.
+pub mod Outcome
+pub mod PlanFault
+pub mod RunFault

@@ -6,8 +6,8 @@ use Rattle.std.specs.Vec.Iter.{into_iter_items}
 use Rattle.std.specs.declared.vec.IntoIter.{IntoIter}
 use Rattle.std.specs.declared.io.Error.{Error}
 use Rattle.std.specs.declared.io.ErrorKind.TheVariants.{OutOfMemory}
-use Rattle.pegasus_cli.specs.declared.words.Command.{Command}
-use Rattle.pegasus_cli.specs.declared.words.Command.TheVariants.{Check, Alone}
+use Rattle.pegasus_cli.specs.declared.commands.Command.{Command}
+use Rattle.pegasus_cli.specs.declared.commands.Command.TheVariants.{Check, Alone}
 
 -- a word that names a document: it isn't empty and doesn't begin with a dash
 abbrev pub is_document_word : List ℕ → Bool

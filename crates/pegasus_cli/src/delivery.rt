@@ -1,11 +1,11 @@
 //! Delivering the requested files.
 
-ghost use Rattle.std.specs.Prelude.{◌≡◌, ◌≤◌, ◌++◌, length, replicate, false, IfOk, OnOk};
-ghost use Rattle.outside.specs.Counts.{Rose};
-ghost use Rattle.pegasus_cli.specs.Deliveries.{DeliversEach, DeliversOne, chosen, delivered_line, marked, marked_by, picked};
+ghost use Rattle.std.specs.Prelude.{◌≡◌, ◌++◌, OnErr, OnOk, length, replicate, false, IfOk};
+ghost use Rattle.outside.specs.Counts.{IsLater};
+ghost use Rattle.pegasus_cli.specs.Delivery.{DeliversEach, DeliversOne, chosen, delivered_line, marked, marked_by, picked};
 
 use hex::encode;
-use outside::{Blob, Host, HostFault, Memory, Text, push_name, push_number};
+use outside::{Blob, Host, HostFault, Memory, Text, Word, push_line};
 use sha2::{Digest, Sha256};
 use std::alloc::Global;
 use workflow_core::{Output, Workflow};
@@ -36,17 +36,26 @@ fn requested_marks(alloc: Global, workflow: &Workflow) -> Result<Vec<bool>, Memo
 fn line_for(alloc: Global, name: &Text, bytes: &Blob) -> Result<Vec<u8>, Memory>
     ensures { IfOk result (λ v. v.items ≡ delivered_line (record { name = name.now; bytes = bytes.now })) }
 {
-    let mut line = Vec::new(alloc);
-    line.extend_from_slice(b"delivered ")?;
-    push_name(&mut line, name.as_bytes())?;
-    line.extend_from_slice(b" ")?;
-    push_number(alloc, &mut line, bytes.as_slice().len() as u64)?;
-    line.extend_from_slice(b" ")?;
     let digest = Sha256::digest(bytes.as_slice());
     let digits = encode(alloc, digest.as_slice())?;
-    line.extend_from_slice(digits.as_bytes())?;
-    line.extend_from_slice(b"\n")?;
+    let name = Word::Name(name.as_bytes());
+    let length = Word::Number(bytes.as_slice().len() as u64);
+    let mut line = Vec::new(alloc);
+    push_line(
+        alloc,
+        &mut line,
+        "delivered",
+        &[name, length, Word::Plain(digits.as_str())],
+    )?;
     Ok(line)
+}
+
+fn extend(text: &mut Vec<u8>, line: &[u8]) -> Result<(), Memory>
+    ensures ok { OnOk result (text.new.items ≡ text.old.items ++ line.now) }
+    ensures err { OnErr result (text.new.items ≡ text.old.items) }
+{
+    text.extend_from_slice(line)?;
+    Ok(())
 }
 
 /// Delivers one file and adds its line to the text, or changes neither.
@@ -57,19 +66,13 @@ fn deliver_one<H: Host>(
     bytes: &Blob,
     text: &mut Vec<u8>,
 ) -> Result<(), HostFault>
-    ensures answer { DeliversOne (record { name = name.now; bytes = bytes.now }) (H.delivered host.old) (H.delivered host.new)
-        text.old.items text.new.items (Rose (H.faults host.old) (H.faults host.new)) result }
-    ensures faults { H.faults host.old ≤ H.faults host.new }
+    ensures answer { DeliversOne (record { name = name.now; bytes = bytes.now }) (H.told host.old) (H.told host.new) (H.counts host.old) (H.counts host.new)
+        text.old.items text.new.items result }
+    ensures later { IsLater (H.counts host.old) (H.counts host.new) }
 {
-    let line = match line_for(alloc, name, bytes) {
-        Ok(line) => line,
-        Err(Memory) => return Err(HostFault::Memory),
-    };
+    let line = line_for(alloc, name, bytes)?;
     let before = text.len();
-    match text.extend_from_slice(&line) {
-        Ok(()) => {}
-        Err(_) => return Err(HostFault::Memory),
-    }
+    extend(text, &line)?;
     match host.deliver(alloc, name.as_str(), bytes.as_slice()) {
         Ok(()) => Ok(()),
         Err(fault) => {
@@ -90,9 +93,9 @@ fn deliver_marked<H: Host>(
 ) -> Result<(), HostFault>
     requires names { length marks.now ≡ length names.now }
     requires values { length marks.now ≡ length values.now }
-    ensures answer { DeliversEach (picked marks.now names.now values.now) (H.delivered host.old) (H.delivered host.new)
-        text.old.items text.new.items (Rose (H.faults host.old) (H.faults host.new)) result }
-    ensures faults { H.faults host.old ≤ H.faults host.new }
+    ensures answer { DeliversEach (picked marks.now names.now values.now) (H.told host.old) (H.told host.new) (H.counts host.old) (H.counts host.new)
+        text.old.items text.new.items result }
+    ensures later { IsLater (H.counts host.old) (H.counts host.new) }
 {
     for i in 0..marks.len() {
         if marks[i] {
@@ -116,13 +119,10 @@ pub(crate) fn deliver_requested<H: Host>(
     text: &mut Vec<u8>,
 ) -> Result<(), HostFault>
     requires { length values.now ≡ length workflow.now.files }
-    ensures answer { DeliversEach (chosen workflow.now values.now) (H.delivered host.old) (H.delivered host.new)
-        text.old.items text.new.items (Rose (H.faults host.old) (H.faults host.new)) result }
-    ensures faults { H.faults host.old ≤ H.faults host.new }
+    ensures answer { DeliversEach (chosen workflow.now values.now) (H.told host.old) (H.told host.new) (H.counts host.old) (H.counts host.new)
+        text.old.items text.new.items result }
+    ensures later { IsLater (H.counts host.old) (H.counts host.new) }
 {
-    let marks = match requested_marks(alloc, workflow) {
-        Ok(marks) => marks,
-        Err(Memory) => return Err(HostFault::Memory),
-    };
+    let marks = requested_marks(alloc, workflow)?;
     deliver_marked(alloc, host, &marks, workflow.files.as_slice(), values, text)
 }

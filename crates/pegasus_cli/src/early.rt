@@ -1,13 +1,12 @@
 //! Answers that come before the work.
 
-use crate::fault::PlanFault;
+use crate::plan_fault::PlanFault;
 use outside::Text;
 
-/// An answer of the words and the documents alone.
+/// An answer of the documents alone.
 #[derive(Debug, Drop)]
 pub enum Early {
     Memory,
-    Usage,
     DocAbsent(Text),
     DocTooLong(Text, u64),
     DocFailed(Text),

@@ -6,19 +6,20 @@
 #![tactic(auto)]
 
 mod call;
-mod check;
+mod check_text;
+mod commands;
+mod course;
 mod delivery;
-mod documents;
 mod early;
-mod fault;
-mod lines;
 mod outcome;
-mod refusals;
+mod plan_fault;
 mod request;
+mod run_fault;
+mod survey;
 mod words;
-mod work;
 
 pub use call::quick;
-pub use fault::{Document, PlanFault, RunFault};
 pub use outcome::Outcome;
+pub use plan_fault::{Document, PlanFault};
+pub use run_fault::RunFault;
 pub use words::user_words;

@@ -1,12 +1,16 @@
-//! The outcome of a call.
+//! How a call ends, its line and its status.
 
-ghost use Rattle.std.specs.Prelude.{◌≡◌};
-ghost use Rattle.pegasus_cli.specs.Answers.{graph_outcome, outcome_of};
+ghost use Rattle.std.specs.Prelude.{◌≡◌, ◌++◌, OnOk};
+ghost use Rattle.pegasus_cli.specs.Outcome.{line_of, outcome_of};
 
 use crate::early::Early;
-use crate::fault::{Document, PlanFault, RunFault};
-use dependency_graph::GraphFault;
-use outside::Text;
+use crate::plan_fault::{Document, PlanFault, push_refused};
+use crate::run_fault::{RunFault, push_failed};
+use outside::{Memory, Text, Word, push_line};
+use std::alloc::Global;
+
+const USAGE: &str =
+    "usage: pegasus check|plan|eval|alone REQ, run REQ --workers N, audit|stat REQ RECORD, rehearse N [--workers N]";
 
 /// How a call ended.
 #[derive(Debug, Drop)]
@@ -29,7 +33,7 @@ pub enum Outcome {
 }
 
 impl Outcome {
-    ghost use Rattle.pegasus_cli.specs.Lines.{status_of};
+    ghost use Rattle.pegasus_cli.specs.Outcome.{status_of};
 
     /// The status that the program ends with.
     pub fn code(&self) -> u8
@@ -54,7 +58,6 @@ pub(crate) fn of_early(early: Early) -> Outcome
 {
     match early {
         Early::Memory => Outcome::Memory,
-        Early::Usage => Outcome::Usage,
         Early::DocAbsent(name) => Outcome::DocAbsent(name),
         Early::DocTooLong(name, limit) => Outcome::DocTooLong(name, limit),
         Early::DocFailed(name) => Outcome::DocFailed(name),
@@ -63,15 +66,43 @@ pub(crate) fn of_early(early: Early) -> Outcome
     }
 }
 
-/// A fault of the graph as an outcome.
-pub(crate) fn of_graph_fault(fault: GraphFault) -> Outcome
-    ensures { result ≡ graph_outcome fault }
+/// Adds the line of an outcome, where it has one.
+pub(crate) fn push_outcome(
+    alloc: Global,
+    text: &mut Vec<u8>,
+    outcome: &Outcome,
+) -> Result<(), Memory>
+    ensures { OnOk result (text.new.items ≡ text.old.items ++ line_of outcome.now) }
 {
-    match fault {
-        GraphFault::TwoProducers(lfn, one, two) => {
-            Outcome::Refused(PlanFault::TwoProducers(lfn, one, two))
-        }
-        GraphFault::Cycle(ids) => Outcome::Refused(PlanFault::Cycle(ids)),
-        GraphFault::Memory => Outcome::Memory,
+    match outcome {
+        Outcome::Done => push_line(alloc, text, "done", &[]),
+        Outcome::Memory | Outcome::SinkFailed => Ok(()),
+        Outcome::Usage => push_line(alloc, text, USAGE, &[]),
+        Outcome::DocAbsent(name) => push_line(
+            alloc,
+            text,
+            "no document",
+            &[Word::Name(name.as_bytes())],
+        ),
+        Outcome::DocTooLong(name, limit) => push_line(
+            alloc,
+            text,
+            "document too long",
+            &[Word::Name(name.as_bytes()), Word::Number(*limit)],
+        ),
+        Outcome::DocFailed(name) => push_line(
+            alloc,
+            text,
+            "document failed",
+            &[Word::Name(name.as_bytes())],
+        ),
+        Outcome::Refused(fault) => push_refused(alloc, text, fault),
+        Outcome::NotBuilt(which) => push_line(
+            alloc,
+            text,
+            "not built",
+            &[Word::Plain(which.word())],
+        ),
+        Outcome::Failed(fault) => push_failed(alloc, text, fault),
     }
 }

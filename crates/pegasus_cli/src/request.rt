@@ -41,7 +41,7 @@ fn request_table() -> KeyTable<1>
     KeyTable { rows: &REQUEST }
 }
 
-#[tactic(auto, using(crate::proofs::Requests::no_name))]
+#[tactic(auto, using(crate::proofs::RequestLemmas::no_name))]
 fn request_in(alloc: Global, value: &Value) -> Result<Text, RequestFault>
     ensures { Reads result (form_of (tree_view value.now)) }
 {

@@ -3,19 +3,11 @@
 ghost use Rattle.std.specs.Prelude.{◌≡◌, IfOk, IsErr, map as list_map, option_map, string_bytes};
 ghost use Rattle.pegasus_cli.specs.Words.{IsForMemory, command as command_of, command_named as named, is_document_word as is_document, words_given};
 
+use crate::commands::Command;
 use outside::Memory;
 use std::alloc::Global;
 use std::env::Args;
 use std::io;
-
-/// What is asked for.
-#[derive(Clone, Copy, Debug, PartialEq, Eq)]
-pub enum Command {
-    /// Reads the workflow and lists what isn't acted on.
-    Check,
-    /// Runs the workflow's jobs one after the other.
-    Alone,
-}
 
 fn is_document_word(word: &str) -> bool
     ensures { result ≡ is_document word.now }

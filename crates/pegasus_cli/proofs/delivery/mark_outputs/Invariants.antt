@@ -1,5 +1,5 @@
 use Rattle.std.proofs.Common.{◌≡◌, drop}
-use Rattle.pegasus_cli.specs.Deliveries.{marked}
+use Rattle.pegasus_cli.specs.Delivery.{marked}
 use Rattle.pegasus_cli.proofs.delivery.mark_outputs.Given as goal
 
 abbrev pub invariant-loop-output : goal.invariant-loop-output

@@ -1,5 +1,5 @@
 use Rattle.std.proofs.Common.{◌≡◌, drop}
-use Rattle.pegasus_cli.specs.Deliveries.{marked_by}
+use Rattle.pegasus_cli.specs.Delivery.{marked_by}
 use Rattle.pegasus_cli.proofs.delivery.requested_marks.Given as goal
 
 abbrev pub invariant-loop-job : goal.invariant-loop-job

@@ -1,0 +1,173 @@
+-- The clause of a call.
+use Rattle.std.proofs.Common.{◌≡◌, ℕ, ◌++◌, Bool, true, false, cond, List, [], ◌∷◌, length, take, refl, sym, ap, subst, ◌∙◌, inl, inr, arith}
+use Rattle.std.specs.Prelude.{◌⊎◌, Option, Some, None, Result, Ok, Err, is_some}
+use Rattle.std.specs.Io.KnownBytes.{Appends}
+use Rattle.outside.specs.Counts.{Rose}
+use Rattle.outside.specs.FileMap.{Files}
+use Rattle.outside.specs.Sink.{WroteAll}
+use Rattle.outside.specs.Tool.{Apply}
+use Rattle.outside.specs.declared.numbers.JobId.{JobId}
+use Rattle.outside.specs.declared.sink.SinkFault.{SinkFault}
+use Rattle.outside.specs.declared.sink.SinkFault.TheVariants as sink_faults
+use Rattle.workflow_core.specs.declared.workflow.Workflow.{Workflow}
+use Rattle.dependency_graph.specs.Built.{AreTwoProducers}
+use Rattle.dependency_graph.specs.Graph.{IsSound}
+use Rattle.workflow_eval.specs.Evaluated.{first_undefined, made_by_number}
+use Rattle.pegasus_cli.specs.declared.commands.Command.{Command}
+use Rattle.pegasus_cli.specs.declared.commands.Command.TheVariants as commands
+use Rattle.pegasus_cli.specs.declared.early.Early.{Early}
+use Rattle.pegasus_cli.specs.declared.early.Early.TheVariants as early
+use Rattle.pegasus_cli.specs.declared.outcome.Outcome.{Outcome}
+use Rattle.pegasus_cli.specs.declared.outcome.Outcome.TheVariants as outcomes
+use Rattle.pegasus_cli.specs.declared.plan_fault.Document.TheVariants as documents_named
+use Rattle.pegasus_cli.specs.declared.plan_fault.PlanFault.TheVariants as plan
+use Rattle.pegasus_cli.specs.declared.run_fault.RunFault.TheVariants.{Declined, ToolFailed, HostFailed}
+use Rattle.pegasus_cli.specs.declared.survey.Survey.{Survey}
+use Rattle.pegasus_cli.specs.Call.{Ends, IsAnswer, IsAnswered, IsDoneOrMemory, MayFinish, NoneRose}
+use Rattle.pegasus_cli.specs.Commands.{spec_of}
+use Rattle.pegasus_cli.specs.Commands.Alone.{AllDefined, Tells}
+use Rattle.pegasus_cli.specs.Commands.Check.{Says}
+use Rattle.pegasus_cli.specs.Course.{ButMemory, Gives, IsReadAs, IsStep, Matches, ReadWorkflow, documents, read_from}
+use Rattle.pegasus_cli.specs.Delivery.{Delivery}
+use Rattle.pegasus_cli.specs.Moments.{Call, DocsMoment, Output, Work}
+use Rattle.pegasus_cli.specs.Outcome.{line_of, outcome_of}
+use Rattle.pegasus_cli.specs.Survey.{GoesOn, GraphRefuses, Stops}
+use Rattle.pegasus_cli.specs.Words.{command as command_of}
+use Rattle.pegasus_cli.proofs.CourseLemmas.{result_again, told_gives}
+
+pub ends_as : (o : Output) (text : List ℕ) (a : Outcome) → (a ≡ outcomes.Memory → ⊥) → IsAnswer a → Appends o.before.written o.after.written (text ++ line_of a) → Ends o text a a
+ends_as o text outcomes.Memory m i h = absurd (m refl)
+ends_as o text outcomes.SinkFailed m i h = absurd i
+ends_as o text a m i h = (refl, h)
+
+-- what a failing sink took
+pub cut_short : (old new : Option (List ℕ)) (from to : ℕ) (piece all text line : List ℕ) (a : Outcome) (f : SinkFault) → piece ≡ all → all ≡ text ++ line → WroteAll old new from to piece (Err f) → (a ≡ outcomes.Memory → ⊥)
+    → Rose from to × (a ≡ outcomes.Memory → ⊥) × (n : ℕ) × Appends old new (take n (text ++ line))
+cut_short old new from to piece all text line a sink_faults.Failed ep ea h m = (h.0, m, h.1, subst (λ (z : List ℕ). Appends old new (take h.1 z)) (ep ∙ ea) h.3)
+
+-- the words of a call are one command
+same_command : (o : Option (Command × List ℕ)) (x y : Command × List ℕ) → o ≡ Some x → o ≡ Some y → x ≡ y
+same_command o x y i j = cc
+
+no_command : (o : Option (Command × List ℕ)) (x : Command × List ℕ) → o ≡ Some x → o ≡ None → ⊥
+no_command o x i j = absurd cc
+
+ends_done : (o : Output) (text : List ℕ) (a x : Outcome) → Ends o text a x → IsDoneOrMemory a → (Rose o.before.faults o.after.faults → ⊥) → IsDoneOrMemory x
+ends_done o text a outcomes.Memory e h still = tt
+ends_done o text a outcomes.SinkFailed e h still = absurd (still e.0)
+ends_done o text a x e h still = subst IsDoneOrMemory (sym e.0) h
+
+-- The words are no command.
+pub usage_answered : (c : Call) (outcome : Outcome) (text : List ℕ) → command_of c.asked.words ≡ None → c.asked.after ≡ c.asked.before → c.work.after ≡ c.work.before → text ≡ [] → Ends c.output text outcomes.Usage outcome → IsAnswered c outcome
+usage_answered c outcome text none not_asked untouched no_text ends = record {
+  answer = outcomes.Usage;
+  text = text;
+  came = inl (record { no_command = none; answers = refl; not_asked = not_asked; untouched = untouched; no_text = no_text });
+  ends = ends;
+  completes = λ may still. absurd (no_command (command_of c.asked.words) (may.command, may.request) may.is_command none);
+}
+
+only_memory : (X : Type 0) (e : Early) → ButMemory {X = X} (Err e) ⊥ → e ≡ early.Memory
+only_memory X early.Memory h = refl
+only_memory X e h = absurd h
+
+-- told documents give what they read, where no fault was counted
+told_step : (request : List ℕ) (before after : DocsMoment) (files : Files) (read : ReadWorkflow) (r : Result Workflow Early) → before.told ≡ Some files → read_from files (documents request) ≡ Ok read → (Rose before.counts.faults after.counts.faults → ⊥)
+    → IsStep IsReadAs (documents request) before after r → ButMemory r (Matches IsReadAs (Ok read) r)
+told_step request before after files read r told reads still step =
+    result_again r _ _ (λ (m : Matches IsReadAs (read_from files (documents request)) r ⊎ Rose before.counts.faults after.counts.faults). came_so m) (told_so r (subst (λ t. ButMemory r (Gives IsReadAs t (documents request) before.counts after.counts r)) told step.gives))
+  where
+    came_so : Matches IsReadAs (read_from files (documents request)) r ⊎ Rose before.counts.faults after.counts.faults → Matches IsReadAs (Ok read) r
+    came_so (inl m) = subst (λ z. Matches IsReadAs z r) reads m
+    came_so (inr rose) = absurd (still rose)
+
+    told_so : (r : Result Workflow Early) → ButMemory r (Gives IsReadAs (Some files) (documents request) before.counts after.counts r) → ButMemory r (Matches IsReadAs (read_from files (documents request)) r ⊎ Rose before.counts.faults after.counts.faults)
+    told_so (Err early.Memory) h = tt
+    told_so r h = told_gives IsReadAs files (documents request) before.counts after.counts r h
+
+-- a file of a sound workflow has no two producers
+not_contested : (w : Workflow) (lfn one two : List ℕ) → IsSound w → AreTwoProducers w lfn one two → ⊥
+not_contested w lfn one two sound h =
+    let few = sound.one_producer h.file h.contested.in_range in
+    let many = ap length h.contested.is in
+    omega (arith, few, many)
+
+not_refused : (w : Workflow) (e : Early) → IsSound w → GraphRefuses w e → e ≡ early.Memory
+not_refused w (early.Refused (plan.TwoProducers lfn one two)) sound h = absurd (not_contested w lfn one two sound h)
+not_refused w (early.Refused (plan.Cycle ids)) sound h = absurd (sound.no_return h.cycle.start h.cycle.returns)
+not_refused w early.Memory sound h = refl
+not_refused w e sound h = absurd h
+
+-- documents that go on stop a call for want of memory alone
+stops_short : (c : Call) (e : Early) (may : MayFinish c) → NoneRose c → Stops may.request c.asked.before c.asked.after e → e ≡ early.Memory
+stops_short c e may still (inl step) = only_memory Workflow e (told_step may.request c.asked.before c.asked.after may.files may.read (Err e) may.told may.reads still.docs step)
+stops_short c e may still (inr h) = not_refused h.0 e (may.sound h.0 (told_step may.request c.asked.before c.asked.after may.files may.read (Ok h.0) may.told may.reads still.docs h.1)) h.2
+
+of_memory : (e : Early) → e ≡ early.Memory → IsDoneOrMemory (outcome_of e)
+of_memory e h = subst (λ z. IsDoneOrMemory (outcome_of z)) (sym h) tt
+
+-- The documents ended the call.
+pub stopped_answered : (c : Call) (k : Command) (request : List ℕ) (e : Early) (outcome : Outcome) (text : List ℕ) → command_of c.asked.words ≡ Some (k, request) → Stops request c.asked.before c.asked.after e → c.work.after ≡ c.work.before → text ≡ []
+    → Ends c.output text (outcome_of e) outcome → IsAnswered c outcome
+stopped_answered c k request e outcome text is stops untouched no_text ends = record {
+  answer = outcome_of e;
+  text = text;
+  came = inr (inl (record { command = k; request = request; is_command = is; early = e; stops = stops; answers = refl; untouched = untouched; no_text = no_text }));
+  ends = ends;
+  completes = λ may still.
+      let same = same_command (command_of c.asked.words) (k, request) (may.command, may.request) is may.is_command in
+      let mine = subst (λ (r : List ℕ). Stops r c.asked.before c.asked.after e) (ap (λ (x : Command × List ℕ). x.1) same) stops in
+      ends_done c.output text (outcome_of e) outcome ends (of_memory e (stops_short c e may still mine)) still.sink;
+}
+
+-- one step of the search for the first job that makes nothing
+undefined_step : (there : Bool) (rest : Option ℕ) (n place : ℕ) → cond there rest (Some n) ≡ Some place → (rest ≡ Some place) ⊎ ((there ≡ false) × (n ≡ place))
+undefined_step true rest n place h = inl h
+undefined_step false rest n place h = inr (refl, (let same : ◌≡◌ {A = Option ℕ} (Some n) (Some place) = h in cc))
+
+-- the first job that makes nothing makes nothing
+undefined_there : (apply : Apply) (w : Workflow) (order : List JobId) (place : ℕ) → first_undefined apply w order ≡ Some place → is_some (made_by_number apply w place) ≡ false
+unfolding first_undefined
+undefined_there apply w [] place first = (let clash : ◌≡◌ {A = Option ℕ} None (Some place) = first in absurd cc)
+undefined_there apply w (j ∷ js) place first =
+    elim (undefined_step (is_some (made_by_number apply w j.0)) (first_undefined apply w js) j.0 place first) [
+      | inl h ↦ undefined_there apply w js place h
+      | inr h ↦ subst (λ (n : ℕ). is_some (made_by_number apply w n) ≡ false) h.1 h.0
+    ]
+
+not_both : (b : Bool) → b ≡ false → b ≡ true → ⊥
+not_both b i j = absurd cc
+
+alone_finishes : (w : Work) (s : Survey) (first rest : List Delivery) (a : Outcome) → Tells w s first rest a → AllDefined w s → (Rose w.before.counts.faults w.after.counts.faults → ⊥) → (Rose w.before.tool w.after.tool → ⊥) → IsDoneOrMemory a
+alone_finishes w s first rest outcomes.Done h can host tool = tt
+alone_finishes w s first rest outcomes.Memory h can host tool = tt
+alone_finishes w s first rest (outcomes.NotBuilt documents_named.Workflow) h can host tool = absurd (not_both _ h.0.none (can.made h.0.file h.0.within))
+alone_finishes w s first rest (outcomes.Failed (Declined id)) h can host tool = absurd (not_both _ (undefined_there w.apply s.workflow s.graph.ordered h.0.place h.0.first) (can.defined h.0.place h.0.within))
+alone_finishes w s first rest (outcomes.Failed (ToolFailed id)) h can host tool = absurd (tool h.0)
+alone_finishes w s first rest (outcomes.Failed (HostFailed task)) h can host tool = absurd (host h.0)
+alone_finishes w s first rest a h can host tool = absurd h
+
+check_finishes : (s : Survey) (text : List ℕ) (a : Outcome) → Says s text a → IsDoneOrMemory a
+check_finishes s text outcomes.Done h = tt
+check_finishes s text outcomes.Memory h = tt
+check_finishes s text a h = absurd h
+
+finishes : (k : Command) (w : Work) (s : Survey) (text : List ℕ) (a : Outcome) → (spec_of k).Works w s text a → (spec_of k).CanFinish w s → (Rose w.before.counts.faults w.after.counts.faults → ⊥) → (Rose w.before.tool w.after.tool → ⊥) → IsDoneOrMemory a
+finishes commands.Check w s text a works can host tool = check_finishes s text a works.says
+finishes commands.Alone w s text a works can host tool = alone_finishes w s works.first works.rest a works.tells can host tool
+
+-- The command did its work.
+pub worked_answered : (c : Call) (k : Command) (request : List ℕ) (s : Survey) (answer outcome : Outcome) (text : List ℕ) → command_of c.asked.words ≡ Some (k, request) → GoesOn request c.asked.before c.asked.after s → (spec_of k).Works c.work s text answer
+    → Ends c.output text answer outcome → IsAnswered c outcome
+worked_answered c k request s answer outcome text is goes_on works ends = record {
+  answer = answer;
+  text = text;
+  came = inr (inr (record { command = k; request = request; is_command = is; survey = s; goes_on = goes_on; works = works }));
+  ends = ends;
+  completes = λ may still.
+      let same = same_command (command_of c.asked.words) (may.command, may.request) (k, request) may.is_command is in
+      let mine = subst (λ (r : List ℕ). GoesOn r c.asked.before c.asked.after s) (ap (λ (x : Command × List ℕ). x.1) (sym same)) goes_on in
+      let read = told_step may.request c.asked.before c.asked.after may.files may.read (Ok s.workflow) may.told may.reads still.docs mine.read in
+      let can = subst (λ (x : Command). (spec_of x).CanFinish c.work s) (ap (λ (x : Command × List ℕ). x.0) same) (may.can_finish s read mine.graph) in
+      ends_done c.output text answer outcome ends (finishes k c.work s text answer works can still.host still.tool) still.sink;
+}

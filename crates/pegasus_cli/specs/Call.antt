@@ -1,0 +1,93 @@
+-- The clause of a call: an answer came, with its text, and then the call ended.
+use Rattle.std.specs.Prelude.{◌≡◌, ◌⊎◌, ◌++◌, ℕ, List, [], take, Ok, Some, None}
+use Rattle.std.specs.Io.KnownBytes.{Appends, Keeps}
+use Rattle.outside.specs.Counts.{Rose}
+use Rattle.outside.specs.FileMap.{Files}
+use Rattle.workflow_core.specs.declared.workflow.Workflow.{Workflow}
+use Rattle.dependency_graph.specs.Graph.{IsGraphOf, IsSound}
+use Rattle.pegasus_cli.specs.declared.commands.Command.{Command}
+use Rattle.pegasus_cli.specs.declared.early.Early.{Early}
+use Rattle.pegasus_cli.specs.declared.outcome.Outcome.{Outcome}
+use Rattle.pegasus_cli.specs.declared.outcome.Outcome.TheVariants as outcomes
+use Rattle.pegasus_cli.specs.declared.survey.Survey.{Survey}
+use Rattle.pegasus_cli.specs.Commands.{spec_of}
+use Rattle.pegasus_cli.specs.Course.{IsReadAs, ReadWorkflow, documents, read_from}
+use Rattle.pegasus_cli.specs.Moments.{Call, Output}
+use Rattle.pegasus_cli.specs.Outcome.{line_of, outcome_of}
+use Rattle.pegasus_cli.specs.Survey.{GoesOn, Stops}
+use Rattle.pegasus_cli.specs.Words.{command as command_of}
+
+-- The words are no command: nothing was asked for, and nothing was done.
+pub record IsUsage (c : Call) (text : List ℕ) (answer : Outcome) : Type 0 where
+  pub no_command : command_of c.asked.words ≡ None
+  pub answers : answer ≡ outcomes.Usage
+  pub not_asked : c.asked.after ≡ c.asked.before
+  pub untouched : c.work.after ≡ c.work.before
+  pub no_text : text ≡ []
+
+-- The documents ended the call: nothing was done.
+pub record IsStopped (c : Call) (text : List ℕ) (answer : Outcome) : Type 0 where
+  pub command : Command
+  pub request : List ℕ
+  pub is_command : command_of c.asked.words ≡ Some (command, request)
+  pub early : Early
+  pub stops : Stops request c.asked.before c.asked.after early
+  pub answers : answer ≡ outcome_of early
+  pub untouched : c.work.after ≡ c.work.before
+  pub no_text : text ≡ []
+
+-- The call went on with the documents, and the command did its work.
+pub record HasWorked (c : Call) (text : List ℕ) (answer : Outcome) : Type 0 where
+  pub command : Command
+  pub request : List ℕ
+  pub is_command : command_of c.asked.words ≡ Some (command, request)
+  pub survey : Survey
+  pub goes_on : GoesOn request c.asked.before c.asked.after survey
+  pub works : (spec_of command).Works c.work survey text answer
+
+-- What was written: the text and the answer's line; a prefix of them where the sink failed; nothing at want of memory.
+abbrev pub Ends : Output → List ℕ → Outcome → Outcome → Type 0
+Ends o text answer outcomes.Memory = Keeps o.before.written o.after.written
+Ends o text answer outcomes.SinkFailed = Rose o.before.faults o.after.faults × (answer ≡ outcomes.Memory → ⊥) × (n : ℕ) × Appends o.before.written o.after.written (take n (text ++ line_of answer))
+Ends o text answer outcome = (outcome ≡ answer) × Appends o.before.written o.after.written (text ++ line_of answer)
+
+-- no count of faults rose
+pub record NoneRose (c : Call) : Type 0 where
+  pub docs : Rose c.asked.before.counts.faults c.asked.after.counts.faults → ⊥
+  pub host : Rose c.work.before.counts.faults c.work.after.counts.faults → ⊥
+  pub tool : Rose c.work.before.tool c.work.after.tool → ⊥
+  pub sink : Rose c.output.before.faults c.output.after.faults → ⊥
+
+-- Told documents go on with a sound workflow, and nothing in it keeps their command from Done.
+pub record MayFinish (c : Call) : Type 0 where
+  pub command : Command
+  pub request : List ℕ
+  pub is_command : command_of c.asked.words ≡ Some (command, request)
+  pub files : Files
+  pub told : c.asked.before.told ≡ Some files
+  pub read : ReadWorkflow
+  pub reads : read_from files (documents request) ≡ Ok read
+  pub sound : (w : Workflow) → IsReadAs read w → IsSound w
+  pub can_finish : (s : Survey) → IsReadAs read s.workflow → IsGraphOf s.workflow s.graph → (spec_of command).CanFinish c.work s
+
+abbrev pub IsDoneOrMemory : Outcome → Type 0
+IsDoneOrMemory outcomes.Done = Unit {0}
+IsDoneOrMemory outcomes.Memory = Unit {0}
+IsDoneOrMemory _ = ⊥
+
+-- Every clause of a call.
+pub record IsAnswered (c : Call) (outcome : Outcome) : Type 0 where
+  -- the answer that came, and the text before its line
+  pub answer : Outcome
+  pub text : List ℕ
+  -- how it came
+  pub came : IsUsage c text answer ⊎ (IsStopped c text answer ⊎ HasWorked c text answer)
+  -- how the call ended
+  pub ends : Ends c.output text answer outcome
+  -- what may finish does, where no count of faults rose, or memory runs out
+  pub completes : MayFinish c → NoneRose c → IsDoneOrMemory outcome
+
+-- every outcome but a failing sink, which only the end of a call can tell
+abbrev pub IsAnswer : Outcome → Type 0
+IsAnswer outcomes.SinkFailed = ⊥
+IsAnswer _ = Unit {0}

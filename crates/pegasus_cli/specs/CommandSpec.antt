@@ -1,0 +1,12 @@
+-- What the contract of a command says.
+use Rattle.std.specs.Prelude.{ℕ, List}
+use Rattle.pegasus_cli.specs.declared.outcome.Outcome.{Outcome}
+use Rattle.pegasus_cli.specs.declared.survey.Survey.{Survey}
+use Rattle.pegasus_cli.specs.Moments.{Work}
+
+-- Each command states one, in its own file.
+pub record CommandSpec : Type 1 where
+  -- when its work gives this answer, and what it leaves at the host, at the tool and in the text
+  pub Works : Work → Survey → List ℕ → Outcome → Type 0
+  -- where nothing but a fault that is counted, or want of memory, keeps it from Done
+  pub CanFinish : Work → Survey → Type 0

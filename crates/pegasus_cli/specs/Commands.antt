@@ -1,0 +1,12 @@
+-- The table of the commands.
+use Rattle.pegasus_cli.specs.declared.commands.Command.{Command}
+use Rattle.pegasus_cli.specs.declared.commands.Command.TheVariants as commands
+use Rattle.pegasus_cli.specs.CommandSpec.{CommandSpec}
+use Rattle.pegasus_cli.specs.Commands.Check.{check}
+use Rattle.pegasus_cli.specs.Commands.Alone.{alone}
+pub mod Check
+pub mod Alone
+
+abbrev pub spec_of : Command → CommandSpec
+spec_of commands.Check = check
+spec_of commands.Alone = alone

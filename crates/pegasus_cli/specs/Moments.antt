@@ -1,0 +1,70 @@
+-- What the objects of a call show before and after it.
+use Rattle.std.specs.Prelude.{ℕ, List, Option}
+use Rattle.outside.specs.FileMap.{Files}
+use Rattle.outside.specs.Tool.{Apply}
+use Rattle.outside.specs.declared.counts.Counts.{Counts}
+use Rattle.outside.specs.declared.docs.Docs as docs
+use Rattle.outside.specs.declared.host.Host as host
+use Rattle.outside.specs.declared.sink.Sink as sink
+use Rattle.outside.specs.declared.store.Store.{Store}
+
+-- the documents, where they are told, and how often they were asked for
+pub record DocsMoment : Type 0 where
+  pub told : Option Files
+  pub counts : Counts
+
+-- what the host holds, where it is told, its counts, and how often the tool has failed
+pub record WorkMoment : Type 0 where
+  pub told : Option Store
+  pub counts : Counts
+  pub tool : ℕ
+
+-- the bytes written, where they are told, and how often the sink has failed
+pub record SinkMoment : Type 0 where
+  pub written : Option (List ℕ)
+  pub faults : ℕ
+
+-- what is asked: the words, and the documents before and after
+pub record Asked : Type 0 where
+  pub words : List (List ℕ)
+  pub before : DocsMoment
+  pub after : DocsMoment
+
+-- what the work meets: what the tool makes, the host and the tool before and after
+pub record Work : Type 0 where
+  pub apply : Apply
+  pub before : WorkMoment
+  pub after : WorkMoment
+
+-- where it is written
+pub record Output : Type 0 where
+  pub before : SinkMoment
+  pub after : SinkMoment
+
+pub record Call : Type 0 where
+  pub asked : Asked
+  pub work : Work
+  pub output : Output
+
+-- the moments of these objects, by their bounds' ghost members
+abbrev pub docs_moment : {D : Type 0} → docs.Ghosts D → D → DocsMoment
+docs_moment g d = record { told = g.told d; counts = g.counts d }
+
+abbrev pub work_moment : {H : Type 0} → host.Ghosts H → H → ℕ → WorkMoment
+work_moment g h tool = record { told = g.told h; counts = g.counts h; tool = tool }
+
+abbrev pub sink_moment : {K : Type 0} → sink.Ghosts K → K → SinkMoment
+sink_moment g k = record { written = g.written k; faults = g.faults k }
+
+-- a call, by its parts
+abbrev pub asking : List (List ℕ) → DocsMoment → DocsMoment → Asked
+asking words before after = record { words = words; before = before; after = after }
+
+abbrev pub working : Apply → WorkMoment → WorkMoment → Work
+working apply before after = record { apply = apply; before = before; after = after }
+
+abbrev pub writing : SinkMoment → SinkMoment → Output
+writing before after = record { before = before; after = after }
+
+abbrev pub call : Asked → Work → Output → Call
+call asked work output = record { asked = asked; work = work; output = output }

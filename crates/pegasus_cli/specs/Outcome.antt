@@ -1,0 +1,45 @@
+-- The line of an outcome, and its status.
+use Rattle.std.specs.Prelude.{ℕ, ◌++◌, List, [], codes}
+use Rattle.outside.specs.Printed.{printed_name}
+use Rattle.pegasus_cli.specs.declared.early.Early.{Early}
+use Rattle.pegasus_cli.specs.declared.early.Early.TheVariants as early
+use Rattle.pegasus_cli.specs.declared.outcome.Outcome.{Outcome}
+use Rattle.pegasus_cli.specs.declared.outcome.Outcome.TheVariants.{Done, Memory, Usage, DocAbsent, DocTooLong, DocFailed, Refused, NotBuilt, Failed, SinkFailed}
+use Rattle.pegasus_cli.specs.declared.plan_fault.Document.TheVariants.{Request}
+use Rattle.pegasus_cli.specs.PlanFault.{and_number, document_word, refused_line}
+use Rattle.pegasus_cli.specs.RunFault.{failed_line}
+
+-- the line of an outcome; want of memory and a failing sink have none
+abbrev pub line_of : Outcome → List ℕ
+line_of Done = codes "done\n"
+line_of Memory = []
+line_of Usage = codes "usage: pegasus check|plan|eval|alone REQ, run REQ --workers N, audit|stat REQ RECORD, rehearse N [--workers N]\n"
+line_of (DocAbsent name) = codes "no document " ++ printed_name name ++ codes "\n"
+line_of (DocTooLong name limit) = codes "document too long " ++ printed_name name ++ and_number limit ++ codes "\n"
+line_of (DocFailed name) = codes "document failed " ++ printed_name name ++ codes "\n"
+line_of (Refused fault) = refused_line fault
+line_of (NotBuilt which) = codes "not built " ++ document_word which ++ codes "\n"
+line_of (Failed fault) = failed_line fault
+line_of SinkFailed = []
+
+-- the status that the program ends with
+abbrev pub status_of : Outcome → ℕ
+status_of Done = 0
+status_of Memory = 1
+status_of Usage = 2
+status_of (DocAbsent name) = 3
+status_of (DocTooLong name limit) = 3
+status_of (DocFailed name) = 3
+status_of (Refused fault) = 4
+status_of (Failed fault) = 6
+status_of SinkFailed = 7
+status_of (NotBuilt which) = 9
+
+-- an early answer as an outcome
+abbrev pub outcome_of : Early → Outcome
+outcome_of early.Memory = Memory
+outcome_of (early.DocAbsent name) = DocAbsent name
+outcome_of (early.DocTooLong name limit) = DocTooLong name limit
+outcome_of (early.DocFailed name) = DocFailed name
+outcome_of (early.Refused fault) = Refused fault
+outcome_of early.NotBuilt = NotBuilt Request
