@@ -26,8 +26,4 @@ mod use_entry;
 pub use reader::{from_tree, read};
 
 #[cfg(test)]
-mod linking_tests;
-#[cfg(test)]
-mod read_tests;
-#[cfg(test)]
-mod test_support;
+mod tests;

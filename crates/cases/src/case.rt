@@ -1,0 +1,130 @@
+//! Cases.
+
+ghost use Rattle.std.specs.Prelude.{◌<◌};
+
+use crate::fault::FileFault;
+use crate::piece::Piece;
+use outside::Memory;
+use std::alloc::Global;
+
+/// A command line, as it is written and as the program is given it.
+#[derive(Drop)]
+pub struct CommandLine {
+    pub written: String,
+    pub words: Vec<String>,
+}
+
+/// A document under its name.
+#[derive(Drop)]
+pub struct Document {
+    pub name: String,
+    pub pieces: Vec<Piece>,
+}
+
+impl Document {
+    pub fn bytes(&self, alloc: Global) -> Result<Vec<u8>, Memory> {
+        let mut bytes = Vec::new(alloc);
+        for piece in &self.pieces {
+            piece.push_to(alloc, &mut bytes)?;
+        }
+        Ok(bytes)
+    }
+}
+
+/// The calls of a case, and the documents that they find.
+#[derive(Drop)]
+pub struct Setup {
+    pub calls: Vec<CommandLine>,
+    pub documents: Vec<Document>,
+}
+
+impl Setup {
+    pub fn new(alloc: Global) -> Setup {
+        Setup {
+            calls: Vec::new(alloc),
+            documents: Vec::new(alloc),
+        }
+    }
+
+    /// Adds a piece to the document of a name.
+    pub fn add_piece(&mut self, alloc: Global, name: String, piece: Piece) -> Result<(), Memory> {
+        for document in self.documents.iter_mut() {
+            if document.name == name {
+                document.pieces.push(piece)?;
+                return Ok(());
+            }
+        }
+        let pieces = vec![in alloc; piece]?;
+        self.documents.push(Document { name, pieces })?;
+        Ok(())
+    }
+
+    pub fn has_document(&self, name: &str) -> bool {
+        self.documents
+            .iter()
+            .any(|document| document.name.as_str() == name)
+    }
+}
+
+/// The numbers, from 1, of the calls that fail, and how much the output takes.
+#[derive(Drop)]
+pub struct Weather {
+    pub fetches: Vec<u64>,
+    pub writes: Vec<u64>,
+    pub deliveries: Vec<u64>,
+    pub runs: Vec<u64>,
+    /// How many bytes a write takes at most.
+    pub taken: usize,
+    /// How many bytes the output takes in all.
+    pub room: usize,
+    ghost takes_a_byte: { 0 < taken },
+}
+
+impl Weather {
+    /// No call fails, and the output takes all.
+    pub fn fair(alloc: Global) -> Weather {
+        Weather {
+            fetches: Vec::new(alloc),
+            writes: Vec::new(alloc),
+            deliveries: Vec::new(alloc),
+            runs: Vec::new(alloc),
+            taken: 65_536,
+            room: 65_536,
+        }
+    }
+}
+
+/// What a call has to end with.
+#[derive(Drop)]
+pub struct Ending {
+    pub status: u8,
+    pub text: String,
+}
+
+/// What is delivered under a name in the end: these bytes, or nothing.
+#[derive(Drop)]
+pub struct Delivered {
+    pub name: String,
+    pub bytes: Option<String>,
+}
+
+/// Calls over the same documents, each of which has to end alike.
+#[derive(Drop)]
+pub struct Case {
+    pub name: String,
+    pub setup: Setup,
+    pub weather: Weather,
+    /// The document of which each shorter front is tried.
+    pub cut: Option<String>,
+    pub ending: Ending,
+    pub delivered: Vec<Delivered>,
+}
+
+/// The cases of a file, with the calls and the documents of those that have none of their own.
+#[derive(Drop)]
+pub struct CaseFile {
+    pub common: Setup,
+    pub cases: Vec<Case>,
+    /// What is wrong with the cases that can't be read.
+    pub faults: Vec<FileFault>,
+}

@@ -1,0 +1,93 @@
+//! A case as far as it is read.
+
+use crate::case::{Case, Delivered, Ending, Setup, Weather};
+use crate::fault::Complaint;
+use crate::header::Header;
+use crate::piece::Piece;
+use std::alloc::Global;
+
+#[derive(Drop)]
+pub struct Draft {
+    /// The line at which the case begins.
+    pub line: usize,
+    pub name: String,
+    pub setup: Setup,
+    pub weather: Weather,
+    pub cut: Option<String>,
+    pub ending: Option<Ending>,
+    pub delivered: Vec<Delivered>,
+}
+
+impl Draft {
+    pub fn new(alloc: Global, line: usize, name: String) -> Draft {
+        Draft {
+            line,
+            name,
+            setup: Setup::new(alloc),
+            weather: Weather::fair(alloc),
+            cut: None,
+            ending: None,
+            delivered: Vec::new(alloc),
+        }
+    }
+
+    /// Adds what a section says.
+    pub fn add_section(
+        &mut self,
+        alloc: Global,
+        header: Header,
+        text: String,
+    ) -> Result<(), Complaint> {
+        match header {
+            Header::Document(name, form) => {
+                self.setup.add_piece(alloc, name, Piece { text, form })?
+            }
+            Header::Status(_) if self.ending.is_some() => return Err(Complaint::StatusTwice),
+            Header::Status(status) => self.ending = Some(Ending { status, text }),
+            Header::Delivered(name) => self.add_delivered(name, Some(text))?,
+            Header::NotDelivered(_) if !text.is_empty() => {
+                return Err(Complaint::TextOfAbsentFile);
+            }
+            Header::NotDelivered(name) => self.add_delivered(name, None)?,
+        }
+        Ok(())
+    }
+
+    fn add_delivered(&mut self, name: String, bytes: Option<String>) -> Result<(), Complaint> {
+        self.delivered.push(Delivered { name, bytes })?;
+        Ok(())
+    }
+
+    /// The case, where nothing is missing.
+    pub fn finish(self, common: &Setup) -> Result<Case, Complaint> {
+        let Draft {
+            line: _,
+            name,
+            setup,
+            weather,
+            cut,
+            ending,
+            delivered,
+        } = self;
+        if setup.calls.is_empty() && common.calls.is_empty() {
+            return Err(Complaint::NoWords);
+        }
+        if let Some(cut) = &cut {
+            let cut = cut.as_str();
+            if !setup.has_document(cut) && !common.has_document(cut) {
+                return Err(Complaint::NoFronts);
+            }
+        }
+        let Some(ending) = ending else {
+            return Err(Complaint::NoStatus);
+        };
+        Ok(Case {
+            name,
+            setup,
+            weather,
+            cut,
+            ending,
+            delivered,
+        })
+    }
+}

@@ -1,0 +1,88 @@
+//! Sections of a case, and the lines that begin them.
+
+use crate::fault::Complaint;
+use crate::piece::Form;
+use crate::words::{name_of, number_of, status_of};
+use std::alloc::Global;
+
+/// What a section says.
+#[derive(Drop)]
+pub enum Header {
+    Document(String, Form),
+    Status(u8),
+    Delivered(String),
+    NotDelivered(String),
+}
+
+/// A section as far as it is read.
+#[derive(Drop)]
+pub struct Section {
+    /// The line at which it begins.
+    pub line: usize,
+    pub header: Header,
+    /// Whether the end of the last line is left out.
+    pub is_cut: bool,
+    pub text: String,
+}
+
+impl Section {
+    /// The section that these words begin at a line.
+    pub fn new(alloc: Global, line: usize, words: &str) -> Result<Section, Complaint> {
+        let (words, is_cut) = match words.strip_suffix(" cut") {
+            Some(words) => (words, true),
+            None => (words, false),
+        };
+        Ok(Section {
+            line,
+            header: header_of(alloc, words)?,
+            is_cut,
+            text: String::new(alloc),
+        })
+    }
+
+    pub fn add_line(&mut self, line: &str) -> Result<(), Complaint> {
+        self.text.push_str(line)?;
+        self.text.push('\n')?;
+        Ok(())
+    }
+
+    /// Takes away an empty line at the end.
+    pub fn drop_empty_line(&mut self) {
+        let text = self.text.as_str();
+        if text == "\n" || text.ends_with("\n\n") {
+            let _end = self.text.pop();
+        }
+    }
+
+    /// The section, without the end of its last line where it is cut.
+    pub fn finish(mut self) -> (Header, String) {
+        if self.is_cut {
+            let _end = self.text.pop();
+        }
+        (self.header, self.text)
+    }
+}
+
+/// The words of a line that begins a section.
+pub fn words_between(line: &str) -> Option<&str> {
+    line.strip_prefix("-- ")?.strip_suffix(" --")
+}
+
+fn header_of(alloc: Global, line: &str) -> Result<Header, Complaint> {
+    let mut words = Vec::new(alloc);
+    for word in line.split(' ') {
+        words.push(word)?;
+    }
+    match words.as_slice() {
+        ["status", status] => Ok(Header::Status(status_of(status)?)),
+        ["delivered", name] => Ok(Header::Delivered(name_of(alloc, name)?)),
+        ["not", "delivered", name] => Ok(Header::NotDelivered(name_of(alloc, name)?)),
+        [name] => Ok(Header::Document(name_of(alloc, name)?, Form::Plain)),
+        [name, "escaped"] => Ok(Header::Document(name_of(alloc, name)?, Form::Escaped)),
+        [name, "times", times] => {
+            let form = Form::Repeated(number_of(times)?);
+            Ok(Header::Document(name_of(alloc, name)?, form))
+        }
+        _ => Err(Complaint::UnknownSection),
+    }
+}

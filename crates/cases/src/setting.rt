@@ -1,0 +1,46 @@
+//! The settings of a case.
+
+use crate::case::{CommandLine, Setup, Weather};
+use crate::draft::Draft;
+use crate::fault::Complaint;
+use crate::words::{name_of, number_of, words_of};
+use std::alloc::Global;
+
+/// Adds the call of a line of words; tells whether it is one.
+pub fn add_words(alloc: Global, setup: &mut Setup, line: &str) -> Result<bool, Complaint> {
+    let words = if line == "words" {
+        Vec::new(alloc)
+    } else if let Some(written) = line.strip_prefix("words ") {
+        words_of(alloc, written)?
+    } else {
+        return Ok(false);
+    };
+    let written = String::from_str(alloc, line)?;
+    setup.calls.push(CommandLine { written, words })?;
+    Ok(true)
+}
+
+/// Adds a line that is no line of words.
+pub fn add_setting(alloc: Global, draft: &mut Draft, line: &str) -> Result<(), Complaint> {
+    let Some((setting, word)) = line.rsplit_once(' ') else {
+        return Err(Complaint::UnknownSetting);
+    };
+    if setting == "each front" {
+        draft.cut = Some(name_of(alloc, word)?);
+        return Ok(());
+    }
+    add_weather(&mut draft.weather, setting, word)
+}
+
+fn add_weather(weather: &mut Weather, setting: &str, word: &str) -> Result<(), Complaint> {
+    match setting {
+        "failing fetch" => weather.fetches.push(number_of(word)?)?,
+        "failing write" => weather.writes.push(number_of(word)?)?,
+        "failing delivery" => weather.deliveries.push(number_of(word)?)?,
+        "failing run" => weather.runs.push(number_of(word)?)?,
+        "write takes" => weather.taken = number_of(word)? as usize,
+        "room" => weather.room = number_of(word)? as usize,
+        _ => return Err(Complaint::UnknownSetting),
+    }
+    Ok(())
+}
