@@ -1,0 +1,7 @@
+pub mod AdjacencyLemmas
+pub mod KahnLemmas
+pub mod OrderLemmas
+pub mod SearchLemmas
+pub mod DistancesLemmas
+pub mod NearestLemmas
+pub mod CycleLemmas
