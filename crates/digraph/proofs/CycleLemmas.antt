@@ -111,14 +111,6 @@ placed_stays predecessors successors ordered counts linked placement a none back
 pub looked : {t u : List (Option ℕ)} {r q : List ℕ} (P : List (Option ℕ) → List ℕ → Type 0) → t ≡ u → r ≡ q → P t r → P u q
 looked {t} {u} {r} {q} P e f h = subst (λ (x : List ℕ). P u x) f (subst (λ (x : List (Option ℕ)). P x r) e h)
 
--- a node that returns is one
-pub returns_in : (successors : List (List ℕ)) (a : ℕ) → Returns (leads successors) a → a < length successors
-returns_in successors a back = by (nat_lt a (length successors)) refl
-  where
-    by : (t : Bool) → nat_lt a (length successors) ≡ t → a < length successors
-    by true h = grind arith
-    by false h = absurd (let past : length successors ≤ a = grind arith in let none : has back.1.0 (neighbours successors a) ≡ false = ap (has back.1.0) (neighbours_past successors a past) in let edge : has back.1.0 (neighbours successors a) ≡ true = back.1.1 in cc)
-
 -- what holds where there is no answer
 pub no_answer : {A : Type 0} (o : Option A) (P : Type 0) (Q : A → Type 0) → ((x : A) → o ≡ Some x → ⊥) → MatchOption o P Q → P
 no_answer None P Q none h = h

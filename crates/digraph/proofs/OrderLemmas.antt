@@ -1,10 +1,10 @@
 -- Topological orders, and who returns.
-use Rattle.std.proofs.Common.{◌≡◌, ◌≢◌, ℕ, zero, suc, ◌+◌, ◌<◌, ◌≤◌, Bool, true, false, cond, ◌||◌, List, [], ◌∷◌, length, take, get_or, refl, sym, ap, subst, ◌∙◌, nat_eq, arith}
+use Rattle.std.proofs.Common.{◌≡◌, ◌≢◌, ℕ, zero, suc, ◌+◌, ◌<◌, ◌≤◌, Bool, true, false, cond, ◌||◌, List, [], ◌∷◌, length, take, get_or, refl, sym, ap, subst, ◌∙◌, nat_eq, nat_lt, arith}
 use Rattle.std.proofs.lemmas.List.{get_or-take, take-take, length-take-le}
 use Rattle.std.proofs.lemmas.Bool.{eqb-false, eqb-true, ne_eqb}
-use Rattle.digraph.proofs.AdjacencyLemmas.{same_edges}
+use Rattle.digraph.proofs.AdjacencyLemmas.{same_edges, neighbours_past}
 use Rattle.digraph.proofs.KahnLemmas.{has_front, new_at, ordered_in, all_placed, one_stuck, present}
-use Rattle.digraph.specs.Adjacency.{AreLinked, comes, leads, has, times}
+use Rattle.digraph.specs.Adjacency.{AreLinked, comes, leads, has, times, neighbours}
 use Rattle.digraph.specs.Kahn.{IsPlacement, waits_for}
 use Rattle.digraph.specs.Cycle.{Returns}
 use Rattle.digraph.specs.Distances.{Walk}
@@ -131,3 +131,15 @@ order_excludes e count ns order a low back =
     by : (t : Bool) → has a ns ≡ t → has a ns ≡ true
     by true h = h
     by false h = absurd (let none : times a ns ≡ 0 = present a ns h in omega (arith, none, order.each_once a low))
+
+-- a node that returns is one
+pub returns_in : (successors : List (List ℕ)) (a : ℕ) → Returns (leads successors) a → a < length successors
+returns_in successors a back = by (nat_lt a (length successors)) refl
+  where
+    by : (t : Bool) → nat_lt a (length successors) ≡ t → a < length successors
+    by true h = grind arith
+    by false h = absurd (let past : length successors ≤ a = grind arith in let none : has back.1.0 (neighbours successors a) ≡ false = ap (has back.1.0) (neighbours_past successors a past) in let edge : has back.1.0 (neighbours successors a) ≡ true = back.1.1 in cc)
+
+pub none_returns : (predecessors successors : List (List ℕ)) (ns : List ℕ) → AreLinked predecessors successors → IsTopologicalOrder (leads successors) (length predecessors) ns → (a : ℕ) → Returns (leads successors) a → ⊥
+none_returns predecessors successors ns linked order a back =
+    order_excludes (leads successors) (length predecessors) ns order a (let low : a < length successors = returns_in successors a back in omega (arith, low, linked.long)) back

@@ -19,6 +19,7 @@ pub fn topological_order(
     requires few { length predecessors.now < 2 ^ 32 }
     requires linked { AreLinked (lists_of predecessors.now) (lists_of successors.now) }
     ensures order { IfOk result (λ o. MatchOption o ((a : ℕ) × Returns (leads (lists_of successors.now)) a) (λ ns. IsTopologicalOrder (leads (lists_of successors.now)) (length predecessors.now) ns.items)) }
+    ensures acyclic { IfOk result (λ o. MatchOption o (Unit {0}) (λ _. (a : ℕ) → Returns (leads (lists_of successors.now)) a → ⊥)) }
 {
     let placement = place(alloc, predecessors, successors)?;
     if placement.ordered.len() == predecessors.len() {

@@ -48,9 +48,11 @@ impl Digraph {
     /// An order in which each node comes after its predecessors, by Kahn's algorithm. There is none exactly
     /// where a node returns to itself.
     pub fn topological_order(&self, alloc: Global) -> Result<Option<Vec<u32>>, Memory>
-        ensures { IfOk result (λ o. MatchOption o ((a : ℕ) × Returns (edge self.now) a) (λ ns. IsTopologicalOrder (edge self.now) (count self.now) ns.items)) }
+        ensures order { IfOk result (λ o. MatchOption o ((a : ℕ) × Returns (edge self.now) a) (λ ns. IsTopologicalOrder (edge self.now) (count self.now) ns.items)) }
+        ensures acyclic { IfOk result (λ o. MatchOption o (Unit {0}) (λ _. (a : ℕ) → Returns (edge self.now) a → ⊥)) }
     {
-        topological_order(alloc, &self.predecessors, &self.successors)
+        let order = topological_order(alloc, &self.predecessors, &self.successors)?;
+        Ok(order)
     }
 
     /// The cycle from the least node that returns to itself: the shortest way back, and among these the one

@@ -1,5 +1,6 @@
 use Rattle.std.proofs.Common.{◌≡◌, ◌<◌, ◌∙◌, ℕ, List, length, get_or, below_more, sym, ap, subst, arith}
-use Rattle.digraph.proofs.CycleLemmas.{named, no_answer, placed_back, placed_stays, returns_in}
+use Rattle.digraph.proofs.CycleLemmas.{named, no_answer, placed_back, placed_stays}
+use Rattle.digraph.proofs.OrderLemmas.{returns_in}
 use Rattle.digraph.proofs.KahnLemmas.{opens_at}
 use Rattle.digraph.specs.Adjacency.{leads, lists_of}
 use Rattle.digraph.specs.Cycle.{Returns}
