@@ -1,22 +1,16 @@
 -- What the building answers is what a workflow has.
-use Rattle.std.proofs.Common.{◌≡◌, ℕ, zero, suc, ◌+◌, ◌<◌, ◌≤◌, Bool, true, false, cond, ◌||◌, ◌&&◌, List, [], ◌∷◌, ◌++◌, length, map, get_or, refl, sym, ap, subst, ◌∙◌, nat_eq, arith}
-use Rattle.std.specs.Prelude.{Option, Some, None, MatchOption, option_to_list, slice_index_or}
-use Rattle.std.specs.List.{All, AllByRecursion, list_any}
-use Rattle.std.proofs.Math.Path.{fun_ext}
-use Rattle.std.proofs.lemmas.List.{get_or-map, length-map, get_or_default}
-use Rattle.std.proofs.lemmas.List.Elements.{All-nil, All-cons, All-append}
+use Rattle.std.proofs.Common.{◌≡◌, ℕ, ◌<◌, ◌≤◌, false, List, [], ◌∷◌, length, map, refl, sym, ap, subst, ◌∙◌, arith}
+use Rattle.std.specs.Prelude.{Option, Some, None, MatchOption}
+use Rattle.std.specs.List.{AllByRecursion}
+use Rattle.std.proofs.lemmas.List.{get_or-map, length-map}
 use Rattle.outside.specs.declared.numbers.JobId.{JobId}
 use Rattle.workflow_core.specs.declared.workflow.Workflow.{Workflow}
-use Rattle.workflow_core.specs.declared.workflow.Job.{Job}
-use Rattle.workflow_core.specs.WellFormed.{inputs_of, outputs_of, IsJobOver, IsWellFormed, before, after}
 use Rattle.dependency_graph.proofs.MakersLemmas.{makers_below}
 use Rattle.dependency_graph.specs.Built.{AreProducers, IsContested}
 use Rattle.dependency_graph.specs.Edges.{makers, makers_from}
 use Rattle.dependency_graph.specs.Graph.{made_at}
 use Rattle.dependency_graph.specs.Makers.{are_two, first_two, known}
-use Rattle.dependency_graph.specs.Sources.{found}
 use Rattle.dependency_graph.specs.declared.makers.Makers.{Makers}
-use Rattle.digraph.specs.Adjacency.{has}
 
 two_ones : (ns : List ℕ) (a b : JobId) → (first_two ns).first ≡ Some a → (first_two ns).second ≡ Some b → (later : List ℕ) × (ns ≡ a.0 ∷ b.0 ∷ later)
 two_ones [] a b e f = absurd cc
@@ -79,3 +73,12 @@ producers_are w table ps long tells none is = record {
       let one : length (makers_from f 0 w.jobs) ≤ 1 = not_two (makers_from f 0 w.jobs) (sym (ap are_two (tells f h)) ∙ none f low) in
       subst (λ (o : Option JobId). MatchOption o (makers_from f 0 w.jobs ≡ []) (λ (j : JobId). makers_from f 0 w.jobs ≡ j.0 ∷ [])) (sym at) (only_first (makers_from f 0 w.jobs) one);
 }
+
+-- what holds where there is no answer
+pub no_answer : {A : Type 0} (o : Option A) (P : Type 0) (Q : A → Type 0) → ((x : A) → o ≡ Some x → ⊥) → MatchOption o P Q → P
+no_answer None P Q none h = h
+no_answer (Some x) P Q none h = absurd (none x refl)
+
+pub answer_none : {A : Type 0} (o : Option A) (P : Type 0) (Q : A → Type 0) → o ≡ None → MatchOption o P Q → P
+answer_none None P Q e h = h
+answer_none (Some x) P Q e h = absurd cc

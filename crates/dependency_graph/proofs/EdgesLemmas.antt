@@ -1,15 +1,12 @@
 -- The makers of a file, and the lists that hold the edges.
-use Rattle.std.proofs.Common.{◌≡◌, ℕ, zero, suc, ◌+◌, ◌<◌, ◌≤◌, Bool, true, false, cond, ◌||◌, ◌&&◌, List, [], ◌∷◌, ◌++◌, length, map, get_or, refl, sym, ap, subst, ◌∙◌, nat_eq, arith, ◌-◌, take}
-use Rattle.std.specs.Prelude.{Option, Some, None, MatchOption, option_to_list, slice_index_or, option_and_then}
+use Rattle.std.proofs.Common.{◌≡◌, ℕ, zero, suc, ◌+◌, ◌<◌, ◌≤◌, Bool, true, false, cond, ◌||◌, ◌&&◌, List, [], ◌∷◌, ◌++◌, length, map, get_or, refl, sym, ap, subst, ◌∙◌, nat_eq, arith, ◌-◌}
+use Rattle.std.specs.Prelude.{Option, Some, None, MatchOption, option_to_list, slice_index_or}
 use Rattle.std.specs.List.{All, AllByRecursion, list_any}
-use Rattle.std.proofs.Math.Path.{fun_ext}
-use Rattle.std.proofs.lemmas.List.{get_or-map, length-map, get_or_default}
 use Rattle.std.proofs.lemmas.List.Elements.{All-nil, All-cons, All-append}
 use Rattle.outside.specs.declared.numbers.JobId.{JobId}
 use Rattle.workflow_core.specs.declared.workflow.Workflow.{Workflow}
 use Rattle.workflow_core.specs.declared.workflow.Job.{Job}
 use Rattle.workflow_core.specs.WellFormed.{inputs_of, outputs_of, IsJobOver, IsWellFormed, before, after}
-use Rattle.outside.specs.Tool.{Apply}
 use Rattle.std.proofs.Math.Bool.{or-false}
 use Rattle.std.proofs.lemmas.Bool.{eq-eqb, ne_eqb}
 use Rattle.dependency_graph.proofs.MakersLemmas.{makers_below}
@@ -58,7 +55,7 @@ makes w f a = let z : a ≡ 0 + a = omega arith in ap (λ (n : ℕ). is_among n 
 -- a job, if there is one, is this one
 abbrev is_job : ℕ → Option JobId → Bool
 is_job a None = false
-is_job a (Some j) = j.0 == a
+is_job a (Some j) = nat_eq j.0 a
 
 is_maker : (a : ℕ) (o : Option JobId) (ns : List ℕ) → MatchOption o (ns ≡ []) (λ (j : JobId). ns ≡ j.0 ∷ []) → is_job a o ≡ is_among a ns
 is_maker a None ns e = sym (ap (is_among a) e)

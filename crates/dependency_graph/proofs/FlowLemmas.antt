@@ -1,23 +1,20 @@
 -- Values flow along a graph's order.
-use Rattle.std.proofs.Common.{◌≡◌, ℕ, zero, suc, ◌<◌, ◌≤◌, Bool, true, false, ◌||◌, List, [], ◌∷◌, length, take, get_or, refl, sym, ap, ◌∙◌, nat_eq, arith, ◌+◌, ◌-◌, cond, map}
-use Rattle.std.specs.Prelude.{Option, Some, None, is_some, slice_index_or, option_and_then}
+use Rattle.std.proofs.Common.{◌≡◌, ℕ, zero, suc, ◌<◌, ◌≤◌, Bool, true, false, ◌||◌, List, [], ◌∷◌, length, take, get_or, refl, sym, ap, ◌∙◌, nat_eq, arith, ◌+◌, cond}
+use Rattle.std.specs.Prelude.{Option, Some, None, is_some, slice_index_or}
 use Rattle.std.proofs.lemmas.List.{get_or-map, get_or_default}
 use Rattle.std.proofs.lemmas.List.Elements.{All-get_or}
 use Rattle.outside.specs.declared.numbers.JobId.{JobId}
 use Rattle.workflow_core.specs.declared.workflow.Workflow.{Workflow}
 use Rattle.workflow_core.specs.declared.workflow.Job.{Job}
 use Rattle.workflow_core.specs.WellFormed.{inputs_of, outputs_of, IsJobOver, IsWellFormed}
-use Rattle.std.specs.List.{list_any}
-use Rattle.outside.specs.Tool.{Apply}
 use Rattle.std.proofs.Math.Bool.{or-true}
 use Rattle.std.proofs.lemmas.Bool.{eqb-true}
 use Rattle.dependency_graph.proofs.EdgesLemmas.{first_producer, makes}
 use Rattle.dependency_graph.proofs.GraphLemmas.{comes_first}
-use Rattle.dependency_graph.proofs.ValueLemmas.{Makes, among_below, edge_in, job_over, maker, value_law}
+use Rattle.dependency_graph.proofs.ValueLemmas.{Makes, among_below, any_in, edge_in, job_over, maker, value_law}
 use Rattle.dependency_graph.specs.Edges.{edge, has_output, is_among, is_paired, makers, producer, read_by, written_by}
 use Rattle.dependency_graph.specs.Flow.{FlowsAlong, is_written}
 use Rattle.dependency_graph.specs.Graph.{IsGraphOf, IsSound, Links, numbers}
-use Rattle.dependency_graph.specs.Sources.{found}
 use Rattle.dependency_graph.specs.Value.{AllMade}
 use Rattle.digraph.specs.Adjacency.{has, times}
 

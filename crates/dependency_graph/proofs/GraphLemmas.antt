@@ -1,20 +1,16 @@
 -- A graph of jobs, and of their numbers.
-use Rattle.std.proofs.Common.{◌≡◌, ◌≢◌, ℕ, zero, suc, ◌+◌, ◌<◌, ◌≤◌, Bool, true, false, cond, ◌||◌, ◌&&◌, List, [], ◌∷◌, ◌++◌, length, map, take, get_or, refl, sym, ap, subst, ◌∙◌, nat_eq, arith}
-use Rattle.std.specs.Prelude.{Option, Some, None, MatchOption, is_some, slice_index_or, Vec}
+use Rattle.std.proofs.Common.{◌≡◌, ℕ, zero, suc, ◌<◌, Bool, true, false, ◌&&◌, List, [], ◌∷◌, length, map, take, refl, sym, ap, subst, ◌∙◌, arith}
+use Rattle.std.specs.Prelude.{Option, Some, None, MatchOption, is_some, slice_index_or}
 use Rattle.std.specs.List.{All, list_all}
-use Rattle.std.specs.declared.alloc.Global.{Global}
-use Rattle.std.proofs.Math.Path.{fun_ext}
 use Rattle.std.proofs.lemmas.List.{get_or-map, length-map}
 use Rattle.outside.specs.declared.numbers.JobId.{JobId}
 use Rattle.workflow_core.specs.declared.workflow.Workflow.{Workflow}
-use Rattle.workflow_core.specs.declared.workflow.Job.{Job}
 use Rattle.std.proofs.lemmas.Bool.{and_parts}
 use Rattle.dependency_graph.proofs.BuiltLemmas.{one_producer}
 use Rattle.dependency_graph.proofs.EdgesLemmas.{first_producer, no_producer}
 use Rattle.dependency_graph.specs.Built.{AreProducers}
 use Rattle.dependency_graph.specs.Edges.{edge, makers, producer}
 use Rattle.dependency_graph.specs.Graph.{IsGraphOf, Links, made_at, numbers}
-use Rattle.dependency_graph.specs.Sources.{found}
 use Rattle.dependency_graph.specs.Value.{AllMade}
 use Rattle.digraph.specs.Adjacency.{AreNeighbours, has}
 use Rattle.digraph.specs.Cycle.{Returns}

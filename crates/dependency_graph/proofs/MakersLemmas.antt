@@ -15,7 +15,6 @@ use Rattle.std.proofs.lemmas.Bool.{eq-eqb, eqb-true, ne_eqb}
 use Rattle.dependency_graph.specs.Edges.{has_output, is_among, makers_from}
 use Rattle.dependency_graph.specs.Makers.{AreNoted, first_two, known, noted, noted_after, or_job}
 use Rattle.dependency_graph.specs.declared.makers.Makers.{Makers}
-use Rattle.digraph.specs.Adjacency.{has}
 
 or_job_twice : (s : Option JobId) (j : JobId) → or_job (or_job s j) j ≡ or_job s j
 or_job_twice None j = refl

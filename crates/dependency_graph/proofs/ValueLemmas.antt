@@ -1,10 +1,9 @@
 -- Values settle after as many edges as there are jobs, and nothing else fits together so.
-use Rattle.std.proofs.Common.{◌≡◌, ℕ, zero, suc, ◌+◌, ◌-◌, ◌<◌, ◌≤◌, Bool, true, false, cond, ◌||◌, List, [], ◌∷◌, length, take, map, get_or, refl, sym, ap, ◌∙◌, nat_eq, arith, subst}
-use Rattle.std.specs.Prelude.{Option, Some, None, option_and_then, slice_index_or}
+use Rattle.std.proofs.Common.{◌≡◌, ℕ, zero, suc, ◌+◌, ◌-◌, ◌<◌, ◌≤◌, Bool, true, false, cond, ◌||◌, List, [], ◌∷◌, length, map, get_or, refl, sym, ap, ◌∙◌, nat_eq, arith, subst}
+use Rattle.std.specs.Prelude.{Option, Some, None, option_and_then}
 use Rattle.std.specs.List.{list_any, AllByRecursion}
 use Rattle.std.proofs.lemmas.List.{get_or-map}
 use Rattle.outside.specs.Tool.{Apply}
-use Rattle.outside.specs.declared.numbers.JobId.{JobId}
 use Rattle.workflow_core.specs.declared.workflow.Workflow.{Workflow}
 use Rattle.workflow_core.specs.declared.workflow.Job.{Job}
 use Rattle.workflow_core.specs.WellFormed.{inputs_of, outputs_of, IsJobOver, IsWellFormed}
@@ -12,8 +11,7 @@ use Rattle.std.proofs.Math.Bool.{or-true}
 use Rattle.std.proofs.lemmas.Bool.{eq-eqb, eqb-true}
 use Rattle.dependency_graph.proofs.EdgesLemmas.{makes}
 use Rattle.dependency_graph.specs.Edges.{edge, has_output, is_among, is_paired, producer, read_by, written_by}
-use Rattle.dependency_graph.specs.Graph.{IsSound, numbers}
-use Rattle.dependency_graph.specs.Sources.{found}
+use Rattle.dependency_graph.specs.Graph.{IsSound}
 use Rattle.dependency_graph.specs.Value.{IsValuation, all_of, made_by, made_for, part, run_of, value, value_within}
 use Rattle.digraph.proofs.OrderLemmas.{fresh, fresh_less, fresh_small}
 use Rattle.digraph.specs.Distances.{Walk}
@@ -35,7 +33,7 @@ producer_at (x ∷ js) f j e = by (has_output f x) refl e (λ h. producer_at js 
 pub maker : (w : Workflow) (f : ℕ) (j : Job) → producer w.jobs f ≡ Some j → (a : ℕ) × Makes w a j f
 maker w f j e = let found = producer_at w.jobs f j e in (found.0, record { below = found.1; is = found.2; makes = found.3 })
 
-any_in : (p : ℕ → Bool) (g : ℕ) (fs : List ℕ) → is_among g fs ≡ true → p g ≡ true → list_any p fs ≡ true
+pub any_in : (p : ℕ → Bool) (g : ℕ) (fs : List ℕ) → is_among g fs ≡ true → p g ≡ true → list_any p fs ≡ true
 any_in p g [] h e = absurd cc
 any_in p g (f ∷ fs) h e = by (nat_eq f g) refl h (λ k. any_in p g fs k e)
   where

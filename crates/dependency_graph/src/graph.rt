@@ -1,6 +1,7 @@
 //! The graph of a workflow.
 
 ghost use Rattle.std.specs.Prelude.{◌≡◌, ◌<◌, ℕ, true, false, length, map, is_some, IfOk};
+ghost use Rattle.std.specs.List.{list_all};
 ghost use Rattle.workflow_core.specs.declared.workflow.Workflow.{Workflow};
 ghost use Rattle.digraph.specs.Adjacency.{lists_of, AreNeighbours};
 ghost use Rattle.digraph.specs.Digraph.{count, edge};
@@ -60,7 +61,7 @@ impl Graph {
         ensures made { (w : Workflow) → IsGraphOf w self.now → result ≡ true → AllMade w }
         ensures unmade { (w : Workflow) → IsGraphOf w self.now → result ≡ false → (f : ℕ) × (f < length w.files) × (is_some (producer w.jobs f) ≡ false) }
     {
-        self.producers.iter().all(|producer| producer.is_some())
+        are_known(&self.producers)
     }
 
     /// Every job once, each after its parents.
@@ -71,12 +72,18 @@ impl Graph {
     }
 }
 
-fn job_ids(alloc: Global, numbers: &[u32]) -> Result<Vec<JobId>, Memory>
-    ensures { IfOk result (λ ids. numbers ids.items ≡ numbers.now) }
+fn are_known(producers: &[Option<JobId>]) -> bool
+    ensures { result ≡ list_all (λ o. is_some o) producers.now }
+{
+    producers.iter().all(|producer| producer.is_some())
+}
+
+fn job_ids(alloc: Global, nodes: &[u32]) -> Result<Vec<JobId>, Memory>
+    ensures { IfOk result (λ ids. numbers ids.items ≡ nodes.now) }
 {
     let mut ids = Vec::new(alloc);
-    for number in numbers {
-        ids.push(JobId(*number))?;
+    for node in nodes {
+        ids.push(JobId(*node))?;
     }
     Ok(ids)
 }

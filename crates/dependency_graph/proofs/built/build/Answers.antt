@@ -1,40 +1,40 @@
-use Rattle.std.proofs.Common.{◌≡◌, ◌∙◌, Bool, ℕ, List, map, sym, ap, subst}
-use Rattle.std.specs.Prelude.{Vec}
+use Rattle.std.proofs.Common.{◌≡◌, ◌∙◌, Bool, ℕ, List, length, ap, subst, sym, refl}
+use Rattle.std.specs.Prelude.{Option, Vec, Err}
 use Rattle.std.specs.declared.alloc.Global.{Global}
+use Rattle.std.proofs.Math.Path.{fun_ext}
 use Rattle.outside.specs.declared.numbers.JobId.{JobId}
+use Rattle.digraph.specs.Adjacency.{lists_of, neighbours, has}
+use Rattle.digraph.specs.Cycle.{IsNamedCycle}
+use Rattle.digraph.specs.Digraph as digraph
+use Rattle.dependency_graph.specs.declared.fault.GraphFault.{GraphFault}
 use Rattle.dependency_graph.specs.Edges.{edge}
-use Rattle.dependency_graph.specs.Cycles.{Returns, IsNamedCycle}
-use Rattle.dependency_graph.specs.Lists.{rows, numbers, IsTransposed}
-use Rattle.dependency_graph.specs.Order.{leads, IsPeeled}
-use Rattle.dependency_graph.specs.Graph.{Links, IsGraphOf}
-use Rattle.dependency_graph.specs.Built.{id_of}
-use Rattle.dependency_graph.proofs.Rows.{length_rows}
-use Rattle.dependency_graph.proofs.Edging.{one_producer, edges_are, graph_is}
-use Rattle.dependency_graph.proofs.Returning.{answer_none}
-use Rattle.dependency_graph.proofs.building.build.Goals as goal
+use Rattle.dependency_graph.specs.Built.{AreProducers, Builds}
+use Rattle.dependency_graph.proofs.BuiltLemmas.{one_producer}
+use Rattle.dependency_graph.proofs.GraphLemmas.{graph_is}
+use Rattle.dependency_graph.proofs.built.build.Goals as goal
 
-pub returns-in_ok-ids_of-in-Some : goal.returns-in_ok-ids_of-in-Some
-returns-in_ok-ids_of-in-Some c =
-    let first : IsTransposed (rows c.in_ok-sources.sources.items) (rows c.in_ok-children.children.items) = rw c.deref-2.ensures.value at c.in_ok-children.ensures in
-    let same : leads (rows c.in_ok-children.children.items) ≡ edge c.args.workflow.now = edges_are c.args.workflow.now (rows c.in_ok-sources.sources.items) (rows c.in_ok-children.children.items) c.in_ok-sources.ensures.edges first in
-    let cycle : IsNamedCycle (leads (rows c.in_ok-children.children.items)) (numbers c.in-Some.jobs.items) = rw (c.in-Some.is, c.deref-7.ensures.value) at c.in_ok-jobs.ensures.cycle in
+pub returns-in_ok-graph_of-in-Some : goal.returns-in_ok-graph_of-in-Some
+returns-in_ok-graph_of-in-Some c =
+    let same : digraph.edge c.in_ok-digraph.digraph ≡ edge c.args.workflow.now =
+    fun_ext (λ a. fun_ext (λ b. c.in_ok-digraph.ensures.edges a b ∙ ap (λ (vs : List (Vec ℕ Global)). has a (neighbours (lists_of vs) b)) c.deref-2.ensures.value ∙ c.in_ok-sources.ensures.edges a b)) in
     record {
-      answer = record {
-        one_producer = one_producer c.args.workflow.now c.in_ok-producers.producers.items c.in_ok-producers.ensures;
-        jobs = numbers c.in-Some.jobs.items;
-        cycle = subst (λ (e : ℕ → ℕ → Bool). IsNamedCycle e (numbers c.in-Some.jobs.items)) same cycle;
-        ids_are = c.in_ok-ids_of-in-Some.ensures ∙ ap (λ (js : List JobId). map (id_of c.args.workflow.now) (numbers js)) c.deref-in-Some.ensures.value;
-      };
+      answer = graph_is c.args.workflow.now c.in_ok-graph_of-in-Some.field-0 (digraph.edge c.in_ok-digraph.digraph) (digraph.count c.in_ok-digraph.digraph) c.in-Some.order.items
+          same (c.in_ok-digraph.ensures.count ∙ ap length c.deref-2.ensures.value ∙ c.in_ok-sources.ensures.long)
+          (subst (λ (ps : List (Option JobId)). AreProducers c.args.workflow.now ps) (sym c.in_ok-graph_of-in-Some.ensures.producers) c.in_ok-producers.ensures)
+          c.in_ok-graph_of-in-Some.ensures.parents c.in_ok-graph_of-in-Some.ensures.children
+          (c.in_ok-graph_of-in-Some.ensures.ordered ∙ c.deref-in-Some.ensures.value) (rw c.in-Some.is at c.in_ok-order.ensures.order) (rw c.in-Some.is at c.in_ok-order.ensures.acyclic);
     }
 
-pub returns-in-None : goal.returns-in-None
-returns-in-None c =
-    let first : IsTransposed (rows c.in_ok-sources.sources.items) (rows c.in_ok-children.children.items) = rw c.deref-2.ensures.value at c.in_ok-children.ensures in
-    let second : IsTransposed (rows c.in_ok-children.children.items) (rows c.in_ok-parents.parents.items) = rw c.deref-3.ensures.value at c.in_ok-parents.ensures in
-    let peeled : IsPeeled (rows c.in_ok-parents.parents.items) c.in_ok-peeled.peeled.ordered.items c.in_ok-peeled.peeled.counts.items = rw c.deref-4.ensures.value at c.in_ok-peeled.ensures in
-    let none : (a : ℕ) → Returns (leads (rows c.in_ok-children.children.items)) a → ⊥ = subst (λ (vs : List (Vec JobId Global)). (a : ℕ) → Returns (leads (rows vs)) a → ⊥) c.deref-7.ensures.value (answer_none c.in_ok-jobs.field-0 _ _ c.in-None.is c.in_ok-jobs.ensures.cycle) in
+pub returns-in_ok-cycle_fault-in-None : goal.returns-in_ok-cycle_fault-in-None
+returns-in_ok-cycle_fault-in-None c =
+    let same : digraph.edge c.in_ok-digraph.digraph ≡ edge c.args.workflow.now =
+    fun_ext (λ a. fun_ext (λ b. c.in_ok-digraph.ensures.edges a b ∙ ap (λ (vs : List (Vec ℕ Global)). has a (neighbours (lists_of vs) b)) c.deref-2.ensures.value ∙ c.in_ok-sources.ensures.edges a b)) in
+    let fault = c.in_ok-cycle_fault-in-None.ensures in
     record {
-      answer = subst (λ (g : Links). IsGraphOf c.args.workflow.now g) (sym c.graph_of.ensures)
-          (graph_is c.args.workflow.now c.in_ok-producers.producers.items (rows c.in_ok-sources.sources.items) (rows c.in_ok-children.children.items) (rows c.in_ok-parents.parents.items) c.in_ok-peeled.peeled.ordered.items c.in_ok-peeled.peeled.counts.items
-          c.in_ok-producers.ensures (length_rows c.in_ok-sources.sources.items ∙ c.in_ok-sources.ensures.long) c.in_ok-sources.ensures.edges first second peeled none);
+      answer = subst (λ (e : GraphFault). Builds c.args.workflow.now (Err e)) (sym fault.2) (record {
+        one_producer = one_producer c.args.workflow.now c.in_ok-producers.producers.items c.in_ok-producers.ensures;
+        jobs = fault.0;
+        cycle = subst (λ (e : ℕ → ℕ → Bool). IsNamedCycle e fault.0) same fault.1;
+        ids_are = refl;
+      });
     }

@@ -6,9 +6,9 @@ use Rattle.dependency_graph.specs.declared.fault.GraphFault.{GraphFault}
 use Rattle.dependency_graph.specs.Edges.{makers_from}
 use Rattle.dependency_graph.specs.Makers.{known, first_two}
 use Rattle.dependency_graph.specs.Built.{FindsProducers}
-use Rattle.dependency_graph.proofs.Edging.{contested_is, producers_are}
-use Rattle.dependency_graph.proofs.Returning.{no_answer}
-use Rattle.dependency_graph.proofs.building.producers_of.Goals as goal
+use Rattle.dependency_graph.proofs.BuiltLemmas.{contested_is, producers_are}
+use Rattle.dependency_graph.proofs.BuiltLemmas.{no_answer}
+use Rattle.dependency_graph.proofs.built.producers_of.Goals as goal
 
 pub two_producers-requires-clause-first : goal.two_producers-requires-clause-first
 two_producers-requires-clause-first c =

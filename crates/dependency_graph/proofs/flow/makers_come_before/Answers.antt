@@ -1,5 +1,5 @@
-use Rattle.dependency_graph.proofs.Valuing.{comes_first}
-use Rattle.dependency_graph.proofs.law.makers_come_before.Goals as goal
+use Rattle.dependency_graph.proofs.FlowLemmas.{makers_first}
+use Rattle.dependency_graph.proofs.flow.makers_come_before.Goals as goal
 
 pub returns : goal.returns
-returns c = comes_first
+returns c = makers_first
