@@ -1,17 +1,14 @@
 -- The cycle from a node that returns.
-use Rattle.std.proofs.Common.{◌≡◌, ◌≢◌, ℕ, zero, suc, ◌-◌, ◌<◌, ◌≤◌, Bool, true, false, cond, List, [], ◌∷◌, ◌++◌, length, refl, sym, ap, subst, ◌∙◌, nat_eq, nat_lt, arith}
+use Rattle.std.proofs.Common.{◌≡◌, ◌≢◌, ℕ, zero, suc, ◌-◌, ◌<◌, ◌≤◌, Bool, true, false, cond, List, [], ◌∷◌, ◌++◌, refl, sym, ap, subst, ◌∙◌, nat_eq, nat_lt, arith}
 use Rattle.std.specs.Prelude.{Option, Some, None, MatchOption}
-use Rattle.std.specs.List.{All}
-use Rattle.std.proofs.Math.Path.{fun_ext}
-use Rattle.std.proofs.lemmas.List.{append-nil, append_assoc, map-append}
-use Rattle.std.proofs.lemmas.Bool.{eqb-false}
-use Rattle.digraph.proofs.AdjacencyLemmas.{neighbours_past, same_edges, swapped}
-use Rattle.digraph.proofs.DistancesLemmas.{distance_told, is_distance, way_told}
+use Rattle.std.proofs.lemmas.List.{append-nil, append_assoc}
+use Rattle.digraph.proofs.AdjacencyLemmas.{same_edges, swapped}
+use Rattle.digraph.proofs.DistancesLemmas.{distance_is_at, is_distance, walk_distance}
 use Rattle.digraph.proofs.KahnLemmas.{present}
-use Rattle.digraph.proofs.OrderLemmas.{never_returns, some_returns}
+use Rattle.digraph.proofs.OrderLemmas.{never_returns}
 use Rattle.digraph.specs.Adjacency.{AreLinked, comes, has, leads, neighbours, times}
 use Rattle.digraph.specs.Cycle.{Descends, IsCycleFrom, IsNamedCycle, IsNext, Returns}
-use Rattle.digraph.specs.Distances.{IsDistance, Walk, distance_at}
+use Rattle.digraph.specs.Distances.{Walk, distance_at}
 use Rattle.digraph.specs.Kahn.{IsPlacement, free, waits_for}
 use Rattle.digraph.specs.Nearest.{IsLeastAt, IsNearest}
 use Rattle.digraph.specs.Search.{IsDistanceTable}
@@ -20,7 +17,7 @@ pub next_is : (successors : List (List ℕ)) (s node d : ℕ) (table : List (Opt
 next_is successors s node d table c right found = record {
   successor = found.0;
   distance = is_distance (leads successors) s table right c d found.1;
-  least = λ b edge distance. found.2 b edge (distance_told (leads successors) s table right b d distance);
+  least = λ b edge distance. found.2 b edge (distance_is_at (leads successors) s table right b d distance);
 }
 
 -- a node that isn't s has a next one
@@ -60,7 +57,7 @@ descend_all e s distance first left node nodes none goes =
 pub no_cycle : (successors : List (List ℕ)) (s : ℕ) (table : List (Option ℕ)) → IsDistanceTable (leads successors) s table → IsNearest table (neighbours successors s) None → Returns (leads successors) s → ⊥
 no_cycle successors s table right none back =
     let walk = back.1 in
-    let found = way_told (leads successors) s table right back.0 walk.0 walk.2 in
+    let found = walk_distance (leads successors) s table right back.0 walk.0 walk.2 in
     let nothing : distance_at table walk.0 ≡ None = none walk.0 walk.1 in
     let both : None ≡ Some found.0 = sym nothing ∙ found.1 in
     cc
@@ -73,7 +70,7 @@ some_cycle successors s table d c rest js right near least down is = record {
   rest = rest;
   is = is;
   next = next_is successors s s d table c right least;
-  nearest = λ b e edge distance. near.1 b e edge (distance_told (leads successors) s table right b e distance);
+  nearest = λ b e edge distance. near.1 b e edge (distance_is_at (leads successors) s table right b e distance);
   descent = down;
 }
 
@@ -116,29 +113,22 @@ pub no_answer : {A : Type 0} (o : Option A) (P : Type 0) (Q : A → Type 0) → 
 no_answer None P Q none h = h
 no_answer (Some x) P Q none h = absurd (none x refl)
 
-pub answer_none : {A : Type 0} (o : Option A) (P : Type 0) (Q : A → Type 0) → o ≡ None → MatchOption o P Q → P
-answer_none None P Q e h = h
-answer_none (Some x) P Q e h = absurd cc
-
 -- one edge more at the end
-way_more : (e : ℕ → ℕ → Bool) (n a b c : ℕ) → Walk e n a b → e b c ≡ true → Walk e (suc n) a c
-way_more e zero a b c walk edge = (c, ap (λ (x : ℕ). e x c) walk ∙ edge, refl)
-way_more e (suc n) a b c walk edge = (walk.0, walk.1, way_more e n walk.0 b c walk.2 edge)
+walk_more : (e : ℕ → ℕ → Bool) (n a b c : ℕ) → Walk e n a b → e b c ≡ true → Walk e (suc n) a c
+walk_more e zero a b c walk edge = (c, ap (λ (x : ℕ). e x c) walk ∙ edge, refl)
+walk_more e (suc n) a b c walk edge = (walk.0, walk.1, walk_more e n walk.0 b c walk.2 edge)
 
-way_back : (e : ℕ → ℕ → Bool) (n a b : ℕ) → Walk e n a b → Walk (λ x y. e y x) n b a
-way_back e zero a b walk = sym walk
-way_back e (suc n) a b walk = way_more (λ x y. e y x) n b walk.0 a (way_back e n walk.0 b walk.2) walk.1
+walk_back : (e : ℕ → ℕ → Bool) (n a b : ℕ) → Walk e n a b → Walk (λ x y. e y x) n b a
+walk_back e zero a b walk = sym walk
+walk_back e (suc n) a b walk = walk_more (λ x y. e y x) n b walk.0 a (walk_back e n walk.0 b walk.2) walk.1
 
--- a node that is placed from the successors's side doesn't return
+-- a node that is placed from the successors' side doesn't return
 pub placed_back : (predecessors successors : List (List ℕ)) (ordered : List ℕ) (counts : List ℕ) → AreLinked predecessors successors → IsPlacement successors ordered counts → (a : ℕ) → waits_for counts a ≡ 0 → Returns (leads successors) a → ⊥
 placed_back predecessors successors ordered counts linked placement a none back =
     placed_stays successors predecessors ordered counts (swapped predecessors successors linked) placement a none
-    (subst (λ (e : ℕ → ℕ → Bool). Returns e a) (same_edges successors predecessors (swapped predecessors successors linked)) (back.0, way_back (leads successors) (suc back.0) a a back.1))
+    (subst (λ (e : ℕ → ℕ → Bool). Returns e a) (same_edges successors predecessors (swapped predecessors successors linked)) (back.0, walk_back (leads successors) (suc back.0) a a back.1))
 
 -- the named cycle is one
-same_distance : (e : ℕ → ℕ → Bool) (s a d k : ℕ) → IsDistance e s a d → IsDistance e s a k → d ≡ k
-same_distance e s a d k one two = omega (arith, one.least k two.walk, two.least d one.walk)
-
 same_next : (e : ℕ → ℕ → Bool) (s a d c b : ℕ) → IsNext e s a d c → IsNext e s a d b → c ≡ b
 same_next e s a d c b one two = omega (arith, one.least b two.successor two.distance, two.least c one.successor one.distance)
 

@@ -89,8 +89,8 @@ missing_some xs (p ∷ ps) some = by (has p xs) refl (λ h. missing_some xs ps h
     by false e rest = (p, ap (λ (b : Bool). b || has p ps) (eq-eqb p p refl), e)
 
 -- counts
-opens_set : (counts : List ℕ) (i b x : ℕ) → i < length counts → waits_for (slice_set counts i x) b ≡ cond {A = ℕ} (nat_eq i b) x (waits_for counts b)
-opens_set counts i b x h = grind (arith, common_steps)
+waits_for_set : (counts : List ℕ) (i b x : ℕ) → i < length counts → waits_for (slice_set counts i x) b ≡ cond {A = ℕ} (nat_eq i b) x (waits_for counts b)
+waits_for_set counts i b x h = grind (arith, common_steps)
 
 waiting_set : (counts : List ℕ) (i x : ℕ) → i < length counts → waiting (slice_set counts i x) + cond {A = ℕ} (nat_eq (waits_for counts i) 0) 0 1 ≡ waiting counts + cond {A = ℕ} (nat_eq x 0) 0 1
 waiting_set [] i x h = absurd (omega arith)
@@ -124,7 +124,7 @@ release_more first cur ordered longer before c released h some new is b e = reco
 }
   where
     at : (k : ℕ) → waits_for new k ≡ cond {A = ℕ} (nat_eq c k) (waits_for cur c - 1) (waits_for cur k)
-    at k = ap (λ (x : List ℕ). waits_for x k) is ∙ opens_set cur c k (waits_for cur c - 1) h
+    at k = ap (λ (x : List ℕ). waits_for x k) is ∙ waits_for_set cur c k (waits_for cur c - 1) h
 
     fewer_by : (k : ℕ) (t : Bool) → nat_eq c k ≡ t → waits_for new k + cond {A = ℕ} (nat_eq c k) 1 0 ≡ waits_for cur k
     fewer_by k true f =
@@ -216,17 +216,17 @@ rooted_more counts i nodes j is h rooted b e = record {
     was_i : (k : ℕ) → nat_eq i k ≡ true → times k nodes ≡ 0
     was_i k f = rooted.placed k ∙ ap (λ (t : Bool). cond t (free counts k) 0) (before k f)
 
-    job_is : (k : ℕ) → nat_eq j k ≡ nat_eq i k
-    job_is k = ap (λ (n : ℕ). nat_eq n k) is
+    node_is : (k : ℕ) → nat_eq j k ≡ nat_eq i k
+    node_is k = ap (λ (n : ℕ). nat_eq n k) is
 
     by : (k : ℕ) (u : Bool) → nat_eq (waits_for counts i) 0 ≡ u → (t : Bool) → nat_eq i k ≡ t → times k (cond u (nodes ++ j ∷ []) nodes) ≡ cond {A = ℕ} (nat_lt k (i + 1)) (free counts k) 0
     by k true g true f =
-        let one : cond {A = ℕ} (nat_eq j k) 1 0 ≡ 1 = ap (λ (t : Bool). cond t 1 0) (job_is k ∙ f) in
+        let one : cond {A = ℕ} (nat_eq j k) 1 0 ≡ 1 = ap (λ (t : Bool). cond t 1 0) (node_is k ∙ f) in
         let want : cond {A = ℕ} (nat_lt k (i + 1)) (free counts k) 0 ≡ 1 = at_i k f ∙ ap (λ (t : Bool). cond t 1 0) g in
         omega (arith, times_push k nodes j, one, want, was_i k f)
     by k false g true f = was_i k f ∙ sym (at_i k f ∙ ap (λ (t : Bool). cond t 1 0) g)
     by k true g false f =
-        let none : cond {A = ℕ} (nat_eq j k) 1 0 ≡ 0 = ap (λ (t : Bool). cond t 1 0) (job_is k ∙ f) in
+        let none : cond {A = ℕ} (nat_eq j k) 1 0 ≡ 0 = ap (λ (t : Bool). cond t 1 0) (node_is k ∙ f) in
         let same : cond {A = ℕ} (nat_lt k i) (free counts k) 0 ≡ cond {A = ℕ} (nat_lt k (i + 1)) (free counts k) 0 = ap (λ (t : Bool). cond t (free counts k) 0) (below_more k f) in
         omega (arith, times_push k nodes j, none, same, rooted.placed k)
     by k false g false f = rooted.placed k ∙ ap (λ (t : Bool). cond t (free counts k) 0) (below_more k f)
@@ -242,8 +242,8 @@ rooted_more counts i nodes j is h rooted b e = record {
     done_by true g = All-push (λ (j : ℕ). waits_for counts j ≡ 0) nodes j rooted.done (ap (waits_for counts) is ∙ eqb-true (waits_for counts i) 0 g)
     done_by false g = rooted.done
 
-pub opens_at : (counts : List ℕ) (i d : ℕ) → i < length counts → waits_for counts i ≡ get_or counts i d
-opens_at counts i d h = get_or_default counts i 1 d h
+pub waits_for_at : (counts : List ℕ) (i d : ℕ) → i < length counts → waits_for counts i ≡ get_or counts i d
+waits_for_at counts i d h = get_or_default counts i 1 d h
 
 -- a node that is looked at next has predecessors to wait for
 pub waits_still : (first cur : List ℕ) (ordered longer successors : List ℕ) (i : ℕ) (c : ℕ) → IsReleased first cur ordered longer (take i successors) → ((b : ℕ) → times b successors ≤ waits_for first b) → i < length successors → get_or successors i c ≡ c → 0 < waits_for cur c

@@ -1,4 +1,5 @@
 pub mod AdjacencyLemmas
+pub mod ScatterLemmas
 pub mod KahnLemmas
 pub mod OrderLemmas
 pub mod SearchLemmas

@@ -1,11 +1,8 @@
 -- The nearest of some nodes, one node further.
-use Rattle.std.proofs.Common.{◌≡◌, ℕ, zero, suc, ◌+◌, ◌<◌, ◌≤◌, Bool, true, false, cond, not, ◌||◌, ◌&&◌, List, [], ◌∷◌, ◌++◌, length, take, get_or, refl, sym, ap, ◌∙◌, nat_eq, nat_lt, arith, ◌⊎◌, inl, inr}
-use Rattle.std.specs.Prelude.{slice_set, Option, Some, None, is_some, replicate, min}
+use Rattle.std.proofs.Common.{◌≡◌, ℕ, zero, suc, ◌<◌, ◌≤◌, Bool, true, false, ◌||◌, List, [], ◌∷◌, ◌++◌, length, take, get_or, refl, sym, ap, ◌∙◌, nat_eq, nat_lt, arith, ◌⊎◌, inl, inr}
+use Rattle.std.specs.Prelude.{Option, Some, None, is_some, min}
 use Rattle.std.specs.List.{All}
 use Rattle.std.specs.Option.{option_eq}
-use Rattle.std.proofs.lemmas.Grind.{common_steps}
-use Rattle.std.proofs.lemmas.List.{length-append, get_or_past}
-use Rattle.std.proofs.lemmas.List.Folds.{list_any-append, list_any_at}
 use Rattle.std.proofs.lemmas.List.Elements.{All-head, All-tail}
 use Rattle.std.proofs.Math.Bool.{or-true}
 use Rattle.std.proofs.lemmas.Bool.{eq-eqb, eqb-true}
@@ -86,6 +83,6 @@ pub some_value : (o : Option ℕ) → is_some o ≡ true → (x : ℕ) × (o ≡
 some_value None e = absurd cc
 some_value (Some x) e = (x, refl)
 
-pub told_equal : (o : Option ℕ) (d : ℕ) → option_eq nat_eq o (Some d) ≡ true → o ≡ Some d
-told_equal None d e = absurd cc
-told_equal (Some x) d e = ap Some (eqb-true x d e)
+pub distance_equal : (o : Option ℕ) (d : ℕ) → option_eq nat_eq o (Some d) ≡ true → o ≡ Some d
+distance_equal None d e = absurd cc
+distance_equal (Some x) d e = ap Some (eqb-true x d e)

@@ -1,21 +1,19 @@
 -- A breadth-first search, one edge further.
-use Rattle.std.proofs.Common.{◌≡◌, ℕ, zero, suc, ◌+◌, ◌<◌, ◌≤◌, Bool, true, false, cond, not, ◌||◌, ◌&&◌, List, [], ◌∷◌, ◌++◌, length, take, get_or, refl, sym, ap, ◌∙◌, nat_eq, nat_lt, arith, ◌⊎◌, inl, inr}
-use Rattle.std.specs.Prelude.{slice_set, Option, Some, None, is_some, replicate, min}
+use Rattle.std.proofs.Common.{◌≡◌, ℕ, zero, suc, ◌+◌, ◌<◌, ◌≤◌, Bool, true, false, cond, not, ◌||◌, ◌&&◌, List, [], ◌∷◌, ◌++◌, length, get_or, refl, sym, ap, ◌∙◌, nat_eq, nat_lt, arith}
+use Rattle.std.specs.Prelude.{slice_set, Option, Some, None, is_some, replicate}
 use Rattle.std.specs.List.{All}
-use Rattle.std.specs.Option.{option_eq}
 use Rattle.std.proofs.lemmas.Grind.{common_steps}
 use Rattle.std.proofs.lemmas.List.{length-append, get_or_past}
 use Rattle.std.proofs.lemmas.List.Folds.{list_any-append, list_any_at}
-use Rattle.std.proofs.lemmas.List.Elements.{All-head, All-tail}
-use Rattle.std.proofs.Math.Bool.{or-false, or-true}
+use Rattle.std.proofs.Math.Bool.{or-false, or-true, and-false}
 use Rattle.std.proofs.lemmas.Bool.{eq-eqb, eqb-true, ne_eqb}
 use Rattle.digraph.proofs.AdjacencyLemmas.{has_push}
 use Rattle.digraph.specs.Adjacency.{comes, has, neighbours}
 use Rattle.digraph.specs.Distances.{distance_at}
 use Rattle.digraph.specs.Search.{IsDistanceTable, IsMarked, IsSpread, later, reached, unknown}
 
-told_set : (table : List (Option ℕ)) (c p d : ℕ) → c < length table → distance_at (slice_set table c (Some d)) p ≡ cond (nat_eq c p) (Some d) (distance_at table p)
-told_set table c p d h = grind (arith, common_steps)
+distance_set : (table : List (Option ℕ)) (c p d : ℕ) → c < length table → distance_at (slice_set table c (Some d)) p ≡ cond (nat_eq c p) (Some d) (distance_at table p)
+distance_set table c p d h = grind (arith, common_steps)
 
 unknown_set : (table : List (Option ℕ)) (c d : ℕ) → c < length table → distance_at table c ≡ None → unknown (slice_set table c (Some d)) + 1 ≡ unknown table
 unknown_set [] c d h none = absurd (omega arith)
@@ -26,39 +24,35 @@ pub unknown_all : (n : ℕ) → unknown (replicate n None) ≡ n
 unknown_all zero = refl
 unknown_all (suc n) = let rest : unknown (replicate n None) ≡ n = unknown_all n in omega (arith, rest)
 
-pub told_none : (n p : ℕ) → distance_at (replicate n None) p ≡ None
-told_none zero p = refl
-told_none (suc n) zero = refl
-told_none (suc n) (suc p) = told_none n p
+pub distance_none : (n p : ℕ) → distance_at (replicate n None) p ≡ None
+distance_none zero p = refl
+distance_none (suc n) zero = refl
+distance_none (suc n) (suc p) = distance_none n p
 
 later_false : (o : Option ℕ) (d : ℕ) → later o false d ≡ o
 later_false None d = refl
 later_false (Some x) d = refl
 
-and_false : (b : Bool) → (b && false) ≡ false
-and_false true = refl
-and_false false = refl
-
 pub marked_none : (table : List (Option ℕ)) (next : List ℕ) (d : ℕ) → IsMarked table table next next [] d
 marked_none table next d = record {
   says = λ p. sym (later_false (distance_at table p) d);
-  found = λ p. sym (ap (λ (b : Bool). has p next || b) (and_false (not (is_some (distance_at table p)))) ∙ or-false (has p next));
+  found = λ p. sym (ap (λ (b : Bool). has p next || b) (and-false (not (is_some (distance_at table p)))) ∙ or-false (has p next));
   kept = refl;
 }
 
--- a node of which nothing was distance_at, and still isn't
-untold : (o : Option ℕ) (h : Bool) (d : ℕ) → later o h d ≡ None → (o ≡ None) × (h ≡ false)
-untold None true d e = absurd cc
-untold None false d e = (refl, refl)
-untold (Some x) h d e = absurd cc
+-- a node of which nothing was said, and still isn't
+unsaid : (o : Option ℕ) (h : Bool) (d : ℕ) → later o h d ≡ None → (o ≡ None) × (h ≡ false)
+unsaid None true d e = absurd cc
+unsaid None false d e = (refl, refl)
+unsaid (Some x) h d e = absurd cc
 
--- a node of which something was distance_at, or that was found
-told_now : (o : Option ℕ) (h : Bool) (d x : ℕ) → later o h d ≡ Some x → (later o true d ≡ later o h d) × ((not (is_some o) && true) ≡ (not (is_some o) && h))
-told_now None true d x e = (refl, refl)
-told_now None false d x e = absurd cc
-told_now (Some y) h d x e = (refl, refl)
+-- a node of which something was said, or that was found
+said_now : (o : Option ℕ) (h : Bool) (d x : ℕ) → later o h d ≡ Some x → (later o true d ≡ later o h d) × ((not (is_some o) && true) ≡ (not (is_some o) && h))
+said_now None true d x e = (refl, refl)
+said_now None false d x e = absurd cc
+said_now (Some y) h d x e = (refl, refl)
 
--- one node more, of which something is distance_at
+-- one node more, of which something is said
 pub mark_skip : (old cur : List (Option ℕ)) (next longer before : List ℕ) (d x : ℕ) (c : ℕ) → IsMarked old cur next longer before d → distance_at cur c ≡ Some x → IsMarked old cur next longer (before ++ c ∷ []) d
 mark_skip old cur next longer before d x c marked known = record {
   says = λ p. marked.says p ∙ (by p (nat_eq c p) refl).0 ∙ ap (λ (b : Bool). later (distance_at old p) b d) (sym (has_push before c p));
@@ -68,17 +62,17 @@ mark_skip old cur next longer before d x c marked known = record {
   where
     by : (p : ℕ) (t : Bool) → nat_eq c p ≡ t → (later (distance_at old p) (has p before) d ≡ later (distance_at old p) (has p before || nat_eq c p) d) × ((not (is_some (distance_at old p)) && has p before) ≡ (not (is_some (distance_at old p)) && (has p before || nat_eq c p)))
     by p true e =
-        let here = told_now (distance_at old p) (has p before) d x (sym (marked.says p) ∙ ap (distance_at cur) (sym (eqb-true c p e)) ∙ known) in
+        let here = said_now (distance_at old p) (has p before) d x (sym (marked.says p) ∙ ap (distance_at cur) (sym (eqb-true c p e)) ∙ known) in
         let yes : true ≡ (has p before || nat_eq c p) = sym (ap (λ (b : Bool). has p before || b) e ∙ or-true (has p before)) in
         (sym here.0 ∙ ap (λ (b : Bool). later (distance_at old p) b d) yes, sym here.1 ∙ ap (λ (b : Bool). not (is_some (distance_at old p)) && b) yes)
     by p false e =
         let same : has p before ≡ (has p before || nat_eq c p) = sym (ap (λ (b : Bool). has p before || b) e ∙ or-false (has p before)) in
         (ap (λ (b : Bool). later (distance_at old p) b d) same, ap (λ (b : Bool). not (is_some (distance_at old p)) && b) same)
 
--- one node more, of which nothing was distance_at
+-- one node more, of which nothing was said
 pub mark_more : (old cur : List (Option ℕ)) (next longer before : List ℕ) (d : ℕ) (c : ℕ) → IsMarked old cur next longer before d → c < length cur → distance_at cur c ≡ None → IsMarked old (slice_set cur c (Some d)) next (longer ++ c ∷ []) (before ++ c ∷ []) d
 mark_more old cur next longer before d c marked h none = record {
-  says = λ p. told_set cur c p d h ∙ (by p (nat_eq c p) refl).0 ∙ ap (λ (b : Bool). later (distance_at old p) b d) (sym (has_push before c p));
+  says = λ p. distance_set cur c p d h ∙ (by p (nat_eq c p) refl).0 ∙ ap (λ (b : Bool). later (distance_at old p) b d) (sym (has_push before c p));
   found = λ p. has_push longer c p ∙ ap (λ (b : Bool). b || nat_eq c p) (marked.found p) ∙ (by p (nat_eq c p) refl).1 ∙ ap (λ (b : Bool). has p next || (not (is_some (distance_at old p)) && b)) (sym (has_push before c p));
   kept = omega (arith, marked.kept, unknown_set cur c d h none, length-append longer (c ∷ []));
 }
@@ -86,7 +80,7 @@ mark_more old cur next longer before d c marked h none = record {
     by : (p : ℕ) (t : Bool) → nat_eq c p ≡ t → (cond (nat_eq c p) (Some d) (distance_at cur p) ≡ later (distance_at old p) (has p before || nat_eq c p) d)
         × (((has p next || (not (is_some (distance_at old p)) && has p before)) || nat_eq c p) ≡ (has p next || (not (is_some (distance_at old p)) && (has p before || nat_eq c p))))
     by p true e =
-        let here = untold (distance_at old p) (has p before) d (sym (marked.says p) ∙ ap (distance_at cur) (sym (eqb-true c p e)) ∙ none) in
+        let here = unsaid (distance_at old p) (has p before) d (sym (marked.says p) ∙ ap (distance_at cur) (sym (eqb-true c p e)) ∙ none) in
         let yes : (has p before || nat_eq c p) ≡ true = ap (λ (b : Bool). has p before || b) e ∙ or-true (has p before) in (
           ap (λ (b : Bool). cond b (Some d) (distance_at cur p)) e ∙ sym (ap (λ (b : Bool). later (distance_at old p) b d) yes ∙ ap (λ (o : Option ℕ). later o true d) here.0),
           ap (λ (b : Bool). (has p next || (not (is_some (distance_at old p)) && has p before)) || b) e ∙ or-true (has p next || (not (is_some (distance_at old p)) && has p before))
@@ -102,7 +96,7 @@ mark_more old cur next longer before d c marked h none = record {
 pub spread_none : (predecessors : List (List ℕ)) (table : List (Option ℕ)) (d : ℕ) → IsSpread predecessors table table [] [] d
 spread_none predecessors table d = record {
   says = λ p. sym (later_false (distance_at table p) d);
-  found = λ p. sym (and_false (not (is_some (distance_at table p))));
+  found = λ p. sym (and-false (not (is_some (distance_at table p))));
   kept = omega arith;
 }
 
@@ -158,7 +152,7 @@ searched_first predecessors s old table frontier is h long marked = record {
 }
   where
     was : (c : ℕ) → distance_at old c ≡ None
-    was c = ap (λ (x : List (Option ℕ)). distance_at x c) is ∙ told_none (length predecessors) c
+    was c = ap (λ (x : List (Option ℕ)). distance_at x c) is ∙ distance_none (length predecessors) c
 
     here : (c : ℕ) → distance_at table c ≡ cond {A = Option ℕ} (has c (s ∷ [])) (Some 0) None
     here c = marked.says c ∙ ap (λ (o : Option ℕ). later o (has c (s ∷ [])) 0) (was c)
@@ -179,8 +173,8 @@ searched_first predecessors s old table frontier is h long marked = record {
     last_by true = refl
     last_by false = refl
 
-kept_told : (old new : List (Option ℕ)) (r : ℕ → Bool) (d : ℕ) → ((p : ℕ) → distance_at new p ≡ later (distance_at old p) (r p) d) → (c x : ℕ) → distance_at old c ≡ Some x → distance_at new c ≡ Some x
-kept_told old new r d says c x e = says c ∙ ap (λ (o : Option ℕ). later o (r c) d) e
+kept_distance : (old new : List (Option ℕ)) (r : ℕ → Bool) (d : ℕ) → ((p : ℕ) → distance_at new p ≡ later (distance_at old p) (r p) d) → (c x : ℕ) → distance_at old c ≡ Some x → distance_at new c ≡ Some x
+kept_distance old new r d says c x e = says c ∙ ap (λ (o : Option ℕ). later o (r c) d) e
 
 is_at_some : (k : ℕ) (o : Option ℕ) → is_at k o ≡ true → o ≡ Some k
 unfolding is_at
@@ -218,7 +212,7 @@ searched_more predecessors s k frontier next table new searched long some spread
 }
   where
     kept : (c x : ℕ) → distance_at table c ≡ Some x → distance_at new c ≡ Some x
-    kept = kept_told table new (reached predecessors frontier) (k + 1) spread.says
+    kept = kept_distance table new (reached predecessors frontier) (k + 1) spread.says
 
     only_by : (c : ℕ) (o : Option ℕ) → distance_at table c ≡ o → (r : Bool) → later o r (k + 1) ≡ Some 0 → c ≡ s
     only_by c (Some x) h r e = searched.only c (h ∙ e)
@@ -282,8 +276,8 @@ searched_all predecessors s k frontier table searched none = record {
         let there : has b frontier ≡ true = searched.last b ∙ ap (is_at k) e ∙ ap (λ (n : ℕ). nat_eq n k) same ∙ eq-eqb k k refl in
         absurd (let no : has b frontier ≡ false = ap (has b) none in cc)
 
-pub told_in : (table : List (Option ℕ)) (c x : ℕ) → distance_at table c ≡ Some x → c < length table
-told_in table c x e = by (nat_lt c (length table)) refl
+pub distance_in : (table : List (Option ℕ)) (c x : ℕ) → distance_at table c ≡ Some x → c < length table
+distance_in table c x e = by (nat_lt c (length table)) refl
   where
     by : (t : Bool) → nat_lt c (length table) ≡ t → c < length table
     by true h = grind arith
@@ -295,5 +289,5 @@ stands_at js i d h = list_any_at (λ (j : ℕ). nat_eq j (get_or js i d)) js i d
 pub frontier_in : (predecessors : List (List ℕ)) (s k : ℕ) (frontier : List ℕ) (table : List (Option ℕ)) → Searched predecessors s k frontier table → All (λ (j : ℕ). j < length predecessors) frontier
 frontier_in predecessors s k frontier table searched i d h =
     let at : distance_at table (get_or frontier i d) ≡ Some k = is_at_some k (distance_at table (get_or frontier i d)) (sym (searched.last (get_or frontier i d)) ∙ stands_at frontier i d h) in
-    let low : (get_or frontier i d) < length table = told_in table (get_or frontier i d) k at in
+    let low : (get_or frontier i d) < length table = distance_in table (get_or frontier i d) k at in
     omega (arith, low, searched.long)

@@ -4,7 +4,6 @@ pub mod Digraph
 pub mod Order
 pub mod Distances
 pub mod Cycle
-
 -- Steps of the algorithms
 pub mod Scatter
 pub mod Kahn

@@ -8,7 +8,8 @@ ghost use Rattle.digraph.specs.Scatter.{ends_with, IsScattered};
 use outside::Memory;
 use std::alloc::Global;
 
-fn empty_lists(alloc: Global, count: usize) -> Result<Vec<Vec<u32>>, Memory>
+/// So many empty lists.
+pub fn empty_lists(alloc: Global, count: usize) -> Result<Vec<Vec<u32>>, Memory>
     ensures long { IfOk result (λ lists. length lists.items ≡ count) }
     ensures empty { IfOk result (λ lists. (k : ℕ) → neighbours (lists_of lists.items) k ≡ []) }
 {

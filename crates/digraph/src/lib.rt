@@ -1,7 +1,7 @@
 //! Directed graphs on the numbers below a count.
 //!
-//! A [`Digraph`] is made from lists of predecessors ([`add_pairs`] adds pairs to such lists), and answers a
-//! topological order, or the one cycle that is named, or distances. It stands on `outside` for want of memory
+//! A [`Digraph`] is made from its edges, or from lists of predecessors ([`add_pairs`] adds edges to such
+//! lists), and answers a topological order, the one cycle that is named, and distances. It stands on `outside` for want of memory
 //! alone, and knows nothing of jobs.
 //!
 //! `specs/Digraph.antt` has what an edge is, and the files after it in `specs/Lib.antt` say what an order,
@@ -19,6 +19,8 @@ mod nearest;
 mod order;
 mod queries;
 mod search;
+#[cfg(test)]
+mod tests;
 
 pub use adjacency::add_pairs;
 pub use digraph::Digraph;

@@ -1,13 +1,14 @@
 //! What a directed graph is asked.
 
-ghost use Rattle.std.specs.Prelude.{◌≡◌, ◌<◌, ◌^◌, ℕ, length, IfOk, MatchOption, All};
+ghost use Rattle.std.specs.Prelude.{◌≡◌, ◌<◌, ◌==◌, ◌&&◌, ◌^◌, ℕ, length, IfOk, MatchOption, All};
+ghost use Rattle.std.specs.List.{list_any};
 ghost use Rattle.digraph.specs.Adjacency.{lists_of, neighbours, has, AreNeighbours};
 ghost use Rattle.digraph.specs.Cycle.{Returns, IsNamedCycle};
 ghost use Rattle.digraph.specs.Digraph.{count, edge};
 ghost use Rattle.digraph.specs.Distances.{AreDistances};
 ghost use Rattle.digraph.specs.Order.{IsTopologicalOrder};
 
-use crate::adjacency::transposed;
+use crate::adjacency::{add_pairs, empty_lists, transposed};
 use crate::cycle::named_cycle;
 use crate::digraph::Digraph;
 use crate::distances::distances_to;
@@ -29,6 +30,19 @@ impl Digraph {
             predecessors,
             successors,
         })
+    }
+
+    /// The graph of so many nodes in which an edge leads from the first to the second node of each pair.
+    pub fn from_edges(alloc: Global, nodes: usize, edges: &[(u32, u32)]) -> Result<Digraph, Memory>
+        requires few { nodes < 2 ^ 32 }
+        requires in_range { All (λ p. (p.0 < nodes) × (p.1 < nodes)) edges.now }
+        ensures count { IfOk result (λ g. count g ≡ nodes) }
+        ensures edges { IfOk result (λ g. (a b : ℕ) → edge g a b ≡ list_any (λ (p : ℕ × ℕ). p.0 == a && p.1 == b) edges.now) }
+    {
+        let mut predecessors = empty_lists(alloc, nodes)?;
+        add_pairs(&mut predecessors, edges)?;
+        let graph = Digraph::new(alloc, &predecessors)?;
+        Ok(graph)
     }
 
     /// For each node those from which an edge leads to it.

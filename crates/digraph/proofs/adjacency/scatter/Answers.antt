@@ -2,7 +2,8 @@ use Rattle.std.proofs.Common.{ℕ, ◌≡◌, ◌+◌, ◌++◌, ◌∷◌, [], 
 use Rattle.std.proofs.lemmas.List.{take_more}
 use Rattle.std.specs.Prelude.{Vec}
 use Rattle.std.specs.declared.alloc.Global.{Global}
-use Rattle.digraph.proofs.AdjacencyLemmas.{neighbours_at, scatter_add, scatter_skip, within}
+use Rattle.digraph.proofs.AdjacencyLemmas.{neighbours_at, within}
+use Rattle.digraph.proofs.ScatterLemmas.{scatter_add, scatter_skip}
 use Rattle.digraph.specs.Adjacency.{lists_of, neighbours}
 use Rattle.digraph.specs.Scatter.{IsScattered, ends_with}
 use Rattle.digraph.proofs.adjacency.scatter.Goals as goal
@@ -10,12 +11,12 @@ use Rattle.digraph.proofs.adjacency.scatter.Goals.{then-not-ends_with+in_ok-add,
 
 pub loop-place-preserved : goal.loop-place-preserved
 loop-place-preserved c =
-    let place : ℕ = get_or c.args.places.now c.loop-place.place-index (0) in
+    let place : ℕ = get_or c.args.places.now c.loop-place.place-index 0 in
     let old : List (List ℕ) = lists_of c.args.lists.now.items in
     let cur : List (List ℕ) = lists_of c.loop-place.lists.items in
     let before : List ℕ = take c.loop-place.place-index c.args.places.now in
-    let more : take (c.loop-place.place-index + 1) c.args.places.now ≡ before ++ place ∷ [] = take_more c.args.places.now c.loop-place.place-index (0) c.loop-place-test.true in
-    let stood : ends_with c.args.node (neighbours cur place) ≡ c.ends_with.result = ap (ends_with c.args.node) (neighbours_at c.loop-place.lists.items place c.index.result.now (within c.args.places.now c.loop-place.place-index (0) (length c.args.lists.now.items) (length c.loop-place.lists.items) c.loop-place.invariant.0 c.loop-place-test.true c.requires.in_range) c.index.ensures ∙ sym c.deref.ensures.value) ∙ sym c.ends_with.ensures in
+    let more : take (c.loop-place.place-index + 1) c.args.places.now ≡ before ++ place ∷ [] = take_more c.args.places.now c.loop-place.place-index 0 c.loop-place-test.true in
+    let stood : ends_with c.args.node (neighbours cur place) ≡ c.ends_with.result = ap (ends_with c.args.node) (neighbours_at c.loop-place.lists.items place c.index.result.now (within c.args.places.now c.loop-place.place-index 0 (length c.args.lists.now.items) (length c.loop-place.lists.items) c.loop-place.invariant.0 c.loop-place-test.true c.requires.in_range) c.index.ensures ∙ sym c.deref.ensures.value) ∙ sym c.ends_with.ensures in
     let step : List ℕ → List (List ℕ) → Type 0 = λ ps new. IsScattered old new c.args.node ps in
     elim c.if-not-ends_with.branch [
       | then-not-ends_with+in_ok-add w ↦ (

@@ -1,6 +1,7 @@
 use Rattle.std.proofs.Common.{ℕ, ◌≡◌, ◌<◌, ◌∙◌, length, get_or, List, sym, subst, arith, refl}
 use Rattle.std.specs.List.{All}
-use Rattle.digraph.proofs.AdjacencyLemmas.{neighbours_at, turned_more}
+use Rattle.digraph.proofs.AdjacencyLemmas.{neighbours_at}
+use Rattle.digraph.proofs.ScatterLemmas.{turned_more}
 use Rattle.digraph.specs.Adjacency.{lists_of, neighbours}
 use Rattle.digraph.specs.Scatter.{IsScattered}
 use Rattle.digraph.proofs.adjacency.transposed.Goals as goal

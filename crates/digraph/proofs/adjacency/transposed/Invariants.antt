@@ -1,5 +1,5 @@
 use Rattle.std.proofs.Common.{◌≡◌, length}
-use Rattle.digraph.proofs.AdjacencyLemmas.{Turned}
+use Rattle.digraph.proofs.ScatterLemmas.{Turned}
 use Rattle.digraph.specs.Adjacency.{lists_of}
 use Rattle.digraph.proofs.adjacency.transposed.Given as goal
 

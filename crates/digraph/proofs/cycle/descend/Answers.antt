@@ -3,20 +3,20 @@ use Rattle.std.specs.Prelude.{Some, None}
 use Rattle.std.proofs.lemmas.List.Elements.{All-push}
 use Rattle.digraph.proofs.AdjacencyLemmas.{neighbours_at}
 use Rattle.digraph.proofs.CycleLemmas.{descend_all, descend_more, next_is, not_there, some_next, there}
-use Rattle.digraph.proofs.SearchLemmas.{told_in}
+use Rattle.digraph.proofs.SearchLemmas.{distance_in}
 use Rattle.digraph.specs.Adjacency.{IsRising, leads, lists_of, neighbours}
 use Rattle.digraph.specs.Nearest.{IsLeastAt}
 use Rattle.digraph.proofs.cycle.descend.Goals as goal
 
 pub least_at-requires : goal.least_at-requires
 least_at-requires c =
-    let low : c.loop-node.node < length c.args.table.now = told_in c.args.table.now c.loop-node.node c.loop-node.left c.loop-node.invariant.0 in
+    let low : c.loop-node.node < length c.args.table.now = distance_in c.args.table.now c.loop-node.node c.loop-node.left c.loop-node.invariant.0 in
     let here : neighbours (lists_of c.args.successors.now) c.loop-node.node ≡ c.deref.result.now = neighbours_at c.args.successors.now c.loop-node.node c.index-successors-node.result (omega (arith, low, c.requires.long)) c.index-successors-node.is ∙ sym c.deref.ensures.value in
     subst IsRising here (c.requires.rising c.loop-node.node)
 
 pub unreachable-requires : goal.unreachable-requires
 unreachable-requires c =
-    let low : c.loop-node.node < length c.args.table.now = told_in c.args.table.now c.loop-node.node c.loop-node.left c.loop-node.invariant.0 in
+    let low : c.loop-node.node < length c.args.table.now = distance_in c.args.table.now c.loop-node.node c.loop-node.left c.loop-node.invariant.0 in
     let here : neighbours (lists_of c.args.successors.now) c.loop-node.node ≡ c.deref.result.now = neighbours_at c.args.successors.now c.loop-node.node c.index-successors-node.result (omega (arith, low, c.requires.long)) c.index-successors-node.is ∙ sym c.deref.ensures.value in
     let some : 0 < c.loop-node.left = not_there (lists_of c.args.successors.now) c.args.start c.loop-node.node c.loop-node.left c.args.table.now c.requires.table c.loop-node.invariant.0 c.loop-node-test.true in
     some_next (lists_of c.args.successors.now) c.args.start c.loop-node.node c.loop-node.left c.args.table.now c.requires.table c.loop-node.invariant.0 some
@@ -24,7 +24,7 @@ unreachable-requires c =
 
 pub loop-node-preserved : goal.loop-node-preserved
 loop-node-preserved c =
-    let low : c.loop-node.node < length c.args.table.now = told_in c.args.table.now c.loop-node.node c.loop-node.left c.loop-node.invariant.0 in
+    let low : c.loop-node.node < length c.args.table.now = distance_in c.args.table.now c.loop-node.node c.loop-node.left c.loop-node.invariant.0 in
     let here : neighbours (lists_of c.args.successors.now) c.loop-node.node ≡ c.deref.result.now = neighbours_at c.args.successors.now c.loop-node.node c.index-successors-node.result (omega (arith, low, c.requires.long)) c.index-successors-node.is ∙ sym c.deref.ensures.value in
     let some : 0 < c.loop-node.left = not_there (lists_of c.args.successors.now) c.args.start c.loop-node.node c.loop-node.left c.args.table.now c.requires.table c.loop-node.invariant.0 c.loop-node-test.true in
     let found : IsLeastAt c.args.table.now (neighbours (lists_of c.args.successors.now) c.loop-node.node) (c.loop-node.left - 1) (Some c.in-Some.successor) = subst (λ (x : List ℕ). IsLeastAt c.args.table.now x (c.loop-node.left - 1) (Some c.in-Some.successor)) (sym here) c.in-Some.ensures in

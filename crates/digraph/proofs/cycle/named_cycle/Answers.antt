@@ -1,7 +1,7 @@
 use Rattle.std.proofs.Common.{◌≡◌, ◌<◌, ◌∙◌, ℕ, List, length, get_or, below_more, sym, ap, subst, arith}
 use Rattle.digraph.proofs.CycleLemmas.{named, no_answer, placed_back, placed_stays}
 use Rattle.digraph.proofs.OrderLemmas.{returns_in}
-use Rattle.digraph.proofs.KahnLemmas.{opens_at}
+use Rattle.digraph.proofs.KahnLemmas.{waits_for_at}
 use Rattle.digraph.specs.Adjacency.{leads, lists_of}
 use Rattle.digraph.specs.Cycle.{Returns}
 use Rattle.digraph.specs.Kahn.{waits_for}
@@ -11,7 +11,7 @@ pub loop-i-preserved-then-count-eq0 : goal.loop-i-preserved-then-count-eq0
 loop-i-preserved-then-count-eq0 c =
     let counts : List ℕ = c.in_ok-placement.placement.counts.items in
     let below : c.loop-i.i < length c.in_ok-placement.placement.counts.items = subst (λ (x : List ℕ). c.loop-i.i < length x) c.deref-count-items.ensures.value c.loop-i-test.true in
-    let none : waits_for c.in_ok-placement.placement.counts.items c.loop-i.i ≡ 0 = opens_at c.in_ok-placement.placement.counts.items c.loop-i.i 0 below ∙ ap (λ (x : List ℕ). get_or x c.loop-i.i 0) (sym c.deref-count-items.ensures.value) ∙ c.if-count-eq0.true in
+    let none : waits_for c.in_ok-placement.placement.counts.items c.loop-i.i ≡ 0 = waits_for_at c.in_ok-placement.placement.counts.items c.loop-i.i 0 below ∙ ap (λ (x : List ℕ). get_or x c.loop-i.i 0) (sym c.deref-count-items.ensures.value) ∙ c.if-count-eq0.true in
     below_more (λ a. Returns (leads (lists_of c.args.successors.now)) a → ⊥) c.loop-i.i c.loop-i.invariant (placed_stays (lists_of c.args.predecessors.now) (lists_of c.args.successors.now) c.in_ok-placement.placement.ordered.items c.in_ok-placement.placement.counts.items c.requires.linked c.in_ok-placement.ensures c.loop-i.i none)
 
 pub returns-in-Some-clause-cycle : goal.returns-in-Some-clause-cycle
@@ -33,5 +33,5 @@ pub loop-i-preserved-then-index-eq0 : goal.loop-i-preserved-then-index-eq0
 loop-i-preserved-then-index-eq0 c =
     let many : length c.deref-count-items.result.now ≡ length c.in_ok-placement.placement.counts.items = ap length c.deref-count-items.ensures.value in
     let below : c.loop-i.i < length c.in_ok-back.back.counts.items = omega (arith, c.loop-i-test.true, many, c.in_ok-placement.ensures.long, c.requires.linked.long, c.in_ok-back.ensures.long) in
-    let none : waits_for c.in_ok-back.back.counts.items c.loop-i.i ≡ 0 = opens_at c.in_ok-back.back.counts.items c.loop-i.i c.index.result.now below ∙ sym c.index.ensures ∙ c.if-index-eq0.true in
+    let none : waits_for c.in_ok-back.back.counts.items c.loop-i.i ≡ 0 = waits_for_at c.in_ok-back.back.counts.items c.loop-i.i c.index.result.now below ∙ sym c.index.ensures ∙ c.if-index-eq0.true in
     below_more (λ a. Returns (leads (lists_of c.args.successors.now)) a → ⊥) c.loop-i.i c.loop-i.invariant (placed_back (lists_of c.args.predecessors.now) (lists_of c.args.successors.now) c.in_ok-back.back.ordered.items c.in_ok-back.back.counts.items c.requires.linked c.in_ok-back.ensures c.loop-i.i none)

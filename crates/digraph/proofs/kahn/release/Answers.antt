@@ -9,23 +9,23 @@ use Rattle.digraph.proofs.kahn.release.Goals.{then-left-eq0+in_ok-push, else-lef
 
 pub overflow_sub-left : goal.overflow_sub-left
 overflow_sub-left c =
-    let successor : ℕ = get_or c.args.successors.now c.loop-successor.successor-index (0) in
-    let low : successor < length c.args.counts.now.items = c.requires.in_range c.loop-successor.successor-index (0) c.loop-successor-test.true in
+    let successor : ℕ = get_or c.args.successors.now c.loop-successor.successor-index 0 in
+    let low : successor < length c.args.counts.now.items = c.requires.in_range c.loop-successor.successor-index 0 c.loop-successor-test.true in
     let same : c.index.result.now ≡ waits_for c.loop-successor.counts.items successor = c.index.ensures ∙ get_or_default c.loop-successor.counts.items successor c.index.result.now 1 (omega (arith, low, c.loop-successor.invariant.0)) in
-    let is : get_or c.args.successors.now c.loop-successor.successor-index successor ≡ successor = get_or_default c.args.successors.now c.loop-successor.successor-index successor (0) c.loop-successor-test.true in
+    let is : get_or c.args.successors.now c.loop-successor.successor-index successor ≡ successor = get_or_default c.args.successors.now c.loop-successor.successor-index successor 0 c.loop-successor-test.true in
     let some : 0 < waits_for c.loop-successor.counts.items successor = waits_still c.args.counts.now.items c.loop-successor.counts.items c.args.ordered.now.items c.loop-successor.ordered.items c.args.successors.now c.loop-successor.successor-index successor c.loop-successor.invariant.1 c.requires.enough c.loop-successor-test.true is in
     omega (arith, some, same)
 
 pub loop-successor-preserved : goal.loop-successor-preserved
 loop-successor-preserved c =
-    let successor : ℕ = get_or c.args.successors.now c.loop-successor.successor-index (0) in
+    let successor : ℕ = get_or c.args.successors.now c.loop-successor.successor-index 0 in
     let cur : List ℕ = c.loop-successor.counts.items in
-    let low : successor < length c.args.counts.now.items = c.requires.in_range c.loop-successor.successor-index (0) c.loop-successor-test.true in
+    let low : successor < length c.args.counts.now.items = c.requires.in_range c.loop-successor.successor-index 0 c.loop-successor-test.true in
     let within : successor < length c.loop-successor.counts.items = omega (arith, low, c.loop-successor.invariant.0) in
     let same : c.index.result.now ≡ waits_for c.loop-successor.counts.items successor = c.index.ensures ∙ get_or_default c.loop-successor.counts.items successor c.index.result.now 1 within in
-    let is : get_or c.args.successors.now c.loop-successor.successor-index successor ≡ successor = get_or_default c.args.successors.now c.loop-successor.successor-index successor (0) c.loop-successor-test.true in
+    let is : get_or c.args.successors.now c.loop-successor.successor-index successor ≡ successor = get_or_default c.args.successors.now c.loop-successor.successor-index successor 0 c.loop-successor-test.true in
     let some : 0 < waits_for c.loop-successor.counts.items successor = waits_still c.args.counts.now.items c.loop-successor.counts.items c.args.ordered.now.items c.loop-successor.ordered.items c.args.successors.now c.loop-successor.successor-index successor c.loop-successor.invariant.1 c.requires.enough c.loop-successor-test.true is in
-    let more : take (c.loop-successor.successor-index + 1) c.args.successors.now ≡ take c.loop-successor.successor-index c.args.successors.now ++ successor ∷ [] = take_more c.args.successors.now c.loop-successor.successor-index (0) c.loop-successor-test.true in
+    let more : take (c.loop-successor.successor-index + 1) c.args.successors.now ≡ take c.loop-successor.successor-index c.args.successors.now ++ successor ∷ [] = take_more c.args.successors.now c.loop-successor.successor-index 0 c.loop-successor-test.true in
     let new : List ℕ = slice_set c.loop-successor.counts.items successor (c.index.result.now - 1) in
     let new_is : slice_set c.loop-successor.counts.items successor (c.index.result.now - 1) ≡ slice_set c.loop-successor.counts.items successor (waits_for c.loop-successor.counts.items successor - 1) = ap (λ (n : ℕ). slice_set c.loop-successor.counts.items successor (n - 1)) same in
     let step : (b : Bool) → nat_eq (waits_for c.loop-successor.counts.items successor - 1) 0 ≡ b → IsReleased c.args.counts.now.items new c.args.ordered.now.items (cond b (c.loop-successor.ordered.items ++ successor ∷ []) c.loop-successor.ordered.items) (take (c.loop-successor.successor-index + 1) c.args.successors.now) =

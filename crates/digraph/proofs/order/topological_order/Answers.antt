@@ -14,5 +14,8 @@ returns-then-len-predecessors c =
 
 pub returns-else-len-predecessors : goal.returns-else-len-predecessors
 returns-else-len-predecessors c =
-    record { order = none_placed (lists_of c.args.predecessors.now) (lists_of c.args.successors.now) c.in_ok-placement.placement.ordered.items c.in_ok-placement.placement.counts.items c.requires.linked c.in_ok-placement.ensures
-    (λ e. c.if-len-predecessors.false (omega (arith, e, c.len.ensures, c.in_ok-placement.placement.ordered.ok, length_lists_of c.args.predecessors.now))); acyclic = tt }
+    record {
+      order = none_placed (lists_of c.args.predecessors.now) (lists_of c.args.successors.now) c.in_ok-placement.placement.ordered.items c.in_ok-placement.placement.counts.items c.requires.linked c.in_ok-placement.ensures
+          (λ e. c.if-len-predecessors.false (omega (arith, e, c.len.ensures, c.in_ok-placement.placement.ordered.ok, length_lists_of c.args.predecessors.now)));
+      acyclic = tt;
+    }

@@ -10,11 +10,11 @@ use Rattle.digraph.proofs.search.mark.Goals.{then-is_none+in_ok-push, else-is_no
 
 pub loop-node-preserved : goal.loop-node-preserved
 loop-node-preserved c =
-    let node : ℕ = get_or c.args.nodes.now c.loop-node.node-index (0) in
-    let low : node < length c.args.table.now.items = c.requires c.loop-node.node-index (0) c.loop-node-test.true in
+    let node : ℕ = get_or c.args.nodes.now c.loop-node.node-index 0 in
+    let low : node < length c.args.table.now.items = c.requires c.loop-node.node-index 0 c.loop-node-test.true in
     let within : node < length c.loop-node.table.items = omega (arith, low, c.loop-node.invariant.0) in
     let same : c.index.result.now ≡ distance_at c.loop-node.table.items node = c.index.ensures ∙ get_or_default c.loop-node.table.items node c.index.result.now None within in
-    let more : take (c.loop-node.node-index + 1) c.args.nodes.now ≡ take c.loop-node.node-index c.args.nodes.now ++ node ∷ [] = take_more c.args.nodes.now c.loop-node.node-index (0) c.loop-node-test.true in
+    let more : take (c.loop-node.node-index + 1) c.args.nodes.now ≡ take c.loop-node.node-index c.args.nodes.now ++ node ∷ [] = take_more c.args.nodes.now c.loop-node.node-index 0 c.loop-node-test.true in
     elim c.if-is_none.branch [
       | then-is_none+in_ok-push w ↦
           (let none : distance_at c.loop-node.table.items node ≡ None = sym same ∙ no_value c.index.result.now (c.is_none.ensures ∙ ap not w.if-is_none.true) in
