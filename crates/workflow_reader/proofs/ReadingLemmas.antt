@@ -9,6 +9,7 @@ use Rattle.peg_json.specs.Reading.{◌>>=◌, each_from, elements, list_among, l
 use Rattle.peg_json.specs.Tables.{member_of}
 use Rattle.peg_json.specs.Typed.{where_found, required, if_found, optional}
 use Rattle.peg_json.specs.declared.fault.TreeFault.{TreeFault}
+use Rattle.peg_json.specs.declared.fault.TreeFault.TheVariants as faults
 use Rattle.workflow_reader.specs.Lists.{list_or_none}
 
 pub record Passed {E A B : Type 0} (r : Result A E) (f : A → Result B E) (b : B) : Type 0 where
@@ -44,7 +45,7 @@ list_has {B} f P gives path d xs h = by (find.as_array d) h
 pub required_has : {B : Type 0} (f : List ℕ → Data → Result B TreeFault) (P : B → Type 0) → ((path : List ℕ) (d : Data) (x : B) → f path d ≡ Ok x → P x) → (path : List ℕ) (d : Data) (key : List ℕ) (x : B) → required f path d key ≡ Ok x → P x
 required_has f P gives path d key x h = by (member_of d key) h
   where
-    by : (o : Option Data) → where_found _ (f (key_path path key)) o ≡ Ok x → P x
+    by : (o : Option Data) → where_found (faults.MissingKey (key_path path key)) (f (key_path path key)) o ≡ Ok x → P x
     by None e = absurd cc
     by (Some d) e = gives (key_path path key) d x e
 

@@ -8,7 +8,8 @@ use Rattle.serde_json.specs.Data.{Data}
 use Rattle.serde_json.specs.Find as find
 use Rattle.peg_json.specs.Reading.{◌>>=◌, some_or, list_in}
 use Rattle.peg_json.specs.Tables.{checks}
-use Rattle.peg_json.specs.Typed.{required, optional, text_of, name_of, number_of, number_within, flag_of}
+use Rattle.peg_json.specs.declared.fault.TreeFault.TheVariants as faults
+use Rattle.peg_json.specs.Typed.{required, optional, any_of, text_of, name_of, number_of, number_within, flag_of}
 use Rattle.peg_json.specs.Version.{version_at}
 use Rattle.workflow_core.specs.WellFormed.{IsSmallSize}
 use Rattle.workflow_reader.specs.declared.document.JobEntry.{JobEntry}
@@ -16,6 +17,8 @@ use Rattle.workflow_reader.specs.declared.document.Use.{Use}
 use Rattle.workflow_reader.specs.Arguments.{argument_of}
 use Rattle.workflow_reader.specs.ConstantText.{constant_at}
 use Rattle.workflow_reader.specs.Documents.{DocumentEntry}
+use Rattle.workflow_reader.specs.DependencyEntry.{dependency_of}
+use Rattle.workflow_reader.specs.JobProfiles.{profiles_or_none}
 use Rattle.workflow_reader.specs.JobCourse.{job_rows, job_of}
 use Rattle.workflow_reader.specs.Lists.{list_or_none}
 use Rattle.workflow_reader.specs.Root.{root_rows, document_of}
@@ -27,12 +30,12 @@ use Rattle.workflow_reader.proofs.ReadingLemmas.{passed, unwrapped, IfThere, req
 number_small : (limit : ℕ) (path : List ℕ) (n m : ℕ) → number_within limit path n ≡ Ok m → m ≤ limit
 number_small limit path n m h = by (nat_lt limit n) refl h
   where
-    by : (b : Bool) → nat_lt limit n ≡ b → cond b (Err _) (Ok n) ≡ Ok m → m ≤ limit
+    by : (b : Bool) → nat_lt limit n ≡ b → cond b (Err (faults.OutOfRange path n)) (Ok n) ≡ Ok m → m ≤ limit
     by true e k = absurd cc
     by false e k = let same : n ≡ m = unwrapped n m k in grind (arith, e, same)
 
 number_of_small : (limit : ℕ) (path : List ℕ) (d : Data) (m : ℕ) → number_of limit path d ≡ Ok m → m ≤ limit
-number_of_small limit path d m h = let step = passed (some_or _ (option_and_then find.as_u64 (find.as_number d))) (number_within limit path) m h in number_small limit path step.value m step.rest
+number_of_small limit path d m h = let step = passed (some_or (faults.WrongKind path) (option_and_then find.as_u64 (find.as_number d))) (number_within limit path) m h in number_small limit path step.value m step.rest
 
 size_small : (o : Option ℕ) → IfThere (λ n. n ≤ 2 ^ 40) o → IsSmallSize o
 size_small None there = tt
@@ -60,7 +63,7 @@ job_small path d j h =
     let six = passed (optional text_of path d (codes "version")) _ j five.rest in
     let seven = passed (list_or_none argument_of path d (codes "arguments")) _ j six.rest in
     let eight = passed (list_or_none use_of path d (codes "uses")) _ j seven.rest in
-    let nine = passed _ _ j eight.rest in
+    let nine = passed (profiles_or_none path d (codes "profiles")) _ j eight.rest in
     subst (λ (k : JobEntry). AllByRecursion IsSmallUse k.uses) (unwrapped _ j nine.rest) (list_or_none_has use_of IsSmallUse use_small path d (codes "uses") eight.value eight.is)
 
 pub document_small : (path : List ℕ) (d : Data) (e : DocumentEntry) → document_of path d ≡ Ok e → AreSmall e.jobs
@@ -70,10 +73,10 @@ document_small path d e h =
     let two = passed (version_at path d (codes "pegasus")) _ e one.rest in
     let three = passed (required text_of path d (codes "name")) _ e two.rest in
     let four = passed (required (list_in job_of) path d (codes "jobs")) _ e three.rest in
-    let five = passed _ _ e four.rest in
-    let six = passed _ _ e five.rest in
-    let seven = passed _ _ e six.rest in
-    let eight = passed _ _ e seven.rest in
+    let five = passed (list_or_none dependency_of path d (codes "jobDependencies")) _ e four.rest in
+    let six = passed (optional any_of path d (codes "siteCatalog")) _ e five.rest in
+    let seven = passed (optional any_of path d (codes "replicaCatalog")) _ e six.rest in
+    let eight = passed (optional any_of path d (codes "transformationCatalog")) _ e seven.rest in
     subst (λ (f : DocumentEntry). AreSmall f.jobs) (unwrapped _ e eight.rest) (required_has (list_in job_of) AreSmall (list_has job_of (λ (j : JobEntry). AllByRecursion IsSmallUse j.uses) job_small) path d (codes "jobs") four.value four.is)
 
 -- ---- the sizes of files

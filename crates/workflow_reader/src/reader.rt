@@ -20,7 +20,7 @@ use std::alloc::Global;
 use workflow_core::Workflow;
 
 /// Reads the tree of a workflow's document, which stands under a path.
-#[tactic(auto, using(crate::proofs::SmallLemmas::document_small), unfolding(crate::specs::Read::from_tree_of))]
+#[tactic(auto, unfolding(crate::specs::Read::from_tree_of))]
 pub fn from_tree(alloc: Global, value: &Value, path: &Text) -> Result<Workflow, ReadFault>
     ensures answer { GivesRead view result (from_tree_of path.now (tree_view value.now)) }
     ensures ignored { IfOk result
