@@ -4,7 +4,6 @@ pub mod Graph
 pub mod Built
 pub mod Value
 pub mod Flow
-
 -- Steps of the building
 pub mod Makers
 pub mod Sources

@@ -43,5 +43,10 @@ pub fn sources(
 pub fn numbered(alloc: Global, pairs: &[(JobId, JobId)]) -> Result<Vec<(u32, u32)>, Memory>
     ensures { IfOk result (λ v. v.items ≡ map (λ (p : JobId × JobId). (before p, after p)) pairs.now) }
 {
-    Ok(pairs.iter().map(|pair| (pair.0.0, pair.1.0)).collect(alloc)?)
+    Ok(
+        pairs
+            .iter()
+            .map(|pair| (pair.0.0, pair.1.0))
+            .collect(alloc)?,
+    )
 }

@@ -1,12 +1,12 @@
 -- The sizes of a document that was read are small, and so are those of its workflow.
-use Rattle.std.proofs.Common.{◌≡◌, ℕ, ◌<◌, ◌≤◌, Bool, true, false, cond, List, [], ◌∷◌, ◌++◌, map, refl, sym, subst, nat_lt, arith}
-use Rattle.std.specs.Prelude.{◌^◌, Option, Some, None, Result, Ok, Err, codes, option_and_then}
+use Rattle.std.proofs.Common.{◌≡◌, ℕ, ◌≤◌, Bool, true, false, cond, List, [], ◌∷◌, ◌++◌, map, refl, subst, nat_lt, arith}
+use Rattle.std.specs.Prelude.{◌^◌, Option, Some, None, Ok, Err, codes, option_and_then}
 use Rattle.std.specs.Option.{option_or}
-use Rattle.std.specs.List.{AllByRecursion, flat_map}
+use Rattle.std.specs.List.{AllByRecursion}
 use Rattle.std.specs.Str.{bytes_eq}
 use Rattle.serde_json.specs.Data.{Data}
 use Rattle.serde_json.specs.Find as find
-use Rattle.peg_json.specs.Reading.{◌>>=◌, some_or, list_in}
+use Rattle.peg_json.specs.Reading.{some_or, list_in}
 use Rattle.peg_json.specs.Tables.{checks}
 use Rattle.peg_json.specs.declared.fault.TreeFault.TheVariants as faults
 use Rattle.peg_json.specs.Typed.{required, optional, any_of, text_of, name_of, number_of, number_within, flag_of}

@@ -8,7 +8,6 @@ use Rattle.std.proofs.lemmas.List.{append-nil, length-map}
 use Rattle.std.proofs.lemmas.List.Folds.{list_all-append}
 use Rattle.outside.specs.declared.numbers.FileId.{FileId}
 use Rattle.outside.specs.declared.numbers.JobId.{JobId}
-use Rattle.peg_json.specs.Reading.{◌>>=◌}
 use Rattle.peg_json.specs.Counts.{few}
 use Rattle.peg_json.specs.declared.read_fault.Counted.{Counted}
 use Rattle.peg_json.specs.declared.read_fault.Counted.TheVariants.{Jobs, Files}
