@@ -1,12 +1,12 @@
 -- A workflow passes the tests exactly where it is well formed.
 use Rattle.std.proofs.Common.{◌≡◌, ℕ, ◌<◌, ◌≤◌, Bool, true, ◌&&◌, List, [], ◌∷◌, length, refl, nat_eq, nat_lt, nat_le, arith}
-use Rattle.std.specs.Prelude.{◌↔◌}
+use Rattle.std.specs.Prelude.{◌↔◌, ◌^◌, Option, Some, None}
 use Rattle.std.specs.List.{list_all, AllByRecursion}
 use Rattle.outside.specs.declared.numbers.JobId.{JobId}
 use Rattle.workflow_core.specs.declared.workflow.Workflow.{Workflow}
 use Rattle.workflow_core.specs.declared.workflow.Job.{Job}
-use Rattle.workflow_core.specs.WellFormed.{are_distinct, inputs_of, outputs_of, before, after, IsJobOver, IsWellFormed}
-use Rattle.workflow_core.specs.Checks.{are_files, is_job_over, is_pair_of, are_few, are_named, are_numbered, passes}
+use Rattle.workflow_core.specs.WellFormed.{are_distinct, inputs_of, outputs_of, before, after, IsJobOver, IsSmallSize, IsWellFormed}
+use Rattle.workflow_core.specs.Checks.{are_files, is_job_over, is_pair_of, is_small_size, are_sized, are_few, are_named, are_numbered, passes}
 use Rattle.std.proofs.lemmas.Bool.{and_from, and_parts}
 
 -- a test at each element
@@ -65,16 +65,28 @@ pair_passes n p h = (below (before p) n (and_parts _ _ h).0, below (after p) n (
 passes_pair : (n : ℕ) (p : JobId × JobId) → IsPairOf n p → is_pair_of n p ≡ true
 passes_pair n p h = and_from _ _ (is_below (before p) n h.0) (is_below (after p) n h.1)
 
+size_passes : (o : Option ℕ) → is_small_size o ≡ true → IsSmallSize o
+size_passes None h = tt
+size_passes (Some n) h = at_most n (2 ^ 40) h
+
+passes_size : (o : Option ℕ) → IsSmallSize o → is_small_size o ≡ true
+passes_size None h = refl
+passes_size (Some n) h = le_test n (2 ^ 40) h
+
 passed : (w : Workflow) → passes w ≡ true → IsWellFormed w
 passed w h =
     let few = (and_parts (are_few w) (are_named w && are_numbered w) h).0 in
     let rest = (and_parts (are_few w) (are_named w && are_numbered w) h).1 in
     let named = (and_parts (are_named w) (are_numbered w) rest).0 in
     let numbered = (and_parts (are_named w) (are_numbered w) rest).1 in
+    let files = (and_parts (nat_le (length w.jobs) 10000) (nat_le (length w.files) 50000 && are_sized w) few).1 in
+    let sized = (and_parts (nat_le (length w.files) 50000) (are_sized w) files).1 in
+    let sizes = and_parts (nat_eq (length w.sizes) (length w.files)) (list_all is_small_size w.sizes) sized in
     record {
       few_jobs = at_most (length w.jobs) 10000 (and_parts _ _ few).0;
-      few_files = at_most (length w.files) 50000 (and_parts _ _ (and_parts _ _ few).1).0;
-      sizes = same (length w.sizes) (length w.files) (and_parts _ _ (and_parts _ _ few).1).1;
+      few_files = at_most (length w.files) 50000 (and_parts (nat_le (length w.files) 50000) (are_sized w) files).0;
+      sizes = same (length w.sizes) (length w.files) sizes.0;
+      small_sizes = all_of is_small_size IsSmallSize size_passes w.sizes sizes.1;
       ids = (and_parts _ _ named).0;
       names = (and_parts _ _ named).1;
       jobs = all_of (is_job_over (length w.files)) (IsJobOver (length w.files)) (job_passes (length w.files)) w.jobs (and_parts _ _ numbered).0;
@@ -84,7 +96,7 @@ passed w h =
 has_passed : (w : Workflow) → IsWellFormed w → passes w ≡ true
 has_passed w h =
     and_from (are_few w) (are_named w && are_numbered w)
-    (and_from _ _ (le_test (length w.jobs) 10000 h.few_jobs) (and_from _ _ (le_test (length w.files) 50000 h.few_files) (eq_test (length w.sizes) (length w.files) h.sizes)))
+    (and_from _ _ (le_test (length w.jobs) 10000 h.few_jobs) (and_from _ _ (le_test (length w.files) 50000 h.few_files) (and_from _ _ (eq_test (length w.sizes) (length w.files) h.sizes) (each_of is_small_size IsSmallSize passes_size w.sizes h.small_sizes))))
     (and_from (are_named w) (are_numbered w)
     (and_from _ _ h.ids h.names)
     (and_from _ _

@@ -1,5 +1,5 @@
 -- The tests that tell whether a workflow is well formed.
-use Rattle.std.specs.Prelude.{ℕ, ◌&&◌, Bool, List, length, map, nat_eq, nat_lt, nat_le}
+use Rattle.std.specs.Prelude.{ℕ, ◌^◌, ◌&&◌, Bool, true, List, length, map, nat_eq, nat_lt, nat_le, Option, Some, None}
 use Rattle.std.specs.List.{list_all}
 use Rattle.std.specs.Str.{bytes_eq}
 use Rattle.outside.specs.declared.numbers.JobId.{JobId}
@@ -17,8 +17,15 @@ is_job_over files j = are_files files (inputs_of j) && are_files files (outputs_
 abbrev pub is_pair_of : ℕ → JobId × JobId → Bool
 is_pair_of jobs p = nat_lt (before p) jobs && nat_lt (after p) jobs
 
+abbrev pub is_small_size : Option ℕ → Bool
+is_small_size None = true
+is_small_size (Some n) = nat_le n (2 ^ 40)
+
+abbrev pub are_sized : Workflow → Bool
+are_sized w = nat_eq (length w.sizes) (length w.files) && list_all is_small_size w.sizes
+
 abbrev pub are_few : Workflow → Bool
-are_few w = nat_le (length w.jobs) 10000 && (nat_le (length w.files) 50000 && nat_eq (length w.sizes) (length w.files))
+are_few w = nat_le (length w.jobs) 10000 && (nat_le (length w.files) 50000 && are_sized w)
 
 abbrev pub are_named : Workflow → Bool
 are_named w = are_distinct bytes_eq (map (λ (j : Job). j.id) w.jobs) && are_distinct bytes_eq w.files

@@ -2,4 +2,3 @@ pub mod Tables
 pub mod Placing
 pub mod Jobs
 pub mod Ends
-pub mod Testing

