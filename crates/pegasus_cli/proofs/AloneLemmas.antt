@@ -9,7 +9,7 @@ use Rattle.outside.specs.declared.numbers.JobId.{JobId}
 use Rattle.workflow_core.specs.declared.workflow.Workflow.{Workflow}
 use Rattle.dependency_graph.specs.Edges.{producer}
 use Rattle.dependency_graph.specs.Value.{AllMade}
-use Rattle.workflow_eval.specs.Evaluated.{Evaluates, IsReached}
+use Rattle.workflow_eval.specs.Evaluating.{Evaluates, IsReached}
 use Rattle.workflow_eval.specs.declared.fault.EvalFault.{EvalFault}
 use Rattle.workflow_eval.specs.declared.fault.EvalFault.TheVariants as eval_faults
 use Rattle.pegasus_cli.specs.declared.outcome.Outcome.{Outcome}

@@ -12,7 +12,7 @@ use Rattle.outside.specs.declared.sink.SinkFault.TheVariants as sink_faults
 use Rattle.workflow_core.specs.declared.workflow.Workflow.{Workflow}
 use Rattle.dependency_graph.specs.Built.{AreTwoProducers}
 use Rattle.dependency_graph.specs.Graph.{IsSound}
-use Rattle.workflow_eval.specs.Evaluated.{first_undefined, made_by_number}
+use Rattle.workflow_eval.specs.Evaluating.{first_undefined, made_by_number}
 use Rattle.pegasus_cli.specs.declared.commands.Command.{Command}
 use Rattle.pegasus_cli.specs.declared.commands.Command.TheVariants as commands
 use Rattle.pegasus_cli.specs.declared.early.Early.{Early}

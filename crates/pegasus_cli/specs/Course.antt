@@ -15,7 +15,7 @@ use Rattle.peg_json.specs.declared.read_fault.ReadFault.{ReadFault}
 use Rattle.peg_json.specs.declared.read_fault.ReadFault.TheVariants as reads
 use Rattle.workflow_core.specs.declared.workflow.Workflow.{Workflow as WorkflowValue}
 use Rattle.workflow_core.specs.View.{WorkflowEntry, view}
-use Rattle.workflow_reader.specs.Read.{read_of, unknown_in_text}
+use Rattle.workflow_reader.specs.Reader.{read_of, unknown_in_text}
 use Rattle.pegasus_cli.specs.declared.early.Early.{Early}
 use Rattle.pegasus_cli.specs.declared.early.Early.TheVariants.{Memory, DocAbsent, DocTooLong, DocFailed, Refused, NotBuilt}
 use Rattle.pegasus_cli.specs.declared.plan_fault.Document.{Document}

@@ -6,7 +6,7 @@ ghost use Rattle.std.specs.Str.{bytes_eq};
 ghost use Rattle.outside.specs.declared.numbers.JobId.{JobId};
 ghost use Rattle.workflow_core.specs.declared.workflow.Job.{Job};
 ghost use Rattle.workflow_core.specs.WellFormed.{are_distinct, IsWellFormed};
-ghost use Rattle.workflow_core.specs.Checks.{are_files, is_job_over, is_pair_of, is_small_size, are_few, are_named, passes};
+ghost use Rattle.workflow_core.specs.Checking.{are_files, is_job_over, is_pair_of, is_small_size, are_few, are_named, passes};
 
 use crate::names::Names;
 use crate::workflow::{Job, Workflow};
@@ -147,7 +147,7 @@ fn passes(alloc: Global, workflow: &Workflow) -> Result<bool, Memory>
 }
 
 /// Whether a workflow is well formed, for a caller that made it without a reader.
-#[tactic(auto, using(crate::proofs::Checked::passing))]
+#[tactic(auto, using(crate::proofs::CheckingLemmas::passing))]
 pub fn is_well_formed(alloc: Global, workflow: &Workflow) -> Result<bool, Memory>
     ensures { IfOk result (λ b. b ≡ true ↔ IsWellFormed workflow.now) }
 {

@@ -6,26 +6,26 @@ use Rattle.std.specs.List.{AllByRecursion}
 use Rattle.std.specs.Str.{bytes_eq}
 use Rattle.serde_json.specs.Data.{Data}
 use Rattle.serde_json.specs.Find as find
-use Rattle.peg_json.specs.Reading.{some_or, list_in}
-use Rattle.peg_json.specs.Tables.{checks}
+use Rattle.peg_json.specs.Tree.{some_or, list_in}
+use Rattle.peg_json.specs.Table.{checks}
 use Rattle.peg_json.specs.declared.fault.TreeFault.TheVariants as faults
 use Rattle.peg_json.specs.Typed.{required, optional, any_of, text_of, name_of, number_of, number_within, flag_of}
-use Rattle.peg_json.specs.Version.{version_at}
+use Rattle.peg_json.specs.Versions.{version_at}
 use Rattle.workflow_core.specs.WellFormed.{IsSmallSize}
 use Rattle.workflow_reader.specs.declared.document.JobEntry.{JobEntry}
 use Rattle.workflow_reader.specs.declared.document.Use.{Use}
-use Rattle.workflow_reader.specs.Arguments.{argument_of}
+use Rattle.workflow_reader.specs.Argument.{argument_of}
 use Rattle.workflow_reader.specs.ConstantText.{constant_at}
-use Rattle.workflow_reader.specs.Documents.{DocumentEntry}
-use Rattle.workflow_reader.specs.DependencyEntry.{dependency_of}
-use Rattle.workflow_reader.specs.JobProfiles.{profiles_or_none}
-use Rattle.workflow_reader.specs.JobCourse.{job_rows, job_of}
+use Rattle.workflow_reader.specs.Document.{DocumentEntry}
+use Rattle.workflow_reader.specs.Dependency.{dependency_of}
+use Rattle.workflow_reader.specs.Profiles.{profiles_or_none}
+use Rattle.workflow_reader.specs.JobEntry.{job_rows, job_of}
 use Rattle.workflow_reader.specs.Lists.{list_or_none}
 use Rattle.workflow_reader.specs.Root.{root_rows, document_of}
 use Rattle.workflow_reader.specs.Small.{IsSmallUse, AreSmall}
 use Rattle.workflow_reader.specs.UseEntry.{use_rows, direction_at, use_of}
-use Rattle.workflow_reader.specs.UsedFiles.{uses_of, first_size, files_of, sizes_of}
-use Rattle.workflow_reader.proofs.ReadingLemmas.{passed, unwrapped, IfThere, required_has, optional_has, list_has, list_or_none_has}
+use Rattle.workflow_reader.specs.Files.{uses_of, first_size, files_of, sizes_of}
+use Rattle.workflow_reader.proofs.StepLemmas.{passed, unwrapped, IfThere, required_has, optional_has, list_has, list_or_none_has}
 
 number_small : (limit : ℕ) (path : List ℕ) (n m : ℕ) → number_within limit path n ≡ Ok m → m ≤ limit
 number_small limit path n m h = by (nat_lt limit n) refl h
