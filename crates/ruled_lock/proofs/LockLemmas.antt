@@ -7,12 +7,14 @@ use lib.ListN.{get_elem?}
 use Rattle.atomic_table.specs.Table.{Me, Step, step, Allows, opening, rest}
 use Rattle.ruled_lock.specs.declared.view.View.{View}
 use Rattle.ruled_lock.specs.declared.view.Stage.TheVariants.{Waits, Turn}
-use Rattle.ruled_lock.specs.Chronicle.{items_of, AddsAtMostOne}
+use Rattle.ruled_lock.specs.Chronicle.{AddsAtMostOne, items_of}
 use Rattle.ruled_lock.specs.Rule.{IsKept}
-use Rattle.ruled_lock.specs.Steps.{staged, after, HasTaken, looked, passed}
-use Rattle.ruled_lock.specs.View.{has_turn, is_settled, taken_at, list_of, lists, newcomer}
-use Rattle.ruled_lock.proofs.ListLemmas.{settled_turn, items_are}
-use Rattle.ruled_lock.proofs.StepLemmas.{passes, begins, Ends}
+use Rattle.ruled_lock.specs.Steps.{HasTaken, after, looked, passed, staged}
+use Rattle.ruled_lock.specs.View.{has_turn, is_settled, list_of, lists, newcomer, taken_at}
+use Rattle.ruled_lock.proofs.OwnerLemmas.{hit}
+use Rattle.ruled_lock.proofs.RuleLemmas.{Ends, begins}
+use Rattle.ruled_lock.proofs.StepLemmas.{passes}
+use Rattle.ruled_lock.proofs.ViewLemmas.{items_are, settled_turn}
 
 module _ {X : Type 0} where
   abbrev first_or : X → List (ℕ × X) → X
