@@ -13,15 +13,21 @@ use Rattle.ruled_lock.specs.View.{ticket, compares, is_live, names, lists, waiti
 module _ {C G I : Type 0} (charter : C → G) (journal : C → List I) (author : I → ℕ) where
   -- a pass that is not spent, in the place j, agrees with the journal, the two words and the owners of numbers
   pub record Agrees (g : G) (log : List I) (served drawn : ℕ) (owners : List ℕ) (j : ℕ) (v : View G I) : Type 0 where
+    -- its number is its place
     pub worker : v.worker ≡ j
     pub same : v.charter ≡ Some g
     pub seen : IsPrefix v.seen log
     pub mine : items_of author j v.seen ≡ v.mine
+    -- the items of each number that it stands for are all in its lists
     pub whole : All (λ (p : ℕ × List I). items_of author p.0 log ≡ p.1) (lists v)
+    -- the pass with the count stands for the number 0
     pub count : v.count ≢ 0 → (v.count ≡ length owners) × (get_elem? owners 0 ≡ some j)
+    -- its ticket is out, and was not served before
     pub ticket_in : (t : ℕ) → ticket v.stage ≡ Some t → (served ≤ t) × (t < drawn)
     pub turn : (t : ℕ) (xs : List I) → v.stage ≡ Turn t xs → (t ≡ served) × (xs ≡ log)
+    -- what it has yet to compare begins the journal
     pub other : IsPrefix (compares v.stage) log
+    -- no other pass with its number was joined into it, and it owns the numbers that it stands for and no others
     pub alone : names v.worker v.joined ≡ false
     pub named : (k : ℕ) → names k (lists v) ≡ true → get_elem? owners k ≡ some j
     pub owns : count_by (λ o. o == j) owners ≡ length (lists v)
@@ -37,10 +43,15 @@ module _ {C G I : Type 0} (charter : C → G) (journal : C → List I) (author :
     pub few : length s.views ≤ 16
     pub owned : length owners ≡ length s.views
     pub home : ((x : C) × (s.homes ≡ some (Some x) ∷ []) × (charter x ≡ g) × (journal x ≡ log))
-        ⊎ ((s.homes ≡ none ∷ []) × ((j : ℕ) × (v : View G I) × (t : ℕ) × (get_elem? s.views j ≡ some v) × (v.stage ≡ Turn t log)))
-    pub fits : (j : ℕ) (v : View G I) → get_elem? s.views j ≡ some v → is_live v.stage ≡ true → Agrees g log served (served + waiting s.views) owners j v
+        ⊎ ((s.homes ≡ none ∷ [])
+        × ((j : ℕ) × (v : View G I) × (t : ℕ) × (get_elem? s.views j ≡ some v) × (v.stage ≡ Turn t log)))
+    pub fits : (j : ℕ) (v : View G I) → get_elem? s.views j ≡ some v → is_live v.stage ≡ true
+        → Agrees g log served (served + waiting s.views) owners j v
     -- no ticket is out twice
-    pub apart : (i j t : ℕ) (v w : View G I) → get_elem? s.views i ≡ some v → get_elem? s.views j ≡ some w → ticket v.stage ≡ Some t → ticket w.stage ≡ Some t → i ≡ j
-    pub covers : (k j : ℕ) → get_elem? owners k ≡ some j → (v : View G I) × (get_elem? s.views j ≡ some v) × (is_live v.stage ≡ true) × (names k (lists v) ≡ true)
+    pub apart : (i j t : ℕ) (v w : View G I) → get_elem? s.views i ≡ some v → get_elem? s.views j ≡ some w
+        → ticket v.stage ≡ Some t → ticket w.stage ≡ Some t → i ≡ j
+    -- the owner of a number is not spent, and stands for it
+    pub covers : (k j : ℕ) → get_elem? owners k ≡ some j
+        → (v : View G I) × (get_elem? s.views j ≡ some v) × (is_live v.stage ≡ true) × (names k (lists v) ≡ true)
     -- a number that was not made has no item
     pub later : (k : ℕ) → length owners ≤ k → items_of author k log ≡ []

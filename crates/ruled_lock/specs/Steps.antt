@@ -17,23 +17,63 @@ module _ {I : Type 0} where
 
 module _ {G I : Type 0} where
   abbrev pub staged : View G I → Stage I → View G I
-  staged v st = record { worker = v.worker; charter = v.charter; seen = v.seen; mine = v.mine; count = v.count; joined = v.joined; stage = st }
+  staged v st = record {
+    worker = v.worker;
+    charter = v.charter;
+    seen = v.seen;
+    mine = v.mine;
+    count = v.count;
+    joined = v.joined;
+    stage = st;
+  }
 
   -- after a turn: all was seen, and these items of it are the pass's own
   abbrev pub after : View G I → List I → List I → View G I
-  after v journal own = record { worker = v.worker; charter = v.charter; seen = journal; mine = own; count = v.count; joined = v.joined; stage = Idle }
+  after v journal own = record {
+    worker = v.worker;
+    charter = v.charter;
+    seen = journal;
+    mine = own;
+    count = v.count;
+    joined = v.joined;
+    stage = Idle;
+  }
 
   -- after it was split
   abbrev pub counted : View G I → View G I
-  counted v = record { worker = v.worker; charter = v.charter; seen = v.seen; mine = v.mine; count = v.count + 1; joined = v.joined; stage = v.stage }
+  counted v = record {
+    worker = v.worker;
+    charter = v.charter;
+    seen = v.seen;
+    mine = v.mine;
+    count = v.count + 1;
+    joined = v.joined;
+    stage = v.stage;
+  }
 
   -- the pass that was split from it
   abbrev pub next_pass : View G I → View G I
-  next_pass v = record { worker = v.count; charter = v.charter; seen = v.seen; mine = []; count = 0; joined = []; stage = Idle }
+  next_pass v = record {
+    worker = v.count;
+    charter = v.charter;
+    seen = v.seen;
+    mine = [];
+    count = 0;
+    joined = [];
+    stage = Idle;
+  }
 
   -- after another was joined into it
   abbrev pub both_of : View G I → View G I → View G I
-  both_of v w = record { worker = v.worker; charter = v.charter; seen = longer v.seen w.seen; mine = v.mine; count = v.count + w.count; joined = v.joined ++ lists w; stage = Compares (shorter v.seen w.seen) }
+  both_of v w = record {
+    worker = v.worker;
+    charter = v.charter;
+    seen = longer v.seen w.seen;
+    mine = v.mine;
+    count = v.count + w.count;
+    joined = v.joined ++ lists w;
+    stage = Compares (shorter v.seen w.seen);
+  }
 
   -- and what is left of the other
   abbrev pub spent : View G I
@@ -65,8 +105,10 @@ module _ {C G I : Type 0} (charter : C → G) (journal : C → List I) (author :
 
   -- a pass that waits has the turn where its ticket was found, and else nothing changed
   abbrev pub looked : Step (Option C) → Me (Option C) (View G I) → ℕ → Me (Option C) (View G I) → Type 0
-  looked st m found m' = (t : ℕ) → m.0.stage ≡ Waits t → m.1 ≡ [] → (found ≡ t % 2 ^ 64 → HasTaken m t m') × (found ≢ t % 2 ^ 64 → m' ≡ m)
+  looked st m found m' =
+      (t : ℕ) → m.0.stage ≡ Waits t → m.1 ≡ [] → (found ≡ t % 2 ^ 64 → HasTaken m t m') × (found ≢ t % 2 ^ 64 → m' ≡ m)
 
   -- the value that the pass put into the slot is what it has seen
   abbrev pub passed : Step (Option C) → Me (Option C) (View G I) → ℕ → Me (Option C) (View G I) → Type 0
-  passed st m found m' = (x : C) → m.1 ≡ (0, Some x) ∷ [] → m' ≡ (after m.0 (journal x) (items_of author m.0.worker (journal x)), [])
+  passed st m found m' =
+      (x : C) → m.1 ≡ (0, Some x) ∷ [] → m' ≡ (after m.0 (journal x) (items_of author m.0.worker (journal x)), [])

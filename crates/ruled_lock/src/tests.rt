@@ -1,7 +1,6 @@
-ghost use Rattle.std.specs.Prelude.{◌≡◌, ℕ, ◌+◌, ◌<◌, ◌≤◌, List, [], ◌∷◌, ◌++◌, length, true, false, Some, IfOk, IfSome, All, vec_len, vec_capacity};
+ghost use Rattle.std.specs.Prelude.{◌≡◌, ◌+◌, ◌<◌, ◌≤◌, [], Some, All, vec_capacity};
 ghost use Rattle.std.specs.Thread.{IsSync};
-ghost use Rattle.ruled_lock.specs.Chronicle.{items_of, AddsAtMostOne};
-ghost use Rattle.ruled_lock.specs.Pass.{worker_of, charter_of, seen_of, mine_of, count_of, joined_of, IsIdle, IsSamePass};
+ghost use Rattle.ruled_lock.specs.Pass.{count_of, IsIdle};
 ghost use Rattle.ruled_lock.specs.Lock.{workers_of, IsOf};
 
 use super::*;
