@@ -7,10 +7,10 @@ use lib.ListN.{get_elem?}
 use Rattle.atomic_table.specs.Table.{Me, Step, step, Allows, opening, rest}
 use Rattle.ruled_lock.specs.declared.view.View.{View}
 use Rattle.ruled_lock.specs.declared.view.Stage.TheVariants.{Waits, Turn}
-use Rattle.ruled_lock.specs.Chronicle.{AddsAtMostOne, items_of}
+use Rattle.ruled_lock.specs.Chronicle.{list_of, AddsAtMostOne, items_of}
 use Rattle.ruled_lock.specs.Rule.{IsKept}
 use Rattle.ruled_lock.specs.Steps.{HasTaken, after, looked, passed, staged}
-use Rattle.ruled_lock.specs.View.{has_turn, is_settled, list_of, lists, newcomer, taken_at}
+use Rattle.ruled_lock.specs.View.{has_turn, is_settled, lists, newcomer, taken_at}
 use Rattle.ruled_lock.proofs.OwnerLemmas.{hit}
 use Rattle.ruled_lock.proofs.RuleLemmas.{Ends, begins}
 use Rattle.ruled_lock.proofs.StepLemmas.{passes}

@@ -10,9 +10,8 @@ use lib.ListN.{get_elem?}
 use Rattle.ruled_lock.specs.declared.view.View.{View}
 use Rattle.ruled_lock.specs.declared.view.Stage.{Stage}
 use Rattle.ruled_lock.specs.declared.view.Stage.TheVariants.{Idle, Waits, Turn, Compares, Spent}
-use Rattle.ruled_lock.specs.Chronicle.{items_of}
-use Rattle.ruled_lock.specs.Steps.{longer}
-use Rattle.ruled_lock.specs.View.{has_turn, is_live, is_resting, is_settled, latest, list_of, names, taken_at, ticket, tickets, waiting}
+use Rattle.ruled_lock.specs.Chronicle.{list_of, longer, items_of}
+use Rattle.ruled_lock.specs.View.{has_turn, is_live, is_resting, is_settled, latest, names, taken_at, ticket, tickets, waiting}
 use Rattle.ruled_lock.proofs.ListLemmas.{all_tail, sum_cons, sum_set}
 
 pub names_self : {I : Type 0} (k : ℕ) (l : List I) (xs : List (ℕ × List I)) → names k ((k, l) ∷ xs) ≡ true

@@ -1,19 +1,12 @@
 -- What a step does to the view of a pass, and what it tells.
-use Rattle.std.specs.Prelude.{◌≡◌, ◌≢◌, ℕ, ◌+◌, ◌%◌, ◌^◌, ◌≤◌, List, [], ◌∷◌, ◌++◌, length, Option, Some, None, true, cond, leb}
+use Rattle.std.specs.Prelude.{◌≡◌, ◌≢◌, ℕ, ◌+◌, ◌%◌, ◌^◌, ◌≤◌, List, [], ◌∷◌, ◌++◌, length, Option, Some, None, true}
 use mathlib.Core.List.{IsPrefix}
 use Rattle.atomic_table.specs.Table.{Me, Step}
 use Rattle.ruled_lock.specs.declared.view.View.{View}
 use Rattle.ruled_lock.specs.declared.view.Stage.{Stage}
 use Rattle.ruled_lock.specs.declared.view.Stage.TheVariants.{Idle, Waits, Turn, Compares, Spent}
-use Rattle.ruled_lock.specs.Chronicle.{items_of}
+use Rattle.ruled_lock.specs.Chronicle.{items_of, longer, shorter}
 use Rattle.ruled_lock.specs.View.{is_resting, compares, lists}
-
-module _ {I : Type 0} where
-  abbrev pub longer : List I → List I → List I
-  longer xs ys = cond (leb (length ys) (length xs)) xs ys
-
-  abbrev pub shorter : List I → List I → List I
-  shorter xs ys = cond (leb (length ys) (length xs)) ys xs
 
 module _ {G I : Type 0} where
   abbrev pub staged : View G I → Stage I → View G I

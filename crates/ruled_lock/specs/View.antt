@@ -1,5 +1,5 @@
 -- What the rule knows of a pass.
-use Rattle.std.specs.Prelude.{ℕ, zero, ◌==◌, ◌||◌, List, [], ◌∷◌, Option, Some, None, Bool, true, false, cond}
+use Rattle.std.specs.Prelude.{ℕ, zero, ◌==◌, ◌||◌, List, [], ◌∷◌, Option, Some, None, Bool, true, false}
 use Rattle.std.specs.List.{sum_by}
 use Rattle.ruled_lock.specs.declared.view.View.{View}
 use Rattle.ruled_lock.specs.declared.view.Stage.{Stage}
@@ -56,11 +56,6 @@ module _ {I : Type 0} where
   abbrev pub names : ℕ → List (ℕ × List I) → Bool
   names worker [] = false
   names worker (x ∷ xs) = (x.0 == worker) || names worker xs
-
-  -- the items of this number, or none
-  abbrev pub list_of : ℕ → List (ℕ × List I) → List I
-  list_of worker [] = []
-  list_of worker (x ∷ xs) = cond (x.0 == worker) x.1 (list_of worker xs)
 
 module _ {G I : Type 0} where
   -- the numbers that a pass stands for, each with its items: its own, and those that were joined into it
