@@ -1,6 +1,6 @@
 //! A worked example of a client: notes that two workers add under a lock. The tests run it, and edits of it show
 //! what the conditions of `give` and the clauses of `close` refuse.
-ghost use Rattle.std.specs.Prelude.{◌≡◌, ℕ, ◌<◌, [], ◌∷◌, ◌++◌, true, false, Some, IfOk, IfSome};
+ghost use Rattle.std.specs.Prelude.{◌≡◌, ℕ, ◌<◌, ◌≤◌, [], ◌∷◌, ◌++◌, true, false, Some, IfOk, IfSome, vec_len, vec_capacity};
 ghost use Rattle.ruled_lock.specs.Chronicle.{items_of};
 ghost use Rattle.ruled_lock.specs.Pass.{worker_of, charter_of, mine_of, count_of, joined_of, IsIdle, IsSamePass};
 ghost use Rattle.ruled_lock.specs.Lock.{IsOf};
@@ -37,7 +37,9 @@ impl Chronicle for Notes {
 
 impl Notes {
     pub fn with_room(alloc: Global, title: u64, room: usize) -> Result<Notes, AllocError>
-        ensures { IfOk result (λ n. n.notes.items ≡ []) }
+        ensures title { IfOk result (λ n. n.title ≡ title) }
+        ensures empty { IfOk result (λ n. n.notes.items ≡ []) }
+        ensures room { IfOk result (λ n. room ≤ vec_capacity n.notes) }
     {
         let notes = Vec::with_capacity(alloc, room)?;
         Ok(Notes { title, notes })
@@ -45,6 +47,7 @@ impl Notes {
 
     /// Adds a note where there is room.
     pub fn add(&mut self, worker: u32, text: u64) -> bool
+        ensures room { vec_len self.old.notes < vec_capacity self.old.notes → result ≡ true }
         ensures title { self.new.title ≡ self.old.title }
         ensures added { result ≡ true → self.new.notes.items ≡ self.old.notes.items ++ (worker, text) ∷ [] }
         ensures full { result ≡ false → self.new.notes.items ≡ self.old.notes.items }
