@@ -7,9 +7,8 @@ use Rattle.workflow_core.specs.declared.workflow.Job.{Job}
 use Rattle.dependency_graph.specs.declared.fault.GraphFault.{GraphFault}
 use Rattle.dependency_graph.specs.declared.fault.GraphFault.TheVariants.{TwoProducers, Cycle, Memory}
 use Rattle.dependency_graph.specs.Edges.{makers, edge}
-use Rattle.dependency_graph.specs.Cycles.{IsNamedCycle}
-use Rattle.dependency_graph.specs.Makers.{made_at}
-use Rattle.dependency_graph.specs.Graph.{Links, IsGraphOf}
+use Rattle.digraph.specs.Cycle.{IsNamedCycle}
+use Rattle.dependency_graph.specs.Graph.{Links, IsGraphOf, made_at}
 
 -- a file's name, and a job's id, by number
 abbrev pub name_of : Workflow → ℕ → List ℕ

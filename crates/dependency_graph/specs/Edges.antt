@@ -5,10 +5,11 @@ use Rattle.outside.specs.declared.numbers.JobId.{JobId}
 use Rattle.workflow_core.specs.declared.workflow.Workflow.{Workflow}
 use Rattle.workflow_core.specs.declared.workflow.Job.{Job}
 use Rattle.workflow_core.specs.WellFormed.{inputs_of, outputs_of, before, after}
+use Rattle.digraph.specs.Adjacency.{has}
 
 -- one of the files is this one
 abbrev pub is_among : ℕ → List ℕ → Bool
-is_among f fs = list_any (λ o. o == f) fs
+is_among f fs = has f fs
 
 abbrev pub has_output : ℕ → Job → Bool
 has_output f j = is_among f (outputs_of j)

@@ -1,13 +1,13 @@
 -- What a graph says of its workflow.
-use Rattle.std.specs.Prelude.{◌≡◌, ℕ, ◌<◌, ◌≤◌, List, [], ◌∷◌, length, Option, MatchOption}
+use Rattle.std.specs.Prelude.{◌≡◌, ℕ, ◌<◌, ◌≤◌, List, [], ◌∷◌, length, map, Option, None, MatchOption, Vec, slice_index_or}
 use Rattle.std.specs.List.{All}
+use Rattle.std.specs.declared.alloc.Global.{Global}
 use Rattle.outside.specs.declared.numbers.JobId.{JobId}
 use Rattle.workflow_core.specs.declared.workflow.Workflow.{Workflow}
+use Rattle.digraph.specs.Adjacency.{AreNeighbours}
+use Rattle.digraph.specs.Cycle.{Returns}
+use Rattle.digraph.specs.Order.{IsTopologicalOrder}
 use Rattle.dependency_graph.specs.Edges.{makers, edge}
-use Rattle.dependency_graph.specs.Cycles.{Returns}
-use Rattle.dependency_graph.specs.Makers.{made_at}
-use Rattle.dependency_graph.specs.Lists.{row, has, times, IsRising}
-use Rattle.dependency_graph.specs.Order.{IsOrder}
 
 -- A graph: for each file the job that makes it, for each job those before and after it, and the jobs in an order.
 pub record Links : Type 0 where
@@ -15,6 +15,20 @@ pub record Links : Type 0 where
   pub parents : List (List JobId)
   pub children : List (List JobId)
   pub ordered : List JobId
+
+abbrev pub numbers : List JobId → List ℕ
+numbers js = map (λ (j : JobId). j.0) js
+
+abbrev pub job_lists : List (Vec JobId Global) → List (List JobId)
+job_lists vs = map (λ (v : Vec JobId Global). v.items) vs
+
+-- the list of a job: empty where there is no such job
+abbrev pub jobs_at : List (List JobId) → ℕ → List JobId
+jobs_at ls i = slice_index_or ls i []
+
+-- the job that makes a file
+abbrev pub made_at : List (Option JobId) → ℕ → Option JobId
+made_at producers f = slice_index_or producers f None
 
 -- Each file has at most one producer, and no job reaches itself.
 pub record IsSound (w : Workflow) : Type 0 where
@@ -26,12 +40,7 @@ pub record IsGraphOf (w : Workflow) (g : Links) : Type 0 where
   pub sound : IsSound w
   pub files : length g.producers ≡ length w.files
   pub producer : (f : ℕ) → f < length w.files → MatchOption (made_at g.producers f) (makers w f ≡ []) (λ (j : JobId). makers w f ≡ j.0 ∷ [])
-  pub parent_lists : length g.parents ≡ length w.jobs
-  pub parents_rise : (b : ℕ) → IsRising (row g.parents b)
-  pub parents : (a b : ℕ) → has a (row g.parents b) ≡ edge w a b
-  pub child_lists : length g.children ≡ length w.jobs
-  pub children_rise : (a : ℕ) → IsRising (row g.children a)
-  pub children : (a b : ℕ) → has b (row g.children a) ≡ edge w a b
+  pub parents : AreNeighbours (λ b a. edge w a b) (length w.jobs) (map numbers g.parents)
+  pub children : AreNeighbours (edge w) (length w.jobs) (map numbers g.children)
   pub in_range : All (λ (j : JobId). j.0 < length w.jobs) g.ordered
-  pub each_once : (b : ℕ) → b < length w.jobs → times b g.ordered ≡ 1
-  pub in_order : IsOrder (edge w) g.ordered
+  pub order : IsTopologicalOrder (edge w) (length w.jobs) (numbers g.ordered)

@@ -1,10 +1,9 @@
+-- What the public contracts say
 pub mod Edges
-pub mod Cycles
-pub mod Lists
-pub mod Makers
-pub mod Order
-pub mod Distances
 pub mod Graph
 pub mod Built
 pub mod Value
 pub mod Flow
+-- Steps of the building
+pub mod Makers
+pub mod Sources

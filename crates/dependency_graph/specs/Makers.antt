@@ -1,5 +1,5 @@
--- A table of the first two jobs that make each file, and the lists of jobs that come from it.
-use Rattle.std.specs.Prelude.{◌≡◌, ℕ, ◌<◌, ◌==◌, ◌&&◌, ◌++◌, Bool, false, cond, List, [], ◌∷◌, if◌then◌else◌, Option, Some, None, is_some, option_to_list, slice_index_or}
+-- A table of the first two jobs that make each file.
+use Rattle.std.specs.Prelude.{◌≡◌, ℕ, ◌==◌, ◌&&◌, Bool, cond, List, [], ◌∷◌, if◌then◌else◌, Option, Some, None, is_some, slice_index_or}
 use Rattle.outside.specs.declared.numbers.JobId.{JobId}
 use Rattle.dependency_graph.specs.Edges.{is_among}
 use Rattle.dependency_graph.specs.declared.makers.Makers.{Makers}
@@ -37,21 +37,3 @@ AreNoted old new j fs = (f : ℕ) → known new f ≡ cond (is_among f fs) (note
 -- two jobs are known
 abbrev pub are_two : Makers → Bool
 are_two m = is_some m.first && is_some m.second
-
--- the job that is known to make a file
-abbrev pub made_at : List (Option JobId) → ℕ → Option JobId
-made_at producers f = slice_index_or producers f None
-
--- the jobs that are known to make the files
-abbrev pub found : List (Option JobId) → List ℕ → List JobId
-found producers [] = []
-found producers (f ∷ fs) = option_to_list (made_at producers f) ++ found producers fs
-
--- a job, if there is one, is this one; has a number below the bound
-abbrev pub is_job : ℕ → Option JobId → Bool
-is_job a None = false
-is_job a (Some j) = j.0 == a
-
-abbrev pub IsBelow : ℕ → Option JobId → Type 0
-IsBelow n None = Unit {0}
-IsBelow n (Some j) = j.0 < n

@@ -1,10 +1,17 @@
 //! The graph of a workflow.
 
-ghost use Rattle.std.specs.Prelude.{◌≡◌, ◌<◌, length};
-ghost use Rattle.dependency_graph.specs.Lists.{row, rows};
-ghost use Rattle.dependency_graph.specs.Makers.{made_at};
+ghost use Rattle.std.specs.Prelude.{◌≡◌, ◌<◌, ℕ, true, false, length, map, is_some, IfOk};
+ghost use Rattle.std.specs.List.{list_all};
+ghost use Rattle.workflow_core.specs.declared.workflow.Workflow.{Workflow};
+ghost use Rattle.digraph.specs.Adjacency.{lists_of, AreNeighbours};
+ghost use Rattle.digraph.specs.Digraph.{count, edge};
+ghost use Rattle.dependency_graph.specs.Edges.{producer};
+ghost use Rattle.dependency_graph.specs.Graph.{numbers, job_lists, jobs_at, made_at, IsGraphOf};
+ghost use Rattle.dependency_graph.specs.Value.{AllMade};
 
-use outside::{FileId, JobId};
+use digraph::Digraph;
+use outside::{FileId, JobId, Memory};
+use std::alloc::Global;
 use std::marker::Model;
 
 /// The jobs before and after each job, the job that makes each file, and an order of all jobs.
@@ -17,19 +24,18 @@ pub struct Graph {
 }
 
 impl Model for Graph {
-    ghost use Rattle.dependency_graph.specs.Lists.{rows};
-    ghost use Rattle.dependency_graph.specs.Graph.{Links};
+    ghost use Rattle.dependency_graph.specs.Graph.{Links, job_lists};
 
     ghost Value = { Links };
 
-    ghost view = { λ g. record { producers = g.producers.items; parents = rows g.parents.items; children = rows g.children.items; ordered = g.ordered.items } };
+    ghost view = { λ g. record { producers = g.producers.items; parents = job_lists g.parents.items; children = job_lists g.children.items; ordered = g.ordered.items } };
 }
 
 impl Graph {
     /// The jobs from which an edge leads to this one, in rising order.
     pub fn parents(&self, job: JobId) -> &[JobId]
         requires { job.0 < length self.now.parents }
-        ensures { result.now ≡ row self.now.parents job.0 }
+        ensures { result.now ≡ jobs_at self.now.parents job.0 }
     {
         &self.parents[job.0 as usize]
     }
@@ -37,7 +43,7 @@ impl Graph {
     /// The jobs to which an edge leads from this one, in rising order.
     pub fn children(&self, job: JobId) -> &[JobId]
         requires { job.0 < length self.now.children }
-        ensures { result.now ≡ row self.now.children job.0 }
+        ensures { result.now ≡ jobs_at self.now.children job.0 }
     {
         &self.children[job.0 as usize]
     }
@@ -50,6 +56,14 @@ impl Graph {
         self.producers[file.0 as usize]
     }
 
+    /// Whether each file of the graph's workflow has a producer.
+    pub fn is_made(&self) -> bool
+        ensures made { (w : Workflow) → IsGraphOf w self.now → result ≡ true → AllMade w }
+        ensures unmade { (w : Workflow) → IsGraphOf w self.now → result ≡ false → (f : ℕ) × (f < length w.files) × (is_some (producer w.jobs f) ≡ false) }
+    {
+        are_known(&self.producers)
+    }
+
     /// Every job once, each after its parents.
     pub fn ordered(&self) -> &[JobId]
         ensures { result.now ≡ self.now.ordered }
@@ -58,19 +72,51 @@ impl Graph {
     }
 }
 
-/// Puts the parts of a graph together.
-pub fn graph_of(
-    producers: Vec<Option<JobId>>,
-    parents: Vec<Vec<JobId>>,
-    children: Vec<Vec<JobId>>,
-    ordered: Vec<JobId>,
-) -> Graph
-    ensures { result ≡ record { producers = producers.items; parents = rows parents.items; children = rows children.items; ordered = ordered.items } }
+fn are_known(producers: &[Option<JobId>]) -> bool
+    ensures { result ≡ list_all (λ o. is_some o) producers.now }
 {
-    Graph {
+    producers.iter().all(|producer| producer.is_some())
+}
+
+fn job_ids(alloc: Global, nodes: &[u32]) -> Result<Vec<JobId>, Memory>
+    ensures { IfOk result (λ ids. numbers ids.items ≡ nodes.now) }
+{
+    let mut ids = Vec::new(alloc);
+    for node in nodes {
+        ids.push(JobId(*node))?;
+    }
+    Ok(ids)
+}
+
+fn job_lists(alloc: Global, lists: &[Vec<u32>]) -> Result<Vec<Vec<JobId>>, Memory>
+    ensures { IfOk result (λ jobs. map numbers (job_lists jobs.items) ≡ lists_of lists.now) }
+{
+    let mut jobs = Vec::new(alloc);
+    for list in lists {
+        jobs.push(job_ids(alloc, list)?)?;
+    }
+    Ok(jobs)
+}
+
+/// The graph of jobs that are numbers in a directed graph, with an order of them.
+pub fn graph_of(
+    alloc: Global,
+    producers: Vec<Option<JobId>>,
+    digraph: &Digraph,
+    order: &[u32],
+) -> Result<Graph, Memory>
+    ensures producers { IfOk result (λ g. g.producers ≡ producers.items) }
+    ensures parents { IfOk result (λ g. AreNeighbours (λ b a. edge digraph.now a b) (count digraph.now) (map numbers g.parents)) }
+    ensures children { IfOk result (λ g. AreNeighbours (edge digraph.now) (count digraph.now) (map numbers g.children)) }
+    ensures ordered { IfOk result (λ g. numbers g.ordered ≡ order.now) }
+{
+    let parents = job_lists(alloc, digraph.predecessors())?;
+    let children = job_lists(alloc, digraph.successors())?;
+    let ordered = job_ids(alloc, order)?;
+    Ok(Graph {
         producers,
         parents,
         children,
         ordered,
-    }
+    })
 }

@@ -2,30 +2,27 @@
 //!
 //! An edge leads from a job to one that reads a file it makes, or that is stated to come after it:
 //! `specs/Edges.antt`. [`build`] answers the graph (`specs/Graph.antt`) exactly where each file has
-//! at most one producer and no list of edges returns; `specs/Built.antt` has the faults, and
-//! `specs/Cycles.antt` the one cycle that a fault names.
+//! at most one producer and no job returns to itself; `specs/Built.antt` has the faults. What an order
+//! and the named cycle are stands in `digraph`, which searches.
 //!
-//! The value of a file is defined in `specs/Value.antt`. Laws in `law.rt` say that nothing else fits
-//! together so, and that values flow along the graph's order (`specs/Flow.antt`).
+//! The value of a file is defined in `specs/Value.antt`. Laws in `value.rt` and `flow.rt` say that nothing
+//! else fits together so, and that values flow along the graph's order (`specs/Flow.antt`).
 #![tactic(auto)]
 
-mod building;
-mod cycle;
-mod distance;
+mod built;
+mod edges;
 mod fault;
+mod flow;
 mod graph;
-mod law;
-mod lists;
 mod makers;
-mod order;
 mod sources;
 #[cfg(test)]
 mod tests;
+mod value;
 
-pub use building::build;
+pub use built::build;
+pub use edges::producer_is_the_first_maker;
 pub use fault::GraphFault;
+pub use flow::{makers_come_before, values_flow_in_order};
 pub use graph::Graph;
-pub use law::{
-    makers_come_before, producer_is_the_first_maker, value_is_determined, value_is_made_of_values,
-    values_flow_in_order,
-};
+pub use value::{value_is_determined, value_is_made_of_values};

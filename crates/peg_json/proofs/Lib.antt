@@ -1,5 +1,5 @@
-pub mod Trees
-pub mod Escapes
-pub mod FoundRows
-pub mod EntryByEntry
-pub mod Unescaped
+pub mod TreeLemmas
+pub mod VersionsLemmas
+pub mod TableLemmas
+pub mod EntriesLemmas
+pub mod PathLemmas

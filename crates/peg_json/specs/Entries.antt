@@ -8,7 +8,7 @@ use Rattle.serde_json.specs.declared.value.Value.{Value}
 use Rattle.peg_json.specs.declared.fault.TreeFault.{TreeFault}
 use Rattle.peg_json.specs.declared.fault.TreeFault.TheVariants as faults
 use Rattle.peg_json.specs.Path.{key_path}
-use Rattle.peg_json.specs.Reading.{◌>>=◌}
+use Rattle.peg_json.specs.Tree.{◌>>=◌}
 
 -- the members of an object, in byte order of their keys
 abbrev pub members_in_order : Members → List (List ℕ × Data)

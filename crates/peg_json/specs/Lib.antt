@@ -1,9 +1,9 @@
-pub mod AfterTree
-pub mod Counts
+pub mod ReadFault
+pub mod Count
 pub mod Entries
 pub mod Path
-pub mod Reading
-pub mod Tables
+pub mod Tree
+pub mod Table
 pub mod Typed
-pub mod Unknown
-pub mod Version
+pub mod Listed
+pub mod Versions

@@ -3,8 +3,8 @@ use Rattle.std.specs.Prelude.{ℕ, List, Bool, nat_lt, length, decimal, if◌the
 use Rattle.serde_json.specs.Data.{Data}
 use Rattle.serde_json.specs.Find as find
 use Rattle.peg_json.specs.Path.{key_path}
-use Rattle.peg_json.specs.Reading.{◌>>=◌, some_or}
-use Rattle.peg_json.specs.Tables.{member_of}
+use Rattle.peg_json.specs.Tree.{◌>>=◌, some_or}
+use Rattle.peg_json.specs.Table.{member_of}
 use Rattle.peg_json.specs.declared.fault.TreeFault.{TreeFault}
 use Rattle.peg_json.specs.declared.fault.TreeFault.TheVariants as faults
 

@@ -2,7 +2,7 @@
 
 ghost use Rattle.std.specs.Prelude.{◌≡◌, map};
 ghost use Rattle.serde_json.specs.View.{view as tree_view};
-ghost use Rattle.peg_json.specs.Reading.{Gives};
+ghost use Rattle.peg_json.specs.Tree.{Gives};
 ghost use Rattle.peg_json.specs.Entries.{entry_of, entries_from, entries_in, seen_members};
 
 use crate::fault::TreeFault;
@@ -46,7 +46,7 @@ fn entries_of<T: FromTree>(
 }
 
 /// Each member of an object with its key, in byte order of the keys. A null is read like any other value.
-#[tactic(auto, using(crate::proofs::Trees::members_seen))]
+#[tactic(auto, using(crate::proofs::TreeLemmas::members_seen))]
 pub fn entries_at<T: FromTree>(
     alloc: Global,
     value: &Value,

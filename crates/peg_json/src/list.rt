@@ -2,7 +2,7 @@
 
 ghost use Rattle.std.specs.Prelude.{◌≡◌, map};
 ghost use Rattle.serde_json.specs.View.{view as tree_view};
-ghost use Rattle.peg_json.specs.Reading.{Gives, each_from, list_in};
+ghost use Rattle.peg_json.specs.Tree.{Gives, each_from, list_in};
 
 use crate::fault::TreeFault;
 use crate::path;
@@ -30,7 +30,7 @@ fn elements<T: FromTree>(alloc: Global, items: &[Value], path: &Text) -> Result<
 }
 
 /// The elements of a list, under its path.
-#[tactic(auto, using(crate::proofs::Trees::elements_view))]
+#[tactic(auto, using(crate::proofs::TreeLemmas::elements_view))]
 pub fn list_at<T: FromTree>(alloc: Global, value: &Value, path: &Text) -> Result<Vec<T>, TreeFault>
     ensures { Gives (λ v. map T.seen v.items) result
         (list_in T.reads path.now (tree_view value.now)) }

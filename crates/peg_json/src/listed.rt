@@ -4,7 +4,7 @@ ghost use Rattle.std.specs.Prelude.{◌≡◌, ◌++◌, List, ℕ, IfOk, OnOk, 
 ghost use Rattle.std.specs.List.Sorted.{IsPermutation, IsSorted};
 ghost use Rattle.std.specs.Ordering.{nat_cmp};
 ghost use Rattle.std.specs.Cmp.Lexicographic.{slice_cmp};
-ghost use Rattle.peg_json.specs.Unknown.{unknown_from, unknown_list, unknown_at};
+ghost use Rattle.peg_json.specs.Listed.{unknown_from, unknown_list, unknown_at};
 ghost use Rattle.serde_json.specs.Data.{Data};
 ghost use Rattle.serde_json.specs.View.{view as tree_view};
 
@@ -44,7 +44,7 @@ fn gather_elements<T: Listed>(
 }
 
 /// Adds those of a list's elements.
-#[tactic(auto, using(crate::proofs::Trees::elements_view))]
+#[tactic(auto, using(crate::proofs::TreeLemmas::elements_view))]
 pub fn gather_list<T: Listed>(
     alloc: Global,
     value: &Value,

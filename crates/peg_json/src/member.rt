@@ -6,8 +6,8 @@ ghost use Rattle.std.specs.List.Sorted.{IsPermutation, IsSorted};
 ghost use Rattle.std.specs.Ordering.{nat_cmp};
 ghost use Rattle.std.specs.Cmp.Lexicographic.{slice_cmp};
 ghost use Rattle.serde_json.specs.View.{view as tree_view};
-ghost use Rattle.peg_json.specs.Reading.{Gives, each};
-ghost use Rattle.peg_json.specs.Tables.{member_of, is_kind, row_of, rows_of, row_member, members_of, members_in, checks, is_key, unknown_paths, unknown_in};
+ghost use Rattle.peg_json.specs.Tree.{Gives, each};
+ghost use Rattle.peg_json.specs.Table.{member_of, is_kind, row_of, rows_of, row_member, members_of, members_in, checks, is_key, unknown_paths, unknown_in};
 
 use crate::fault::TreeFault;
 use crate::path;
@@ -96,7 +96,7 @@ fn each_member<'a>(
 }
 
 /// The object's member of each row, where the object is as its rows say.
-#[tactic(auto, unfolding(crate::specs::Tables::members_of), using(crate::proofs::FoundRows::each_members))]
+#[tactic(auto, unfolding(crate::specs::Table::members_of), using(crate::proofs::TableLemmas::each_members))]
 pub fn members<'a, const N: usize>(
     alloc: Global,
     value: &'a Value,
@@ -161,7 +161,7 @@ fn gather_from(
 }
 
 /// Adds the paths of the object's keys that no row has.
-#[tactic(auto, using(crate::proofs::Trees::keys_view))]
+#[tactic(auto, using(crate::proofs::TreeLemmas::keys_view))]
 pub fn gather<const N: usize>(
     alloc: Global,
     value: &Value,

@@ -30,7 +30,7 @@ pub fn root(alloc: Global) -> Result<Text, Memory>
 }
 
 /// The path of an object's key.
-#[tactic(auto, using(crate::proofs::Unescaped::key_back))]
+#[tactic(auto, using(crate::proofs::PathLemmas::key_back))]
 pub fn at_key(alloc: Global, path: &Text, key: &str) -> Result<Text, Memory>
     ensures path { IfOk result (λ t. t ≡ key_path path.now key.now) }
     ensures reads_back { unescape (escaped key.now) ≡ key.now }

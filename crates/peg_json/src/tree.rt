@@ -3,7 +3,7 @@
 ghost use Rattle.std.specs.Prelude.{List, ℕ, Result};
 ghost use Rattle.serde_json.specs.Data.{Data};
 ghost use Rattle.serde_json.specs.View.{view as tree_view};
-ghost use Rattle.peg_json.specs.Reading.{Gives, tree_of};
+ghost use Rattle.peg_json.specs.Tree.{Gives, tree_of};
 ghost use Rattle.peg_json.specs.declared.fault.TreeFault as declared;
 
 use crate::fault::TreeFault;
@@ -12,7 +12,7 @@ use serde_json::Value;
 use std::alloc::Global;
 
 /// The tree that the bytes are.
-#[tactic(auto, using(crate::proofs::Trees::is_tree, crate::proofs::Trees::no_tree))]
+#[tactic(auto, using(crate::proofs::TreeLemmas::is_tree, crate::proofs::TreeLemmas::no_tree))]
 pub fn parse(alloc: Global, bytes: &[u8]) -> Result<Value, TreeFault>
     ensures { Gives tree_view result (tree_of bytes.now) }
 {

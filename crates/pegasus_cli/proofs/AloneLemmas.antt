@@ -1,20 +1,22 @@
 -- What the work of `alone` answers.
-use Rattle.std.proofs.Common.{◌≡◌, ℕ, ◌++◌, List, [], ◌∷◌, refl, sym, ap, subst, ◌∙◌, inl, inr}
-use Rattle.std.specs.Prelude.{Result, Ok, Err, Vec}
+use Rattle.std.proofs.Common.{◌≡◌, ℕ, ◌<◌, length, false, ◌++◌, List, [], ◌∷◌, refl, sym, ap, subst, ◌∙◌, inl, inr}
+use Rattle.std.specs.Prelude.{Result, Ok, Err, Vec, is_some}
 use Rattle.std.specs.declared.alloc.Global.{Global}
 use Rattle.outside.specs.Counts.{Rose}
 use Rattle.outside.specs.declared.host.HostFault.{HostFault}
 use Rattle.outside.specs.declared.host.HostFault.TheVariants as host_faults
 use Rattle.outside.specs.declared.numbers.JobId.{JobId}
+use Rattle.workflow_core.specs.declared.workflow.Workflow.{Workflow}
+use Rattle.dependency_graph.specs.Edges.{producer}
 use Rattle.dependency_graph.specs.Value.{AllMade}
-use Rattle.workflow_eval.specs.Evaluated.{Evaluates, IsReached}
+use Rattle.workflow_eval.specs.Evaluating.{Evaluates, IsReached}
 use Rattle.workflow_eval.specs.declared.fault.EvalFault.{EvalFault}
 use Rattle.workflow_eval.specs.declared.fault.EvalFault.TheVariants as eval_faults
 use Rattle.pegasus_cli.specs.declared.outcome.Outcome.{Outcome}
 use Rattle.pegasus_cli.specs.declared.outcome.Outcome.TheVariants as outcomes
 use Rattle.pegasus_cli.specs.declared.run_fault.RunFault.TheVariants.{Declined, ToolFailed}
 use Rattle.pegasus_cli.specs.declared.survey.Survey.{Survey}
-use Rattle.pegasus_cli.specs.Commands.Alone.{AnswersFault, IsValued, Prints, RunsAlone, Tells, delivery_answer}
+use Rattle.pegasus_cli.specs.Commands.Alone.{AnswersFault, IsUnmade, IsValued, Prints, RunsAlone, Tells, delivery_answer}
 use Rattle.pegasus_cli.specs.Delivery.{Delivery, DeliversEach, chosen, delivered_lines}
 use Rattle.pegasus_cli.specs.Moments.{Work}
 use Rattle.pegasus_cli.proofs.DeliveryLemmas.{chosen_are, keeps_old}
@@ -32,6 +34,9 @@ at_once_runs w s a answer text is nothing same tells = record {
   tells = subst (Tells w s [] []) (sym is) tells;
   prints = prints_nothing text a nothing;
 }
+
+pub unmade_so : (w : Workflow) → ((f : ℕ) × (f < length w.files) × (is_some (producer w.jobs f) ≡ false)) → IsUnmade w
+unmade_so w h = record { file = h.0; within = h.1; none = h.2 }
 
 -- a fault of the evaluation
 pub fault_tells : (w : Work) (s : Survey) (fault : EvalFault) (o : Outcome) → AllMade s.workflow → Evaluates w.apply s.workflow s.graph.ordered (Rose w.before.tool w.after.tool) (Err fault)

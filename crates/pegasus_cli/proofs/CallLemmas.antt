@@ -12,7 +12,7 @@ use Rattle.outside.specs.declared.sink.SinkFault.TheVariants as sink_faults
 use Rattle.workflow_core.specs.declared.workflow.Workflow.{Workflow}
 use Rattle.dependency_graph.specs.Built.{AreTwoProducers}
 use Rattle.dependency_graph.specs.Graph.{IsSound}
-use Rattle.workflow_eval.specs.Evaluated.{first_undefined, made_by_number}
+use Rattle.workflow_eval.specs.Evaluating.{first_undefined, made_by_number}
 use Rattle.pegasus_cli.specs.declared.commands.Command.{Command}
 use Rattle.pegasus_cli.specs.declared.commands.Command.TheVariants as commands
 use Rattle.pegasus_cli.specs.declared.early.Early.{Early}
@@ -23,11 +23,11 @@ use Rattle.pegasus_cli.specs.declared.plan_fault.Document.TheVariants as documen
 use Rattle.pegasus_cli.specs.declared.plan_fault.PlanFault.TheVariants as plan
 use Rattle.pegasus_cli.specs.declared.run_fault.RunFault.TheVariants.{Declined, ToolFailed, HostFailed}
 use Rattle.pegasus_cli.specs.declared.survey.Survey.{Survey}
-use Rattle.pegasus_cli.specs.Call.{Ends, IsAnswer, IsAnswered, IsDoneOrMemory, MayFinish, NoneRose}
+use Rattle.pegasus_cli.specs.Call.{Ends, HasWorked, IsAnswer, IsAnswered, IsDoneOrMemory, IsStopped, IsUsage, MayFinish, NoneRose}
 use Rattle.pegasus_cli.specs.Commands.{spec_of}
 use Rattle.pegasus_cli.specs.Commands.Alone.{AllDefined, Tells}
 use Rattle.pegasus_cli.specs.Commands.Check.{Says}
-use Rattle.pegasus_cli.specs.Course.{ButMemory, Gives, IsReadAs, IsStep, Matches, ReadWorkflow, documents, read_from}
+use Rattle.pegasus_cli.specs.Course.{ButMemory, Gives, HasFailed, IsReadAs, IsStep, Matches, ReadWorkflow, documents, read_from}
 use Rattle.pegasus_cli.specs.Delivery.{Delivery}
 use Rattle.pegasus_cli.specs.Moments.{Call, DocsMoment, Output, Work}
 use Rattle.pegasus_cli.specs.Outcome.{line_of, outcome_of}
@@ -75,13 +75,13 @@ only_memory X e h = absurd h
 told_step : (request : List ℕ) (before after : DocsMoment) (files : Files) (read : ReadWorkflow) (r : Result Workflow Early) → before.told ≡ Some files → read_from files (documents request) ≡ Ok read → (Rose before.counts.faults after.counts.faults → ⊥)
     → IsStep IsReadAs (documents request) before after r → ButMemory r (Matches IsReadAs (Ok read) r)
 told_step request before after files read r told reads still step =
-    result_again r _ _ (λ (m : Matches IsReadAs (read_from files (documents request)) r ⊎ Rose before.counts.faults after.counts.faults). came_so m) (told_so r (subst (λ t. ButMemory r (Gives IsReadAs t (documents request) before.counts after.counts r)) told step.gives))
+    result_again r _ _ (λ (m : Matches IsReadAs (read_from files (documents request)) r ⊎ HasFailed before.counts after.counts r). came_so m) (told_so r (subst (λ t. ButMemory r (Gives IsReadAs t (documents request) before.counts after.counts r)) told step.gives))
   where
-    came_so : Matches IsReadAs (read_from files (documents request)) r ⊎ Rose before.counts.faults after.counts.faults → Matches IsReadAs (Ok read) r
+    came_so : Matches IsReadAs (read_from files (documents request)) r ⊎ HasFailed before.counts after.counts r → Matches IsReadAs (Ok read) r
     came_so (inl m) = subst (λ z. Matches IsReadAs z r) reads m
-    came_so (inr rose) = absurd (still rose)
+    came_so (inr failed) = absurd (still failed.0)
 
-    told_so : (r : Result Workflow Early) → ButMemory r (Gives IsReadAs (Some files) (documents request) before.counts after.counts r) → ButMemory r (Matches IsReadAs (read_from files (documents request)) r ⊎ Rose before.counts.faults after.counts.faults)
+    told_so : (r : Result Workflow Early) → ButMemory r (Gives IsReadAs (Some files) (documents request) before.counts after.counts r) → ButMemory r (Matches IsReadAs (read_from files (documents request)) r ⊎ HasFailed before.counts after.counts r)
     told_so (Err early.Memory) h = tt
     told_so r h = told_gives IsReadAs files (documents request) before.counts after.counts r h
 
@@ -171,3 +171,39 @@ worked_answered c k request s answer outcome text is goes_on works ends = record
       let can = subst (λ (x : Command). (spec_of x).CanFinish c.work s) (ap (λ (x : Command × List ℕ). x.0) same) (may.can_finish s read mine.graph) in
       ends_done c.output text answer outcome ends (finishes k c.work s text answer works can still.host still.tool) still.sink;
 }
+
+check_is_no_usage : (s : Survey) (text : List ℕ) → Says s text outcomes.Usage → ⊥
+check_is_no_usage s text h = h
+
+alone_is_no_usage : (w : Work) (s : Survey) (first rest : List Delivery) → Tells w s first rest outcomes.Usage → ⊥
+alone_is_no_usage w s first rest h = h
+
+work_is_no_usage : (k : Command) (w : Work) (s : Survey) (text : List ℕ) → (spec_of k).Works w s text outcomes.Usage → ⊥
+work_is_no_usage commands.Check w s text h = check_is_no_usage s text h.says
+work_is_no_usage commands.Alone w s text h = alone_is_no_usage w s h.first h.rest h.tells
+
+early_is_no_usage : (e : Early) → outcomes.Usage ≡ outcome_of e → ⊥
+early_is_no_usage early.Memory h = (let clash : ◌≡◌ {A = Outcome} outcomes.Usage outcomes.Memory = h in absurd cc)
+early_is_no_usage (early.DocAbsent n) h = (let clash : ◌≡◌ {A = Outcome} outcomes.Usage (outcomes.DocAbsent n) = h in absurd cc)
+early_is_no_usage (early.DocTooLong n k) h = (let clash : ◌≡◌ {A = Outcome} outcomes.Usage (outcomes.DocTooLong n k) = h in absurd cc)
+early_is_no_usage (early.DocFailed n) h = (let clash : ◌≡◌ {A = Outcome} outcomes.Usage (outcomes.DocFailed n) = h in absurd cc)
+early_is_no_usage (early.Refused f) h = (let clash : ◌≡◌ {A = Outcome} outcomes.Usage (outcomes.Refused f) = h in absurd cc)
+early_is_no_usage early.NotBuilt h = (let clash : ◌≡◌ {A = Outcome} outcomes.Usage (outcomes.NotBuilt documents_named.Request) = h in absurd cc)
+
+-- Usage comes only where the words are no command.
+pub usage_is_no_command : (c : Call) → IsAnswered c outcomes.Usage → command_of c.asked.words ≡ None
+usage_is_no_command c answered = came_so answered.came
+  where
+    came_so : IsUsage c answered.text answered.answer ⊎ (IsStopped c answered.text answered.answer ⊎ HasWorked c answered.text answered.answer) → command_of c.asked.words ≡ None
+    came_so (inl usage) = usage.no_command
+    came_so (inr (inl stopped)) = absurd (early_is_no_usage stopped.early (answered.ends.0 ∙ stopped.answers))
+    came_so (inr (inr worked)) = absurd (work_is_no_usage worked.command c.work worked.survey answered.text (subst ((spec_of worked.command).Works c.work worked.survey answered.text) (sym answered.ends.0) worked.works))
+
+-- Where the words are no command, the answer is Usage.
+pub no_command_is_usage : (c : Call) (outcome : Outcome) → command_of c.asked.words ≡ None → (answered : IsAnswered c outcome) → answered.answer ≡ outcomes.Usage
+no_command_is_usage c outcome none answered = came_so answered.came
+  where
+    came_so : IsUsage c answered.text answered.answer ⊎ (IsStopped c answered.text answered.answer ⊎ HasWorked c answered.text answered.answer) → answered.answer ≡ outcomes.Usage
+    came_so (inl usage) = usage.answers
+    came_so (inr (inl stopped)) = absurd (no_command (command_of c.asked.words) (stopped.command, stopped.request) stopped.is_command none)
+    came_so (inr (inr worked)) = absurd (no_command (command_of c.asked.words) (worked.command, worked.request) worked.is_command none)

@@ -1,5 +1,5 @@
 -- How one step over documents follows another.
-use Rattle.std.proofs.Common.{◌≡◌, [], refl, sym, subst, ◌∙◌, inl, inr, arith}
+use Rattle.std.proofs.Common.{◌≡◌, ap, [], refl, sym, subst, ◌∙◌, inl, inr, arith}
 use Rattle.std.specs.Prelude.{◌⊎◌, Option, Some, Result, Ok, Err}
 use Rattle.outside.specs.Counts.{IsLater, Rose, one_done, one_fault}
 use Rattle.outside.specs.Docs.{Fetched}
@@ -10,10 +10,10 @@ use Rattle.outside.specs.declared.docs.DocFault.TheVariants as doc_faults
 use Rattle.peg_json.specs.declared.fault.TreeFault.{TreeFault}
 use Rattle.peg_json.specs.declared.fault.TreeFault.TheVariants as faults
 use Rattle.pegasus_cli.specs.declared.early.Early.{Early}
-use Rattle.pegasus_cli.specs.declared.early.Early.TheVariants.{Memory, Refused}
+use Rattle.pegasus_cli.specs.declared.early.Early.TheVariants.{DocFailed, Memory, Refused}
 use Rattle.pegasus_cli.specs.declared.plan_fault.Document.{Document}
 use Rattle.pegasus_cli.specs.declared.plan_fault.PlanFault.TheVariants as plan
-use Rattle.pegasus_cli.specs.Course.{ButMemory, Course, Ends, Asks, Gives, IsStep, Matches, and_then, doc_answer, document_limit, goes_on, read_from, tree_answer}
+use Rattle.pegasus_cli.specs.Course.{ButMemory, Course, Ends, Asks, Gives, HasFailed, IsStep, Matches, and_then, doc_answer, document_limit, goes_on, read_from, tree_answer}
 use Rattle.pegasus_cli.specs.Moments.{DocsMoment}
 
 pub tree_answer_but_memory : (which : Document) (fault : TreeFault) → (fault ≡ faults.Memory → ⊥) → Refused (plan.Tree which fault) ≡ tree_answer which fault
@@ -89,24 +89,28 @@ step_stop {A} {B} {X} {Y} R S c f before after e came = record {
 rose_by_one : (before after : Counts) → after ≡ one_fault before → Rose before.faults after.faults
 rose_by_one before after is = rw is (omega arith)
 
--- What told documents give is what came, unless a fault was counted or memory ran out.
+-- What told documents give is what came, but where a fetch failed or memory ran out.
 pub told_gives : {A X : Type 0} (R : A → X → Type 0) (files : Files) (c : Course A) (before after : Counts) (r : Result X Early)
-    → Gives R (Some files) c before after r → ButMemory r (Matches R (read_from files c) r ⊎ Rose before.faults after.faults)
+    → Gives R (Some files) c before after r → ButMemory r (Matches R (read_from files c) r ⊎ HasFailed before after r)
 told_gives R files (Ends r) before after x h = but_memory x _ (inl h.1)
 told_gives R files (Asks name next) before after x (inl h) =
-    result_again x _ _ (λ (m : Matches R (read_from files (next h.0)) x ⊎ Rose before.faults after.faults). came_so m) (told_gives R files (next h.0) (one_done before) after x h.2)
+    result_again x _ _ (λ (m : Matches R (read_from files (next h.0)) x ⊎ HasFailed (one_done before) after x). came_so m) (told_gives R files (next h.0) (one_done before) after x h.2)
   where
-    came_so : Matches R (read_from files (next h.0)) x ⊎ Rose before.faults after.faults → Matches R (read_from files (Asks name next)) x ⊎ Rose before.faults after.faults
+    came_so : Matches R (read_from files (next h.0)) x ⊎ HasFailed (one_done before) after x → Matches R (read_from files (Asks name next)) x ⊎ HasFailed before after x
     came_so (inl m) = inl (subst (λ z. Matches R (goes_on z name (λ bytes. read_from files (next bytes))) x) (sym h.1.told_is) m)
     came_so (inr m) = inr m
 told_gives R files (Asks name next) before after x (inr h) = refused_so h.0 h.1 h.2
   where
-    memory_came : (x : _) → Matches R (Err Memory) x → ButMemory x (Matches R (read_from files (Asks name next)) x ⊎ Rose before.faults after.faults)
+    memory_came : (x : _) → Matches R (Err Memory) x → ButMemory x (Matches R (read_from files (Asks name next)) x ⊎ HasFailed before after x)
     memory_came (Ok y) m = absurd m
     memory_came (Err e) m = (let is : e ≡ Memory = m in rw is tt)
 
-    refused_so : (fault : DocFault) → Fetched (Some files) name document_limit before after (Err fault) [] → Matches R (Err (doc_answer name fault)) x → ButMemory x (Matches R (read_from files (Asks name next)) x ⊎ Rose before.faults after.faults)
+    failed_came : (x : _) → after ≡ one_fault before → Matches R (Err (DocFailed name)) x → HasFailed before after x
+    failed_came (Ok y) by_one m = absurd m
+    failed_came (Err e) by_one m = (rose_by_one before after by_one, name, ap Err m)
+
+    refused_so : (fault : DocFault) → Fetched (Some files) name document_limit before after (Err fault) [] → Matches R (Err (doc_answer name fault)) x → ButMemory x (Matches R (read_from files (Asks name next)) x ⊎ HasFailed before after x)
     refused_so doc_faults.Absent f m = but_memory x _ (inl (subst (λ z. Matches R (goes_on z name (λ bytes. read_from files (next bytes))) x) (sym f.2) m))
     refused_so (doc_faults.TooLong n) f m = but_memory x _ (inl (subst (λ z. Matches R (goes_on z name (λ bytes. read_from files (next bytes))) x) (sym f.3) m))
-    refused_so doc_faults.Failed f m = but_memory x _ (inr (rose_by_one before after f.0))
+    refused_so doc_faults.Failed f m = but_memory x _ (inr (failed_came x f.0 m))
     refused_so doc_faults.Memory f m = memory_came x m

@@ -17,7 +17,7 @@ use Rattle.workflow_core.specs.declared.workflow.Job.{Job}
 use Rattle.workflow_core.specs.declared.workflow.Output.{Output}
 use Rattle.workflow_core.specs.Requested.{requests, is_requested, requested, requested_from}
 use Rattle.dependency_graph.specs.Value.{value}
-use Rattle.workflow_eval.specs.Evaluated.{AreValues}
+use Rattle.workflow_eval.specs.Evaluating.{AreValues}
 use Rattle.pegasus_cli.specs.Delivery.{AreDeliveries, Delivery, DeliversEach, DeliversOne, HasDelivered, chosen, delivered_line, delivered_lines, delivering_all, marked, marked_by, picked}
 
 set_mark : (marks : List Bool) (k f : ℕ) → f < length marks → get_or (slice_set marks k true) f false ≡ ((k == f) || get_or marks f false)

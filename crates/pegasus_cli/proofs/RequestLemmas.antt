@@ -1,7 +1,7 @@
 -- What is no request.
 use Rattle.std.proofs.Common.{◌≡◌, List, ℕ, refl}
 use Rattle.std.specs.Prelude.{Result, Err}
-use Rattle.peg_json.specs.Reading.{Fails}
+use Rattle.peg_json.specs.Tree.{Fails}
 use Rattle.peg_json.specs.declared.fault.TreeFault.{TreeFault}
 use Rattle.peg_json.specs.declared.fault.TreeFault.TheVariants as faults
 use Rattle.pegasus_cli.specs.declared.request.RequestFault.TheVariants.{OtherForm}

@@ -3,7 +3,7 @@ use Rattle.std.specs.Prelude.{◌≡◌, ◌⊎◌, ℕ, ◌≤◌, List, [], le
 use Rattle.std.specs.List.Sorted.{IsPermutation, IsSorted}
 use Rattle.std.specs.Ordering.{nat_cmp}
 use Rattle.std.specs.Cmp.Lexicographic.{slice_cmp}
-use Rattle.outside.specs.Counts.{IsLater, one_done}
+use Rattle.outside.specs.Counts.{IsLater, Rose, one_done}
 use Rattle.outside.specs.Docs.{Fetched, fetched}
 use Rattle.outside.specs.FileMap.{Files}
 use Rattle.outside.specs.declared.counts.Counts.{Counts}
@@ -15,7 +15,7 @@ use Rattle.peg_json.specs.declared.read_fault.ReadFault.{ReadFault}
 use Rattle.peg_json.specs.declared.read_fault.ReadFault.TheVariants as reads
 use Rattle.workflow_core.specs.declared.workflow.Workflow.{Workflow as WorkflowValue}
 use Rattle.workflow_core.specs.View.{WorkflowEntry, view}
-use Rattle.workflow_reader.specs.Read.{read_of, unknown_in_text}
+use Rattle.workflow_reader.specs.Reader.{read_of, unknown_in_text}
 use Rattle.pegasus_cli.specs.declared.early.Early.{Early}
 use Rattle.pegasus_cli.specs.declared.early.Early.TheVariants.{Memory, DocAbsent, DocTooLong, DocFailed, Refused, NotBuilt}
 use Rattle.pegasus_cli.specs.declared.plan_fault.Document.{Document}
@@ -81,6 +81,10 @@ Gives R told (Ends r) before after result = (after ≡ before) × Matches R r re
 Gives R told (Asks name next) before after result =
     ((bytes : List ℕ) × IsDocument told name bytes × Gives R told (next bytes) (one_done before) after result)
     ⊎ ((fault : DocFault) × Fetched told name document_limit before after (Err fault) [] × Matches R (Err (doc_answer name fault)) result)
+
+-- a fetch failed, which was counted
+abbrev pub HasFailed : {X : Type 0} → Counts → Counts → Result X Early → Type 0
+HasFailed before after result = Rose before.faults after.faults × (name : List ℕ) × (result ≡ Err (DocFailed name))
 
 -- memory ran out, or this holds
 abbrev pub ButMemory : {X : Type 0} → Result X Early → Type 0 → Type 0

@@ -3,8 +3,8 @@ use Rattle.std.specs.Prelude.{◌≡◌, ℕ, List, [], ◌∷◌, codes, Result
 use Rattle.serde_json.specs.Data.{Data}
 use Rattle.peg_json.specs.declared.fault.TreeFault.{TreeFault}
 use Rattle.peg_json.specs.declared.row.Kind.TheVariants as kinds
-use Rattle.peg_json.specs.Reading.{tree_of}
-use Rattle.peg_json.specs.Tables.{Row, needs, unknown_in}
+use Rattle.peg_json.specs.Tree.{tree_of}
+use Rattle.peg_json.specs.Table.{Row, needs, unknown_in}
 use Rattle.peg_json.specs.Typed.{required, name_of}
 use Rattle.pegasus_cli.specs.declared.request.RequestFault.{RequestFault}
 use Rattle.pegasus_cli.specs.declared.request.RequestFault.TheVariants.{Syntax, OtherForm, Memory}

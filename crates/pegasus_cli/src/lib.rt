@@ -11,6 +11,7 @@ mod commands;
 mod course;
 mod delivery;
 mod early;
+mod law;
 mod outcome;
 mod plan_fault;
 mod request;
@@ -19,6 +20,7 @@ mod survey;
 mod words;
 
 pub use call::quick;
+pub use law::{told_documents_decide, usage_is_no_command};
 pub use outcome::Outcome;
 pub use plan_fault::{Document, PlanFault};
 pub use run_fault::RunFault;

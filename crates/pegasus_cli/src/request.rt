@@ -2,7 +2,7 @@
 
 ghost use Rattle.std.specs.Prelude.{◌≡◌};
 ghost use Rattle.serde_json.specs.View.{view as tree_view};
-ghost use Rattle.peg_json.specs.Tables.{rows_of};
+ghost use Rattle.peg_json.specs.Table.{rows_of};
 ghost use Rattle.pegasus_cli.specs.Request.{Reads, request_in as form_of, request_of, request_rows};
 
 use outside::{Memory, Text};

@@ -1,3 +1,3 @@
-pub mod Appearances
-pub mod Checked
-pub mod NumberedNames
+pub mod NamesLemmas
+pub mod CheckingLemmas
+pub mod LawLemmas

@@ -2,7 +2,7 @@
 use Rattle.std.specs.Prelude.{◌≡◌, ℕ, ◌<◌, true, false, List, [], length, nat_eq}
 use Rattle.std.specs.List.{list_any, list_all}
 use Rattle.std.specs.Str.{bytes_eq}
-use Rattle.workflow_core.specs.Numbering.{distinct, number, with_names}
+use Rattle.workflow_core.specs.Names.{distinct, number, with_names}
 use Rattle.workflow_core.specs.WellFormed.{are_distinct}
 
 -- Each distinct name has one number, and each number one name.

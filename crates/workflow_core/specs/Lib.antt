@@ -1,6 +1,6 @@
-pub mod Checks
+pub mod Checking
 pub mod Law
-pub mod Numbering
+pub mod Names
 pub mod Requested
 pub mod View
 pub mod WellFormed

@@ -1,5 +1,5 @@
 -- What a reader gives, and what a call that takes a workflow asks.
-use Rattle.std.specs.Prelude.{◌≡◌, ℕ, ◌<◌, ◌≤◌, ◌&&◌, ◌++◌, Bool, true, not, List, [], ◌∷◌, length, map, nat_eq}
+use Rattle.std.specs.Prelude.{◌≡◌, ℕ, ◌<◌, ◌≤◌, ◌^◌, ◌&&◌, ◌++◌, Bool, true, not, List, [], ◌∷◌, length, map, nat_eq, Option, Some, None}
 use Rattle.std.specs.List.{list_any, AllByRecursion}
 use Rattle.std.specs.Str.{bytes_eq}
 use Rattle.outside.specs.declared.numbers.FileId.{FileId}
@@ -37,11 +37,17 @@ before p = p.0.0
 abbrev pub after : JobId × JobId → ℕ
 after p = p.1.0
 
--- Jobs and files are few, names are distinct, and every number is in range.
+-- a declared size is at most 2^40 bytes
+abbrev pub IsSmallSize : Option ℕ → Type 0
+IsSmallSize None = Unit {0}
+IsSmallSize (Some n) = n ≤ 2 ^ 40
+
+-- Jobs and files are few, declared sizes are small, names are distinct, and every number is in range.
 pub record IsWellFormed (w : Workflow) : Type 0 where
   pub few_jobs : length w.jobs ≤ 10000
   pub few_files : length w.files ≤ 50000
   pub sizes : length w.sizes ≡ length w.files
+  pub small_sizes : AllByRecursion IsSmallSize w.sizes
   pub ids : are_distinct bytes_eq (map (λ (j : Job). j.id) w.jobs) ≡ true
   pub names : are_distinct bytes_eq w.files ≡ true
   pub jobs : AllByRecursion (IsJobOver (length w.files)) w.jobs

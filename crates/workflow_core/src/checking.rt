@@ -1,51 +1,41 @@
 //! Whether a workflow is well formed.
 
 ghost use Rattle.std.specs.Prelude.{◌≡◌, ◌↔◌, true, map, nat_eq, nat_lt, IfOk};
-ghost use Rattle.std.specs.List.{list_any, list_all};
+ghost use Rattle.std.specs.List.{list_all};
 ghost use Rattle.std.specs.Str.{bytes_eq};
 ghost use Rattle.outside.specs.declared.numbers.JobId.{JobId};
 ghost use Rattle.workflow_core.specs.declared.workflow.Job.{Job};
 ghost use Rattle.workflow_core.specs.WellFormed.{are_distinct, IsWellFormed};
-ghost use Rattle.workflow_core.specs.Checks.{are_files, is_job_over, is_pair_of, are_few, are_named, passes};
+ghost use Rattle.workflow_core.specs.Checking.{are_files, is_job_over, is_pair_of, is_small_size, are_few, are_named, passes};
 
+use crate::names::Names;
 use crate::workflow::{Job, Workflow};
+use indexmap::IndexSet;
 use outside::{JobId, Memory, Text};
 use std::alloc::Global;
-
-fn is_known(known: &[u32], number: u32) -> bool
-    ensures { result ≡ list_any (nat_eq number) known.now }
-{
-    known.iter().any(|other| number == *other)
-}
 
 fn are_distinct(alloc: Global, numbers: &[u32]) -> Result<bool, Memory>
     ensures { IfOk result (λ b. b ≡ are_distinct nat_eq numbers.now) }
 {
-    let mut known = Vec::new(alloc);
+    let mut known = IndexSet::new(alloc);
     for number in numbers {
-        if is_known(&known, *number) {
+        if known.contains(number) {
             return Ok(false);
         }
-        known.push(*number)?;
+        known.insert(*number)?;
     }
     Ok(true)
-}
-
-fn is_known_text(known: &[Text], text: &Text) -> bool
-    ensures { result ≡ list_any (bytes_eq text.now) known.now }
-{
-    known.iter().any(|other| *text == *other)
 }
 
 fn are_distinct_texts(alloc: Global, texts: &[Text]) -> Result<bool, Memory>
     ensures { IfOk result (λ b. b ≡ are_distinct bytes_eq texts.now) }
 {
-    let mut known = Vec::new(alloc);
+    let mut known = Names::new(alloc);
     for text in texts {
-        if is_known_text(&known, text) {
+        if known.contains(text) {
             return Ok(false);
         }
-        known.push(text.copied(alloc)?)?;
+        known.add(alloc, text)?;
     }
     Ok(true)
 }
@@ -108,6 +98,21 @@ fn ids_of(alloc: Global, jobs: &[Job]) -> Result<Vec<Text>, Memory>
     Ok(ids)
 }
 
+fn is_small_size(size: Option<u64>) -> bool
+    ensures { result ≡ is_small_size size }
+{
+    match size {
+        Some(bytes) => bytes <= 1 << 40,
+        None => true,
+    }
+}
+
+fn are_small_sizes(sizes: &[Option<u64>]) -> bool
+    ensures { result ≡ list_all is_small_size sizes.now }
+{
+    sizes.iter().all(|size| is_small_size(*size))
+}
+
 fn are_few(workflow: &Workflow) -> bool
     ensures { result ≡ are_few workflow.now }
 {
@@ -115,6 +120,7 @@ fn are_few(workflow: &Workflow) -> bool
     workflow.jobs.as_slice().len() <= 10_000
         && files <= 50_000
         && workflow.sizes.as_slice().len() == files
+        && are_small_sizes(workflow.sizes.as_slice())
 }
 
 fn are_named(alloc: Global, workflow: &Workflow) -> Result<bool, Memory>
@@ -140,9 +146,8 @@ fn passes(alloc: Global, workflow: &Workflow) -> Result<bool, Memory>
     Ok(are_pairs_of(workflow.pairs.as_slice(), jobs.len()))
 }
 
-/// Whether a workflow is well formed, for a caller that made it without a reader. It takes time
-/// quadratic in the number of files and jobs.
-#[tactic(auto, using(crate::proofs::Checked::passing))]
+/// Whether a workflow is well formed, for a caller that made it without a reader.
+#[tactic(auto, using(crate::proofs::CheckingLemmas::passing))]
 pub fn is_well_formed(alloc: Global, workflow: &Workflow) -> Result<bool, Memory>
     ensures { IfOk result (λ b. b ≡ true ↔ IsWellFormed workflow.now) }
 {

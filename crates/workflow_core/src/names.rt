@@ -3,7 +3,7 @@
 ghost use Rattle.std.specs.Prelude.{◌≡◌, ◌≤◌, List, ℕ, [], length, OnOk, IfOk};
 ghost use Rattle.std.specs.List.{list_any};
 ghost use Rattle.std.specs.Str.{bytes_eq};
-ghost use Rattle.workflow_core.specs.Numbering.{number, with_name};
+ghost use Rattle.workflow_core.specs.Names.{number, with_name};
 
 use indexmap::IndexSet;
 use outside::{Items, Memory, Text};
@@ -54,7 +54,7 @@ impl Names {
     }
 
     /// A name's place, or the number of names.
-    #[tactic(auto, using(crate::proofs::Appearances::number_within, crate::proofs::Appearances::number_found))]
+    #[tactic(auto, using(crate::proofs::NamesLemmas::number_within, crate::proofs::NamesLemmas::number_found))]
     pub fn number(&self, name: &Text) -> usize
         ensures place { result ≡ number self.now name.now }
         ensures within { result ≤ length self.now }

@@ -1,5 +1,4 @@
-pub mod Tables
-pub mod Placing
-pub mod Jobs
-pub mod Ends
-pub mod Testing
+pub mod FileTableLemmas
+pub mod PlaceLemmas
+pub mod JobLemmas
+pub mod EvaluatingLemmas

@@ -1,2 +1,2 @@
-pub mod Tables
-pub mod Evaluated
+pub mod FileTable
+pub mod Evaluating

@@ -6,12 +6,12 @@ ghost use Rattle.outside.specs.declared.numbers.JobId.{JobId};
 ghost use Rattle.workflow_core.specs.WellFormed.{IsWellFormed};
 ghost use Rattle.dependency_graph.specs.Graph.{IsGraphOf};
 ghost use Rattle.dependency_graph.specs.Value.{run_of, AllMade};
-ghost use Rattle.workflow_eval.specs.Tables.{IsFaultOf};
+ghost use Rattle.workflow_eval.specs.FileTable.{IsFaultOf};
 ghost use Rattle.workflow_eval.specs.declared.fault.EvalFault.TheVariants.{ToolFailed};
-ghost use Rattle.workflow_eval.specs.Evaluated.{Evaluates, IsReached};
+ghost use Rattle.workflow_eval.specs.Evaluating.{Evaluates, IsReached};
 
 use crate::fault::EvalFault;
-use crate::table::{copies_of, empty, into_blobs, place};
+use crate::file_table::{copies_of, empty, into_blobs, place};
 use dependency_graph::{Graph, values_flow_in_order};
 use outside::{Blob, JobId, Tool, ToolFault};
 use std::alloc::Global;

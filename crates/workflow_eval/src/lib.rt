@@ -3,12 +3,12 @@
 //! The value of a file is its part of what its producer makes of the values of the producer's
 //! inputs: `specs/Value.antt` of `dependency_graph`, whose laws say that nothing else fits together so.
 //! [`evaluate`] runs the jobs of a `workflow_core::Workflow` in the order of its graph over one table,
-//! each by an `outside::Tool`; `specs/Evaluated.antt` says what it answers.
+//! each by an `outside::Tool`; `specs/Evaluating.antt` says what it answers.
 #![tactic(auto)]
 
 mod evaluating;
 mod fault;
-mod table;
+mod file_table;
 #[cfg(test)]
 mod tests;
 

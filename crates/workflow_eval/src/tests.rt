@@ -1,13 +1,10 @@
 //! Small workflows and their values.
 
-ghost use Rattle.std.specs.Prelude.{◌≡◌, ◌++◌, replicate, IfOk, IsTrue};
+ghost use Rattle.std.specs.Prelude.{◌≡◌, ◌++◌, replicate, IfOk};
 ghost use Rattle.std.specs.List.{concat};
-ghost use Rattle.workflow_core.specs.WellFormed.{IsWellFormed};
-ghost use Rattle.dependency_graph.specs.Graph.{IsGraphOf};
-ghost use Rattle.dependency_graph.specs.Value.{AllMade};
 
 use super::*;
-use dependency_graph::{Graph, build, producer_is_the_first_maker};
+use dependency_graph::build;
 use outside::{Blob, FileId, Items, Memory, Text, Tool, ToolFault};
 use std::alloc::Global;
 use std::process::Abort;
@@ -134,20 +131,6 @@ fn workflow(alloc: Global, files: usize, uses: &[Uses<'_>]) -> Result<Workflow, 
     })
 }
 
-fn are_made(workflow: &Workflow, graph: &Graph) -> bool
-    requires well_formed { IsWellFormed workflow.now }
-    requires graph { IsGraphOf workflow.now graph.now }
-    ensures { IsTrue result → AllMade workflow.now }
-{
-    producer_is_the_first_maker();
-    for file in 0..workflow.files.as_slice().len() {
-        if graph.producer(FileId(file as u32)).is_none() {
-            return false;
-        }
-    }
-    true
-}
-
 /// The values one after the other, or the fault.
 fn told(alloc: Global, answer: &Result<Vec<Blob>, EvalFault>) -> Result<String, Fail> {
     let mut line = String::new(alloc);
@@ -183,7 +166,7 @@ fn expect<T: Tool>(
         Ok(graph) => graph,
         Err(_) => return Err("no graph".into()),
     };
-    if !are_made(&workflow, &graph) {
+    if !graph.is_made() {
         return Err("a file that no job makes".into());
     }
     let line = told(alloc, &evaluate(alloc, &workflow, &graph, tool))?;

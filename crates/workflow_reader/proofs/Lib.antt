@@ -1,4 +1,6 @@
-pub mod Gathering
-pub mod Repeating
-pub mod Sizing
-pub mod WellLinked
+pub mod FilesLemmas
+pub mod DuplicatesLemmas
+pub mod SizesLemmas
+pub mod LinkingLemmas
+pub mod StepLemmas
+pub mod SmallLemmas

@@ -3,7 +3,7 @@ use Rattle.std.specs.Prelude.{ℕ, List, if◌then◌else◌, Result, Ok, Err}
 use Rattle.std.specs.Str.{bytes_eq}
 use Rattle.serde_json.specs.Data.{Data}
 use Rattle.peg_json.specs.Path.{key_path}
-use Rattle.peg_json.specs.Reading.{◌>>=◌}
+use Rattle.peg_json.specs.Tree.{◌>>=◌}
 use Rattle.peg_json.specs.Typed.{required, text_of}
 use Rattle.peg_json.specs.declared.fault.TreeFault.{TreeFault}
 use Rattle.peg_json.specs.declared.fault.TreeFault.TheVariants as faults

@@ -3,10 +3,10 @@ use Rattle.std.specs.Prelude.{ℕ, List, [], ◌∷◌, Bool, if◌then◌else�
 use Rattle.std.specs.List.{list_any}
 use Rattle.std.specs.Option.{option_or}
 use Rattle.std.specs.Str.{bytes_eq}
-use Rattle.workflow_core.specs.Numbering.{number, with_name}
+use Rattle.workflow_core.specs.Names.{number, with_name}
 use Rattle.workflow_reader.specs.declared.document.Direction.TheVariants as directions
 use Rattle.workflow_reader.specs.declared.document.Use.{Use}
-use Rattle.workflow_reader.specs.UsedFiles.{same_direction}
+use Rattle.workflow_reader.specs.Files.{same_direction}
 
 abbrev pub is_input : Use → Bool
 is_input u = same_direction directions.Input u.direction

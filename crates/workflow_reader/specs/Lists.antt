@@ -1,7 +1,7 @@
 -- Lists that are empty where they are absent.
 use Rattle.std.specs.Prelude.{ℕ, List, [], unwrap_or, Result, Ok}
 use Rattle.serde_json.specs.Data.{Data}
-use Rattle.peg_json.specs.Reading.{◌>>=◌, list_in}
+use Rattle.peg_json.specs.Tree.{◌>>=◌, list_in}
 use Rattle.peg_json.specs.Typed.{optional}
 use Rattle.peg_json.specs.declared.fault.TreeFault.{TreeFault}
 

@@ -1,17 +1,17 @@
 -- What the tree of a workflow's document is.
 use Rattle.std.specs.Prelude.{ℕ, List, [], ◌∷◌, ◌++◌, codes, Result, Ok}
 use Rattle.serde_json.specs.Data.{Data}
-use Rattle.peg_json.specs.Reading.{◌>>=◌, list_in}
-use Rattle.peg_json.specs.Tables.{Row, needs, may_have, checks, unknown_in}
+use Rattle.peg_json.specs.Tree.{◌>>=◌, list_in}
+use Rattle.peg_json.specs.Table.{Row, needs, may_have, checks, unknown_in}
 use Rattle.peg_json.specs.Typed.{required, optional, text_of, any_of}
-use Rattle.peg_json.specs.Unknown.{unknown_at, unknown_list}
-use Rattle.peg_json.specs.Version.{version_at}
+use Rattle.peg_json.specs.Listed.{unknown_at, unknown_list}
+use Rattle.peg_json.specs.Versions.{version_at}
 use Rattle.peg_json.specs.declared.row.Kind.TheVariants as kinds
 use Rattle.peg_json.specs.declared.fault.TreeFault.{TreeFault}
-use Rattle.workflow_reader.specs.Documents.{DocumentEntry}
-use Rattle.workflow_reader.specs.DependencyEntry.{dependency_of, unknown_dependency}
+use Rattle.workflow_reader.specs.Document.{DocumentEntry}
+use Rattle.workflow_reader.specs.Dependency.{dependency_of, unknown_dependency}
 use Rattle.workflow_reader.specs.Lists.{list_or_none}
-use Rattle.workflow_reader.specs.JobCourse.{job_of, unknown_job}
+use Rattle.workflow_reader.specs.JobEntry.{job_of, unknown_job}
 
 abbrev pub root_rows : List Row
 root_rows =

@@ -3,8 +3,8 @@ use Rattle.std.specs.Prelude.{ℕ, ◌^◌, List, [], ◌∷◌, true, codes, if
 use Rattle.std.specs.Str.{bytes_eq}
 use Rattle.serde_json.specs.Data.{Data}
 use Rattle.peg_json.specs.Path.{key_path}
-use Rattle.peg_json.specs.Reading.{◌>>=◌}
-use Rattle.peg_json.specs.Tables.{Row, needs, may_have, checks, unknown_in}
+use Rattle.peg_json.specs.Tree.{◌>>=◌}
+use Rattle.peg_json.specs.Table.{Row, needs, may_have, checks, unknown_in}
 use Rattle.peg_json.specs.Typed.{required, optional, text_of, name_of, number_of, flag_of}
 use Rattle.peg_json.specs.declared.row.Kind.TheVariants as kinds
 use Rattle.peg_json.specs.declared.fault.TreeFault.{TreeFault}

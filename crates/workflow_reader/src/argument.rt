@@ -2,8 +2,8 @@
 
 ghost use Rattle.std.specs.Prelude.{◌≡◌};
 ghost use Rattle.serde_json.specs.View.{view as tree_view};
-ghost use Rattle.peg_json.specs.Reading.{Gives};
-ghost use Rattle.workflow_reader.specs.Arguments.{argument_of};
+ghost use Rattle.peg_json.specs.Tree.{Gives};
+ghost use Rattle.workflow_reader.specs.Argument.{argument_of};
 ghost use Rattle.workflow_reader.specs.Lists.{list_or_none};
 
 use crate::lists::list_or_none;
@@ -25,7 +25,7 @@ impl FromTree for Argument {
 
     ghost reads = { argument_of };
 
-    #[tactic(auto, unfolding(crate::specs::Arguments::argument_of))]
+    #[tactic(auto, unfolding(crate::specs::Argument::argument_of))]
     fn from_tree(alloc: Global, value: &Value, path: &Text) -> Result<Argument, TreeFault> {
         if let Some(text) = value.as_str() {
             return Ok(Argument(Text::copy_of(alloc, text)?));

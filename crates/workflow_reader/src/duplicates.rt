@@ -3,12 +3,12 @@
 ghost use Rattle.std.specs.Prelude.{◌≡◌, [], not, IfOk, OnOk};
 ghost use Rattle.std.specs.List.{list_any};
 ghost use Rattle.std.specs.Str.{bytes_eq};
-ghost use Rattle.peg_json.specs.AfterTree.{GivesRead};
+ghost use Rattle.peg_json.specs.ReadFault.{GivesRead};
 ghost use Rattle.peg_json.specs.declared.read_fault.ReadFault.TheVariants.{DuplicateJob};
-ghost use Rattle.workflow_core.specs.Numbering.{with_name};
-ghost use Rattle.workflow_reader.specs.Repeats.{first_repeat, refused};
+ghost use Rattle.workflow_core.specs.Names.{with_name};
+ghost use Rattle.workflow_reader.specs.Duplicates.{first_repeat, refused};
 ghost use Rattle.workflow_reader.specs.Known.{is_named, inputs_with, outputs_with};
-ghost use Rattle.workflow_reader.specs.Linked.{ids_of, used_once, all_used_once};
+ghost use Rattle.workflow_reader.specs.Linking.{ids_of, used_once, all_used_once};
 
 use crate::document::{Direction, JobEntry, Use};
 use outside::{Memory, Text};

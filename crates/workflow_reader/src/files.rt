@@ -1,8 +1,8 @@
 //! The files that jobs use, and their sizes.
 
 ghost use Rattle.std.specs.Prelude.{◌≡◌, OnOk, IfOk};
-ghost use Rattle.workflow_core.specs.Numbering.{with_names};
-ghost use Rattle.workflow_reader.specs.UsedFiles.{lfns_in, files_of, sizes_of};
+ghost use Rattle.workflow_core.specs.Names.{with_names};
+ghost use Rattle.workflow_reader.specs.Files.{lfns_in, files_of, sizes_of};
 ghost use Rattle.workflow_reader.specs.Known.{with_size, with_sizes};
 
 use crate::document::{JobEntry, Use};

@@ -1,8 +1,8 @@
 //! A job: its table, its reading, and the keys that are in no table.
 
 ghost use Rattle.std.specs.Prelude.{◌≡◌};
-ghost use Rattle.peg_json.specs.Tables.{rows_of};
-ghost use Rattle.workflow_reader.specs.JobCourse.{job_rows};
+ghost use Rattle.peg_json.specs.Table.{rows_of};
+ghost use Rattle.workflow_reader.specs.JobEntry.{job_rows};
 
 use crate::argument::arguments;
 use crate::constant_text::checked_constant;
@@ -69,7 +69,7 @@ fn job_table() -> KeyTable<8>
 
 impl FromTree for JobEntry {
     ghost use Rattle.workflow_reader.specs.declared.document.JobEntry as declared;
-    ghost use Rattle.workflow_reader.specs.JobCourse.{job_of};
+    ghost use Rattle.workflow_reader.specs.JobEntry.{job_of};
 
     ghost Seen = { declared.JobEntry };
 
@@ -77,7 +77,7 @@ impl FromTree for JobEntry {
 
     ghost reads = { job_of };
 
-    #[tactic(auto, unfolding(crate::specs::JobCourse::job_of))]
+    #[tactic(auto, unfolding(crate::specs::JobEntry::job_of))]
     fn from_tree(alloc: Global, value: &Value, path: &Text) -> Result<JobEntry, TreeFault> {
         checked(alloc, value, path, &job_table())?;
         checked_constant(alloc, value, path, "type", "job")?;
@@ -106,11 +106,11 @@ impl FromTree for JobEntry {
 }
 
 impl Listed for JobEntry {
-    ghost use Rattle.workflow_reader.specs.JobCourse.{unknown_job};
+    ghost use Rattle.workflow_reader.specs.JobEntry.{unknown_job};
 
     ghost unknown = { unknown_job };
 
-    #[tactic(auto, unfolding(crate::specs::JobCourse::unknown_job))]
+    #[tactic(auto, unfolding(crate::specs::JobEntry::unknown_job))]
     fn gather(
         alloc: Global,
         value: &Value,

@@ -2,8 +2,8 @@
 
 ghost use Rattle.std.specs.Prelude.{◌≡◌, ◌≤◌, length, map, IfOk};
 ghost use Rattle.workflow_reader.specs.declared.document.Direction.TheVariants as directions;
-ghost use Rattle.workflow_reader.specs.UsedFiles.{uses_as, file_of, output_of};
-ghost use Rattle.workflow_reader.specs.Linked.{linked_job};
+ghost use Rattle.workflow_reader.specs.Files.{uses_as, file_of, output_of};
+ghost use Rattle.workflow_reader.specs.Linking.{linked_job};
 
 use crate::document::{Direction, JobEntry, Use};
 use outside::{FileId, Items, Memory};

@@ -1,12 +1,13 @@
 //! From what stands in a document to its workflow.
 
 ghost use Rattle.std.specs.Prelude.{◌≡◌, ◌≤◌, length, IfOk};
-ghost use Rattle.peg_json.specs.AfterTree.{GivesRead};
+ghost use Rattle.peg_json.specs.ReadFault.{GivesRead};
 ghost use Rattle.workflow_core.specs.View.{view};
 ghost use Rattle.workflow_core.specs.WellFormed.{IsWellFormed};
-ghost use Rattle.workflow_reader.specs.Documents.{entry};
-ghost use Rattle.workflow_reader.specs.UsedFiles.{files_of};
-ghost use Rattle.workflow_reader.specs.Linked.{ids_of, workflow_entry, linked};
+ghost use Rattle.workflow_reader.specs.Document.{entry};
+ghost use Rattle.workflow_reader.specs.Files.{files_of};
+ghost use Rattle.workflow_reader.specs.Linking.{ids_of, workflow_entry, linked};
+ghost use Rattle.workflow_reader.specs.Small.{AreSmall};
 
 use crate::document::Document;
 use crate::duplicates::{all_used_once, ids_of};
@@ -30,7 +31,7 @@ struct Tables {
 }
 
 /// Looks for a fault, and numbers files and jobs.
-#[tactic(auto, unfolding(crate::specs::Linked::linked))]
+#[tactic(auto, unfolding(crate::specs::Linking::linked))]
 fn tables_of(alloc: Global, document: &Document) -> Result<Tables, ReadFault>
     ensures answer { GivesRead (λ _. workflow_entry (entry document.now)) result (linked (entry document.now)) }
     ensures files { IfOk result (λ t. t.files ≡ files_of document.now.jobs) }
@@ -84,7 +85,7 @@ fn numbered(
 }
 
 /// The workflow that a document states, its jobs and files by number.
-#[tactic(auto, using(crate::proofs::WellLinked::well_formed))]
+#[tactic(auto, using(crate::proofs::LinkingLemmas::well_formed))]
 pub fn workflow_of(
     alloc: Global,
     document: Document,
@@ -92,7 +93,7 @@ pub fn workflow_of(
 ) -> Result<Workflow, ReadFault>
     ensures answer { GivesRead view result (linked (entry document)) }
     ensures ignored { IfOk result (λ w. w.ignored ≡ ignored.items) }
-    ensures well_formed { IfOk result (λ w. IsWellFormed w) }
+    ensures well_formed { IfOk result (λ w. AreSmall document.jobs → IsWellFormed w) }
 {
     // A law for the proof: it does nothing.
     names_are_numbered();

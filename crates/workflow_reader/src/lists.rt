@@ -2,7 +2,7 @@
 
 ghost use Rattle.std.specs.Prelude.{◌≡◌, map};
 ghost use Rattle.serde_json.specs.View.{view as tree_view};
-ghost use Rattle.peg_json.specs.Reading.{Gives};
+ghost use Rattle.peg_json.specs.Tree.{Gives};
 ghost use Rattle.workflow_reader.specs.Lists.{list_or_none};
 
 use outside::{Items, Text};

@@ -1,8 +1,8 @@
 //! A job's profiles of `pegasus`.
 
 ghost use Rattle.std.specs.Prelude.{◌≡◌};
-ghost use Rattle.peg_json.specs.Tables.{rows_of};
-ghost use Rattle.workflow_reader.specs.PegasusProfile.{pegasus_rows, no_pegasus};
+ghost use Rattle.peg_json.specs.Table.{rows_of};
+ghost use Rattle.workflow_reader.specs.PegasusProfiles.{pegasus_rows, no_pegasus};
 
 use outside::{Memory, Text};
 use peg_json::{FromTree, KeyRow, KeyTable, Kind, Listed, TreeFault, checked, gather, row};
@@ -56,7 +56,7 @@ impl PegasusProfiles {
 
 impl FromTree for PegasusProfiles {
     ghost use Rattle.workflow_reader.specs.declared.pegasus_profiles.PegasusProfiles as declared;
-    ghost use Rattle.workflow_reader.specs.PegasusProfile.{pegasus_of};
+    ghost use Rattle.workflow_reader.specs.PegasusProfiles.{pegasus_of};
 
     ghost Seen = { declared.PegasusProfiles };
 
@@ -64,7 +64,7 @@ impl FromTree for PegasusProfiles {
 
     ghost reads = { pegasus_of };
 
-    #[tactic(auto, unfolding(crate::specs::PegasusProfile::pegasus_of))]
+    #[tactic(auto, unfolding(crate::specs::PegasusProfiles::pegasus_of))]
     fn from_tree(alloc: Global, value: &Value, path: &Text) -> Result<PegasusProfiles, TreeFault> {
         checked(alloc, value, path, &pegasus_table())?;
         let label = row!(alloc, value, path, "label", optional Text);
@@ -79,11 +79,11 @@ impl FromTree for PegasusProfiles {
 }
 
 impl Listed for PegasusProfiles {
-    ghost use Rattle.workflow_reader.specs.PegasusProfile.{unknown_pegasus};
+    ghost use Rattle.workflow_reader.specs.PegasusProfiles.{unknown_pegasus};
 
     ghost unknown = { unknown_pegasus };
 
-    #[tactic(auto, unfolding(crate::specs::PegasusProfile::unknown_pegasus))]
+    #[tactic(auto, unfolding(crate::specs::PegasusProfiles::unknown_pegasus))]
     fn gather(
         alloc: Global,
         value: &Value,

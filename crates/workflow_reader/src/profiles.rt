@@ -2,9 +2,9 @@
 
 ghost use Rattle.std.specs.Prelude.{◌≡◌};
 ghost use Rattle.serde_json.specs.View.{view as tree_view};
-ghost use Rattle.peg_json.specs.Reading.{Gives};
-ghost use Rattle.peg_json.specs.Tables.{rows_of};
-ghost use Rattle.workflow_reader.specs.JobProfiles.{profiles_rows, no_profiles, profiles_or_none};
+ghost use Rattle.peg_json.specs.Tree.{Gives};
+ghost use Rattle.peg_json.specs.Table.{rows_of};
+ghost use Rattle.workflow_reader.specs.Profiles.{profiles_rows, no_profiles, profiles_or_none};
 
 use crate::pegasus_profiles::PegasusProfiles;
 use crate::selector_profiles::SelectorProfiles;
@@ -54,7 +54,7 @@ impl Profiles {
 
 impl FromTree for Profiles {
     ghost use Rattle.workflow_reader.specs.declared.profiles.Profiles as declared;
-    ghost use Rattle.workflow_reader.specs.JobProfiles.{profiles_of};
+    ghost use Rattle.workflow_reader.specs.Profiles.{profiles_of};
 
     ghost Seen = { declared.Profiles };
 
@@ -62,7 +62,7 @@ impl FromTree for Profiles {
 
     ghost reads = { profiles_of };
 
-    #[tactic(auto, unfolding(crate::specs::JobProfiles::profiles_of))]
+    #[tactic(auto, unfolding(crate::specs::Profiles::profiles_of))]
     fn from_tree(alloc: Global, value: &Value, path: &Text) -> Result<Profiles, TreeFault> {
         checked(alloc, value, path, &profiles_table())?;
         let pegasus = row!(alloc, value, path, "pegasus", optional Object PegasusProfiles);
@@ -89,11 +89,11 @@ pub fn profiles_or_none(
 }
 
 impl Listed for Profiles {
-    ghost use Rattle.workflow_reader.specs.JobProfiles.{unknown_profiles};
+    ghost use Rattle.workflow_reader.specs.Profiles.{unknown_profiles};
 
     ghost unknown = { unknown_profiles };
 
-    #[tactic(auto, unfolding(crate::specs::JobProfiles::unknown_profiles))]
+    #[tactic(auto, unfolding(crate::specs::Profiles::unknown_profiles))]
     fn gather(
         alloc: Global,
         value: &Value,

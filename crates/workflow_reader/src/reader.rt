@@ -5,10 +5,10 @@ ghost use Rattle.std.specs.List.Sorted.{IsPermutation, IsSorted};
 ghost use Rattle.std.specs.Ordering.{nat_cmp};
 ghost use Rattle.std.specs.Cmp.Lexicographic.{slice_cmp};
 ghost use Rattle.serde_json.specs.View.{view as tree_view};
-ghost use Rattle.peg_json.specs.AfterTree.{GivesRead};
+ghost use Rattle.peg_json.specs.ReadFault.{GivesRead};
 ghost use Rattle.workflow_core.specs.View.{view};
 ghost use Rattle.workflow_core.specs.WellFormed.{IsWellFormed};
-ghost use Rattle.workflow_reader.specs.Read.{from_tree_of, read_of, unknown_in_text};
+ghost use Rattle.workflow_reader.specs.Reader.{from_tree_of, read_of, unknown_in_text};
 ghost use Rattle.workflow_reader.specs.Root.{unknown_of};
 
 use crate::document::Document;
@@ -20,7 +20,7 @@ use std::alloc::Global;
 use workflow_core::Workflow;
 
 /// Reads the tree of a workflow's document, which stands under a path.
-#[tactic(auto, unfolding(crate::specs::Read::from_tree_of))]
+#[tactic(auto, unfolding(crate::specs::Reader::from_tree_of))]
 pub fn from_tree(alloc: Global, value: &Value, path: &Text) -> Result<Workflow, ReadFault>
     ensures answer { GivesRead view result (from_tree_of path.now (tree_view value.now)) }
     ensures ignored { IfOk result
@@ -35,7 +35,7 @@ pub fn from_tree(alloc: Global, value: &Value, path: &Text) -> Result<Workflow, 
 }
 
 /// Reads a workflow's document of at most 10,000 jobs and 50,000 files.
-#[tactic(auto, unfolding(crate::specs::Read::read_of, crate::specs::Read::unknown_in_text))]
+#[tactic(auto, unfolding(crate::specs::Reader::read_of, crate::specs::Reader::unknown_in_text))]
 pub fn read(alloc: Global, bytes: &[u8]) -> Result<Workflow, ReadFault>
     ensures answer { GivesRead view result (read_of bytes.now) }
     ensures ignored { IfOk result

@@ -1,7 +1,7 @@
 //! A whole document: its table, its reading, and the keys that are in no table.
 
 ghost use Rattle.std.specs.Prelude.{◌≡◌};
-ghost use Rattle.peg_json.specs.Tables.{rows_of};
+ghost use Rattle.peg_json.specs.Table.{rows_of};
 ghost use Rattle.workflow_reader.specs.Root.{root_rows};
 
 use crate::document::{Dependency, Document, JobEntry};
@@ -59,7 +59,7 @@ fn root_table() -> KeyTable<7>
 }
 
 impl FromTree for Document {
-    ghost use Rattle.workflow_reader.specs.Documents.{DocumentEntry, entry};
+    ghost use Rattle.workflow_reader.specs.Document.{DocumentEntry, entry};
     ghost use Rattle.workflow_reader.specs.Root.{document_of};
 
     ghost Seen = { DocumentEntry };

@@ -1,8 +1,8 @@
 //! A job's profiles of `selector`.
 
 ghost use Rattle.std.specs.Prelude.{◌≡◌};
-ghost use Rattle.peg_json.specs.Tables.{rows_of};
-ghost use Rattle.workflow_reader.specs.SelectorProfile.{selector_rows, no_selector};
+ghost use Rattle.peg_json.specs.Table.{rows_of};
+ghost use Rattle.workflow_reader.specs.SelectorProfiles.{selector_rows, no_selector};
 
 use outside::{Memory, Text};
 use peg_json::{FromTree, KeyRow, KeyTable, Kind, Listed, TreeFault, checked, gather, row};
@@ -38,7 +38,7 @@ impl SelectorProfiles {
 
 impl FromTree for SelectorProfiles {
     ghost use Rattle.workflow_reader.specs.declared.selector_profiles.SelectorProfiles as declared;
-    ghost use Rattle.workflow_reader.specs.SelectorProfile.{selector_of};
+    ghost use Rattle.workflow_reader.specs.SelectorProfiles.{selector_of};
 
     ghost Seen = { declared.SelectorProfiles };
 
@@ -46,7 +46,7 @@ impl FromTree for SelectorProfiles {
 
     ghost reads = { selector_of };
 
-    #[tactic(auto, unfolding(crate::specs::SelectorProfile::selector_of))]
+    #[tactic(auto, unfolding(crate::specs::SelectorProfiles::selector_of))]
     fn from_tree(alloc: Global, value: &Value, path: &Text) -> Result<SelectorProfiles, TreeFault> {
         checked(alloc, value, path, &selector_table())?;
         let site = row!(alloc, value, path, "execution.site", optional Text);
@@ -55,11 +55,11 @@ impl FromTree for SelectorProfiles {
 }
 
 impl Listed for SelectorProfiles {
-    ghost use Rattle.workflow_reader.specs.SelectorProfile.{unknown_selector};
+    ghost use Rattle.workflow_reader.specs.SelectorProfiles.{unknown_selector};
 
     ghost unknown = { unknown_selector };
 
-    #[tactic(auto, unfolding(crate::specs::SelectorProfile::unknown_selector))]
+    #[tactic(auto, unfolding(crate::specs::SelectorProfiles::unknown_selector))]
     fn gather(
         alloc: Global,
         value: &Value,

@@ -2,8 +2,8 @@
 
 ghost use Rattle.std.specs.Prelude.{◌≡◌};
 ghost use Rattle.serde_json.specs.View.{view as tree_view};
-ghost use Rattle.peg_json.specs.Reading.{Gives};
-ghost use Rattle.peg_json.specs.Tables.{rows_of};
+ghost use Rattle.peg_json.specs.Tree.{Gives};
+ghost use Rattle.peg_json.specs.Table.{rows_of};
 ghost use Rattle.workflow_reader.specs.UseEntry.{use_rows, direction_at};
 
 use crate::document::{Direction, Use};

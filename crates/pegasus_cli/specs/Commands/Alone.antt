@@ -10,7 +10,7 @@ use Rattle.workflow_core.specs.declared.workflow.Job.{Job}
 use Rattle.workflow_core.specs.Requested.{requested}
 use Rattle.dependency_graph.specs.Edges.{producer}
 use Rattle.dependency_graph.specs.Value.{AllMade}
-use Rattle.workflow_eval.specs.Evaluated.{IsReached, first_undefined, made_by_number}
+use Rattle.workflow_eval.specs.Evaluating.{IsReached, first_undefined, made_by_number}
 use Rattle.workflow_eval.specs.declared.fault.EvalFault.{EvalFault}
 use Rattle.workflow_eval.specs.declared.fault.EvalFault.TheVariants as eval_faults
 use Rattle.pegasus_cli.specs.declared.outcome.Outcome.{Outcome}

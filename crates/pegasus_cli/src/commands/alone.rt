@@ -3,9 +3,8 @@
 ghost use Rattle.std.specs.Prelude.{◌≡◌, ◌<◌, ◌≤◌, ℕ, [], length, IfOk, true, false, is_some};
 ghost use Rattle.workflow_core.specs.WellFormed.{IsWellFormed};
 ghost use Rattle.dependency_graph.specs.Graph.{IsGraphOf};
-ghost use Rattle.dependency_graph.specs.Value.{AllMade};
 ghost use Rattle.pegasus_cli.specs.Call.{IsAnswer};
-ghost use Rattle.pegasus_cli.specs.Commands.Alone.{AnswersFault, IsIdOf, IsUnmade, NamesJob, alone, delivery_answer};
+ghost use Rattle.pegasus_cli.specs.Commands.Alone.{AnswersFault, IsIdOf, NamesJob, alone, delivery_answer};
 ghost use Rattle.pegasus_cli.specs.Moments.{work_moment, working};
 
 use crate::commands::Worked;
@@ -14,8 +13,7 @@ use crate::outcome::Outcome;
 use crate::plan_fault::Document;
 use crate::run_fault::RunFault;
 use crate::survey::Survey;
-use dependency_graph::{Graph, producer_is_the_first_maker};
-use outside::{FileId, Host, HostFault, JobId, Memory, Text, Tool};
+use outside::{Host, HostFault, JobId, Memory, Text, Tool};
 use std::alloc::Global;
 use workflow_core::Workflow;
 use workflow_eval::{EvalFault, evaluate};
@@ -44,23 +42,6 @@ fn of_eval_fault(alloc: Global, workflow: &Workflow, fault: EvalFault) -> Outcom
         },
         EvalFault::Memory => Outcome::Memory,
     }
-}
-
-/// Whether each file has a producer.
-fn is_made(workflow: &Workflow, graph: &Graph) -> bool
-    requires well_formed { IsWellFormed workflow.now }
-    requires graph { IsGraphOf workflow.now graph.now }
-    ensures made { result ≡ true → AllMade workflow.now }
-    ensures unmade { result ≡ false → IsUnmade workflow.now }
-{
-    producer_is_the_first_maker();
-    let count = workflow.files.as_slice().len();
-    for file in 0..count {
-        if graph.producer(FileId(file as u32)).is_none() {
-            return false;
-        }
-    }
-    true
 }
 
 fn of_delivery(delivered: Result<(), HostFault>) -> Outcome
@@ -97,7 +78,7 @@ pub(crate) fn work<H: Host, T: Tool>(
     ensures answer { IsAnswer result.answer }
 {
     let workflow = &survey.workflow;
-    if !is_made(workflow, &survey.graph) {
+    if !survey.graph.is_made() {
         return at_once(alloc, Outcome::NotBuilt(Document::Workflow));
     }
     let values = match evaluate(alloc, workflow, &survey.graph, tool) {

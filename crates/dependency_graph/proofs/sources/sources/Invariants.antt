@@ -1,9 +1,9 @@
 use Rattle.std.proofs.Common.{◌≡◌, map, take}
 use Rattle.workflow_core.specs.declared.workflow.Job.{Job}
 use Rattle.workflow_core.specs.WellFormed.{inputs_of}
-use Rattle.dependency_graph.specs.Lists.{rows}
-use Rattle.dependency_graph.specs.Makers.{found}
+use Rattle.digraph.specs.Adjacency.{lists_of}
+use Rattle.dependency_graph.specs.Sources.{found}
 use Rattle.dependency_graph.proofs.sources.sources.Given as goal
 
 abbrev pub invariant-loop-job : goal.invariant-loop-job
-invariant-loop-job l = rows l.lists.items ≡ map (λ (j : Job). found l.producers (inputs_of j)) (take l.job-index l.jobs)
+invariant-loop-job l = lists_of l.lists.items ≡ map (λ (j : Job). found l.producers (inputs_of j)) (take l.job-index l.jobs)

@@ -1,4 +1,4 @@
-use Rattle.peg_json.proofs.EntryByEntry.{member_more}
+use Rattle.peg_json.proofs.EntriesLemmas.{member_more}
 use Rattle.peg_json.proofs.entries.entries_of.Goals as goal
 
 pub loop-member-preserved : goal.loop-member-preserved

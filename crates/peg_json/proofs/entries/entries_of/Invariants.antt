@@ -1,5 +1,5 @@
 use Rattle.std.proofs.Common.{◌≡◌, map}
-use Rattle.peg_json.specs.Reading.{with_front}
+use Rattle.peg_json.specs.Tree.{with_front}
 use Rattle.peg_json.specs.Entries.{seen_members, entries_from}
 use Rattle.peg_json.proofs.entries.entries_of.Given as goal
 

@@ -1,6 +1,6 @@
 use Rattle.std.proofs.Common.{◌≡◌, ◌++◌, map, string_bytes}
 use Rattle.std.specs.BTreeMap.{keys}
-use Rattle.peg_json.specs.Tables.{unknown_paths, rows_of}
+use Rattle.peg_json.specs.Table.{unknown_paths, rows_of}
 use Rattle.peg_json.proofs.member.gather_from.Given as goal
 
 abbrev pub invariant-loop-key : goal.invariant-loop-key

@@ -2,7 +2,7 @@ use Rattle.std.proofs.Common.{rules, ◌∙◌, ap}
 use Rattle.std.specs.List.{flat_map}
 use Rattle.std.proofs.lemmas.Grind.{common_steps}
 use Rattle.peg_json.specs.Path.{escaped, escaped_char}
-use Rattle.peg_json.proofs.Escapes.{chars_done, char_more}
+use Rattle.peg_json.proofs.VersionsLemmas.{chars_done, char_more}
 use Rattle.peg_json.proofs.path.escape.Goals as goal
 
 pub returns : goal.returns

@@ -4,4 +4,4 @@ use Rattle.workflow_core.specs.WellFormed.{are_new, are_distinct}
 use Rattle.workflow_core.proofs.checking.are_distinct_texts.Given as goal
 
 abbrev pub invariant-loop-text : goal.invariant-loop-text
-invariant-loop-text l = are_new bytes_eq l.known.items (drop l.text-index l.texts) ≡ are_distinct bytes_eq l.texts
+invariant-loop-text l = are_new bytes_eq l.known (drop l.text-index l.texts) ≡ are_distinct bytes_eq l.texts

@@ -1,5 +1,5 @@
-use Rattle.workflow_core.proofs.Appearances.{distinct_names}
-use Rattle.workflow_core.proofs.NumberedNames.{number_known, other_number, distinct_once, distinct_known}
+use Rattle.workflow_core.proofs.NamesLemmas.{distinct_names}
+use Rattle.workflow_core.proofs.LawLemmas.{number_known, other_number, distinct_once, distinct_known}
 use Rattle.workflow_core.proofs.law.names_are_numbered.Goals as goal
 
 pub returns : goal.returns

@@ -3,9 +3,9 @@ use Rattle.std.specs.Prelude.{None}
 use Rattle.std.proofs.lemmas.List.{length-replicate}
 use Rattle.std.proofs.lemmas.Result.{err_from_is_err_and}
 use Rattle.workflow_core.specs.WellFormed.{outputs_of}
-use Rattle.workflow_eval.proofs.Placing.{length_placed, all_below}
-use Rattle.workflow_eval.proofs.Jobs.{job_at, inputs_there, made_of, places_there, evaluated_more}
-use Rattle.workflow_eval.proofs.Ends.{none_at_first, none_before_more, ends_with, is_reached, all_there, ends_well}
+use Rattle.workflow_eval.proofs.PlaceLemmas.{length_placed, all_below}
+use Rattle.workflow_eval.proofs.JobLemmas.{job_at, inputs_there, made_of, places_there, evaluated_more}
+use Rattle.workflow_eval.proofs.EvaluatingLemmas.{none_at_first, none_before_more, ends_with, is_reached, all_there, ends_well}
 use Rattle.workflow_eval.proofs.evaluating.evaluate.Goals as goal
 
 pub loop-number-init : goal.loop-number-init

@@ -1,6 +1,6 @@
 use Rattle.std.proofs.Common.{◌≡◌, ◌≤◌, length}
-use Rattle.workflow_eval.proofs.Jobs.{Evaluated}
-use Rattle.workflow_eval.proofs.Ends.{NoneBefore}
+use Rattle.workflow_eval.proofs.JobLemmas.{Evaluated}
+use Rattle.workflow_eval.proofs.EvaluatingLemmas.{NoneBefore}
 use Rattle.workflow_eval.proofs.evaluating.evaluate.Given as goal
 
 abbrev pub invariant-loop-number : goal.invariant-loop-number

@@ -1,5 +1,5 @@
 use Rattle.std.proofs.Common.{◌≡◌, drop}
-use Rattle.workflow_reader.specs.Linked.{all_used_once}
+use Rattle.workflow_reader.specs.Linking.{all_used_once}
 use Rattle.workflow_reader.proofs.duplicates.all_used_once.Given as goal
 
 abbrev pub invariant-loop-job : goal.invariant-loop-job

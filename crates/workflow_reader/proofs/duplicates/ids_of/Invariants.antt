@@ -1,7 +1,7 @@
 use Rattle.std.proofs.Common.{◌≡◌, [], ◌++◌, drop}
 use Rattle.std.specs.Str.{bytes_eq}
-use Rattle.workflow_reader.specs.Repeats.{first_repeat}
-use Rattle.workflow_reader.specs.Linked.{ids_of}
+use Rattle.workflow_reader.specs.Duplicates.{first_repeat}
+use Rattle.workflow_reader.specs.Linking.{ids_of}
 use Rattle.workflow_reader.proofs.duplicates.ids_of.Given as goal
 
 abbrev pub invariant-loop-job : goal.invariant-loop-job

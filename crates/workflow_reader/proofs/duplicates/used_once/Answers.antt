@@ -3,7 +3,7 @@ use Rattle.std.proofs.lemmas.Grind.{common_steps}
 use Rattle.std.proofs.lemmas.List.{drop_more}
 use Rattle.workflow_reader.specs.declared.document.Use.{Use}
 use Rattle.workflow_reader.specs.Known.{is_named, repeat_after}
-use Rattle.workflow_reader.proofs.Repeating.{none_left, one_left}
+use Rattle.workflow_reader.proofs.DuplicatesLemmas.{none_left, one_left}
 use Rattle.workflow_reader.proofs.duplicates.used_once.Goals as goal
 
 pub returns-then-not-is_new : goal.returns-then-not-is_new

@@ -1,6 +1,6 @@
 use Rattle.std.proofs.Common.{◌≡◌, drop}
-use Rattle.workflow_core.specs.Numbering.{with_names}
-use Rattle.workflow_reader.specs.UsedFiles.{lfns_of}
+use Rattle.workflow_core.specs.Names.{with_names}
+use Rattle.workflow_reader.specs.Files.{lfns_of}
 use Rattle.workflow_reader.proofs.files.add_files.Given as goal
 
 abbrev pub invariant-loop-used : goal.invariant-loop-used

@@ -2,7 +2,7 @@ use Rattle.std.proofs.Common.{◌≡◌, ◌+◌, [], ◌∷◌, drop, ap, sym, 
 use Rattle.std.proofs.lemmas.Grind.{common_steps}
 use Rattle.std.proofs.lemmas.List.{drop_more}
 use Rattle.workflow_reader.specs.declared.document.JobEntry.{JobEntry}
-use Rattle.workflow_reader.proofs.Gathering.{named_more, named_all}
+use Rattle.workflow_reader.proofs.FilesLemmas.{named_more, named_all}
 use Rattle.workflow_reader.proofs.files.files_of.Goals as goal
 
 pub loop-job-preserved : goal.loop-job-preserved

@@ -1,6 +1,6 @@
 use Rattle.std.proofs.Common.{◌≡◌, ◌++◌, map}
 use Rattle.std.specs.Vec.Iter.{into_iter_items}
-use Rattle.workflow_reader.specs.Linked.{linked_job}
+use Rattle.workflow_reader.specs.Linking.{linked_job}
 use Rattle.workflow_reader.proofs.job_linking.linked_jobs.Given as goal
 
 abbrev pub invariant-loop-job : goal.invariant-loop-job

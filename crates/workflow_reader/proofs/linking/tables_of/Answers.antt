@@ -2,14 +2,14 @@ use Rattle.std.proofs.Common.{◌≡◌, [], length, arith}
 use Rattle.std.specs.Prelude.{Ok}
 use Rattle.std.specs.Str.{bytes_eq}
 use Rattle.std.proofs.lemmas.Grind.{common_steps}
-use Rattle.peg_json.specs.Counts.{few}
+use Rattle.peg_json.specs.Count.{few}
 use Rattle.peg_json.specs.declared.read_fault.Counted.TheVariants.{Jobs, Files}
 use Rattle.peg_json.specs.declared.read_fault.ReadFault.TheVariants.{DuplicateJob, UnknownJob}
-use Rattle.workflow_reader.specs.Documents.{entry}
-use Rattle.workflow_reader.specs.Repeats.{first_repeat, first_unknown, refused}
-use Rattle.workflow_reader.specs.UsedFiles.{files_of}
-use Rattle.workflow_reader.specs.Linked.{ids_of, all_used_once, ids_in}
-use Rattle.workflow_reader.proofs.WellLinked.{passes}
+use Rattle.workflow_reader.specs.Document.{entry}
+use Rattle.workflow_reader.specs.Duplicates.{first_repeat, first_unknown, refused}
+use Rattle.workflow_reader.specs.Files.{files_of}
+use Rattle.workflow_reader.specs.Linking.{ids_of, all_used_once, ids_in}
+use Rattle.workflow_reader.proofs.LinkingLemmas.{passes}
 use Rattle.workflow_reader.proofs.linking.tables_of.Goals as goal
 
 pub returns-clause-answer : goal.returns-clause-answer

@@ -1,5 +1,5 @@
 use Rattle.std.proofs.Common.{◌≡◌, ◌++◌, drop, map, ℕ, List}
-use Rattle.workflow_reader.specs.Linked.{job_of, pairs_from}
+use Rattle.workflow_reader.specs.Linking.{job_of, pairs_from}
 use Rattle.workflow_reader.proofs.pairs.add_pairs.Given as goal
 
 abbrev pub invariant-loop-child : goal.invariant-loop-child

@@ -1,6 +1,6 @@
 use Rattle.std.proofs.Common.{◌≡◌, drop}
-use Rattle.workflow_reader.specs.Repeats.{first_unknown}
-use Rattle.workflow_reader.specs.Linked.{ids_in}
+use Rattle.workflow_reader.specs.Duplicates.{first_unknown}
+use Rattle.workflow_reader.specs.Linking.{ids_in}
 use Rattle.workflow_reader.proofs.pairs.all_known.Given as goal
 
 abbrev pub invariant-loop-dependency : goal.invariant-loop-dependency

@@ -1,5 +1,5 @@
 use Rattle.std.proofs.Common.{◌≡◌, ◌++◌, drop}
-use Rattle.workflow_reader.specs.Linked.{pairs_of}
+use Rattle.workflow_reader.specs.Linking.{pairs_of}
 use Rattle.workflow_reader.proofs.pairs.pairs_of.Given as goal
 
 abbrev pub invariant-loop-dependency : goal.invariant-loop-dependency

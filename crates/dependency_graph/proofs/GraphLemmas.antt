@@ -1,0 +1,75 @@
+-- A graph of jobs, and of their numbers.
+use Rattle.std.proofs.Common.{◌≡◌, ℕ, zero, suc, ◌<◌, Bool, true, false, ◌&&◌, List, [], ◌∷◌, length, map, take, refl, sym, ap, subst, ◌∙◌, arith}
+use Rattle.std.specs.Prelude.{Option, Some, None, MatchOption, is_some, slice_index_or}
+use Rattle.std.specs.List.{All, list_all}
+use Rattle.std.proofs.lemmas.List.{get_or-map, length-map}
+use Rattle.outside.specs.declared.numbers.JobId.{JobId}
+use Rattle.workflow_core.specs.declared.workflow.Workflow.{Workflow}
+use Rattle.std.proofs.lemmas.Bool.{and_parts}
+use Rattle.dependency_graph.proofs.BuiltLemmas.{one_producer}
+use Rattle.dependency_graph.proofs.EdgesLemmas.{first_producer, no_producer}
+use Rattle.dependency_graph.specs.Built.{AreProducers}
+use Rattle.dependency_graph.specs.Edges.{edge, makers, producer}
+use Rattle.dependency_graph.specs.Graph.{IsGraphOf, Links, made_at, numbers}
+use Rattle.dependency_graph.specs.Value.{AllMade}
+use Rattle.digraph.specs.Adjacency.{AreNeighbours, has}
+use Rattle.digraph.specs.Cycle.{Returns}
+use Rattle.digraph.specs.Order.{IsTopologicalOrder}
+
+take_numbers : (i : ℕ) (js : List JobId) → take i (numbers js) ≡ numbers (take i js)
+take_numbers zero js = refl
+take_numbers (suc i) [] = refl
+take_numbers (suc i) (j ∷ js) = ap (λ (ns : List ℕ). j.0 ∷ ns) (take_numbers i js)
+
+-- who leads to a job comes before it
+pub comes_first : (w : Workflow) (g : Links) → IsGraphOf w g → (i : ℕ) (a : JobId) → i < length g.ordered → slice_index_or g.ordered i a ≡ a → (p : ℕ) → edge w p a.0 ≡ true → has p (numbers (take i g.ordered)) ≡ true
+comes_first w g graph i a h at p into =
+    ap (has p) (sym (take_numbers i g.ordered))
+    ∙ graph.order.in_order i a.0 (omega (arith, h, length-map g.ordered (λ (j : JobId). j.0))) (get_or-map (λ (j : JobId). j.0) g.ordered i a a.0 h ∙ ap (λ (j : JobId). j.0) at) p into
+
+-- the numbers of a graph's order are in range
+pub numbers_in : (n : ℕ) (js : List JobId) → All (λ a. a < n) (numbers js) → All (λ (j : JobId). j.0 < n) js
+numbers_in n js all i d h = subst (λ (x : ℕ). x < n) (get_or-map (λ (j : JobId). j.0) js i d d.0 h) (all i d.0 (omega (arith, h, length-map js (λ (j : JobId). j.0))))
+
+-- each file has a producer where each is known to have one
+known_maker : (w : Workflow) (g : Links) → IsGraphOf w g → (f : ℕ) → f < length w.files → (o : Option JobId) → made_at g.producers f ≡ o → is_some (producer w.jobs f) ≡ is_some o
+known_maker w g graph f h None e = ap is_some (no_producer w f (subst (λ (o : Option JobId). MatchOption o (makers w f ≡ []) (λ (j : JobId). makers w f ≡ j.0 ∷ [])) e (graph.producer f h)))
+known_maker w g graph f h (Some j) e = ap is_some (first_producer w f j.0 [] (subst (λ (o : Option JobId). MatchOption o (makers w f ≡ []) (λ (j : JobId). makers w f ≡ j.0 ∷ [])) e (graph.producer f h))).1
+
+each_made : (os : List (Option JobId)) → list_all is_some os ≡ true → (f : ℕ) → f < length os → is_some (made_at os f) ≡ true
+each_made [] all f h = absurd (omega arith)
+each_made (o ∷ os) all zero h = (and_parts (is_some o) (list_all is_some os) all).0
+each_made (o ∷ os) all (suc f) h = each_made os (and_parts (is_some o) (list_all is_some os) all).1 f (omega arith)
+
+one_unmade : (os : List (Option JobId)) → list_all is_some os ≡ false → (f : ℕ) × (f < length os) × (is_some (made_at os f) ≡ false)
+one_unmade [] all = absurd cc
+one_unmade (o ∷ os) all = by (is_some o) refl all (λ e. one_unmade os e)
+  where
+    by : (t : Bool) → is_some o ≡ t → (t && list_all is_some os) ≡ false → (list_all is_some os ≡ false → (f : ℕ) × (f < length os) × (is_some (made_at os f) ≡ false)) → (f : ℕ) × (f < length (o ∷ os)) × (is_some (made_at (o ∷ os) f) ≡ false)
+    by true e none rest = let found = rest none in (suc found.0, (let l : found.0 < length os = found.1 in omega arith), found.2)
+    by false e none rest = (0, omega arith, e)
+
+pub all_made : (w : Workflow) (g : Links) → IsGraphOf w g → list_all is_some g.producers ≡ true → AllMade w
+all_made w g graph all f h = known_maker w g graph f h (made_at g.producers f) refl ∙ each_made g.producers all f (omega (arith, h, graph.files))
+
+pub not_all_made : (w : Workflow) (g : Links) → IsGraphOf w g → list_all is_some g.producers ≡ false → (f : ℕ) × (f < length w.files) × (is_some (producer w.jobs f) ≡ false)
+not_all_made w g graph none =
+    let found = one_unmade g.producers none in
+    let low : found.0 < length w.files = (let l : found.0 < length g.producers = found.1 in omega (arith, l, graph.files)) in
+    (found.0, low, known_maker w g graph found.0 low (made_at g.producers found.0) refl ∙ found.2)
+
+-- the graph of the numbers is the graph of the jobs
+pub graph_is : (w : Workflow) (g : Links) (e : ℕ → ℕ → Bool) (count : ℕ) (order : List ℕ) → e ≡ edge w → count ≡ length w.jobs → AreProducers w g.producers
+    → AreNeighbours (λ b a. e a b) count (map numbers g.parents) → AreNeighbours e count (map numbers g.children) → numbers g.ordered ≡ order → IsTopologicalOrder e count order → ((a : ℕ) → Returns e a → ⊥) → IsGraphOf w g
+graph_is w g e count order same many are parents children ordered is_order none = record {
+  sound = record { one_producer = one_producer w g.producers are; no_return = λ a back. none a (subst (λ (e : ℕ → ℕ → Bool). Returns e a) (sym same) back) };
+  files = are.long;
+  producer = are.each;
+  parents = subst (λ (e : ℕ → ℕ → Bool). AreNeighbours (λ b a. e a b) (length w.jobs) (map numbers g.parents)) same (subst (λ (n : ℕ). AreNeighbours (λ b a. e a b) n (map numbers g.parents)) many parents);
+  children = subst (λ (e : ℕ → ℕ → Bool). AreNeighbours e (length w.jobs) (map numbers g.children)) same (subst (λ (n : ℕ). AreNeighbours e n (map numbers g.children)) many children);
+  in_range = numbers_in (length w.jobs) g.ordered here.in_range;
+  order = here;
+}
+  where
+    here : IsTopologicalOrder (edge w) (length w.jobs) (numbers g.ordered)
+    here = subst (λ (ns : List ℕ). IsTopologicalOrder (edge w) (length w.jobs) ns) (sym ordered) (subst (λ (e : ℕ → ℕ → Bool). IsTopologicalOrder e (length w.jobs) order) same (subst (λ (n : ℕ). IsTopologicalOrder e n order) many is_order))

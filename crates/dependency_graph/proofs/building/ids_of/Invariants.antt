@@ -1,7 +1,0 @@
-use Rattle.std.proofs.Common.{◌≡◌, map, take}
-use Rattle.dependency_graph.specs.Lists.{numbers}
-use Rattle.dependency_graph.specs.Built.{id_of}
-use Rattle.dependency_graph.proofs.building.ids_of.Given as goal
-
-abbrev pub invariant-loop-job : goal.invariant-loop-job
-invariant-loop-job l = l.ids.items ≡ map (id_of l.workflow) (numbers (take l.job-index l.jobs))

@@ -1,5 +1,0 @@
-use Rattle.dependency_graph.proofs.Valuing.{no_producer, first_producer}
-use Rattle.dependency_graph.proofs.law.producer_is_the_first_maker.Goals as goal
-
-pub returns : goal.returns
-returns c = record { none = no_producer; some = first_producer }

@@ -1,0 +1,6 @@
+use Rattle.std.proofs.Common.{◌≡◌}
+use Rattle.std.specs.Prelude.{None, replicate}
+use Rattle.digraph.proofs.search.blank.Given as goal
+
+abbrev pub invariant-loop : goal.invariant-loop
+invariant-loop l = l.table.items ≡ replicate l.counter None
