@@ -1,84 +1,13 @@
-//! The values of rows, and the calls that no command makes yet.
+//! The calls that no command makes yet.
 
 use super::*;
 use outside::Text;
 use serde_json::Value;
 use std::alloc::Global;
-use std::process::Abort;
 use std::test::Fail;
 
 const TEXT: &[u8] = br#"{"name":"n","text":"","size":9,"flag":false,"parts":["p","q"],"count":30,
     "sizes":{"b":1,"a/":null},"version":"5.0.3","x":null,"~/":[{"k":1}]}"#;
-
-/// What the rows of an object say.
-#[derive(Drop)]
-struct Sample {
-    name: Text,
-    text: Text,
-    size: u64,
-    flag: bool,
-    parts: Vec<Name>,
-    count: Text,
-    sizes: Value,
-}
-
-fn required(alloc: Global, value: &Value, path: &Text) -> Result<Sample, TreeFault> {
-    Ok(Sample {
-        name: row!(alloc, value, path, "name", Name),
-        text: row!(alloc, value, path, "text", Text),
-        size: row!(alloc, value, path, "size", Number up to 9),
-        flag: row!(alloc, value, path, "flag", Flag),
-        parts: row!(alloc, value, path, "parts", List Name),
-        count: row!(alloc, value, path, "count", Digits),
-        sizes: row!(alloc, value, path, "sizes", Object Value),
-    })
-}
-
-fn optional(alloc: Global, value: &Value, path: &Text) -> Result<Option<Sample>, TreeFault> {
-    let name = row!(alloc, value, path, "name", optional Name);
-    let text = row!(alloc, value, path, "text", optional Text);
-    let size = row!(alloc, value, path, "size", optional Number up to 9);
-    let flag = row!(alloc, value, path, "flag", optional Flag);
-    let parts = row!(alloc, value, path, "parts", optional List Name);
-    let count = row!(alloc, value, path, "count", optional Digits);
-    let sizes = row!(alloc, value, path, "sizes", optional Object Value);
-    match (name, text, size, flag, parts, count, sizes) {
-        (Some(name), Some(text), Some(size), Some(flag), Some(parts), Some(count), Some(sizes)) => {
-            Ok(Some(Sample {
-                name,
-                text,
-                size,
-                flag,
-                parts,
-                count,
-                sizes,
-            }))
-        }
-        _ => Ok(None),
-    }
-}
-
-fn check_sample(rt: &impl Abort, sample: &Sample) {
-    assert_eq!(rt; sample.name.as_str(), "n");
-    assert_eq!(rt; sample.text.as_str(), "");
-    assert_eq!(rt; sample.size, 9);
-    assert!(rt; !sample.flag);
-    assert_eq!(rt; sample.parts.len(), 2);
-    assert_eq!(rt; sample.count.as_str(), "30");
-    assert!(rt; sample.sizes.is_object());
-}
-
-#[test]
-fn values_of_rows(rt: HostRuntime) -> Result<(), Fail> {
-    let alloc = rt.alloc();
-    let value = parse(alloc, TEXT).ok().ok_or("a tree")?;
-    let path = root(alloc).ok().ok_or("a path")?;
-    let sample = required(alloc, &value, &path).ok().ok_or("a sample")?;
-    check_sample(&rt, &sample);
-    let sample = optional(alloc, &value, &path).ok().ok_or("rows")?;
-    check_sample(&rt, &sample.ok_or("a sample")?);
-    Ok(())
-}
 
 const ROWS: [KeyRow; 3] = [
     KeyRow {

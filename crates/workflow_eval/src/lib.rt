@@ -9,8 +9,6 @@
 mod evaluating;
 mod fault;
 mod file_table;
-#[cfg(test)]
-mod tests;
 
 pub use evaluating::evaluate;
 pub use fault::EvalFault;
