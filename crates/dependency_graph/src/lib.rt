@@ -16,8 +16,6 @@ mod flow;
 mod graph;
 mod makers;
 mod sources;
-#[cfg(test)]
-mod tests;
 mod value;
 
 pub use built::build;

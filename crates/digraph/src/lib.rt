@@ -19,8 +19,6 @@ mod nearest;
 mod order;
 mod queries;
 mod search;
-#[cfg(test)]
-mod tests;
 
 pub use adjacency::add_pairs;
 pub use digraph::Digraph;

@@ -8,8 +8,6 @@
 mod folder_docs;
 mod reading;
 mod stream_sink;
-#[cfg(test)]
-mod tests;
 
 pub use folder_docs::FolderDocs;
 pub use stream_sink::StreamSink;

@@ -40,6 +40,3 @@ pub use sink::{Sink, SinkFault, write_all};
 pub use store::Store;
 pub use text::Text;
 pub use tool::{Tool, ToolFault};
-
-#[cfg(test)]
-mod tests;

@@ -30,6 +30,3 @@ pub use row::{KeyRow, Kind};
 pub use table::KeyTable;
 pub use tree::{FromTree, parse};
 pub use versions::{optional_version, version};
-
-#[cfg(test)]
-mod tests;

@@ -10,6 +10,3 @@ mod transformation;
 
 pub use shipped::Shipped;
 pub use transformation::Transformation;
-
-#[cfg(test)]
-mod tests;

@@ -7,8 +7,6 @@
 mod checking;
 mod law;
 mod names;
-#[cfg(test)]
-mod tests;
 mod workflow;
 
 pub use checking::is_well_formed;

@@ -24,6 +24,3 @@ mod selector_profiles;
 mod use_entry;
 
 pub use reader::{from_tree, read};
-
-#[cfg(test)]
-mod tests;

@@ -1,4 +1,4 @@
-use super::*;
+use outside::*;
 use std::test::*;
 
 #[test]

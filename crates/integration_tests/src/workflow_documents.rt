@@ -1,11 +1,11 @@
 //! What a document gives that no command prints.
 
-use super::{from_tree, read};
 use outside::{FileId, JobId, Text};
 use peg_json::{at_key, parse, root};
 use std::process::Abort;
 use std::test::Fail;
 use workflow_core::{Job, Output, Workflow};
+use workflow_reader::{from_tree, read};
 
 const DOCUMENT: &str = r#"{"pegasus":"5.0","name":"w","replicaCatalog":{"k":1},"jobs":[
     {"type":"job","id":"A","name":"t","namespace":"","arguments":["a",60,-5,""],

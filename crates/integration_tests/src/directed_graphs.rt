@@ -1,6 +1,6 @@
 //! A small graph, and the same with an edge that closes a cycle.
 
-use super::*;
+use digraph::*;
 use std::test::*;
 
 #[test]

@@ -1,6 +1,6 @@
 //! The graph of a small workflow.
 
-use super::*;
+use dependency_graph::*;
 use outside::{FileId, Items, JobId, Memory, Text};
 use std::alloc::Global;
 use std::test::*;

@@ -1,7 +1,7 @@
 //! The calls that no command makes yet.
 
-use super::*;
 use outside::Text;
+use peg_json::*;
 use serde_json::Value;
 use std::alloc::Global;
 use std::test::Fail;

@@ -1,8 +1,8 @@
 //! Names by number, and which workflows are well formed.
 
-use super::*;
 use outside::{Items, Text};
 use std::test::*;
+use workflow_core::*;
 
 #[test]
 fn names_by_first_appearance(rt: HostRuntime) -> Result<(), Fail> {

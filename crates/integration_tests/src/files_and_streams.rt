@@ -1,6 +1,6 @@
 //! A file and a stream.
 
-use super::*;
+use host_files::*;
 use outside::{DocFault, Docs, Sink, SinkFault, write_all};
 use std::alloc::Global;
 use std::fs;

@@ -1,7 +1,7 @@
-use super::*;
 use outside::{Blob, Memory, Text, Tool, ToolFault};
 use std::alloc::Global;
 use std::test::*;
+use toolbox::*;
 
 fn texts(alloc: Global, line: &str) -> Result<Vec<Text>, Memory> {
     let mut texts = Vec::new(alloc);
