@@ -7,7 +7,7 @@ use Rattle.std.proofs.lemmas.List.{append-nil}
 use Rattle.std.proofs.lemmas.List.Folds.{list_any-append}
 use Rattle.toolbox.specs.Lines.{bytes_of, written}
 use Rattle.toolbox.specs.Transformation.Distinct.{is_among, new_lines}
-use Rattle.toolbox.proofs.LinesLemmas.{Line, before_next, cut, line_cmp, line_end, past}
+use Rattle.toolbox.proofs.LinesLemmas.{Line, before_next, cut, line_cmp, line_end}
 
 either : (b a : Bool) → cond b true a ≡ (a || (b || false))
 either true true = refl
@@ -56,7 +56,3 @@ next_line lines i d h old new text now whole added seen e is_new updates pushed 
       ∙ sym (ap (λ (ls : List (List ℕ)). text ++ written (new_lines before ls)) here)
       ∙ e,
     )
-
--- no line is left
-pub last_line : (lines : List Line) (i : ℕ) (before : List (List ℕ)) (text whole : List ℕ) → length lines ≤ i → text ++ written (new_lines before (bytes_of (drop i lines))) ≡ whole → text ≡ whole
-last_line lines i before text whole h e = sym (append-nil text) ∙ sym (ap (λ (ls : List (List ℕ)). text ++ written (new_lines before ls)) (past lines i h)) ∙ e

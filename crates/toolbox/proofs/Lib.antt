@@ -5,4 +5,3 @@ pub mod DistinctLemmas
 pub mod DealLemmas
 pub mod HoldsLemmas
 pub mod ColumnLemmas
-pub mod TotalLemmas

@@ -5,7 +5,7 @@ use Rattle.std.specs.Cmp.Lexicographic.{slice_cmp}
 use Rattle.std.specs.Ordering.{nat_cmp}
 use Rattle.std.specs.List.{slice_split, onto_first}
 use Rattle.std.proofs.lemmas.Bool.{eqb-true}
-use Rattle.std.proofs.lemmas.List.{append-nil, drop_all, map-append, take_more}
+use Rattle.std.proofs.lemmas.List.{append-nil, map-append, take_more}
 use Rattle.toolbox.specs.Lines.{bytes_of, lines, without_empty_last, written}
 
 abbrev pub Line : Type 0
@@ -15,7 +15,7 @@ abbrev pub line_cmp : Line → Line → Ordering
 line_cmp x y = slice_cmp nat_cmp x.now y.now
 
 -- a text, a line and the rest
-pub line_end : (text line rest : List ℕ) → (text ++ line ++ 10 ∷ []) ++ rest ≡ text ++ (line ++ 10 ∷ rest)
+pub line_end : (text line rest : List ℕ) → (text ++ (line ++ 10 ∷ [])) ++ rest ≡ text ++ (line ++ 10 ∷ rest)
 line_end text line rest = simp append_assoc
 
 -- a line that is wanted, before the others
@@ -23,16 +23,14 @@ pub line_if : (wanted : Bool) (line : List ℕ) (rest : List (List ℕ)) (old ne
 line_if true line rest old new e = ap (λ (text : List ℕ). text ++ written rest) e ∙ line_end old line (written rest)
 line_if false line rest old new e = ap (λ (text : List ℕ). text ++ written rest) (e ∙ append-nil old)
 
--- the lines from a place on, and none past the end
-pub cut : (lines : List Line) (i : ℕ) (d : Line) → i < length lines → bytes_of (drop i lines) ≡ (get_or lines i d).now ∷ bytes_of (drop (i + 1) lines)
-cut lines i d h = ap bytes_of (rw add-one (drop-cons lines i d h))
+-- the lines from a place on, and those before the next place
+pub cut : (ls : List Line) (i : ℕ) (d : Line) → i < length ls → bytes_of (drop i ls) ≡ (get_or ls i d).now ∷ bytes_of (drop (i + 1) ls)
+cut ls i d h =
+    let next : drop i ls ≡ get_or ls i d ∷ drop (i + 1) ls = rw add-one (drop-cons ls i d h) in
+    ap bytes_of next
 
-pub past : (lines : List Line) (i : ℕ) → length lines ≤ i → bytes_of (drop i lines) ≡ []
-past lines i h = ap bytes_of (drop_all i lines h)
-
--- the lines before the next place
-pub before_next : (lines : List Line) (i : ℕ) (d : Line) → i < length lines → bytes_of (take (i + 1) lines) ≡ bytes_of (take i lines) ++ (get_or lines i d).now ∷ []
-before_next lines i d h = ap bytes_of (take_more lines i d h) ∙ map-append (λ (line : Line). line.now) (take i lines) (get_or lines i d ∷ [])
+pub before_next : (ls : List Line) (i : ℕ) (d : Line) → i < length ls → bytes_of (take (i + 1) ls) ≡ bytes_of (take i ls) ++ (get_or ls i d).now ∷ []
+before_next ls i d h = ap bytes_of (take_more ls i d h) ∙ map-append (λ (line : Line). line.now) (take i ls) (get_or ls i d ∷ [])
 
 -- ---- what is left of the parts without a last one that is empty
 
@@ -63,12 +61,6 @@ pub kept : (before after now : List Line) (last : Line) (parts : List (List ℕ)
 kept before after now last parts are popped pushed full =
     let same : bytes_of now ≡ parts = ap bytes_of (pushed ∙ sym popped) ∙ are in
     same ∙ kept_by (bytes_of after) parts last.now (sym are ∙ ap bytes_of popped ∙ map-append (λ (line : Line). line.now) after (last ∷ [])) full
-
-pub none : (before after : List Line) (parts : List (List ℕ)) → bytes_of before ≡ parts → before ≡ after ++ [] → length before ≡ 0 → bytes_of after ≡ without_empty_last parts
-none [] after parts are popped short =
-    let same : after ≡ [] = sym (popped ∙ append-nil after) in
-    rw (same, ← are) refl
-none (line ∷ before) after parts are popped short = absurd (omega arith)
 
 -- ---- a text that ends with a line feed
 

@@ -75,18 +75,18 @@ times_in_order a (line ∷ rest) =
 first_below : (a first : List ℕ) (rest : List (List ℕ)) → RisesFrom first rest → 0 < times a (first ∷ rest) → is_after first a ≡ false
 first_below a first [] up some = by (bytes_eq a first) refl some
   where
-    by : (b : Bool) → bytes_eq a first ≡ b → 0 < cond b 1 0 + 0 → is_after first a ≡ false
+    by : (b : Bool) → bytes_eq a first ≡ b → 0 < cond {A = ℕ} b 1 0 + 0 → is_after first a ≡ false
     by true e s = rw (same_text a first (sym e)) (itself first)
     by false e s = absurd (omega arith)
 first_below a first (next ∷ rest) up some = by (bytes_eq a first) refl some (λ more. first_below a next rest up.1 more)
   where
-    by : (b : Bool) → bytes_eq a first ≡ b → 0 < cond b 1 0 + times a (next ∷ rest) → (0 < times a (next ∷ rest) → is_after next a ≡ false) → is_after first a ≡ false
+    by : (b : Bool) → bytes_eq a first ≡ b → 0 < cond {A = ℕ} b 1 0 + times a (next ∷ rest) → (0 < times a (next ∷ rest) → is_after next a ≡ false) → is_after first a ≡ false
     by true e s more = rw (same_text a first (sym e)) (itself first)
     by false e s more = upto nat_list_cmp_total first next a up.0 (more (omega arith))
 
 occurs : (a : List ℕ) (rest : List (List ℕ)) → 0 < times a (a ∷ rest)
 occurs a rest =
-    let once : cond (bytes_eq a a) 1 0 ≡ 1 = ap (λ (b : Bool). cond b 1 0) (nat_list_eq_equiv.refl a) in
+    let once : cond {A = ℕ} (bytes_eq a a) 1 0 ≡ 1 = ap (λ (b : Bool). cond {A = ℕ} b 1 0) (nat_list_eq_equiv.refl a) in
     omega arith
 
 rest_rises : (line : List ℕ) (rest : List (List ℕ)) → RisesFrom line rest → Rises rest
@@ -95,7 +95,7 @@ rest_rises line (next ∷ rest) up = up.1
 
 rest_times : (a x y : List ℕ) (xs ys : List (List ℕ)) → x ≡ y → times a (x ∷ xs) ≡ times a (y ∷ ys) → times a xs ≡ times a ys
 rest_times a x y xs ys e same =
-    let first : cond (bytes_eq a x) 1 0 ≡ cond (bytes_eq a y) 1 0 = ap (λ (l : List ℕ). cond (bytes_eq a l) 1 0) e in
+    let first : cond {A = ℕ} (bytes_eq a x) 1 0 ≡ cond {A = ℕ} (bytes_eq a y) 1 0 = ap (λ (l : List ℕ). cond {A = ℕ} (bytes_eq a l) 1 0) e in
     omega arith
 
 same_lines : (xs ys : List (List ℕ)) → Rises xs → Rises ys → ((a : List ℕ) → times a xs ≡ times a ys) → xs ≡ ys
@@ -135,11 +135,11 @@ rises : (lines : List Line) → IsSorted line_cmp lines → Rises (bytes_of line
 rises [] up = tt
 rises (first ∷ rest) up = rises_from first rest up
 
-times_is : (a : List ℕ) (lines : List (List ℕ)) → times a lines ≡ sum_by (λ l. cond (bytes_eq a l) 1 0) lines
+times_is : (a : List ℕ) (lines : List (List ℕ)) → times a lines ≡ sum_by (λ (l : List ℕ). cond {A = ℕ} (bytes_eq a l) 1 0) lines
 times_is a [] = refl
 times_is a (line ∷ rest) =
     let later = times_is a rest in
-    let whole = sum_by-cons (λ (l : List ℕ). cond (bytes_eq a l) 1 0) line rest in
+    let whole = sum_by-cons (λ (l : List ℕ). cond {A = ℕ} (bytes_eq a l) 1 0) line rest in
     omega arith
 
 times_moved : (a : List ℕ) (xs ys : List Line) → IsPermutation xs ys → times a (bytes_of ys) ≡ times a (bytes_of xs)

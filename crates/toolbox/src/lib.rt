@@ -1,7 +1,7 @@
 //! The transformations that come with the product.
 //!
 //! `Shipped` is a tool that never fails: a run makes what `specs/Shipped.antt` defines, or
-//! declines exactly where that is undefined. It stands on `outside` alone.
+//! declines exactly where that is undefined.
 #![tactic(auto)]
 
 pub mod law;

@@ -47,7 +47,11 @@ fn hands(alloc: Global, lines: &[&[u8]], count: usize) -> Result<Vec<Vec<u8>>, M
 fn outputs(alloc: Global, texts: Vec<Vec<u8>>) -> Result<Vec<Blob>, Memory>
     ensures { IfOk result (λ outputs. outputs.items ≡ texts_of texts.items) }
 {
-    Ok(texts.into_iter().map(|text| Blob::new(text)).collect(alloc)?)
+    let mut outputs = Vec::new(alloc);
+    for text in texts {
+        outputs.push(Blob::new(text))?;
+    }
+    Ok(outputs)
 }
 
 fn dealt(alloc: Global, input: &[u8], outs: usize) -> Result<Vec<Blob>, Memory>
@@ -56,7 +60,8 @@ fn dealt(alloc: Global, input: &[u8], outs: usize) -> Result<Vec<Blob>, Memory>
 {
     let lines = lines(alloc, input)?;
     let texts = hands(alloc, &lines, outs)?;
-    outputs(alloc, texts)
+    let outputs = outputs(alloc, texts)?;
+    Ok(outputs)
 }
 
 /// The lines in turn, one for each output; there has to be one.

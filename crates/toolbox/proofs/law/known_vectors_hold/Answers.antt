@@ -1,4 +1,5 @@
 use Rattle.std.proofs.Common.{refl}
+use Rattle.std.specs.Fmt.{digits}
 use Rattle.toolbox.specs.Lines.{lines}
 use Rattle.toolbox.specs.Shipped.{applied}
 use Rattle.toolbox.proofs.law.known_vectors_hold.Goals as goal
@@ -44,7 +45,7 @@ unfolding applied lines
 returns-clause-distinct c = refl
 
 pub returns-clause-count : goal.returns-clause-count
-unfolding applied lines
+unfolding applied lines digits
 returns-clause-count c = refl
 
 pub returns-clause-holds : goal.returns-clause-holds
@@ -56,11 +57,11 @@ unfolding applied lines
 returns-clause-column c = refl
 
 pub returns-clause-total : goal.returns-clause-total
-unfolding applied lines
+unfolding applied lines digits
 returns-clause-total c = refl
 
 pub returns-clause-total_of_nothing : goal.returns-clause-total_of_nothing
-unfolding applied lines
+unfolding applied lines digits
 returns-clause-total_of_nothing c = refl
 
 pub returns-clause-total_of_a_negative : goal.returns-clause-total_of_a_negative

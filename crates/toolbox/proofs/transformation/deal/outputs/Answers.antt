@@ -1,10 +1,12 @@
-use Rattle.std.proofs.Common.{ℕ, rules, tests}
-use Rattle.std.specs.Prelude.{Vec}
-use Rattle.std.specs.declared.alloc.Global.{Global}
-use Rattle.std.proofs.lemmas.Iterator.{YieldsList-from_map_by, items_from_collect}
-use Rattle.std.proofs.lemmas.Iterator.Adapters.{YieldsList-from_vec}
-use Rattle.std.proofs.lemmas.Result.{IfOk-at_ok}
+use Rattle.std.proofs.Common.{ap, length, arith}
+use Rattle.toolbox.proofs.DealLemmas.{all_moved, moved}
 use Rattle.toolbox.proofs.transformation.deal.outputs.Goals as goal
 
+pub loop-text-preserved : goal.loop-text-preserved
+loop-text-preserved c = (
+  moved c.loop-text.outputs.items c.push.new.self.items c.loop-text.text-iterator.rest.items c.next.new.self.rest.items c.in-Some.text c.new.result _ c.loop-text.invariant.0 c.in-Some.ensures.steps.0 c.new.ensures c.in_ok-push.ensures.items,
+  omega (arith, ap length c.in-Some.ensures.steps.0, c.in-Some.ensures.steps.1, c.loop-text.invariant.1),
+)
+
 pub returns : goal.returns
-returns c = IfOk-at_ok _ c.in_ok-collect.was (items_from_collect _ c.collect.ensures.ran (YieldsList-from_map_by _ (λ y. y) (λ (text : Vec ℕ Global). text.items) (YieldsList-from_vec c.args.texts.items c.into_iter.ensures.rest (search rules)) c.map.ensures.closure (λ x r q k. search (rules, tests))))
+returns c = all_moved c.loop-text.outputs.items c.loop-text.text-iterator.rest.items c.loop-text.text-iterator.rest.len _ c.loop-text.invariant.0 c.loop-text.invariant.1 c.in-None.ensures.steps.0
