@@ -52,6 +52,7 @@ fn what_is_made(rt: HostRuntime) -> Result<(), Fail> {
         let args = texts(alloc, args)?;
         let ins = blobs(alloc, ins)?;
         let outputs = tool.run(alloc, name, &args, &ins, 1)?;
+        assert_eq!(rt; outputs.len(), 1);
         assert_eq!(rt; outputs[0].as_slice(), made.as_bytes());
         assert!(rt; tool.knows(name));
     }
