@@ -1,5 +1,5 @@
 -- Lines dealt to texts.
-use Rattle.std.proofs.Common.{◌≡◌, ℕ, ◌<◌, Bool, true, false, cond, List, Option, Some, None, [], ◌∷◌, ◌++◌, length, get_or, map, refl, sym, ap, ◌∙◌, nat_eq, append_assoc, arith}
+use Rattle.std.proofs.Common.{◌≡◌, ℕ, ◌<◌, Bool, true, false, cond, List, Some, None, [], ◌∷◌, ◌++◌, length, get_or, map, refl, sym, ap, ◌∙◌, nat_eq, append_assoc, arith}
 use Rattle.std.specs.Prelude.{slice_set, Vec}
 use Rattle.std.specs.List.{range_with_len}
 use Rattle.std.specs.declared.alloc.Global.{Global}

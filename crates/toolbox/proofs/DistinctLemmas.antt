@@ -1,5 +1,5 @@
 -- Lines that were seen.
-use Rattle.std.proofs.Common.{◌≡◌, ℕ, ◌+◌, ◌<◌, ◌≤◌, length, get_or, take, drop, Bool, true, false, not, ◌||◌, cond, List, [], ◌∷◌, ◌++◌, Bor, bytes_eq, refl, sym, ap, ◌∙◌}
+use Rattle.std.proofs.Common.{◌≡◌, ℕ, ◌+◌, ◌<◌, length, get_or, take, drop, Bool, true, false, not, ◌||◌, cond, List, [], ◌∷◌, ◌++◌, bytes_eq, refl, sym, ap, ◌∙◌}
 use Rattle.std.specs.BTreeSet.{BTreeSet, contains, Updates}
 use Rattle.std.specs.Cmp.Lexicographic.{nat_list_eq_equiv, texts_ties}
 use Rattle.std.specs.Ordering.{is_eq}
@@ -52,7 +52,7 @@ next_line lines i d h old new text now whole added seen e is_new updates pushed 
     let is : added ≡ not (is_among before line.now) = is_new ∙ ap not (seen line) in (
       λ q. seen_more before old new line seen updates q ∙ sym (ap (λ (ls : List (List ℕ)). is_among ls q.now) more),
       ap (λ (ls : List (List ℕ)). now ++ written (new_lines ls rest)) more
-      ∙ text_more before rest line.now text now added is pushed
-      ∙ sym (ap (λ (ls : List (List ℕ)). text ++ written (new_lines before ls)) here)
-      ∙ e,
+          ∙ text_more before rest line.now text now added is pushed
+          ∙ sym (ap (λ (ls : List (List ℕ)). text ++ written (new_lines before ls)) here)
+          ∙ e,
     )

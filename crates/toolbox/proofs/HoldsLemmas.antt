@@ -16,7 +16,7 @@ first : (pattern line : List ℕ) → OccursAt line pattern 0 → starts_with na
 first pattern line occurs =
     let none : (j : ℕ) → 0 + j ≡ j = λ j. omega arith in
     let whole : line ≡ pattern ++ drop (length pattern) line =
-        front_from_reads 0 line pattern (omega (arith, occurs.fits)) (λ j h. subst (λ (n : ℕ). get_or line n 0 ≡ get_or pattern j 0) (none j) (occurs.reads j h)) in
+    front_from_reads 0 line pattern (omega (arith, occurs.fits)) (λ j h. subst (λ (n : ℕ). get_or line n 0 ≡ get_or pattern j 0) (none j) (occurs.reads j h)) in
     let front : take (length pattern) line ≡ pattern = ap (take (length pattern)) whole ∙ take_at pattern (drop (length pattern) line) (length pattern) refl in
     ap (λ (bytes : List ℕ). bytes_eq pattern bytes) front ∙ nat_list_eq_equiv.refl pattern
 
@@ -62,7 +62,7 @@ at_later b bytes pattern place =
       within = omega (arith, place.within);
       occurs = record {
         fits = omega arith;
-        reads = λ j h. 
+        reads = λ j h.
             let e : suc (k + j) ≡ suc k + j = omega arith in
             subst (λ (n : ℕ). get_or (b ∷ bytes) n 0 ≡ get_or pattern j 0) e (place.occurs.reads j h);
       };

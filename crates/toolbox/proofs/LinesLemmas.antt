@@ -1,5 +1,5 @@
 -- Lines: their order, and what they are when they are written again.
-use Rattle.std.proofs.Common.{◌≡◌, ℕ, ◌+◌, ◌<◌, ◌≤◌, Bool, true, false, cond, eqb, nat_eq, length, get_or, take, drop, add-one, List, [], ◌∷◌, ◌++◌, Bor, Ordering, refl, sym, ap, ◌∙◌, append_assoc, arith}
+use Rattle.std.proofs.Common.{◌≡◌, ℕ, ◌+◌, ◌<◌, Bool, true, false, cond, eqb, nat_eq, length, get_or, take, drop, add-one, List, [], ◌∷◌, ◌++◌, Bor, Ordering, refl, sym, ap, ◌∙◌, append_assoc, arith}
 use Rattle.std.proofs.Math.Seq.{drop-cons}
 use Rattle.std.specs.Cmp.Lexicographic.{slice_cmp}
 use Rattle.std.specs.Ordering.{nat_cmp}
@@ -46,7 +46,7 @@ all (part ∷ next ∷ parts) b bytes = ap (λ (rest : List (List ℕ)). part �
 
 left_by : (front parts : List (List ℕ)) (last : List ℕ) → parts ≡ front ++ last ∷ [] → nat_eq (length last) 0 ≡ true → front ≡ without_empty_last parts
 left_by front parts [] is empty = sym (rw is (less front))
-left_by front parts (b ∷ bytes) is empty = 
+left_by front parts (b ∷ bytes) is empty =
     let none : length (b ∷ bytes) ≡ 0 = eqb-true (length (b ∷ bytes)) 0 empty in
     absurd (omega arith)
 

@@ -1,5 +1,5 @@
 -- Numbers of so many digits.
-use Rattle.std.proofs.Common.{ℕ, ◌+◌, ◌*◌, ◌^◌, ◌<◌, ◌≤◌, arith}
+use Rattle.std.proofs.Common.{ℕ, ◌^◌, ◌<◌, ◌≤◌, arith}
 use Rattle.std.proofs.Math.Nat.{pow-le-pow_right}
 
 pub below_more : (n i k : ℕ) → n < 10 ^ i → i ≤ k → n < 10 ^ k

@@ -9,9 +9,9 @@ use Rattle.toolbox.specs.declared.transformation.Transformation.{Transformation}
 use Rattle.toolbox.specs.declared.transformation.Transformation.TheVariants.{Deal}
 use Rattle.toolbox.specs.Lines.{lines, written}
 use Rattle.toolbox.specs.Transformation.{named}
-use Rattle.toolbox.specs.Transformation.Deal.{dealt, hand}
+use Rattle.toolbox.specs.Transformation.Deal.{hand}
 use Rattle.toolbox.specs.Transformation.Join.{joined}
-use Rattle.toolbox.specs.Shipped.{output, only, made, applied}
+use Rattle.toolbox.specs.Shipped.{output, made, applied}
 
 if_one : (outs : ℕ) (b : Bool) (one : Option (List ℕ)) (vs : List (List ℕ)) → (outs == 1) ≡ b → cond b (option_map (λ bytes. bytes ∷ []) one) None ≡ Some vs → length vs ≡ outs
 if_one outs true (Some bytes) vs test e =

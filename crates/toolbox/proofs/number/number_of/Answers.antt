@@ -1,4 +1,4 @@
-use Rattle.std.proofs.Common.{◌<◌, ◌^◌, ◌*◌, arith}
+use Rattle.std.proofs.Common.{◌<◌, ◌^◌, arith}
 use Rattle.toolbox.proofs.NumberLemmas.{below_more}
 use Rattle.toolbox.proofs.number.number_of.Goals as goal
 
