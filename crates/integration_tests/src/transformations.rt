@@ -23,17 +23,32 @@ fn blobs(alloc: Global, line: &str) -> Result<Vec<Blob>, Memory> {
     Ok(blobs)
 }
 
+/// The digest is that of FIPS 180-4, its first example; the others are known to the laws too.
+const MADE: [(&str, &str, &str, &str); 12] = [
+    ("text", "a|b c", "", "a b c\n"),
+    ("join", "", "ab|c", "abc"),
+    ("take", "2", "x\ny\nz", "x\ny\n"),
+    ("drop", "2", "x\ny\nz", "z\n"),
+    ("deal", "", "d\nb", "d\nb\n"),
+    ("sorted", "", "b\na\nb", "a\nb\nb\n"),
+    ("distinct", "", "b\na\nb", "b\na\n"),
+    ("count", "", "x\ny|z\n", "2 5\n"),
+    ("holds", "an", "banana\nfig\n", "banana\n"),
+    ("column", "2", "a\tb\nc\n", "b\n\n"),
+    ("total", "", "7\n005\n", "12\n"),
+    (
+        "digest",
+        "",
+        "abc",
+        "ba7816bf8f01cfea414140de5dae2223b00361a396177a9cb410ff61f20015ad\n",
+    ),
+];
+
 #[test]
-fn vectors_of_text_and_join(rt: HostRuntime) -> Result<(), Fail> {
+fn what_is_made(rt: HostRuntime) -> Result<(), Fail> {
     let alloc = rt.alloc();
     let mut tool = Shipped::new();
-    let cases = [
-        ("text", "a|b c", "", "a b c\n"),
-        ("text", "", "", "\n"),
-        ("join", "", "ab|c", "abc"),
-        ("join", "ignored", "", ""),
-    ];
-    for (name, args, ins, made) in cases {
+    for (name, args, ins, made) in MADE {
         let args = texts(alloc, args)?;
         let ins = blobs(alloc, ins)?;
         let outputs = tool.run(alloc, name, &args, &ins, 1)?;
@@ -48,17 +63,8 @@ fn vectors_of_text_and_join(rt: HostRuntime) -> Result<(), Fail> {
 fn what_is_declined(rt: HostRuntime) -> Result<(), Fail> {
     let alloc = rt.alloc();
     let mut tool = Shipped::new();
-    let cases = [
-        ("text", "x", 1),
-        ("text", "", 0),
-        ("text", "", 2),
-        ("join", "x", 0),
-        ("join", "x", 2),
-        ("wget", "", 1),
-    ];
-    for (name, ins, outs) in cases {
-        let ins = blobs(alloc, ins)?;
-        let answer = tool.run(alloc, name, &[], &ins, outs);
+    for (name, outs) in [("wget", 1), ("deal", 0), ("join", 2), ("take", 1)] {
+        let answer = tool.run(alloc, name, &[], &[], outs);
         assert!(rt; matches!(&answer, Err(ToolFault::Declined)));
     }
     assert!(rt; !tool.knows("wget"));

@@ -1,10 +1,12 @@
 //! The transformations that come with the product.
 //!
-//! `Shipped` is a tool that never fails: a run makes what `specs/Transformations.antt` defines, or
-//! declines exactly where that is undefined. It stands on `outside` alone.
+//! `Shipped` is a tool that never fails: a run makes what `specs/Shipped.antt` defines, or
+//! declines exactly where that is undefined.
 #![tactic(auto)]
 
-mod pieces;
+pub mod law;
+mod lines;
+mod number;
 mod shipped;
 mod transformation;
 

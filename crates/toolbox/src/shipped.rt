@@ -1,10 +1,14 @@
 //! The shipped transformations as a tool.
 
 ghost use Rattle.std.specs.Prelude.{◌≡◌, ◌∷◌, [], IfOk};
-ghost use Rattle.toolbox.specs.Transformations.{made, Makes};
+ghost use Rattle.toolbox.specs.Shipped.{made, output, Makes};
+ghost use Rattle.toolbox.specs.Transformation.{Gives};
+ghost use Rattle.toolbox.specs.Transformation.Join.{joined};
 
-use crate::pieces::{all_inputs, line_of};
-use crate::transformation::Transformation;
+use crate::transformation::{
+    Transformation, column, count, deal, digest, distinct, drop, holds, join, sorted, take, text,
+    total,
+};
 use outside::{Blob, Memory, Text, Tool, ToolFault};
 use std::alloc::Global;
 
@@ -18,6 +22,32 @@ impl Shipped {
     }
 }
 
+/// Makes the one output of each transformation but the dealing one.
+fn output(
+    alloc: Global,
+    transformation: Transformation,
+    args: &[Text],
+    ins: &[Blob],
+) -> Result<Blob, ToolFault>
+    ensures { Gives (output transformation args.now ins.now (joined ins.now)) result }
+{
+    let input = join::make(alloc, ins)?;
+    match transformation {
+        Transformation::Text => text::make(alloc, args, ins),
+        Transformation::Join => Ok(input),
+        Transformation::Take => take::make(alloc, args, input.as_slice()),
+        Transformation::Drop => drop::make(alloc, args, input.as_slice()),
+        Transformation::Deal => Err(ToolFault::Declined),
+        Transformation::Sorted => Ok(sorted::make(alloc, input.as_slice())?),
+        Transformation::Distinct => Ok(distinct::make(alloc, input.as_slice())?),
+        Transformation::Count => Ok(count::make(alloc, input.as_slice())?),
+        Transformation::Holds => holds::make(alloc, args, input.as_slice()),
+        Transformation::Column => column::make(alloc, args, input.as_slice()),
+        Transformation::Total => total::make(alloc, input.as_slice()),
+        Transformation::Digest => Ok(digest::make(alloc, input.as_slice())?),
+    }
+}
+
 fn one(alloc: Global, output: Blob) -> Result<Vec<Blob>, Memory>
     ensures { IfOk result (λ outputs. outputs.items ≡ output ∷ []) }
 {
@@ -26,7 +56,7 @@ fn one(alloc: Global, output: Blob) -> Result<Vec<Blob>, Memory>
     Ok(outputs)
 }
 
-/// Makes the one output of a transformation.
+/// Makes the outputs of a transformation.
 fn make(
     alloc: Global,
     transformation: Transformation,
@@ -36,23 +66,21 @@ fn make(
 ) -> Result<Vec<Blob>, ToolFault>
     ensures { Makes (made transformation args.now ins.now outs) result }
 {
-    if outs != 1 {
-        return Err(ToolFault::Declined);
-    }
-    let output = match transformation {
-        Transformation::Text => {
-            if !ins.is_empty() {
-                return Err(ToolFault::Declined);
-            }
-            line_of(alloc, args)?
+    match transformation {
+        Transformation::Deal => {
+            let input = join::make(alloc, ins)?;
+            deal::make(alloc, input.as_slice(), outs)
         }
-        Transformation::Join => all_inputs(alloc, ins)?,
-    };
-    Ok(one(alloc, output)?)
+        _ if outs != 1 => Err(ToolFault::Declined),
+        _ => {
+            let output = output(alloc, transformation, args, ins)?;
+            Ok(one(alloc, output)?)
+        }
+    }
 }
 
 impl Tool for Shipped {
-    ghost use Rattle.toolbox.specs.Transformations.{applied, is_known};
+    ghost use Rattle.toolbox.specs.Shipped.{applied, is_known};
     ghost use Rattle.toolbox.specs.AsMany.{applied_as_many};
 
     ghost apply = { applied };
@@ -69,7 +97,7 @@ impl Tool for Shipped {
         Transformation::from_name(name).is_some()
     }
 
-    #[tactic(auto, unfolding(crate::specs::Transformations::applied))]
+    #[tactic(auto, unfolding(crate::specs::Shipped::applied))]
     fn run(
         &mut self,
         alloc: Global,

@@ -1,6 +1,0 @@
-use Rattle.std.proofs.Common.{◌≡◌, ◌++◌, drop}
-use Rattle.toolbox.specs.Transformations.{joined}
-use Rattle.toolbox.proofs.pieces.all_inputs.Given as goal
-
-abbrev pub invariant-loop-piece : goal.invariant-loop-piece
-invariant-loop-piece l = l.bytes.items ++ joined (drop l.piece-index l.ins) ≡ joined l.ins
