@@ -24,7 +24,7 @@ impl FailingTool {
 }
 
 impl Tool for FailingTool {
-    ghost use Rattle.toolbox.specs.Transformations.{applied, is_known};
+    ghost use Rattle.toolbox.specs.Shipped.{applied, is_known};
     ghost use Rattle.toolbox.specs.AsMany.{applied_as_many};
 
     ghost apply = { applied };
