@@ -5,6 +5,7 @@ pub mod Docs
 pub mod Sink
 pub mod Host
 pub mod Tool
+pub mod Policy
 pub mod Printed
 pub mod Line
 -- What the objects in memory hold, for tests of what stands above.
