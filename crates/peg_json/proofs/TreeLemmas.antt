@@ -1,5 +1,5 @@
 -- From bytes to a tree, and from a tree's members to their keys.
-use Rattle.std.proofs.Common.{◌≡◌, ℕ, Bool, true, false, cond, List, [], ◌∷◌, map, refl, ap, ◌∙◌}
+use Rattle.std.proofs.Common.{◌≡◌, ℕ, Bool, true, false, cond, List, [], ◌∷◌, map, refl, suc, length, ap, ◌∙◌}
 use Rattle.std.specs.Prelude.{Some, None, Ok, Err, String, string_bytes}
 use Rattle.std.specs.declared.alloc.Global.{Global}
 use Rattle.std.specs.Str.{IsUtf8, is_utf8}
@@ -28,6 +28,10 @@ no_tree bytes none = by_test bytes (is_utf8 bytes) refl none
 pub elements_view : (vs : List Value) → elements (items_view vs) ≡ map view vs
 elements_view [] = refl
 elements_view (v ∷ vs) = ap (λ (ds : List Data). view v ∷ ds) (elements_view vs)
+
+pub count_view : (vs : List Value) → length (elements (items_view vs)) ≡ length vs
+count_view [] = refl
+count_view (v ∷ vs) = ap (λ (n : ℕ). suc n) (count_view vs)
 
 pub keys_view : (ms : List (String Global × Value)) → keys_in (members_view ms) ≡ map string_bytes (map (λ m. m.0) ms)
 keys_view [] = refl

@@ -7,3 +7,10 @@ pub mod Table
 pub mod Typed
 pub mod Listed
 pub mod Versions
+pub mod Lists
+pub mod Refused
+pub mod Duplicates
+pub mod Sites
+pub mod PegasusProfiles
+pub mod SelectorProfiles
+pub mod Profiles

@@ -13,7 +13,7 @@ use Rattle.workflow_reader.specs.declared.document.Direction.{Direction}
 use Rattle.workflow_reader.specs.declared.document.Direction.TheVariants.{Input, Output}
 use Rattle.workflow_reader.specs.declared.document.Use.{Use}
 use Rattle.workflow_core.specs.Names.{with_name}
-use Rattle.workflow_reader.specs.Duplicates.{first_repeat, first_unknown, refused}
+use Rattle.peg_json.specs.Duplicates.{first_repeat, refused, first_unknown}
 use Rattle.workflow_reader.specs.Files.{same_direction, lfns_of, uses_as}
 use Rattle.workflow_reader.specs.Known.{is_named, inputs_with, outputs_with, repeat_after}
 use Rattle.workflow_reader.specs.Linking.{same_use, used_once, ids_in}

@@ -26,7 +26,7 @@ use Rattle.workflow_reader.specs.declared.document.JobEntry.{JobEntry}
 use Rattle.workflow_reader.specs.declared.document.Use.{Use}
 use Rattle.workflow_reader.specs.declared.document.Dependency.{Dependency}
 use Rattle.workflow_reader.specs.Document.{DocumentEntry}
-use Rattle.workflow_reader.specs.Duplicates.{first_repeat, first_unknown, refused}
+use Rattle.peg_json.specs.Duplicates.{first_repeat, refused, first_unknown}
 use Rattle.workflow_reader.specs.Files.{same_direction, lfns_of, lfns_in, files_of, uses_as, file_of, output_of}
 use Rattle.workflow_reader.specs.Linking.{ids_of, same_use, used_once, all_used_once, ids_in, job_of, pairs_from, pairs_of, linked_job, workflow_entry, linked}
 use Rattle.workflow_reader.specs.Small.{AreSmall}

@@ -18,9 +18,9 @@ use Rattle.workflow_reader.specs.Argument.{argument_of}
 use Rattle.workflow_reader.specs.ConstantText.{constant_at}
 use Rattle.workflow_reader.specs.Document.{DocumentEntry}
 use Rattle.workflow_reader.specs.Dependency.{dependency_of}
-use Rattle.workflow_reader.specs.Profiles.{profiles_or_none}
+use Rattle.peg_json.specs.Profiles.{profiles_or_none}
 use Rattle.workflow_reader.specs.JobEntry.{job_rows, job_of}
-use Rattle.workflow_reader.specs.Lists.{list_or_none}
+use Rattle.peg_json.specs.Lists.{list_or_none}
 use Rattle.workflow_reader.specs.Root.{root_rows, document_of}
 use Rattle.workflow_reader.specs.Small.{IsSmallUse, AreSmall}
 use Rattle.workflow_reader.specs.UseEntry.{use_rows, direction_at, use_of}

@@ -9,8 +9,8 @@ use Rattle.peg_json.specs.declared.row.Kind.TheVariants as kinds
 use Rattle.peg_json.specs.declared.fault.TreeFault.{TreeFault}
 use Rattle.workflow_reader.specs.declared.document.JobEntry.{JobEntry}
 use Rattle.workflow_reader.specs.Argument.{argument_of}
-use Rattle.workflow_reader.specs.Lists.{list_or_none}
-use Rattle.workflow_reader.specs.Profiles.{profiles_or_none, unknown_profiles}
+use Rattle.peg_json.specs.Lists.{list_or_none}
+use Rattle.peg_json.specs.Profiles.{profiles_or_none, unknown_profiles}
 use Rattle.workflow_reader.specs.UseEntry.{use_of, unknown_use}
 use Rattle.workflow_reader.specs.ConstantText.{constant_at}
 

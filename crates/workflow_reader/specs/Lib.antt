@@ -1,16 +1,11 @@
 pub mod Document
 pub mod ConstantText
-pub mod Lists
 pub mod Argument
 pub mod UseEntry
-pub mod PegasusProfiles
-pub mod SelectorProfiles
-pub mod Profiles
 pub mod JobEntry
 pub mod Dependency
 pub mod Root
 pub mod Reader
-pub mod Duplicates
 pub mod Files
 pub mod Known
 pub mod Linking

@@ -16,7 +16,7 @@ use Rattle.workflow_reader.specs.declared.document.JobEntry.{JobEntry}
 use Rattle.workflow_reader.specs.declared.document.Use.{Use}
 use Rattle.workflow_reader.specs.declared.document.Dependency.{Dependency}
 use Rattle.workflow_reader.specs.Document.{DocumentEntry}
-use Rattle.workflow_reader.specs.Duplicates.{first_repeat, first_unknown, refused}
+use Rattle.peg_json.specs.Duplicates.{first_repeat, refused, first_unknown}
 use Rattle.workflow_reader.specs.Files.{files_of, sizes_of, same_direction, uses_as, file_of, output_of}
 
 -- ---- faults

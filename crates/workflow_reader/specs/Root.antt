@@ -10,7 +10,7 @@ use Rattle.peg_json.specs.declared.row.Kind.TheVariants as kinds
 use Rattle.peg_json.specs.declared.fault.TreeFault.{TreeFault}
 use Rattle.workflow_reader.specs.Document.{DocumentEntry}
 use Rattle.workflow_reader.specs.Dependency.{dependency_of, unknown_dependency}
-use Rattle.workflow_reader.specs.Lists.{list_or_none}
+use Rattle.peg_json.specs.Lists.{list_or_none}
 use Rattle.workflow_reader.specs.JobEntry.{job_of, unknown_job}
 
 abbrev pub root_rows : List Row

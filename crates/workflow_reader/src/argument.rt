@@ -4,11 +4,10 @@ ghost use Rattle.std.specs.Prelude.{◌≡◌};
 ghost use Rattle.serde_json.specs.View.{view as tree_view};
 ghost use Rattle.peg_json.specs.Tree.{Gives};
 ghost use Rattle.workflow_reader.specs.Argument.{argument_of};
-ghost use Rattle.workflow_reader.specs.Lists.{list_or_none};
+ghost use Rattle.peg_json.specs.Lists.{list_or_none};
 
-use crate::lists::list_or_none;
 use outside::{Items, Text};
-use peg_json::{FromTree, TreeFault};
+use peg_json::{FromTree, TreeFault, list_or_none};
 use serde_json::Value;
 use std::alloc::Global;
 

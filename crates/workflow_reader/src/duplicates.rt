@@ -6,7 +6,7 @@ ghost use Rattle.std.specs.Str.{bytes_eq};
 ghost use Rattle.peg_json.specs.ReadFault.{GivesRead};
 ghost use Rattle.peg_json.specs.declared.read_fault.ReadFault.TheVariants.{DuplicateJob};
 ghost use Rattle.workflow_core.specs.Names.{with_name};
-ghost use Rattle.workflow_reader.specs.Duplicates.{first_repeat, refused};
+ghost use Rattle.peg_json.specs.Duplicates.{first_repeat, refused};
 ghost use Rattle.workflow_reader.specs.Known.{is_named, inputs_with, outputs_with};
 ghost use Rattle.workflow_reader.specs.Linking.{ids_of, used_once, all_used_once};
 

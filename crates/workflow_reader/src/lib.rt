@@ -1,7 +1,7 @@
 //! Workflow documents: a workflow is the one that its document's definition gives, `read_of` of `specs/Reader.antt`.
 //!
 //! The tree part has one file for each object of the format: its table, its reading and its unknown keys
-//! (`root`, `job_entry`, `use_entry`, the profiles, `dependency`). `linking` makes the workflow of what
+//! (`root`, `job_entry`, `use_entry`, `dependency`). `linking` makes the workflow of what
 //! was read.
 #![tactic(auto)]
 
@@ -14,13 +14,9 @@ mod files;
 mod job_entry;
 mod job_linking;
 mod linking;
-mod lists;
 mod pairs;
-mod pegasus_profiles;
-mod profiles;
 mod reader;
 mod root;
-mod selector_profiles;
 mod use_entry;
 
 pub use reader::{from_tree, read};

@@ -3,7 +3,7 @@
 ghost use Rattle.std.specs.Prelude.{◌≡◌, ◌≤◌, ◌∷◌, ◌++◌, length, option_map, OnOk, IfOk};
 ghost use Rattle.peg_json.specs.ReadFault.{GivesRead};
 ghost use Rattle.peg_json.specs.declared.read_fault.ReadFault.TheVariants.{UnknownJob};
-ghost use Rattle.workflow_reader.specs.Duplicates.{first_unknown, refused};
+ghost use Rattle.peg_json.specs.Duplicates.{refused, first_unknown};
 ghost use Rattle.workflow_reader.specs.Linking.{ids_in, job_of, pairs_from, pairs_of};
 
 use crate::document::Dependency;

@@ -5,10 +5,10 @@ ghost use Rattle.peg_json.specs.Table.{rows_of};
 ghost use Rattle.workflow_reader.specs.Root.{root_rows};
 
 use crate::document::{Dependency, Document, JobEntry};
-use crate::lists::list_or_none;
 use outside::{Items, Memory, Text};
 use peg_json::{
-    FromTree, KeyRow, KeyTable, Kind, Listed, TreeFault, checked, gather, gather_list, row, version,
+    FromTree, KeyRow, KeyTable, Kind, Listed, TreeFault, checked, gather, gather_list,
+    list_or_none, row, version,
 };
 use serde_json::Value;
 use std::alloc::Global;

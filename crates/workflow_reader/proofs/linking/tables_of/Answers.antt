@@ -6,7 +6,7 @@ use Rattle.peg_json.specs.Count.{few}
 use Rattle.peg_json.specs.declared.read_fault.Counted.TheVariants.{Jobs, Files}
 use Rattle.peg_json.specs.declared.read_fault.ReadFault.TheVariants.{DuplicateJob, UnknownJob}
 use Rattle.workflow_reader.specs.Document.{entry}
-use Rattle.workflow_reader.specs.Duplicates.{first_repeat, first_unknown, refused}
+use Rattle.peg_json.specs.Duplicates.{first_repeat, refused, first_unknown}
 use Rattle.workflow_reader.specs.Files.{files_of}
 use Rattle.workflow_reader.specs.Linking.{ids_of, all_used_once, ids_in}
 use Rattle.workflow_reader.proofs.LinkingLemmas.{passes}

@@ -2,10 +2,16 @@
 
 ghost use Rattle.std.specs.Prelude.{◌≡◌};
 ghost use Rattle.peg_json.specs.Table.{rows_of};
-ghost use Rattle.workflow_reader.specs.PegasusProfiles.{pegasus_rows, no_pegasus};
+ghost use Rattle.peg_json.specs.PegasusProfiles.{pegasus_rows, no_pegasus};
 
+use crate::fault::TreeFault;
+use crate::listed::Listed;
+use crate::member::{checked, gather};
+use crate::row::{KeyRow, Kind};
+use crate::table::KeyTable;
+use crate::tree::FromTree;
+use crate::typed;
 use outside::{Memory, Text};
-use peg_json::{FromTree, KeyRow, KeyTable, Kind, Listed, TreeFault, checked, gather, row};
 use serde_json::Value;
 use std::alloc::Global;
 
@@ -55,8 +61,8 @@ impl PegasusProfiles {
 }
 
 impl FromTree for PegasusProfiles {
-    ghost use Rattle.workflow_reader.specs.declared.pegasus_profiles.PegasusProfiles as declared;
-    ghost use Rattle.workflow_reader.specs.PegasusProfiles.{pegasus_of};
+    ghost use Rattle.peg_json.specs.declared.pegasus_profiles.PegasusProfiles as declared;
+    ghost use Rattle.peg_json.specs.PegasusProfiles.{pegasus_of};
 
     ghost Seen = { declared.PegasusProfiles };
 
@@ -67,9 +73,9 @@ impl FromTree for PegasusProfiles {
     #[tactic(auto, unfolding(crate::specs::PegasusProfiles::pegasus_of))]
     fn from_tree(alloc: Global, value: &Value, path: &Text) -> Result<PegasusProfiles, TreeFault> {
         checked(alloc, value, path, &pegasus_table())?;
-        let label = row!(alloc, value, path, "label", optional Text);
-        let cluster_size = row!(alloc, value, path, "clusters.size", optional Digits);
-        let cluster_num = row!(alloc, value, path, "clusters.num", optional Digits);
+        let label = typed::optional_text(alloc, value, path, "label")?;
+        let cluster_size = typed::optional_digits(alloc, value, path, "clusters.size")?;
+        let cluster_num = typed::optional_digits(alloc, value, path, "clusters.num")?;
         Ok(PegasusProfiles {
             label,
             cluster_size,
@@ -79,7 +85,7 @@ impl FromTree for PegasusProfiles {
 }
 
 impl Listed for PegasusProfiles {
-    ghost use Rattle.workflow_reader.specs.PegasusProfiles.{unknown_pegasus};
+    ghost use Rattle.peg_json.specs.PegasusProfiles.{unknown_pegasus};
 
     ghost unknown = { unknown_pegasus };
 

@@ -2,10 +2,16 @@
 
 ghost use Rattle.std.specs.Prelude.{◌≡◌};
 ghost use Rattle.peg_json.specs.Table.{rows_of};
-ghost use Rattle.workflow_reader.specs.SelectorProfiles.{selector_rows, no_selector};
+ghost use Rattle.peg_json.specs.SelectorProfiles.{selector_rows, no_selector};
 
+use crate::fault::TreeFault;
+use crate::listed::Listed;
+use crate::member::{checked, gather};
+use crate::row::{KeyRow, Kind};
+use crate::table::KeyTable;
+use crate::tree::FromTree;
+use crate::typed;
 use outside::{Memory, Text};
-use peg_json::{FromTree, KeyRow, KeyTable, Kind, Listed, TreeFault, checked, gather, row};
 use serde_json::Value;
 use std::alloc::Global;
 
@@ -37,8 +43,8 @@ impl SelectorProfiles {
 }
 
 impl FromTree for SelectorProfiles {
-    ghost use Rattle.workflow_reader.specs.declared.selector_profiles.SelectorProfiles as declared;
-    ghost use Rattle.workflow_reader.specs.SelectorProfiles.{selector_of};
+    ghost use Rattle.peg_json.specs.declared.selector_profiles.SelectorProfiles as declared;
+    ghost use Rattle.peg_json.specs.SelectorProfiles.{selector_of};
 
     ghost Seen = { declared.SelectorProfiles };
 
@@ -49,13 +55,13 @@ impl FromTree for SelectorProfiles {
     #[tactic(auto, unfolding(crate::specs::SelectorProfiles::selector_of))]
     fn from_tree(alloc: Global, value: &Value, path: &Text) -> Result<SelectorProfiles, TreeFault> {
         checked(alloc, value, path, &selector_table())?;
-        let site = row!(alloc, value, path, "execution.site", optional Text);
+        let site = typed::optional_text(alloc, value, path, "execution.site")?;
         Ok(SelectorProfiles { site })
     }
 }
 
 impl Listed for SelectorProfiles {
-    ghost use Rattle.workflow_reader.specs.SelectorProfiles.{unknown_selector};
+    ghost use Rattle.peg_json.specs.SelectorProfiles.{unknown_selector};
 
     ghost unknown = { unknown_selector };
 

@@ -7,9 +7,9 @@ use Rattle.peg_json.specs.Typed.{optional}
 use Rattle.peg_json.specs.Listed.{unknown_at}
 use Rattle.peg_json.specs.declared.row.Kind.TheVariants as kinds
 use Rattle.peg_json.specs.declared.fault.TreeFault.{TreeFault}
-use Rattle.workflow_reader.specs.declared.profiles.Profiles.{Profiles}
-use Rattle.workflow_reader.specs.PegasusProfiles.{pegasus_of, no_pegasus, unknown_pegasus}
-use Rattle.workflow_reader.specs.SelectorProfiles.{selector_of, no_selector, unknown_selector}
+use Rattle.peg_json.specs.declared.profiles.Profiles.{Profiles}
+use Rattle.peg_json.specs.PegasusProfiles.{pegasus_of, no_pegasus, unknown_pegasus}
+use Rattle.peg_json.specs.SelectorProfiles.{selector_of, no_selector, unknown_selector}
 
 abbrev pub profiles_rows : List Row
 profiles_rows =

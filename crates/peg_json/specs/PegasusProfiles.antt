@@ -6,7 +6,7 @@ use Rattle.peg_json.specs.Table.{Row, may_have, checks, unknown_in}
 use Rattle.peg_json.specs.Typed.{optional, text_of, digits_of}
 use Rattle.peg_json.specs.declared.row.Kind.TheVariants as kinds
 use Rattle.peg_json.specs.declared.fault.TreeFault.{TreeFault}
-use Rattle.workflow_reader.specs.declared.pegasus_profiles.PegasusProfiles.{PegasusProfiles}
+use Rattle.peg_json.specs.declared.pegasus_profiles.PegasusProfiles.{PegasusProfiles}
 
 abbrev pub pegasus_rows : List Row
 pegasus_rows =

@@ -3,10 +3,12 @@
 ghost use Rattle.std.specs.Prelude.{◌≡◌, map};
 ghost use Rattle.serde_json.specs.View.{view as tree_view};
 ghost use Rattle.peg_json.specs.Tree.{Gives};
-ghost use Rattle.workflow_reader.specs.Lists.{list_or_none};
+ghost use Rattle.peg_json.specs.Lists.{list_or_none};
 
+use crate::fault::TreeFault;
+use crate::tree::FromTree;
+use crate::typed;
 use outside::{Items, Text};
-use peg_json::{FromTree, TreeFault, row};
 use serde_json::Value;
 use std::alloc::Global;
 
@@ -20,7 +22,7 @@ pub fn list_or_none<T: FromTree>(
     ensures { Gives (λ items. map T.seen items) result
         (list_or_none T.reads path.now (tree_view value.now) key.now) }
 {
-    match row!(alloc, value, path, key, optional List T) {
+    match typed::optional_list::<T>(alloc, value, path, key)? {
         Some(list) => Ok(Items::new(list)),
         None => Ok(Items::new(Vec::new(alloc))),
     }

@@ -4,14 +4,18 @@ ghost use Rattle.std.specs.Prelude.{◌≡◌};
 ghost use Rattle.serde_json.specs.View.{view as tree_view};
 ghost use Rattle.peg_json.specs.Tree.{Gives};
 ghost use Rattle.peg_json.specs.Table.{rows_of};
-ghost use Rattle.workflow_reader.specs.Profiles.{profiles_rows, no_profiles, profiles_or_none};
+ghost use Rattle.peg_json.specs.Profiles.{profiles_rows, no_profiles, profiles_or_none};
 
+use crate::fault::TreeFault;
+use crate::listed::{Listed, gather_object};
+use crate::member::{checked, gather};
 use crate::pegasus_profiles::PegasusProfiles;
+use crate::row::{KeyRow, Kind};
 use crate::selector_profiles::SelectorProfiles;
+use crate::table::KeyTable;
+use crate::tree::FromTree;
+use crate::typed;
 use outside::{Memory, Text};
-use peg_json::{
-    FromTree, KeyRow, KeyTable, Kind, Listed, TreeFault, checked, gather, gather_object, row,
-};
 use serde_json::Value;
 use std::alloc::Global;
 
@@ -53,8 +57,8 @@ impl Profiles {
 }
 
 impl FromTree for Profiles {
-    ghost use Rattle.workflow_reader.specs.declared.profiles.Profiles as declared;
-    ghost use Rattle.workflow_reader.specs.Profiles.{profiles_of};
+    ghost use Rattle.peg_json.specs.declared.profiles.Profiles as declared;
+    ghost use Rattle.peg_json.specs.Profiles.{profiles_of};
 
     ghost Seen = { declared.Profiles };
 
@@ -65,8 +69,8 @@ impl FromTree for Profiles {
     #[tactic(auto, unfolding(crate::specs::Profiles::profiles_of))]
     fn from_tree(alloc: Global, value: &Value, path: &Text) -> Result<Profiles, TreeFault> {
         checked(alloc, value, path, &profiles_table())?;
-        let pegasus = row!(alloc, value, path, "pegasus", optional Object PegasusProfiles);
-        let selector = row!(alloc, value, path, "selector", optional Object SelectorProfiles);
+        let pegasus = typed::optional_object::<PegasusProfiles>(alloc, value, path, "pegasus")?;
+        let selector = typed::optional_object::<SelectorProfiles>(alloc, value, path, "selector")?;
         Ok(Profiles {
             pegasus: pegasus.unwrap_or(PegasusProfiles::none()),
             selector: selector.unwrap_or(SelectorProfiles::none()),
@@ -84,12 +88,12 @@ pub fn profiles_or_none(
     ensures { Gives (λ p. p) result
         (profiles_or_none path.now (tree_view value.now) key.now) }
 {
-    let found = row!(alloc, value, path, key, optional Object Profiles);
+    let found = typed::optional_object::<Profiles>(alloc, value, path, key)?;
     Ok(found.unwrap_or(Profiles::none()))
 }
 
 impl Listed for Profiles {
-    ghost use Rattle.workflow_reader.specs.Profiles.{unknown_profiles};
+    ghost use Rattle.peg_json.specs.Profiles.{unknown_profiles};
 
     ghost unknown = { unknown_profiles };
 

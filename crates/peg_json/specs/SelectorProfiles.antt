@@ -6,7 +6,7 @@ use Rattle.peg_json.specs.Table.{Row, may_have, checks, unknown_in}
 use Rattle.peg_json.specs.Typed.{optional, text_of}
 use Rattle.peg_json.specs.declared.row.Kind.TheVariants as kinds
 use Rattle.peg_json.specs.declared.fault.TreeFault.{TreeFault}
-use Rattle.workflow_reader.specs.declared.selector_profiles.SelectorProfiles.{SelectorProfiles}
+use Rattle.peg_json.specs.declared.selector_profiles.SelectorProfiles.{SelectorProfiles}
 
 abbrev pub selector_rows : List Row
 selector_rows = may_have (codes "execution.site") kinds.Text ∷ []
