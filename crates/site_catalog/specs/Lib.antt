@@ -1,0 +1,5 @@
+pub mod FileServer
+pub mod Directory
+pub mod SiteEntry
+pub mod Root
+pub mod Reader

@@ -1,0 +1,66 @@
+//! The reader of whole catalogues.
+
+ghost use Rattle.std.specs.Prelude.{◌≡◌, Ok, IfOk};
+ghost use Rattle.std.specs.List.Sorted.{IsPermutation, IsSorted};
+ghost use Rattle.std.specs.Ordering.{nat_cmp};
+ghost use Rattle.std.specs.Cmp.Lexicographic.{slice_cmp};
+ghost use Rattle.serde_json.specs.View.{view as tree_view};
+ghost use Rattle.peg_json.specs.ReadFault.{GivesRead};
+ghost use Rattle.peg_json.specs.Sites.{sites_checked};
+ghost use Rattle.site_catalog.specs.Reader.{view, names_of, few_distinct, from_tree_of, read_of, unknown_in_text};
+ghost use Rattle.site_catalog.specs.Root.{unknown_of};
+
+use crate::catalog::{SiteCatalog, SiteEntry};
+use crate::root::Document;
+use outside::{Items, Text};
+use peg_json::{FromTree, ReadFault, check_sites, ignored_below, parse, root};
+use serde_json::Value;
+use std::alloc::Global;
+
+/// The catalogue of some sites, if they are few and none is there twice.
+fn catalog_of(
+    alloc: Global,
+    sites: Items<SiteEntry>,
+    ignored: Vec<Text>,
+) -> Result<SiteCatalog, ReadFault>
+    ensures answer { GivesRead view result (few_distinct sites) }
+    ensures ignored { IfOk result (λ c. c.ignored ≡ ignored.items) }
+    ensures distinct { IfOk result (λ c. sites_checked (names_of c.sites) ≡ Ok tt) }
+{
+    check_sites(alloc, sites.as_slice())?;
+    Ok(SiteCatalog {
+        sites,
+        ignored: Items::new(ignored),
+    })
+}
+
+/// Reads the tree of a site catalogue, which stands under a path: that of the document's root, or of the key at which
+/// a workflow has it.
+#[tactic(auto, unfolding(crate::specs::Reader::from_tree_of))]
+pub fn from_tree(alloc: Global, value: &Value, path: &Text) -> Result<SiteCatalog, ReadFault>
+    ensures answer { GivesRead view result (from_tree_of path.now (tree_view value.now)) }
+    ensures ignored { IfOk result
+        (λ c. IsPermutation (unknown_of path.now (tree_view value.now)) c.ignored) }
+    ensures order { IfOk result (λ c. IsSorted (slice_cmp nat_cmp) c.ignored) }
+    ensures distinct { IfOk result (λ c. sites_checked (names_of c.sites) ≡ Ok tt) }
+{
+    let document = Document::from_tree(alloc, value, path)?;
+    let ignored = ignored_below::<Document>(alloc, value, path)?;
+    let catalog = catalog_of(alloc, document.sites, ignored)?;
+    Ok(catalog)
+}
+
+/// Reads a site catalogue of at most 64 sites.
+#[tactic(auto, unfolding(crate::specs::Reader::read_of, crate::specs::Reader::unknown_in_text))]
+pub fn read(alloc: Global, bytes: &[u8]) -> Result<SiteCatalog, ReadFault>
+    ensures answer { GivesRead view result (read_of bytes.now) }
+    ensures ignored { IfOk result
+        (λ c. IsPermutation (unknown_in_text bytes.now) c.ignored) }
+    ensures order { IfOk result (λ c. IsSorted (slice_cmp nat_cmp) c.ignored) }
+    ensures distinct { IfOk result (λ c. sites_checked (names_of c.sites) ≡ Ok tt) }
+{
+    let value = parse(alloc, bytes)?;
+    let start = root(alloc)?;
+    let catalog = from_tree(alloc, &value, &start)?;
+    Ok(catalog)
+}
