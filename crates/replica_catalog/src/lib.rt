@@ -1,0 +1,18 @@
+//! Replica catalogues: a catalogue is the one that its document's definition gives, `read_of` of `specs/Reader.antt`.
+//!
+//! Each object of the format has a file with its table, its reading and its unknown keys (`root`, `replica`, `pfn`,
+//! `checksum`), over `peg_json`. `joining` makes one entry of those that a document has of a file
+//! (`specs/Joining.antt`), so that each lfn is there once.
+#![tactic(auto)]
+
+mod catalog;
+mod checksum;
+mod joining;
+mod merged;
+mod pfn;
+mod reader;
+mod replica;
+mod root;
+
+pub use catalog::{Pfn, Replica, ReplicaCatalog};
+pub use reader::{from_tree, read};
