@@ -16,7 +16,7 @@ distinct (n ∷ ns) = n ∷ filter (λ m. not (bytes_eq m n)) (distinct ns)
 
 -- the entries with an lfn
 abbrev pub entries_with : List ℕ → List Replica → List Replica
-entries_with lfn es = filter (λ (e : Replica). bytes_eq lfn e.lfn) es
+entries_with lfn es = filter (λ (e : Replica). bytes_eq e.lfn lfn) es
 
 -- the first checksum that one of them states
 abbrev pub first_checksum : List Replica → Option (List ℕ)

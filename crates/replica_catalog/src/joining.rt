@@ -42,15 +42,21 @@ fn merged_entries(alloc: Global, entries: Vec<Replica>) -> Result<Vec<Merged>, M
     Ok(merged)
 }
 
+fn replicas_of(alloc: Global, merged: Vec<Merged>) -> Result<Items<Replica>, Memory>
+    ensures { IfOk result (λ replicas. replicas ≡ merged.items) }
+{
+    let mut replicas = Vec::with_capacity(alloc, merged.len())?;
+    for entry in merged {
+        replicas.push(entry.into_replica())?;
+    }
+    Ok(Items::new(replicas))
+}
+
 /// The entries of a document, those of one lfn joined.
 #[tactic(auto, using(crate::proofs::JoiningLemmas::joined_in_turn))]
 pub fn joined(alloc: Global, entries: Vec<Replica>) -> Result<Items<Replica>, Memory>
-    ensures { IfOk result (λ joined_entries. joined_entries ≡ joined entries.items) }
+    ensures { IfOk result (λ entries_joined. entries_joined ≡ joined entries.items) }
 {
     let merged = merged_entries(alloc, entries)?;
-    let replicas: Vec<Replica> = merged
-        .into_iter()
-        .map(|entry| entry.into_replica())
-        .collect(alloc)?;
-    Ok(Items::new(replicas))
+    replicas_of(alloc, merged)
 }
