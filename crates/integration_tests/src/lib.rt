@@ -5,6 +5,10 @@
 #![tactic(auto)]
 
 #[cfg(test)]
+mod catalogues_of_replicas;
+#[cfg(test)]
+mod catalogues_of_sites;
+#[cfg(test)]
 mod directed_graphs;
 #[cfg(test)]
 mod files_and_streams;

@@ -1,12 +1,30 @@
 -- What the document of a replica catalogue reads as: its catalogue, or its first fault.
-use Rattle.std.specs.Prelude.{ℕ, List, [], Result, Ok, Err}
+use Rattle.std.specs.Prelude.{ℕ, List, [], length, Result, Ok, Err}
 use Rattle.serde_json.specs.Data.{Data}
 use Rattle.peg_json.specs.ReadFault.{then_read}
 use Rattle.peg_json.specs.Tree.{tree_of}
 use Rattle.peg_json.specs.declared.fault.TreeFault.{TreeFault}
 use Rattle.peg_json.specs.declared.read_fault.ReadFault.{ReadFault}
+use Rattle.replica_catalog.specs.declared.catalog.Replica.{Replica}
+use Rattle.replica_catalog.specs.declared.catalog.ReplicaCatalog.{ReplicaCatalog}
+use Rattle.replica_catalog.specs.Joining.{joined}
 use Rattle.replica_catalog.specs.Root.{document_of, unknown_of}
-use Rattle.replica_catalog.specs.View.{CatalogEntry, catalog_of}
+
+-- what a catalogue says
+pub record CatalogEntry : Type 0 where
+  pub entries : List Replica
+  pub listed : ℕ
+
+abbrev pub view : ReplicaCatalog → CatalogEntry
+view c = record { entries = c.entries; listed = c.listed }
+
+-- the catalogue of a document's entries
+abbrev pub catalog_of : List Replica → CatalogEntry
+catalog_of es = record { entries = joined es; listed = length es }
+
+-- the catalogue that says nothing
+abbrev pub no_replicas : CatalogEntry
+no_replicas = record { entries = []; listed = 0 }
 
 -- a tree under a path
 unfoldable pub from_tree_of : List ℕ → Data → Result CatalogEntry ReadFault

@@ -1,7 +1,7 @@
 //! What a replica catalogue says.
 
 ghost use Rattle.std.specs.Prelude.{◌≡◌, [], IfOk};
-ghost use Rattle.replica_catalog.specs.View.{view, no_replicas};
+ghost use Rattle.replica_catalog.specs.Reader.{view, no_replicas};
 
 use outside::{Items, Text};
 use std::alloc::Global;

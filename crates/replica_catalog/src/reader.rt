@@ -6,9 +6,8 @@ ghost use Rattle.std.specs.Ordering.{nat_cmp};
 ghost use Rattle.std.specs.Cmp.Lexicographic.{slice_cmp};
 ghost use Rattle.serde_json.specs.View.{view as tree_view};
 ghost use Rattle.peg_json.specs.ReadFault.{GivesRead};
-ghost use Rattle.replica_catalog.specs.Reader.{from_tree_of, read_of, unknown_in_text};
+ghost use Rattle.replica_catalog.specs.Reader.{view, from_tree_of, read_of, unknown_in_text};
 ghost use Rattle.replica_catalog.specs.Root.{unknown_of};
-ghost use Rattle.replica_catalog.specs.View.{view};
 
 use crate::catalog::ReplicaCatalog;
 use crate::joining::joined;
