@@ -1,7 +1,7 @@
 -- The places of transformations that are known, and those that the rest of a list adds.
-use Rattle.std.proofs.Common.{◌≡◌, ℕ, ◌+◌, Bool, true, false, cond, List, [], ◌∷◌, ◌++◌, refl, sym, ap, ◌∙◌}
-use Rattle.std.specs.Prelude.{Option, Some, None, is_some}
-use Rattle.std.specs.List.{position_from}
+use Rattle.std.proofs.Common.{◌≡◌, ℕ, ◌+◌, ◌<◌, length, nat_lt, Bool, true, false, cond, List, [], ◌∷◌, ◌++◌, refl, sym, ap, ◌∙◌, arith}
+use Rattle.std.specs.Prelude.{Option, Some, None, is_some, IfSome}
+use Rattle.std.specs.List.{position_from, position_or_len}
 use Rattle.std.specs.Map.{lookup}
 use Rattle.std.specs.Option.{option_or}
 use Rattle.std.proofs.lemmas.Iterator.Adapters.{position_from-zero}
@@ -67,3 +67,11 @@ step_new known i e rest t =
     by None true = refl
     by None false = refl
     by (Some n) b = refl
+
+-- a place is one of the list's
+pub place_within : (es : List TransformationEntry) (t : Transformation) → IfSome (place_of es t) (λ (i : ℕ). i < length es)
+place_within es t = by (nat_lt (position_or_len (is_of t) es) (length es)) refl
+  where
+    by : (b : Bool) → nat_lt (position_or_len (is_of t) es) (length es) ≡ b → IfSome (cond b (Some (position_or_len (is_of t) es)) None) (λ (i : ℕ). i < length es)
+    by true e = grind arith
+    by false e = tt

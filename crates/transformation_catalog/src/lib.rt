@@ -3,7 +3,7 @@
 //!
 //! The tree part has one file for each object of the format: its table, its reading and its unknown keys
 //! (`root`, `transformation_entry`, `transformation_site`). `duplicates` refuses a transformation that comes
-//! twice.
+//! twice, and `lookup` finds a transformation's entry.
 #![tactic(auto)]
 
 mod catalog;

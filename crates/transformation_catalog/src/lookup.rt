@@ -1,6 +1,6 @@
 //! Where a catalogue has a transformation.
 
-ghost use Rattle.std.specs.Prelude.{◌≡◌, IfOk};
+ghost use Rattle.std.specs.Prelude.{◌≡◌, ◌<◌, length, IfOk, IfSome};
 ghost use Rattle.indexmap.specs.IndexMap.{get_by};
 ghost use Rattle.workflow_core.specs.declared.workflow.Transformation.{Transformation};
 ghost use Rattle.transformation_catalog.specs.Key.{same_transformation};
@@ -59,8 +59,10 @@ impl<'a> Entries<'a> {
     }
 
     /// The place of a transformation's entry.
+    #[tactic(auto, using(crate::proofs::LookupLemmas::place_within))]
     pub fn entry_of(&self, transformation: &Transformation) -> Option<usize>
-        ensures { result ≡ place_of self.now transformation.now }
+        ensures place { result ≡ place_of self.now transformation.now }
+        ensures within { IfSome result (λ i. i < length self.now) }
     {
         self.places.get(&Key::new(transformation)).copied()
     }
