@@ -5,6 +5,8 @@
 #![tactic(auto)]
 
 #[cfg(test)]
+mod catalogues_of_transformations;
+#[cfg(test)]
 mod directed_graphs;
 #[cfg(test)]
 mod files_and_streams;

@@ -1,5 +1,5 @@
 -- When two transformations are the same.
-use Rattle.std.specs.Prelude.{ℕ, ◌&&◌, Bool, List, Option}
+use Rattle.std.specs.Prelude.{◌&&◌, Bool}
 use Rattle.std.specs.Option.{option_eq}
 use Rattle.std.specs.Str.{bytes_eq}
 use Rattle.std.specs.Cmp.{IsEquivalence, and_equiv, on_equiv}
@@ -10,18 +10,9 @@ use Rattle.workflow_core.specs.declared.workflow.Transformation.{Transformation}
 abbrev pub same_transformation : Transformation → Transformation → Bool
 same_transformation s t = option_eq bytes_eq s.namespace t.namespace && (bytes_eq s.name t.name && option_eq bytes_eq s.version t.version)
 
-abbrev namespace_of : Transformation → Option (List ℕ)
-namespace_of t = t.namespace
-
-abbrev name_of : Transformation → List ℕ
-name_of t = t.name
-
-abbrev version_of : Transformation → Option (List ℕ)
-version_of t = t.version
-
--- it is an equivalence, as that of its three parts is
+-- it is an equivalence, as it is of its three parts
 pub sameness : IsEquivalence same_transformation
 sameness =
     and_equiv
-    (on_equiv namespace_of (options_equiv nat_list_eq_equiv))
-    (and_equiv (on_equiv name_of nat_list_eq_equiv) (on_equiv version_of (options_equiv nat_list_eq_equiv)))
+    (on_equiv (λ (t : Transformation). t.namespace) (options_equiv nat_list_eq_equiv))
+    (and_equiv (on_equiv (λ (t : Transformation). t.name) nat_list_eq_equiv) (on_equiv (λ (t : Transformation). t.version) (options_equiv nat_list_eq_equiv)))
