@@ -13,60 +13,86 @@ const DOCUMENT: &str = r#"{"transformations":[
     {"namespace":"n","name":"a","profiles":{"pegasus":{"clusters.size":"three"}}},
     {"namespace":"n","name":"a","version":"1","sites":[{"name":"s","pfn":"","type":"stageable"}]}]}"#;
 
-/// A transformation that is looked up, and what its entry says, or no place where there is none.
+/// A transformation that is looked up, and what is found.
 struct Row {
     namespace: Option<&'static str>,
     name: &'static str,
     version: Option<&'static str>,
-    place: Option<usize>,
+    found: Option<Found>,
+}
+
+/// The place of an entry and what it says.
+struct Found {
+    place: usize,
     cluster_size: Option<&'static str>,
     cluster_num: Option<&'static str>,
     /// The sites in order, and whether it is installed there.
     sites: &'static [(&'static str, bool)],
 }
 
-/// A row of a transformation that has no entry.
-const fn absent(
-    namespace: Option<&'static str>,
-    name: &'static str,
-    version: Option<&'static str>,
-) -> Row {
-    Row {
-        namespace,
-        name,
-        version,
-        place: None,
-        cluster_size: None,
-        cluster_num: None,
-        sites: &[],
-    }
-}
-
 const ROWS: [Row; 7] = [
     Row {
-        place: Some(0),
-        cluster_size: Some("3"),
-        cluster_num: Some("03"),
-        sites: &[("s", true), ("t", false)],
-        ..absent(None, "a", None)
+        namespace: None,
+        name: "a",
+        version: None,
+        found: Some(Found {
+            place: 0,
+            cluster_size: Some("3"),
+            cluster_num: Some("03"),
+            sites: &[("s", true), ("t", false)],
+        }),
     },
     Row {
-        place: Some(1),
-        ..absent(Some(""), "a", None)
+        namespace: Some(""),
+        name: "a",
+        version: None,
+        found: Some(Found {
+            place: 1,
+            cluster_size: None,
+            cluster_num: None,
+            sites: &[],
+        }),
     },
     Row {
-        place: Some(2),
-        cluster_size: Some("three"),
-        ..absent(Some("n"), "a", None)
+        namespace: Some("n"),
+        name: "a",
+        version: None,
+        found: Some(Found {
+            place: 2,
+            cluster_size: Some("three"),
+            cluster_num: None,
+            sites: &[],
+        }),
     },
     Row {
-        place: Some(3),
-        sites: &[("s", false)],
-        ..absent(Some("n"), "a", Some("1"))
+        namespace: Some("n"),
+        name: "a",
+        version: Some("1"),
+        found: Some(Found {
+            place: 3,
+            cluster_size: None,
+            cluster_num: None,
+            sites: &[("s", false)],
+        }),
     },
-    absent(None, "a", Some("")),
-    absent(Some("a"), "n", Some("1")),
-    absent(None, "b", None),
+    Row {
+        namespace: None,
+        name: "a",
+        version: Some(""),
+        found: None,
+    },
+    Row {
+        namespace: Some("a"),
+        name: "n",
+        version: Some("1"),
+        found: None,
+    },
+    Row {
+        namespace: None,
+        name: "b",
+        version: None,
+        found: None,
+    },
 ];
 
 fn optional_text(alloc: Global, text: Option<&str>) -> Result<Option<Text>, Fail> {
@@ -83,15 +109,14 @@ fn is_text(found: &Option<Text>, wanted: Option<&str>) -> bool {
     }
 }
 
-fn says(entry: &TransformationEntry, row: &Row) -> bool {
+fn says(entry: &TransformationEntry, wanted: &Found) -> bool {
     let sites = entry.sites.as_slice();
-    sites.len() == row.sites.len()
-        && sites
-            .iter()
-            .zip(row.sites.iter())
-            .all(|(site, (name, installed))| site.name.as_str() == *name && site.installed == *installed)
-        && is_text(&entry.cluster_size, row.cluster_size)
-        && is_text(&entry.cluster_num, row.cluster_num)
+    sites.len() == wanted.sites.len()
+        && sites.iter().zip(wanted.sites.iter()).all(|(site, (name, installed))| site.name.as_str()
+            == *name
+            && site.installed == *installed)
+        && is_text(&entry.cluster_size, wanted.cluster_size)
+        && is_text(&entry.cluster_num, wanted.cluster_num)
 }
 
 #[test]
@@ -105,10 +130,12 @@ fn entries_by_transformation(rt: HostRuntime) -> Result<(), Fail> {
             name: Text::copy_of(alloc, row.name)?,
             version: optional_text(alloc, row.version)?,
         };
-        let place = entries.entry_of(&transformation);
-        assert_eq!(rt; place, row.place);
-        if let Some(place) = place {
-            assert!(rt; says(&catalog.entries.as_slice()[place], row));
+        match (entries.entry_of(&transformation), &row.found) {
+            (Some(place), Some(wanted)) => {
+                assert_eq!(rt; place, wanted.place);
+                assert!(rt; says(&catalog.entries.as_slice()[place], wanted));
+            }
+            (place, wanted) => assert!(rt; place.is_none() && wanted.is_none()),
         }
     }
     Ok(())
