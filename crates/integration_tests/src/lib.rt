@@ -9,6 +9,8 @@ mod catalogues_of_replicas;
 #[cfg(test)]
 mod catalogues_of_sites;
 #[cfg(test)]
+mod catalogues_of_transformations;
+#[cfg(test)]
 mod directed_graphs;
 #[cfg(test)]
 mod files_and_streams;

@@ -1,0 +1,7 @@
+pub mod TransformationSite
+pub mod TransformationEntry
+pub mod Root
+pub mod Key
+pub mod Lookup
+pub mod Duplicates
+pub mod Reader

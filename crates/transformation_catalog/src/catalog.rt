@@ -1,0 +1,28 @@
+//! A transformation catalogue after its document.
+
+use outside::{Items, Text};
+use workflow_core::Transformation;
+
+/// Transformations, no two with the same namespace, name and version.
+#[derive(Drop)]
+pub struct TransformationCatalog {
+    pub entries: Items<TransformationEntry>,
+    /// The paths of the document's keys that aren't acted on, in byte order.
+    pub ignored: Items<Text>,
+}
+
+/// A transformation and the sites that have it. The two profiles are kept as texts.
+#[derive(Debug, Drop)]
+pub struct TransformationEntry {
+    pub transformation: Transformation,
+    pub sites: Items<TransformationSite>,
+    pub cluster_size: Option<Text>,
+    pub cluster_num: Option<Text>,
+}
+
+/// A site that has a transformation: installed there, or else to be staged from there.
+#[derive(Debug, Drop)]
+pub struct TransformationSite {
+    pub name: Text,
+    pub installed: bool,
+}
