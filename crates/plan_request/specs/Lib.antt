@@ -5,3 +5,6 @@ pub mod ToolEntries
 pub mod Modes
 pub mod Root
 pub mod Reader
+pub mod Index
+pub mod FileSizes
+pub mod JobTools

@@ -5,6 +5,9 @@
 #![tactic(auto)]
 
 mod execution;
+mod file_sizes;
+mod index;
+mod job_tools;
 mod known;
 mod modes;
 mod reader;
@@ -13,5 +16,7 @@ mod root;
 mod size_entries;
 mod tool_entries;
 
+pub use file_sizes::declared_sizes;
+pub use job_tools::Tools;
 pub use reader::read;
 pub use request::{Cleanup, ClusterMode, Execution, PlanRequest, SizeOf, ToolOf};
