@@ -1,3 +1,4 @@
 pub mod EntryLemmas
 pub mod KnownLemmas
 pub mod IndexLemmas
+pub mod FileSizesLemmas

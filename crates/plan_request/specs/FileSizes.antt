@@ -1,5 +1,6 @@
 -- The declared size of a file.
-use Rattle.std.specs.Prelude.{ℕ, List, [], ◌∷◌, map, Option}
+use Rattle.std.specs.Prelude.{ℕ, List, map, Option}
+use Rattle.std.specs.List.{zip}
 use Rattle.std.specs.Map.{lookup}
 use Rattle.std.specs.Option.{option_or}
 use Rattle.std.specs.Str.{bytes_eq}
@@ -9,15 +10,14 @@ use Rattle.plan_request.specs.declared.request.SizeOf.{SizeOf}
 abbrev pub named_size : SizeOf → List ℕ × ℕ
 named_size s = (s.lfn, s.size)
 
--- the size that a request states for a file
-abbrev pub size_in : PlanRequest → List ℕ → Option ℕ
-size_in r lfn = lookup (bytes_eq lfn) (map named_size r.sizes)
+-- the size of the file's entry, else the one that a use of it states, else the default
+abbrev pub size_by : List (List ℕ × ℕ) → Option ℕ → List ℕ → Option ℕ → Option ℕ
+size_by entries default lfn stated = option_or (lookup (bytes_eq lfn) entries) (option_or stated default)
 
--- the request's, else the one that a use of the file states, else the default of the request
+-- the size by the entries and the default of a request
 abbrev pub declared_size : PlanRequest → List ℕ → Option ℕ → Option ℕ
-declared_size r lfn stated = option_or (size_in r lfn) (option_or stated r.default_size)
+declared_size r lfn stated = size_by (map named_size r.sizes) r.default_size lfn stated
 
--- that of each file in turn
+-- the size of each file, of which one stands beside each
 abbrev pub declared_sizes : PlanRequest → List (List ℕ) → List (Option ℕ) → List (Option ℕ)
-declared_sizes r (lfn ∷ lfns) (size ∷ sizes) = declared_size r lfn size ∷ declared_sizes r lfns sizes
-declared_sizes r _ _ = []
+declared_sizes r files stated = map (λ f. declared_size r f.0 f.1) (zip files stated)

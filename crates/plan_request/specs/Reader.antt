@@ -1,6 +1,5 @@
 -- What a whole request reads as, or its first fault.
 use Rattle.std.specs.Prelude.{ℕ, List, [], map, Result, Ok}
-use Rattle.serde_json.specs.Data.{Data}
 use Rattle.peg_json.specs.ReadFault.{then_read}
 use Rattle.peg_json.specs.Sites.{sites_checked}
 use Rattle.peg_json.specs.Tree.{◌>>=◌, tree_of}

@@ -1,11 +1,9 @@
 //! The declared sizes of files.
 
 ghost use Rattle.std.specs.Prelude.{◌≡◌, [], length, map, IfOk};
-ghost use Rattle.std.specs.Map.{lookup};
-ghost use Rattle.std.specs.Option.{option_or};
-ghost use Rattle.std.specs.Str.{bytes_eq};
+ghost use Rattle.std.specs.List.{zip};
 ghost use Rattle.plan_request.specs.Index.{with_entries};
-ghost use Rattle.plan_request.specs.FileSizes.{named_size, declared_sizes};
+ghost use Rattle.plan_request.specs.FileSizes.{named_size, size_by, declared_sizes};
 
 use crate::index::Index;
 use crate::request::{PlanRequest, SizeOf};
@@ -22,13 +20,34 @@ fn sizes_by_name(alloc: Global, sizes: &[SizeOf]) -> Result<Index<u64>, Memory>
     Ok(index)
 }
 
-fn size_or(index: &Index<u64>, file: &Text, other: Option<u64>) -> Option<u64>
-    ensures { result ≡ option_or (lookup (bytes_eq file.now) index.now) other }
+fn size_by(
+    index: &Index<u64>,
+    default: Option<u64>,
+    file: &Text,
+    stated: Option<u64>,
+) -> Option<u64>
+    ensures { result ≡ size_by index.now default file.now stated }
 {
     match index.get(file) {
         Some(size) => Some(*size),
-        None => other,
+        None => stated.or(default),
     }
+}
+
+fn each_size_by(
+    alloc: Global,
+    index: &Index<u64>,
+    default: Option<u64>,
+    files: &[Text],
+    stated: &[Option<u64>],
+) -> Result<Vec<Option<u64>>, Memory>
+    ensures { IfOk result (λ v. v.items ≡ map (λ f. size_by index.now default f.0 f.1) (zip files.now stated.now)) }
+{
+    let mut sizes = Vec::with_capacity(alloc, files.len())?;
+    for (file, size) in files.iter().zip(stated.iter()) {
+        sizes.push(size_by(index, default, file, *size))?;
+    }
+    Ok(sizes)
 }
 
 /// The declared size of each file, in bytes: the request's, else the first that a use of the file
@@ -41,11 +60,9 @@ pub fn declared_sizes(
 ) -> Result<Vec<Option<u64>>, Memory>
     requires one_for_each_file { length files.now ≡ length stated.now }
     ensures sizes { IfOk result (λ v. v.items ≡ declared_sizes request.now files.now stated.now) }
+    ensures len { IfOk result (λ v. length v.items ≡ length files.now) }
 {
     let index = sizes_by_name(alloc, request.sizes.as_slice())?;
-    let mut sizes = Vec::with_capacity(alloc, files.len())?;
-    for (file, size) in files.iter().zip(stated.iter()) {
-        sizes.push(size_or(&index, file, size.or(request.default_size)))?;
-    }
+    let sizes = each_size_by(alloc, &index, request.default_size, files, stated)?;
     Ok(sizes)
 }

@@ -32,7 +32,7 @@ impl<V: Drop> Index<V> {
     }
 
     /// Gives a name its value, unless it has one.
-    
+
     pub fn add(&mut self, alloc: Global, name: &Text, value: V) -> Result<(), Memory>
         ensures { OnOk result (self.new ≡ with_entry self.old name.now value) }
     {
