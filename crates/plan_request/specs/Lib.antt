@@ -8,3 +8,4 @@ pub mod Reader
 pub mod Index
 pub mod FileSizes
 pub mod JobTools
+pub mod Limits
