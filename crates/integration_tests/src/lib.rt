@@ -19,6 +19,8 @@ mod json_rows;
 #[cfg(test)]
 mod objects_in_memory;
 #[cfg(test)]
+mod requests;
+#[cfg(test)]
 mod transformations;
 #[cfg(test)]
 mod workflow_documents;

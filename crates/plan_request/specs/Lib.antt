@@ -1,0 +1,11 @@
+pub mod Known
+pub mod Execution
+pub mod SizeEntries
+pub mod ToolEntries
+pub mod Modes
+pub mod Root
+pub mod Reader
+pub mod Index
+pub mod FileSizes
+pub mod JobTools
+pub mod Limits

@@ -1,0 +1,17 @@
+-- What every reader of a request gives of its numbers.
+use Rattle.std.specs.Prelude.{ℕ, ◌^◌, ◌≤◌, Option, Some, None}
+use Rattle.std.specs.List.{AllByRecursion}
+use Rattle.plan_request.specs.declared.request.Execution.{Execution}
+use Rattle.plan_request.specs.declared.request.PlanRequest.{PlanRequest}
+use Rattle.plan_request.specs.declared.request.SizeOf.{SizeOf}
+
+-- a size that is there is at most 2^40
+abbrev pub IsSmallDefault : Option ℕ → Type 0
+IsSmallDefault None = Unit {0}
+IsSmallDefault (Some n) = n ≤ 2 ^ 40
+
+-- bounds are at most 2^60, and sizes at most 2^40
+pub record IsWithinLimits (r : PlanRequest) : Type 0 where
+  pub bounds : AllByRecursion (λ (e : Execution). e.bound ≤ 2 ^ 60) r.execute
+  pub sizes : AllByRecursion (λ (s : SizeOf). s.size ≤ 2 ^ 40) r.sizes
+  pub default_size : IsSmallDefault r.default_size

@@ -1,0 +1,61 @@
+//! What a request asks for.
+
+use outside::{Items, Policy, Text};
+
+/// A whole request. Sizes are in bytes.
+#[derive(Debug, Drop)]
+pub struct PlanRequest {
+    /// The documents' names.
+    pub workflow: Text,
+    pub sites: Option<Text>,
+    pub replicas: Option<Text>,
+    pub transformations: Option<Text>,
+    pub execute: Items<Execution>,
+    /// In byte order of the files' names.
+    pub sizes: Items<SizeOf>,
+    pub default_size: Option<u64>,
+    pub cluster: ClusterMode,
+    pub cleanup: Cleanup,
+    /// Whether files that are registered are made again.
+    pub force: bool,
+    /// In byte order of the transformations' names.
+    pub tools: Items<ToolOf>,
+    pub policy: Policy,
+}
+
+/// A site that runs jobs, with the bound on the bytes that it holds.
+#[derive(Debug, Drop)]
+pub struct Execution {
+    pub site: Text,
+    pub bound: u64,
+}
+
+/// The size of a file, whatever its uses state.
+#[derive(Debug, Drop)]
+pub struct SizeOf {
+    pub lfn: Text,
+    pub size: u64,
+}
+
+/// The tool that does the work of a transformation.
+#[derive(Debug, Drop)]
+pub struct ToolOf {
+    pub transformation: Text,
+    pub tool: Text,
+}
+
+/// Which jobs are put together into one task.
+#[derive(Clone, Copy, Debug, PartialEq, Eq)]
+pub enum ClusterMode {
+    None,
+    Horizontal,
+    Label,
+}
+
+/// When files are removed from a site.
+#[derive(Clone, Copy, Debug, PartialEq, Eq)]
+pub enum Cleanup {
+    None,
+    Inplace,
+    Constraint,
+}

@@ -1,0 +1,121 @@
+//! A whole request: its table and its reading.
+
+ghost use Rattle.std.specs.Prelude.{◌≡◌};
+ghost use Rattle.peg_json.specs.Table.{rows_of};
+ghost use Rattle.plan_request.specs.Root.{request_rows};
+
+use crate::known::only_known;
+use crate::modes::{cleanup, cluster};
+use crate::request::{Execution, PlanRequest};
+use crate::size_entries::sizes_or_none;
+use crate::tool_entries::tools_or_none;
+use outside::{Items, Policy, Text};
+use peg_json::{FromTree, KeyRow, KeyTable, Kind, TreeFault, checked, row};
+use serde_json::Value;
+use std::alloc::Global;
+
+const REQUEST: [KeyRow; 11] = [
+    KeyRow {
+        key: "workflow",
+        kind: Kind::Name,
+        required: true,
+    },
+    KeyRow {
+        key: "sites",
+        kind: Kind::Name,
+        required: false,
+    },
+    KeyRow {
+        key: "replicas",
+        kind: Kind::Name,
+        required: false,
+    },
+    KeyRow {
+        key: "transformations",
+        kind: Kind::Name,
+        required: false,
+    },
+    KeyRow {
+        key: "execute",
+        kind: Kind::List,
+        required: true,
+    },
+    KeyRow {
+        key: "sizes",
+        kind: Kind::Object,
+        required: false,
+    },
+    KeyRow {
+        key: "default_size",
+        kind: Kind::Number,
+        required: false,
+    },
+    KeyRow {
+        key: "cluster",
+        kind: Kind::Text,
+        required: false,
+    },
+    KeyRow {
+        key: "cleanup",
+        kind: Kind::Text,
+        required: false,
+    },
+    KeyRow {
+        key: "force",
+        kind: Kind::Flag,
+        required: false,
+    },
+    KeyRow {
+        key: "tools",
+        kind: Kind::Object,
+        required: false,
+    },
+];
+
+fn request_table() -> KeyTable<11>
+    ensures { rows_of result.rows.now ≡ request_rows }
+{
+    KeyTable { rows: &REQUEST }
+}
+
+impl FromTree for PlanRequest {
+    ghost use Rattle.plan_request.specs.declared.request.PlanRequest as declared;
+    ghost use Rattle.plan_request.specs.Root.{request_of};
+
+    ghost Seen = { declared.PlanRequest };
+
+    ghost seen = { λ r. r };
+
+    ghost reads = { request_of };
+
+    #[tactic(auto, unfolding(crate::specs::Root::request_of))]
+    fn from_tree(alloc: Global, value: &Value, path: &Text) -> Result<PlanRequest, TreeFault> {
+        checked(alloc, value, path, &request_table())?;
+        only_known(alloc, value, path, &request_table())?;
+        let workflow = row!(alloc, value, path, "workflow", Name);
+        let sites = row!(alloc, value, path, "sites", optional Name);
+        let replicas = row!(alloc, value, path, "replicas", optional Name);
+        let transformations = row!(alloc, value, path, "transformations", optional Name);
+        let execute = row!(alloc, value, path, "execute", List Execution);
+        let sizes = sizes_or_none(alloc, value, path, "sizes")?;
+        let default_size = row!(alloc, value, path, "default_size", optional Number up to 1 << 40);
+        let cluster = cluster(alloc, value, path, "cluster")?;
+        let cleanup = cleanup(alloc, value, path, "cleanup")?;
+        let force = row!(alloc, value, path, "force", optional Flag);
+        let tools = tools_or_none(alloc, value, path, "tools")?;
+        Ok(PlanRequest {
+            workflow,
+            sites,
+            replicas,
+            transformations,
+            execute: Items::new(execute),
+            sizes,
+            default_size,
+            cluster,
+            cleanup,
+            force: force.unwrap_or(false),
+            tools,
+            policy: Policy::plain(),
+        })
+    }
+}
