@@ -7,14 +7,10 @@ use Rattle.peg_json.specs.declared.fault.TreeFault.{TreeFault}
 use Rattle.peg_json.specs.declared.fault.TreeFault.TheVariants as faults
 use Rattle.peg_json.specs.declared.read_fault.Counted.{Counted}
 use Rattle.peg_json.specs.declared.read_fault.Counted.TheVariants as counted
-use Rattle.pegasus_cli.specs.declared.plan_fault.Document.{Document}
-use Rattle.pegasus_cli.specs.declared.plan_fault.Document.TheVariants.{Request, Workflow}
-use Rattle.pegasus_cli.specs.declared.plan_fault.PlanFault.{PlanFault}
-use Rattle.pegasus_cli.specs.declared.plan_fault.PlanFault.TheVariants as plan
-
-abbrev pub document_word : Document → List ℕ
-document_word Request = codes "request"
-document_word Workflow = codes "workflow"
+use Rattle.planner.specs.declared.document.Document.{Document}
+use Rattle.planner.specs.Document.{document_word}
+use Rattle.planner.specs.declared.plan_fault.PlanFault.{PlanFault}
+use Rattle.planner.specs.declared.plan_fault.PlanFault.TheVariants as plan
 
 abbrev pub counted_word : Counted → List ℕ
 counted_word counted.Jobs = codes "jobs"
@@ -42,16 +38,36 @@ tree_line which (faults.Unsupported path what) = codes "refused" ++ and_word (do
 tree_line which (faults.BadVersion text) = codes "refused" ++ and_word (document_word which) ++ codes " version" ++ and_name text ++ codes "\n"
 tree_line which faults.Memory = []
 
-abbrev pub producers_line : List ℕ → List ℕ → List ℕ → List ℕ
-producers_line lfn one two = codes "refused producers" ++ spaced_names (lfn ∷ one ∷ two ∷ []) ++ codes "\n"
+-- words and one name, two names, three names
+abbrev pub one_name : List ℕ → List ℕ → List ℕ
+one_name words name = words ++ and_name name ++ codes "\n"
 
+abbrev pub two_names : List ℕ → List ℕ → List ℕ → List ℕ
+two_names words one two = words ++ and_name one ++ and_name two ++ codes "\n"
+
+abbrev pub three_names : List ℕ → List ℕ → List ℕ → List ℕ → List ℕ
+three_names words one two three = words ++ spaced_names (one ∷ two ∷ three ∷ []) ++ codes "\n"
+
+-- a bound that is passed has a line of its own, and want of memory has none
 abbrev pub refused_line : PlanFault → List ℕ
 refused_line (plan.Tree which fault) = tree_line which fault
 refused_line (plan.TooMany what count limit) = codes "refused many" ++ and_word (counted_word what) ++ and_number count ++ and_number limit ++ codes "\n"
-refused_line (plan.DuplicateJob id) = codes "refused twice job" ++ and_name id ++ codes "\n"
-refused_line (plan.DuplicateUse id lfn) = codes "refused twice use" ++ and_name id ++ and_name lfn ++ codes "\n"
-refused_line (plan.UnknownJob id) = codes "refused unknown job" ++ and_name id ++ codes "\n"
-refused_line (plan.DuplicateSite name) = codes "refused twice site" ++ and_name name ++ codes "\n"
-refused_line (plan.DuplicateTransformation name) = codes "refused twice transformation" ++ and_name name ++ codes "\n"
-refused_line (plan.TwoProducers lfn one two) = producers_line lfn one two
+refused_line (plan.DuplicateJob id) = one_name (codes "refused twice job") id
+refused_line (plan.DuplicateUse id lfn) = two_names (codes "refused twice use") id lfn
+refused_line (plan.UnknownJob id) = one_name (codes "refused unknown job") id
+refused_line (plan.DuplicateSite name) = one_name (codes "refused twice site") name
+refused_line (plan.DuplicateTransformation name) = one_name (codes "refused twice transformation") name
+refused_line (plan.NoCatalogue which) = codes "refused catalogue" ++ and_word (document_word which) ++ codes "\n"
+refused_line (plan.UnknownSite name) = one_name (codes "refused unknown site") name
+refused_line (plan.TwoProducers lfn one two) = three_names (codes "refused producers") lfn one two
 refused_line (plan.Cycle ids) = codes "refused cycle " ++ printed_names ids ++ codes "\n"
+refused_line (plan.NoTransformation id) = one_name (codes "refused transformation") id
+refused_line (plan.NoSite id name) = two_names (codes "refused site") id name
+refused_line (plan.BadNumber id key) = two_names (codes "refused number") id key
+refused_line (plan.LabelOverSites label one two) = three_names (codes "refused label") label one two
+refused_line (plan.ClusterCycle ids) = codes "refused cluster cycle " ++ printed_names ids ++ codes "\n"
+refused_line (plan.NoReplica lfn) = one_name (codes "refused replica") lfn
+refused_line (plan.NoSize lfn) = one_name (codes "refused size") lfn
+refused_line (plan.ToolUnknown id name) = two_names (codes "refused tool") id name
+refused_line (plan.Exceeds site task needed bound) = []
+refused_line plan.Memory = []

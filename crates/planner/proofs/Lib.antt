@@ -1,0 +1,2 @@
+pub mod PlanFaultLemmas
+pub mod CourseLemmas

@@ -1,0 +1,9 @@
+use Rattle.std.proofs.Common.{◌≡◌, drop}
+use Rattle.peg_json.specs.Duplicates.{first_unknown}
+use Rattle.planner.specs.Course.{execution_names, names_of}
+use Rattle.planner.proofs.course.check_execution_sites.Given as goal
+
+abbrev pub invariant-loop-execution : goal.invariant-loop-execution
+invariant-loop-execution l =
+    first_unknown (names_of l.sites) (execution_names (drop l.execution-index l.execute))
+    ≡ first_unknown (names_of l.sites) (execution_names l.execute)

@@ -1,0 +1,5 @@
+pub mod Document
+pub mod PlanFault
+pub mod Refused
+pub mod Catalogue
+pub mod Course

@@ -1,0 +1,44 @@
+-- How the faults of documents and graphs are those of planning.
+use Rattle.std.specs.Prelude.{◌≡◌, Result, Ok, Err}
+use Rattle.dependency_graph.specs.declared.fault.GraphFault.{GraphFault}
+use Rattle.dependency_graph.specs.declared.fault.GraphFault.TheVariants as graph
+use Rattle.peg_json.specs.declared.fault.TreeFault.{TreeFault}
+use Rattle.peg_json.specs.declared.fault.TreeFault.TheVariants as faults
+use Rattle.peg_json.specs.declared.read_fault.ReadFault.{ReadFault}
+use Rattle.peg_json.specs.declared.read_fault.ReadFault.TheVariants as reads
+use Rattle.planner.specs.declared.document.Document.{Document}
+use Rattle.planner.specs.declared.plan_fault.PlanFault.{PlanFault}
+use Rattle.planner.specs.declared.plan_fault.PlanFault.TheVariants as plan
+
+abbrev pub tree_fault : Document → TreeFault → PlanFault
+tree_fault which faults.Memory = plan.Memory
+tree_fault which fault = plan.Tree which fault
+
+abbrev pub read_fault : Document → ReadFault → PlanFault
+read_fault which (reads.Tree fault) = tree_fault which fault
+read_fault which (reads.TooMany counted count limit) = plan.TooMany counted count limit
+read_fault which (reads.DuplicateJob id) = plan.DuplicateJob id
+read_fault which (reads.DuplicateUse id lfn) = plan.DuplicateUse id lfn
+read_fault which (reads.UnknownJob id) = plan.UnknownJob id
+read_fault which (reads.DuplicateSite name) = plan.DuplicateSite name
+read_fault which (reads.DuplicateTransformation name) = plan.DuplicateTransformation name
+
+abbrev pub graph_fault : GraphFault → PlanFault
+graph_fault (graph.TwoProducers lfn one two) = plan.TwoProducers lfn one two
+graph_fault (graph.Cycle ids) = plan.Cycle ids
+graph_fault graph.Memory = plan.Memory
+
+-- what a document reads as, or its fault
+abbrev pub answered : {A : Type 0} → Document → Result A ReadFault → Result A PlanFault
+answered which (Ok x) = Ok x
+answered which (Err fault) = Err (read_fault which fault)
+
+-- A fault that was returned is the one that is given. Want of memory is free.
+abbrev pub FailsPlan : {Y : Type 0} → PlanFault → Result Y PlanFault → Type 0
+FailsPlan plan.Memory given = Unit {0}
+FailsPlan fault given = given ≡ Err fault
+
+-- What was returned, seen by view, is what is given, unless memory ran out.
+abbrev pub GivesPlan : {X Y : Type 0} → (X → Y) → Result X PlanFault → Result Y PlanFault → Type 0
+GivesPlan view (Ok x) given = given ≡ Ok (view x)
+GivesPlan view (Err fault) given = FailsPlan fault given

@@ -1,0 +1,28 @@
+//! The documents of a call.
+
+ghost use Rattle.std.specs.Prelude.{◌≡◌};
+ghost use Rattle.planner.specs.Document.{document_word};
+
+#[derive(Clone, Copy, Debug, PartialEq, Eq)]
+pub enum Document {
+    Request,
+    Workflow,
+    Sites,
+    Replicas,
+    Transformations,
+}
+
+impl Document {
+    /// Its word in a line.
+    pub fn word(self) -> &'static str
+        ensures { result.now ≡ document_word self }
+    {
+        match self {
+            Document::Request => "request",
+            Document::Workflow => "workflow",
+            Document::Sites => "sites",
+            Document::Replicas => "replicas",
+            Document::Transformations => "transformations",
+        }
+    }
+}

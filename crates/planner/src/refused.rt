@@ -1,0 +1,170 @@
+//! The line of a refusal.
+
+ghost use Rattle.std.specs.Prelude.{◌≡◌, ◌++◌, OnOk};
+ghost use Rattle.planner.specs.Refused.{counted_word as word_of_counted, one_name, refused_line, three_names, tree_line, two_names};
+
+use crate::document::Document;
+use crate::plan_fault::PlanFault;
+use outside::{Memory, Text, Word, push_line};
+use peg_json::{Counted, TreeFault};
+use std::alloc::Global;
+
+fn counted_word(counted: Counted) -> &'static str
+    ensures { result.now ≡ word_of_counted counted }
+{
+    match counted {
+        Counted::Jobs => "jobs",
+        Counted::Files => "files",
+        Counted::Sites => "sites",
+        Counted::Tasks => "tasks",
+    }
+}
+
+fn push_tree_fault(
+    alloc: Global,
+    text: &mut Vec<u8>,
+    which: Document,
+    fault: &TreeFault,
+) -> Result<(), Memory>
+    ensures { OnOk result (text.new.items ≡ text.old.items ++ tree_line which fault.now) }
+{
+    let of = Word::Plain(which.word());
+    match fault {
+        TreeFault::Syntax => push_line(alloc, text, "refused", &[of, Word::Plain("syntax")]),
+        TreeFault::MissingKey(path) => push_line(
+            alloc,
+            text,
+            "refused",
+            &[of, Word::Plain("missing"), Word::Name(path.as_bytes())],
+        ),
+        TreeFault::WrongKind(path) => push_line(
+            alloc,
+            text,
+            "refused",
+            &[of, Word::Plain("kind"), Word::Name(path.as_bytes())],
+        ),
+        TreeFault::OutOfRange(path, number) => push_line(
+            alloc,
+            text,
+            "refused",
+            &[
+                of,
+                Word::Plain("range"),
+                Word::Name(path.as_bytes()),
+                Word::Number(*number),
+            ],
+        ),
+        TreeFault::Unsupported(path, what) => push_line(
+            alloc,
+            text,
+            "refused",
+            &[
+                of,
+                Word::Plain("unsupported"),
+                Word::Name(path.as_bytes()),
+                Word::Name(what.as_bytes()),
+            ],
+        ),
+        TreeFault::BadVersion(version) => push_line(
+            alloc,
+            text,
+            "refused",
+            &[of, Word::Plain("version"), Word::Name(version.as_bytes())],
+        ),
+        TreeFault::Memory => Ok(()),
+    }
+}
+
+fn push_name(alloc: Global, text: &mut Vec<u8>, words: &str, name: &Text) -> Result<(), Memory>
+    ensures { OnOk result (text.new.items ≡ text.old.items ++ one_name words.now name.now) }
+{
+    push_line(alloc, text, words, &[Word::Name(name.as_bytes())])
+}
+
+fn push_two(
+    alloc: Global,
+    text: &mut Vec<u8>,
+    words: &str,
+    one: &Text,
+    two: &Text,
+) -> Result<(), Memory>
+    ensures { OnOk result (text.new.items ≡ text.old.items ++ two_names words.now one.now two.now) }
+{
+    let one = Word::Name(one.as_bytes());
+    let two = Word::Name(two.as_bytes());
+    push_line(alloc, text, words, &[one, two])
+}
+
+fn push_three(
+    alloc: Global,
+    text: &mut Vec<u8>,
+    words: &str,
+    one: &Text,
+    two: &Text,
+    three: &Text,
+) -> Result<(), Memory>
+    ensures { OnOk result (text.new.items ≡ text.old.items ++ three_names words.now one.now two.now three.now) }
+{
+    let one = Word::Name(one.as_bytes());
+    let two = Word::Name(two.as_bytes());
+    let three = Word::Name(three.as_bytes());
+    push_line(alloc, text, words, &[one, two, three])
+}
+
+/// Adds the line of a refusal. What is answered with another line, or with none, adds nothing.
+pub fn push_refused(alloc: Global, text: &mut Vec<u8>, fault: &PlanFault) -> Result<(), Memory>
+    ensures { OnOk result (text.new.items ≡ text.old.items ++ refused_line fault.now) }
+{
+    match fault {
+        PlanFault::Tree(which, fault) => push_tree_fault(alloc, text, *which, fault),
+        PlanFault::TooMany(what, count, limit) => push_line(
+            alloc,
+            text,
+            "refused many",
+            &[
+                Word::Plain(counted_word(*what)),
+                Word::Number(*count),
+                Word::Number(*limit),
+            ],
+        ),
+        PlanFault::DuplicateJob(id) => push_name(alloc, text, "refused twice job", id),
+        PlanFault::DuplicateUse(id, lfn) => push_two(alloc, text, "refused twice use", id, lfn),
+        PlanFault::UnknownJob(id) => push_name(alloc, text, "refused unknown job", id),
+        PlanFault::DuplicateSite(name) => push_name(alloc, text, "refused twice site", name),
+        PlanFault::DuplicateTransformation(name) => {
+            push_name(alloc, text, "refused twice transformation", name)
+        }
+        PlanFault::NoCatalogue(which) => push_line(
+            alloc,
+            text,
+            "refused catalogue",
+            &[Word::Plain(which.word())],
+        ),
+        PlanFault::UnknownSite(name) => push_name(alloc, text, "refused unknown site", name),
+        PlanFault::TwoProducers(lfn, one, two) => {
+            push_three(alloc, text, "refused producers", lfn, one, two)
+        }
+        PlanFault::Cycle(ids) => push_line(
+            alloc,
+            text,
+            "refused cycle",
+            &[Word::Names(ids.as_slice())],
+        ),
+        PlanFault::NoTransformation(id) => push_name(alloc, text, "refused transformation", id),
+        PlanFault::NoSite(id, name) => push_two(alloc, text, "refused site", id, name),
+        PlanFault::BadNumber(id, key) => push_two(alloc, text, "refused number", id, key),
+        PlanFault::LabelOverSites(label, one, two) => {
+            push_three(alloc, text, "refused label", label, one, two)
+        }
+        PlanFault::ClusterCycle(ids) => push_line(
+            alloc,
+            text,
+            "refused cluster cycle",
+            &[Word::Names(ids.as_slice())],
+        ),
+        PlanFault::NoReplica(lfn) => push_name(alloc, text, "refused replica", lfn),
+        PlanFault::NoSize(lfn) => push_name(alloc, text, "refused size", lfn),
+        PlanFault::ToolUnknown(id, name) => push_two(alloc, text, "refused tool", id, name),
+        PlanFault::Exceeds { .. } | PlanFault::Memory => Ok(()),
+    }
+}
