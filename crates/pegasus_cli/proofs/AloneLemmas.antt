@@ -15,7 +15,7 @@ use Rattle.workflow_eval.specs.declared.fault.EvalFault.TheVariants as eval_faul
 use Rattle.pegasus_cli.specs.declared.outcome.Outcome.{Outcome}
 use Rattle.pegasus_cli.specs.declared.outcome.Outcome.TheVariants as outcomes
 use Rattle.pegasus_cli.specs.declared.run_fault.RunFault.TheVariants.{Declined, ToolFailed}
-use Rattle.pegasus_cli.specs.declared.survey.Survey.{Survey}
+use Rattle.planner.specs.declared.inputs.Survey.{Survey}
 use Rattle.pegasus_cli.specs.Commands.Alone.{AnswersFault, IsUnmade, IsValued, Prints, RunsAlone, Tells, delivery_answer}
 use Rattle.pegasus_cli.specs.Delivery.{Delivery, DeliversEach, chosen, delivered_lines}
 use Rattle.pegasus_cli.specs.Moments.{Work}

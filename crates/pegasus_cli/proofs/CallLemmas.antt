@@ -9,29 +9,35 @@ use Rattle.outside.specs.Tool.{Apply}
 use Rattle.outside.specs.declared.numbers.JobId.{JobId}
 use Rattle.outside.specs.declared.sink.SinkFault.{SinkFault}
 use Rattle.outside.specs.declared.sink.SinkFault.TheVariants as sink_faults
+use Rattle.outside.specs.declared.documents.Documents.{Documents}
+use Rattle.workflow_core.specs.View.{view}
 use Rattle.workflow_core.specs.declared.workflow.Workflow.{Workflow}
 use Rattle.dependency_graph.specs.Built.{AreTwoProducers}
 use Rattle.dependency_graph.specs.Graph.{IsSound}
 use Rattle.workflow_eval.specs.Evaluating.{first_undefined, made_by_number}
+use Rattle.plan_request.specs.declared.request.PlanRequest.{PlanRequest}
+use Rattle.planner.specs.Course.{GraphRefuses, IsSurvey, Refuses, SurveyEntry, surveyed}
+use Rattle.planner.specs.declared.plan_fault.PlanFault.{PlanFault}
+use Rattle.pegasus_cli.specs.declared.course.Requested.{Requested}
 use Rattle.pegasus_cli.specs.declared.commands.Command.{Command}
 use Rattle.pegasus_cli.specs.declared.commands.Command.TheVariants as commands
 use Rattle.pegasus_cli.specs.declared.early.Early.{Early}
 use Rattle.pegasus_cli.specs.declared.early.Early.TheVariants as early
 use Rattle.pegasus_cli.specs.declared.outcome.Outcome.{Outcome}
 use Rattle.pegasus_cli.specs.declared.outcome.Outcome.TheVariants as outcomes
-use Rattle.pegasus_cli.specs.declared.plan_fault.Document.TheVariants as documents_named
-use Rattle.pegasus_cli.specs.declared.plan_fault.PlanFault.TheVariants as plan
+use Rattle.planner.specs.declared.document.Document.TheVariants as documents_named
+use Rattle.planner.specs.declared.plan_fault.PlanFault.TheVariants as plan
 use Rattle.pegasus_cli.specs.declared.run_fault.RunFault.TheVariants.{Declined, ToolFailed, HostFailed}
-use Rattle.pegasus_cli.specs.declared.survey.Survey.{Survey}
+use Rattle.planner.specs.declared.inputs.Survey.{Survey}
 use Rattle.pegasus_cli.specs.Call.{Ends, HasWorked, IsAnswer, IsAnswered, IsDoneOrMemory, IsStopped, IsUsage, MayFinish, NoneRose}
 use Rattle.pegasus_cli.specs.Commands.{spec_of}
 use Rattle.pegasus_cli.specs.Commands.Alone.{AllDefined, Tells}
 use Rattle.pegasus_cli.specs.Commands.Check.{Says}
-use Rattle.pegasus_cli.specs.Course.{ButMemory, Gives, HasFailed, IsReadAs, IsStep, Matches, ReadWorkflow, documents, read_from}
+use Rattle.pegasus_cli.specs.Course.{ButMemory, Gives, HasFailed, IsStep, documents, plan_answer, read_from}
 use Rattle.pegasus_cli.specs.Delivery.{Delivery}
 use Rattle.pegasus_cli.specs.Moments.{Call, DocsMoment, Output, Work}
 use Rattle.pegasus_cli.specs.Outcome.{line_of, outcome_of}
-use Rattle.pegasus_cli.specs.Survey.{GoesOn, GraphRefuses, Stops}
+use Rattle.pegasus_cli.specs.Survey.{GoesOn, Stops}
 use Rattle.pegasus_cli.specs.Words.{command as command_of}
 use Rattle.pegasus_cli.proofs.CourseLemmas.{result_again, told_gives}
 
@@ -67,23 +73,19 @@ usage_answered c outcome text none not_asked untouched no_text ends = record {
   completes = λ may still. absurd (no_command (command_of c.asked.words) (may.command, may.request) may.is_command none);
 }
 
-only_memory : (X : Type 0) (e : Early) → ButMemory {X = X} (Err e) ⊥ → e ≡ early.Memory
-only_memory X early.Memory h = refl
-only_memory X e h = absurd h
-
 -- told documents give what they read, where no fault was counted
-told_step : (request : List ℕ) (before after : DocsMoment) (files : Files) (read : ReadWorkflow) (r : Result Workflow Early) → before.told ≡ Some files → read_from files (documents request) ≡ Ok read → (Rose before.counts.faults after.counts.faults → ⊥)
-    → IsStep IsReadAs (documents request) before after r → ButMemory r (Matches IsReadAs (Ok read) r)
-told_step request before after files read r told reads still step =
-    result_again r _ _ (λ (m : Matches IsReadAs (read_from files (documents request)) r ⊎ HasFailed before.counts after.counts r). came_so m) (told_so r (subst (λ t. ButMemory r (Gives IsReadAs t (documents request) before.counts after.counts r)) told step.gives))
+told_step : (name : List ℕ) (before after : DocsMoment) (files : Files) (requested : Requested) (r : Result Requested Early) → before.told ≡ Some files → read_from files (documents name) ≡ Ok requested → (Rose before.counts.faults after.counts.faults → ⊥)
+    → IsStep (documents name) before after r → ButMemory r (r ≡ Ok requested)
+told_step name before after files requested r told reads still step =
+    result_again r _ _ (λ (m : (r ≡ read_from files (documents name)) ⊎ HasFailed before.counts after.counts r). came_so m) (told_so r (subst (λ t. ButMemory r (Gives t (documents name) before.counts after.counts r)) told step.gives))
   where
-    came_so : Matches IsReadAs (read_from files (documents request)) r ⊎ HasFailed before.counts after.counts r → Matches IsReadAs (Ok read) r
-    came_so (inl m) = subst (λ z. Matches IsReadAs z r) reads m
+    came_so : (r ≡ read_from files (documents name)) ⊎ HasFailed before.counts after.counts r → r ≡ Ok requested
+    came_so (inl m) = m ∙ reads
     came_so (inr failed) = absurd (still failed.0)
 
-    told_so : (r : Result Workflow Early) → ButMemory r (Gives IsReadAs (Some files) (documents request) before.counts after.counts r) → ButMemory r (Matches IsReadAs (read_from files (documents request)) r ⊎ HasFailed before.counts after.counts r)
+    told_so : (r : Result Requested Early) → ButMemory r (Gives (Some files) (documents name) before.counts after.counts r) → ButMemory r ((r ≡ read_from files (documents name)) ⊎ HasFailed before.counts after.counts r)
     told_so (Err early.Memory) h = tt
-    told_so r h = told_gives IsReadAs files (documents request) before.counts after.counts r h
+    told_so r h = told_gives files (documents name) before.counts after.counts r h
 
 -- a file of a sound workflow has no two producers
 not_contested : (w : Workflow) (lfn one two : List ℕ) → IsSound w → AreTwoProducers w lfn one two → ⊥
@@ -92,16 +94,40 @@ not_contested w lfn one two sound h =
     let many = ap length h.contested.is in
     omega (arith, few, many)
 
-not_refused : (w : Workflow) (e : Early) → IsSound w → GraphRefuses w e → e ≡ early.Memory
-not_refused w (early.Refused (plan.TwoProducers lfn one two)) sound h = absurd (not_contested w lfn one two sound h)
-not_refused w (early.Refused (plan.Cycle ids)) sound h = absurd (sound.no_return h.cycle.start h.cycle.returns)
-not_refused w early.Memory sound h = refl
-not_refused w e sound h = absurd h
+not_refused : (fault : PlanFault) (w : Workflow) → IsSound w → GraphRefuses fault w → ⊥
+not_refused (plan.TwoProducers lfn one two) w sound h = not_contested w lfn one two sound h
+not_refused (plan.Cycle ids) w sound h = sound.no_return h.cycle.start h.cycle.returns
+not_refused fault w sound h = h
+
+same_entry : (given : Result SurveyEntry PlanFault) (a b : SurveyEntry) → given ≡ Ok a → given ≡ Ok b → a ≡ b
+same_entry given a b i j = cc
+
+no_fault : (given : Result SurveyEntry PlanFault) (a : SurveyEntry) (fault : PlanFault) → given ≡ Ok a → given ≡ Err fault → ⊥
+no_fault given a fault i j = absurd cc
+
+-- what planning may refuse where the documents have no fault and their workflow is sound
+refused_short : (r : PlanRequest) (d : Documents) (said : SurveyEntry) (fault : PlanFault) → surveyed r d ≡ Ok said → ((w : Workflow) → view w ≡ said.workflow → IsSound w) → Refuses r d fault → fault ≡ plan.Memory
+refused_short r d said plan.Memory says sound h = refl
+refused_short r d said fault says sound (inl h) = absurd (no_fault (surveyed r d) said fault says h)
+refused_short r d said fault says sound (inr h) = absurd (not_refused fault h.workflow (sound h.workflow (h.is ∙ ap (λ (e : SurveyEntry). e.workflow) (same_entry (surveyed r d) h.said said h.says says))) h.holds)
+
+no_answer : (e : Early) (a : Requested) → ◌≡◌ {A = Result Requested Early} (Err e) (Ok a) → ⊥
+no_answer e a is = absurd cc
+
+came_as : (a b : Requested) → ◌≡◌ {A = Result Requested Early} (Ok a) (Ok b) → a ≡ b
+came_as a b is = cc
+
+nothing_came : (e : Early) (a : Requested) → ButMemory {A = Requested} (Err e) (◌≡◌ {A = Result Requested Early} (Err e) (Ok a)) → e ≡ early.Memory
+nothing_came early.Memory a h = refl
+nothing_came e a h = absurd (no_answer e a h)
 
 -- documents that go on stop a call for want of memory alone
 stops_short : (c : Call) (e : Early) (may : MayFinish c) → NoneRose c → Stops may.request c.asked.before c.asked.after e → e ≡ early.Memory
-stops_short c e may still (inl step) = only_memory Workflow e (told_step may.request c.asked.before c.asked.after may.files may.read (Err e) may.told may.reads still.docs step)
-stops_short c e may still (inr h) = not_refused h.0 e (may.sound h.0 (told_step may.request c.asked.before c.asked.after may.files may.read (Ok h.0) may.told may.reads still.docs h.1)) h.2
+stops_short c e may still (inl step) = nothing_came e may.requested (told_step may.request c.asked.before c.asked.after may.files may.requested (Err e) may.told may.reads still.docs step)
+stops_short c e may still (inr h) =
+    let same = came_as h.requested may.requested (told_step may.request c.asked.before c.asked.after may.files may.requested (Ok h.requested) may.told may.reads still.docs h.came) in
+    let refuses = subst (λ (x : Requested). Refuses x.request x.documents h.fault) same h.refuses in
+    h.answers ∙ ap plan_answer (refused_short may.requested.request may.requested.documents may.said h.fault may.says may.sound refuses)
 
 of_memory : (e : Early) → e ≡ early.Memory → IsDoneOrMemory (outcome_of e)
 of_memory e h = subst (λ z. IsDoneOrMemory (outcome_of z)) (sym h) tt
@@ -167,8 +193,9 @@ worked_answered c k request s answer outcome text is goes_on works ends = record
   completes = λ may still.
       let same = same_command (command_of c.asked.words) (may.command, may.request) (k, request) may.is_command is in
       let mine = subst (λ (r : List ℕ). GoesOn r c.asked.before c.asked.after s) (ap (λ (x : Command × List ℕ). x.1) (sym same)) goes_on in
-      let read = told_step may.request c.asked.before c.asked.after may.files may.read (Ok s.workflow) may.told may.reads still.docs mine.read in
-      let can = subst (λ (x : Command). (spec_of x).CanFinish c.work s) (ap (λ (x : Command × List ℕ). x.0) same) (may.can_finish s read mine.graph) in
+      let came = came_as mine.requested may.requested (told_step may.request c.asked.before c.asked.after may.files may.requested (Ok mine.requested) may.told may.reads still.docs mine.came) in
+      let survey = subst (λ (x : Requested). IsSurvey x.request x.documents s) came mine.survey in
+      let can = subst (λ (x : Command). (spec_of x).CanFinish c.work s) (ap (λ (x : Command × List ℕ). x.0) same) (may.can_finish s survey) in
       ends_done c.output text answer outcome ends (finishes k c.work s text answer works can still.host still.tool) still.sink;
 }
 
@@ -188,7 +215,7 @@ early_is_no_usage (early.DocAbsent n) h = (let clash : ◌≡◌ {A = Outcome} o
 early_is_no_usage (early.DocTooLong n k) h = (let clash : ◌≡◌ {A = Outcome} outcomes.Usage (outcomes.DocTooLong n k) = h in absurd cc)
 early_is_no_usage (early.DocFailed n) h = (let clash : ◌≡◌ {A = Outcome} outcomes.Usage (outcomes.DocFailed n) = h in absurd cc)
 early_is_no_usage (early.Refused f) h = (let clash : ◌≡◌ {A = Outcome} outcomes.Usage (outcomes.Refused f) = h in absurd cc)
-early_is_no_usage early.NotBuilt h = (let clash : ◌≡◌ {A = Outcome} outcomes.Usage (outcomes.NotBuilt documents_named.Request) = h in absurd cc)
+early_is_no_usage (early.Exceeds s t n b) h = (let clash : ◌≡◌ {A = Outcome} outcomes.Usage (outcomes.Exceeds s t n b) = h in absurd cc)
 
 -- Usage comes only where the words are no command.
 pub usage_is_no_command : (c : Call) → IsAnswered c outcomes.Usage → command_of c.asked.words ≡ None

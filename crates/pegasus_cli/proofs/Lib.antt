@@ -1,6 +1,5 @@
 pub mod CourseLemmas
 pub mod CallLemmas
 pub mod DeliveryLemmas
-pub mod RequestLemmas
 pub mod SurveyLemmas
 pub mod AloneLemmas

@@ -1,12 +1,12 @@
--- A workflow without a graph.
-use Rattle.std.specs.Prelude.{Err}
-use Rattle.workflow_core.specs.declared.workflow.Workflow.{Workflow}
-use Rattle.dependency_graph.specs.Built.{Builds}
-use Rattle.dependency_graph.specs.declared.fault.GraphFault.{GraphFault}
-use Rattle.dependency_graph.specs.declared.fault.GraphFault.TheVariants as graph_faults
-use Rattle.pegasus_cli.specs.Survey.{GraphRefuses, graph_answer}
+-- What a survey of documents ends a call with.
+use Rattle.std.proofs.Common.{◌≡◌, refl}
+use Rattle.planner.specs.declared.plan_fault.PlanFault.{PlanFault}
+use Rattle.planner.specs.declared.plan_fault.PlanFault.TheVariants as plan
+use Rattle.pegasus_cli.specs.declared.early.Early.TheVariants.{Refused}
+use Rattle.pegasus_cli.specs.Course.{plan_answer}
 
-pub graph_stops : (w : Workflow) (fault : GraphFault) → Builds w (Err fault) → GraphRefuses w (graph_answer fault)
-graph_stops w (graph_faults.TwoProducers lfn one two) h = h
-graph_stops w (graph_faults.Cycle ids) h = h
-graph_stops w graph_faults.Memory h = tt
+-- a fault that is neither want of memory nor a bound that is passed
+pub plan_answer_else : (fault : PlanFault) → (fault ≡ plan.Memory → ⊥) → ((site : _) (task : _) (needed bound : _) → fault ≡ plan.Exceeds site task needed bound → ⊥) → Refused fault ≡ plan_answer fault
+plan_answer_else plan.Memory no_memory fits = absurd (no_memory refl)
+plan_answer_else (plan.Exceeds site task needed bound) no_memory fits = absurd (fits site task needed bound refl)
+plan_answer_else fault no_memory fits = refl

@@ -3,15 +3,18 @@ use Rattle.std.specs.Prelude.{◌≡◌, ◌⊎◌, ◌++◌, ℕ, List, [], tak
 use Rattle.std.specs.Io.KnownBytes.{Appends, Keeps}
 use Rattle.outside.specs.Counts.{Rose}
 use Rattle.outside.specs.FileMap.{Files}
+use Rattle.workflow_core.specs.View.{view}
 use Rattle.workflow_core.specs.declared.workflow.Workflow.{Workflow}
-use Rattle.dependency_graph.specs.Graph.{IsGraphOf, IsSound}
+use Rattle.dependency_graph.specs.Graph.{IsSound}
+use Rattle.planner.specs.Course.{IsSurvey, SurveyEntry, surveyed}
 use Rattle.pegasus_cli.specs.declared.commands.Command.{Command}
+use Rattle.pegasus_cli.specs.declared.course.Requested.{Requested}
 use Rattle.pegasus_cli.specs.declared.early.Early.{Early}
 use Rattle.pegasus_cli.specs.declared.outcome.Outcome.{Outcome}
 use Rattle.pegasus_cli.specs.declared.outcome.Outcome.TheVariants as outcomes
-use Rattle.pegasus_cli.specs.declared.survey.Survey.{Survey}
+use Rattle.planner.specs.declared.inputs.Survey.{Survey}
 use Rattle.pegasus_cli.specs.Commands.{spec_of}
-use Rattle.pegasus_cli.specs.Course.{IsReadAs, ReadWorkflow, documents, read_from}
+use Rattle.pegasus_cli.specs.Course.{documents, read_from}
 use Rattle.pegasus_cli.specs.Moments.{Call, Output}
 use Rattle.pegasus_cli.specs.Outcome.{line_of, outcome_of}
 use Rattle.pegasus_cli.specs.Survey.{GoesOn, Stops}
@@ -65,10 +68,12 @@ pub record MayFinish (c : Call) : Type 0 where
   pub is_command : command_of c.asked.words ≡ Some (command, request)
   pub files : Files
   pub told : c.asked.before.told ≡ Some files
-  pub read : ReadWorkflow
-  pub reads : read_from files (documents request) ≡ Ok read
-  pub sound : (w : Workflow) → IsReadAs read w → IsSound w
-  pub can_finish : (s : Survey) → IsReadAs read s.workflow → IsGraphOf s.workflow s.graph → (spec_of command).CanFinish c.work s
+  pub requested : Requested
+  pub reads : read_from files (documents request) ≡ Ok requested
+  pub said : SurveyEntry
+  pub says : surveyed requested.request requested.documents ≡ Ok said
+  pub sound : (w : Workflow) → view w ≡ said.workflow → IsSound w
+  pub can_finish : (s : Survey) → IsSurvey requested.request requested.documents s → (spec_of command).CanFinish c.work s
 
 abbrev pub IsDoneOrMemory : Outcome → Type 0
 IsDoneOrMemory outcomes.Done = Unit {0}

@@ -1,7 +1,7 @@
 -- What the contract of a command says.
 use Rattle.std.specs.Prelude.{ℕ, List}
 use Rattle.pegasus_cli.specs.declared.outcome.Outcome.{Outcome}
-use Rattle.pegasus_cli.specs.declared.survey.Survey.{Survey}
+use Rattle.planner.specs.declared.inputs.Survey.{Survey}
 use Rattle.pegasus_cli.specs.Moments.{Work}
 
 -- Each command states one, in its own file.

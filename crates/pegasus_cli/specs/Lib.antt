@@ -5,11 +5,9 @@ pub mod CommandSpec
 pub mod Moments
 pub mod Words
 pub mod Course
-pub mod Request
 pub mod Survey
 pub mod Delivery
 pub mod CheckText
 -- The lines and the status of an outcome.
 pub mod Outcome
-pub mod PlanFault
 pub mod RunFault

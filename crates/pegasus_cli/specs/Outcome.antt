@@ -4,10 +4,14 @@ use Rattle.outside.specs.Printed.{printed_name}
 use Rattle.pegasus_cli.specs.declared.early.Early.{Early}
 use Rattle.pegasus_cli.specs.declared.early.Early.TheVariants as early
 use Rattle.pegasus_cli.specs.declared.outcome.Outcome.{Outcome}
-use Rattle.pegasus_cli.specs.declared.outcome.Outcome.TheVariants.{Done, Memory, Usage, DocAbsent, DocTooLong, DocFailed, Refused, NotBuilt, Failed, SinkFailed}
-use Rattle.pegasus_cli.specs.declared.plan_fault.Document.TheVariants.{Request}
-use Rattle.pegasus_cli.specs.PlanFault.{and_number, document_word, refused_line}
+use Rattle.pegasus_cli.specs.declared.outcome.Outcome.TheVariants.{Done, Memory, Usage, DocAbsent, DocTooLong, DocFailed, Refused, Exceeds, NotBuilt, Failed, SinkFailed}
+use Rattle.outside.specs.declared.numbers.TaskId.{TaskId}
+use Rattle.planner.specs.Document.{document_word}
+use Rattle.planner.specs.Refused.{and_name, and_number, refused_line}
 use Rattle.pegasus_cli.specs.RunFault.{failed_line}
+
+abbrev pub exceeds_line : List ℕ → TaskId → ℕ → ℕ → List ℕ
+exceeds_line site task needed bound = codes "exceeds" ++ and_name site ++ and_number task.0 ++ and_number needed ++ and_number bound ++ codes "\n"
 
 -- the line of an outcome; want of memory and a failing sink have none
 abbrev pub line_of : Outcome → List ℕ
@@ -18,6 +22,7 @@ line_of (DocAbsent name) = codes "no document " ++ printed_name name ++ codes "\
 line_of (DocTooLong name limit) = codes "document too long " ++ printed_name name ++ and_number limit ++ codes "\n"
 line_of (DocFailed name) = codes "document failed " ++ printed_name name ++ codes "\n"
 line_of (Refused fault) = refused_line fault
+line_of (Exceeds site task needed bound) = exceeds_line site task needed bound
 line_of (NotBuilt which) = codes "not built " ++ document_word which ++ codes "\n"
 line_of (Failed fault) = failed_line fault
 line_of SinkFailed = []
@@ -31,6 +36,7 @@ status_of (DocAbsent name) = 3
 status_of (DocTooLong name limit) = 3
 status_of (DocFailed name) = 3
 status_of (Refused fault) = 4
+status_of (Exceeds site task needed bound) = 5
 status_of (Failed fault) = 6
 status_of SinkFailed = 7
 status_of (NotBuilt which) = 9
@@ -42,4 +48,4 @@ outcome_of (early.DocAbsent name) = DocAbsent name
 outcome_of (early.DocTooLong name limit) = DocTooLong name limit
 outcome_of (early.DocFailed name) = DocFailed name
 outcome_of (early.Refused fault) = Refused fault
-outcome_of early.NotBuilt = NotBuilt Request
+outcome_of (early.Exceeds site task needed bound) = Exceeds site task needed bound

@@ -18,16 +18,22 @@ fn finish<K: Sink>(alloc: Global, out: &mut K, text: Vec<u8>, answer: Outcome) -
     ensures { Ends (writing (sink_moment K.Sink out.old) (sink_moment K.Sink out.new)) text.items answer result }
 {
     if let Outcome::Memory = answer {
-        return Outcome::Memory;
+        return answer;
     }
     let mut text = text;
     match push_outcome(alloc, &mut text, &answer) {
         Ok(()) => {}
-        Err(Memory) => return Outcome::Memory,
+        Err(Memory) => {
+            drop(answer);
+            return Outcome::Memory;
+        }
     }
     match write_all(out, &text) {
         Ok(()) => answer,
-        Err(SinkFault::Failed) => Outcome::SinkFailed,
+        Err(SinkFault::Failed) => {
+            drop(answer);
+            Outcome::SinkFailed
+        }
     }
 }
 

@@ -11,8 +11,8 @@ mod alone;
 mod check;
 
 use crate::outcome::Outcome;
-use crate::survey::Survey;
 use outside::{Host, Tool};
+use planner::Survey;
 use std::alloc::Global;
 
 /// What is asked for.

@@ -1,24 +1,27 @@
-//! The documents of a call, fetched and read one after the other.
+//! The documents of a call, fetched one after the other.
 
-ghost use Rattle.std.specs.Prelude.{◌≡◌, IfOk};
-ghost use Rattle.workflow_core.specs.WellFormed.{IsWellFormed};
-ghost use Rattle.pegasus_cli.specs.Course.{ButMemory, IsReadAs, IsStep, Matches, doc_answer, document, documents, read_answer, request_in_bytes, tree_answer, workflow_in_bytes};
+ghost use Rattle.std.specs.Prelude.{◌≡◌, Ok, Err};
+ghost use Rattle.pegasus_cli.specs.Course.{ButMemory, IsStep, doc_answer, document, documents, if_named, named_documents, plan_answer, request_in_bytes};
 ghost use Rattle.pegasus_cli.specs.Moments.{docs_moment};
 
 use crate::early::Early;
-use crate::plan_fault::{Document, PlanFault};
-use crate::request::{RequestFault, read_request};
-use outside::{DocFault, Docs, Text};
-use peg_json::{ReadFault, TreeFault};
+use outside::{Blob, DocFault, Docs, Documents, Text};
+use plan_request::PlanRequest;
+use planner::{Document, PlanFault, of_read_fault};
 use std::alloc::Global;
-use workflow_core::Workflow;
-use workflow_reader::read;
 
 /// The longest document, in bytes.
 const DOCUMENT_LIMIT: u64 = 33_554_432;
 
+/// A request, and the documents that it names.
+#[derive(Drop)]
+pub struct Requested {
+    pub request: PlanRequest,
+    pub documents: Documents,
+}
+
 fn of_doc_fault(alloc: Global, name: &str, fault: DocFault) -> Early
-    ensures { ButMemory {X = Unit {0}} (Err result) (result ≡ doc_answer name.now fault) }
+    ensures { ButMemory {A = Unit {0}} (Err result) (result ≡ doc_answer name.now fault) }
 {
     let Ok(name) = Text::copy_of(alloc, name) else {
         return Early::Memory;
@@ -31,70 +34,66 @@ fn of_doc_fault(alloc: Global, name: &str, fault: DocFault) -> Early
     }
 }
 
+/// The answer for a fault of planning.
+pub(crate) fn of_plan_fault(fault: PlanFault) -> Early
+    ensures { result ≡ plan_answer fault }
+{
+    match fault {
+        PlanFault::Memory => Early::Memory,
+        PlanFault::Exceeds {
+            site,
+            task,
+            needed,
+            bound,
+        } => Early::Exceeds {
+            site,
+            task,
+            needed,
+            bound,
+        },
+        fault => Early::Refused(fault),
+    }
+}
+
 /// Fetches the document of a name.
-fn fetch<D: Docs>(alloc: Global, docs: &mut D, name: &str) -> Result<Vec<u8>, Early>
-    ensures { IsStep (λ a v. v.items ≡ a) (document name.now Ok) (docs_moment D.Docs docs.old) (docs_moment D.Docs docs.new) result }
+fn fetch<D: Docs>(alloc: Global, docs: &mut D, name: &str) -> Result<Blob, Early>
+    ensures { IsStep (document name.now Ok) (docs_moment D.Docs docs.old) (docs_moment D.Docs docs.new) result }
 {
     let mut bytes = Vec::new(alloc);
     match docs.fetch(alloc, name, DOCUMENT_LIMIT, &mut bytes) {
-        Ok(()) => Ok(bytes),
+        Ok(()) => Ok(Blob::new(bytes)),
         Err(fault) => Err(of_doc_fault(alloc, name, fault)),
     }
 }
 
-/// The name of the workflow that a request's bytes name.
-fn request_in(alloc: Global, bytes: &[u8]) -> Result<Text, Early>
-    ensures { ButMemory result (Matches (λ a t. t ≡ a) (request_in_bytes bytes.now) result) }
+fn fetch_if_named<D: Docs>(
+    alloc: Global,
+    docs: &mut D,
+    name: &Option<Text>,
+) -> Result<Option<Blob>, Early>
+    ensures { IsStep (if_named name.now) (docs_moment D.Docs docs.old) (docs_moment D.Docs docs.new) result }
 {
-    match read_request(alloc, bytes) {
-        Ok(workflow) => Ok(workflow),
-        Err(RequestFault::Syntax) => Err(Early::Refused(PlanFault::Tree(
-            Document::Request,
-            TreeFault::Syntax,
-        ))),
-        Err(RequestFault::OtherForm) => Err(Early::NotBuilt),
-        Err(RequestFault::Memory) => Err(Early::Memory),
-    }
-}
-
-#[tactic(auto, using(crate::proofs::CourseLemmas::tree_answer_but_memory))]
-fn of_tree_fault(which: Document, fault: TreeFault) -> Early
-    ensures { result ≡ tree_answer which fault }
-{
-    if let TreeFault::Memory = fault {
-        return Early::Memory;
-    }
-    Early::Refused(PlanFault::Tree(which, fault))
-}
-
-fn of_read_fault(which: Document, fault: ReadFault) -> Early
-    ensures { result ≡ read_answer which fault }
-{
-    let refused = match fault {
-        ReadFault::Tree(fault) => return of_tree_fault(which, fault),
-        ReadFault::TooMany(counted, count, limit) => PlanFault::TooMany(counted, count, limit),
-        ReadFault::DuplicateJob(id) => PlanFault::DuplicateJob(id),
-        ReadFault::DuplicateUse(id, lfn) => PlanFault::DuplicateUse(id, lfn),
-        ReadFault::UnknownJob(id) => PlanFault::UnknownJob(id),
-        ReadFault::DuplicateSite(name) => PlanFault::DuplicateSite(name),
-        ReadFault::DuplicateTransformation(name) => PlanFault::DuplicateTransformation(name),
+    let Some(name) = name else {
+        return Ok(None);
     };
-    Early::Refused(refused)
-}
-
-/// The workflow that a document's bytes say.
-fn workflow_in(alloc: Global, bytes: &[u8]) -> Result<Workflow, Early>
-    ensures answer { ButMemory result (Matches IsReadAs (workflow_in_bytes bytes.now) result) }
-    ensures well_formed { IfOk result (λ w. IsWellFormed w) }
-{
-    match read(alloc, bytes) {
-        Ok(workflow) => Ok(workflow),
-        Err(fault) => Err(of_read_fault(Document::Workflow, fault)),
+    match fetch(alloc, docs, name.as_str()) {
+        Ok(bytes) => Ok(Some(bytes)),
+        Err(early) => Err(early),
     }
 }
 
-fn fetch_request<D: Docs>(alloc: Global, docs: &mut D, name: &str) -> Result<Text, Early>
-    ensures { IsStep (λ a t. t ≡ a) (document name.now request_in_bytes) (docs_moment D.Docs docs.old) (docs_moment D.Docs docs.new) result }
+/// The request that a document's bytes say.
+fn request_in(alloc: Global, bytes: &Blob) -> Result<PlanRequest, Early>
+    ensures { ButMemory result (result ≡ request_in_bytes bytes.now) }
+{
+    match plan_request::read(alloc, bytes.as_slice()) {
+        Ok(request) => Ok(request),
+        Err(fault) => Err(of_plan_fault(of_read_fault(Document::Request, fault))),
+    }
+}
+
+fn fetch_request<D: Docs>(alloc: Global, docs: &mut D, name: &str) -> Result<PlanRequest, Early>
+    ensures { IsStep (document name.now request_in_bytes) (docs_moment D.Docs docs.old) (docs_moment D.Docs docs.new) result }
 {
     match fetch(alloc, docs, name) {
         Ok(bytes) => request_in(alloc, &bytes),
@@ -102,27 +101,50 @@ fn fetch_request<D: Docs>(alloc: Global, docs: &mut D, name: &str) -> Result<Tex
     }
 }
 
-fn fetch_workflow<D: Docs>(alloc: Global, docs: &mut D, name: &str) -> Result<Workflow, Early>
-    ensures step { IsStep IsReadAs (document name.now workflow_in_bytes) (docs_moment D.Docs docs.old) (docs_moment D.Docs docs.new) result }
-    ensures well_formed { IfOk result (λ w. IsWellFormed w) }
+/// Fetches the documents that a request names.
+fn fetch_named<D: Docs>(
+    alloc: Global,
+    docs: &mut D,
+    request: PlanRequest,
+) -> Result<Requested, Early>
+    ensures { IsStep (named_documents request) (docs_moment D.Docs docs.old) (docs_moment D.Docs docs.new) result }
 {
-    match fetch(alloc, docs, name) {
-        Ok(bytes) => workflow_in(alloc, &bytes),
+    let workflow = match fetch(alloc, docs, request.workflow.as_str()) {
+        Ok(workflow) => workflow,
+        Err(early) => return Err(early),
+    };
+    let sites = match fetch_if_named(alloc, docs, &request.sites) {
+        Ok(sites) => sites,
+        Err(early) => return Err(early),
+    };
+    let replicas = match fetch_if_named(alloc, docs, &request.replicas) {
+        Ok(replicas) => replicas,
+        Err(early) => return Err(early),
+    };
+    match fetch_if_named(alloc, docs, &request.transformations) {
+        Ok(transformations) => Ok(Requested {
+            request,
+            documents: Documents {
+                workflow,
+                sites,
+                replicas,
+                transformations,
+            },
+        }),
         Err(early) => Err(early),
     }
 }
 
-/// Fetches and reads a request, and then the workflow that it names.
-pub(crate) fn read_documents<D: Docs>(
+/// Fetches and reads a request, and fetches the documents that it names.
+pub(crate) fn fetch_documents<D: Docs>(
     alloc: Global,
     docs: &mut D,
-    request: &str,
-) -> Result<Workflow, Early>
-    ensures step { IsStep IsReadAs (documents request.now) (docs_moment D.Docs docs.old) (docs_moment D.Docs docs.new) result }
-    ensures well_formed { IfOk result (λ w. IsWellFormed w) }
+    name: &str,
+) -> Result<Requested, Early>
+    ensures { IsStep (documents name.now) (docs_moment D.Docs docs.old) (docs_moment D.Docs docs.new) result }
 {
-    match fetch_request(alloc, docs, request) {
-        Ok(workflow) => fetch_workflow(alloc, docs, workflow.as_str()),
+    match fetch_request(alloc, docs, name) {
+        Ok(request) => fetch_named(alloc, docs, request),
         Err(early) => Err(early),
     }
 }

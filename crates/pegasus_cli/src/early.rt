@@ -1,7 +1,7 @@
 //! Answers that come before the work.
 
-use crate::plan_fault::PlanFault;
-use outside::Text;
+use outside::{TaskId, Text};
+use planner::PlanFault;
 
 /// An answer of the documents alone.
 #[derive(Debug, Drop)]
@@ -11,6 +11,10 @@ pub enum Early {
     DocTooLong(Text, u64),
     DocFailed(Text),
     Refused(PlanFault),
-    /// The request has a form that isn't read yet.
-    NotBuilt,
+    Exceeds {
+        site: Text,
+        task: TaskId,
+        needed: u64,
+        bound: u64,
+    },
 }

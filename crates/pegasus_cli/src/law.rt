@@ -3,19 +3,19 @@
 ghost use Rattle.std.specs.Prelude.{◌≡◌, ◌⊎◌, ℕ, List, None, Result, Some};
 ghost use Rattle.outside.specs.FileMap.{Files};
 ghost use Rattle.outside.specs.declared.counts.Counts.{Counts};
-ghost use Rattle.workflow_core.specs.declared.workflow.Workflow.{Workflow};
+ghost use Rattle.pegasus_cli.specs.declared.course.Requested.{Requested};
 ghost use Rattle.pegasus_cli.specs.declared.early.Early.{Early};
 ghost use Rattle.pegasus_cli.specs.declared.outcome.Outcome.{Outcome};
 ghost use Rattle.pegasus_cli.specs.declared.outcome.Outcome.TheVariants as outcomes;
 ghost use Rattle.pegasus_cli.specs.Call.{IsAnswered};
-ghost use Rattle.pegasus_cli.specs.Course.{ButMemory, Gives, HasFailed, IsReadAs, Matches, documents, read_from};
+ghost use Rattle.pegasus_cli.specs.Course.{ButMemory, Gives, HasFailed, documents, read_from};
 ghost use Rattle.pegasus_cli.specs.Moments.{Call};
 ghost use Rattle.pegasus_cli.specs.Words.{command};
 
 /// Told documents decide what comes of them, but where a fetch failed, which was counted, or memory ran out.
 pub fn told_documents_decide()
-    ensures { (files : Files) (request : List ℕ) (before after : Counts) (r : Result Workflow Early) → Gives IsReadAs (Some files) (documents request) before after r
-        → ButMemory r (Matches IsReadAs (read_from files (documents request)) r ⊎ HasFailed before after r) }
+    ensures { (files : Files) (name : List ℕ) (before after : Counts) (r : Result Requested Early) → Gives (Some files) (documents name) before after r
+        → ButMemory r ((r ≡ read_from files (documents name)) ⊎ HasFailed before after r) }
 {}
 
 /// Usage comes exactly where the words are no command.

@@ -1,12 +1,12 @@
 //! How a call ends, its line and its status.
 
 ghost use Rattle.std.specs.Prelude.{◌≡◌, ◌++◌, OnOk};
-ghost use Rattle.pegasus_cli.specs.Outcome.{line_of, outcome_of};
+ghost use Rattle.pegasus_cli.specs.Outcome.{exceeds_line, line_of, outcome_of};
 
 use crate::early::Early;
-use crate::plan_fault::{Document, PlanFault, push_refused};
 use crate::run_fault::{RunFault, push_failed};
-use outside::{Memory, Text, Word, push_line};
+use outside::{Memory, TaskId, Text, Word, push_line};
+use planner::{Document, PlanFault, push_refused};
 use std::alloc::Global;
 
 const USAGE: &str =
@@ -25,6 +25,13 @@ pub enum Outcome {
     DocTooLong(Text, u64),
     DocFailed(Text),
     Refused(PlanFault),
+    /// No order fits: the first task that doesn't, its site, and the bytes that it would need there.
+    Exceeds {
+        site: Text,
+        task: TaskId,
+        needed: u64,
+        bound: u64,
+    },
     /// The document has a form that isn't read yet.
     NotBuilt(Document),
     Failed(RunFault),
@@ -45,6 +52,7 @@ impl Outcome {
             Outcome::Usage => 2,
             Outcome::DocAbsent(_) | Outcome::DocTooLong(_, _) | Outcome::DocFailed(_) => 3,
             Outcome::Refused(_) => 4,
+            Outcome::Exceeds { .. } => 5,
             Outcome::Failed(_) => 6,
             Outcome::SinkFailed => 7,
             Outcome::NotBuilt(_) => 9,
@@ -62,8 +70,35 @@ pub(crate) fn of_early(early: Early) -> Outcome
         Early::DocTooLong(name, limit) => Outcome::DocTooLong(name, limit),
         Early::DocFailed(name) => Outcome::DocFailed(name),
         Early::Refused(fault) => Outcome::Refused(fault),
-        Early::NotBuilt => Outcome::NotBuilt(Document::Request),
+        Early::Exceeds {
+            site,
+            task,
+            needed,
+            bound,
+        } => Outcome::Exceeds {
+            site,
+            task,
+            needed,
+            bound,
+        },
     }
+}
+
+fn push_exceeds(
+    alloc: Global,
+    text: &mut Vec<u8>,
+    site: &Text,
+    task: TaskId,
+    needed: u64,
+    bound: u64,
+) -> Result<(), Memory>
+    ensures { OnOk result (text.new.items ≡ text.old.items ++ exceeds_line site.now task needed bound) }
+{
+    let site = Word::Name(site.as_bytes());
+    let task = Word::Number(u64::from(task.0));
+    let needed = Word::Number(needed);
+    let bound = Word::Number(bound);
+    push_line(alloc, text, "exceeds", &[site, task, needed, bound])
 }
 
 /// Adds the line of an outcome, where it has one.
@@ -97,6 +132,12 @@ pub(crate) fn push_outcome(
             &[Word::Name(name.as_bytes())],
         ),
         Outcome::Refused(fault) => push_refused(alloc, text, fault),
+        Outcome::Exceeds {
+            site,
+            task,
+            needed,
+            bound,
+        } => push_exceeds(alloc, text, site, *task, *needed, *bound),
         Outcome::NotBuilt(which) => push_line(
             alloc,
             text,

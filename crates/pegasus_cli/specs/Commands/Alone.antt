@@ -15,9 +15,9 @@ use Rattle.workflow_eval.specs.declared.fault.EvalFault.{EvalFault}
 use Rattle.workflow_eval.specs.declared.fault.EvalFault.TheVariants as eval_faults
 use Rattle.pegasus_cli.specs.declared.outcome.Outcome.{Outcome}
 use Rattle.pegasus_cli.specs.declared.outcome.Outcome.TheVariants as outcomes
-use Rattle.pegasus_cli.specs.declared.plan_fault.Document.TheVariants as documents
+use Rattle.planner.specs.declared.document.Document.TheVariants as documents
 use Rattle.pegasus_cli.specs.declared.run_fault.RunFault.TheVariants.{Declined, ToolFailed, HostFailed}
-use Rattle.pegasus_cli.specs.declared.survey.Survey.{Survey}
+use Rattle.planner.specs.declared.inputs.Survey.{Survey}
 use Rattle.pegasus_cli.specs.CommandSpec.{CommandSpec}
 use Rattle.pegasus_cli.specs.Delivery.{AreDeliveries, Delivery, delivered_lines, delivering_all}
 use Rattle.pegasus_cli.specs.Moments.{Work}

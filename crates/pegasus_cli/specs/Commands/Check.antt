@@ -2,13 +2,13 @@
 use Rattle.std.specs.Prelude.{◌≡◌, ℕ, List}
 use Rattle.pegasus_cli.specs.declared.outcome.Outcome.{Outcome}
 use Rattle.pegasus_cli.specs.declared.outcome.Outcome.TheVariants as outcomes
-use Rattle.pegasus_cli.specs.declared.survey.Survey.{Survey}
+use Rattle.planner.specs.declared.inputs.Survey.{Survey}
 use Rattle.pegasus_cli.specs.CheckText.{check_lines}
 use Rattle.pegasus_cli.specs.CommandSpec.{CommandSpec}
 use Rattle.pegasus_cli.specs.Moments.{Work}
 
 abbrev pub Says : Survey → List ℕ → Outcome → Type 0
-Says s text outcomes.Done = text ≡ check_lines s.workflow
+Says s text outcomes.Done = text ≡ check_lines s
 Says s text outcomes.Memory = Unit {0}
 Says s text _ = ⊥
 

@@ -7,8 +7,8 @@ ghost use Rattle.pegasus_cli.specs.Moments.{work_moment, working};
 use crate::check_text::check_text;
 use crate::commands::Worked;
 use crate::outcome::Outcome;
-use crate::survey::Survey;
 use outside::{Host, Memory, Tool};
+use planner::Survey;
 use std::alloc::Global;
 
 pub(crate) fn work<H: Host, T: Tool>(
@@ -21,7 +21,7 @@ pub(crate) fn work<H: Host, T: Tool>(
         survey.now result.text.items result.answer }
     ensures answer { IsAnswer result.answer }
 {
-    match check_text(alloc, &survey.workflow) {
+    match check_text(alloc, survey) {
         Ok(text) => Worked {
             answer: Outcome::Done,
             text,

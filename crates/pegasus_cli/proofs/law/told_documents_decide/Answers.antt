@@ -1,6 +1,6 @@
-use Rattle.pegasus_cli.specs.Course.{IsReadAs, documents}
+use Rattle.pegasus_cli.specs.Course.{documents}
 use Rattle.pegasus_cli.proofs.CourseLemmas.{told_gives}
 use Rattle.pegasus_cli.proofs.law.told_documents_decide.Goals as goal
 
 pub returns : goal.returns
-returns c = λ files request before after r h. told_gives IsReadAs files (documents request) before after r h
+returns c = λ files name before after r h. told_gives files (documents name) before after r h
