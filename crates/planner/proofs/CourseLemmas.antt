@@ -22,7 +22,7 @@ fails_as fault a b h next = next h
 
 -- the documents are read, and an execution site is at fault
 pub fails_at_last : (r : PlanRequest) (d : Documents) (w : WorkflowEntry) (s : List SiteEntry) (p : CatalogEntry) (t : List TransformationEntry) (fault : PlanFault)
-    → workflow_in d.workflow ≡ Ok w → sites_in d.sites w.sites ≡ Ok s → replicas_in d.replicas w.replicas ≡ Ok p → transformations_in d.transformations w.transformations ≡ Ok t
+    → workflow_in d.workflow ≡ Ok w → sites_in d w ≡ Ok s → replicas_in d w ≡ Ok p → transformations_in d w ≡ Ok t
     → FailsPlan fault (all_listed s r.execute) → FailsPlan fault (surveyed r d)
 unfolding surveyed
 fails_at_last r d w s p t fault a b c e h = fails_as fault (all_listed s r.execute) (surveyed r d) h (λ f. rw a (rw b (rw c (rw e (rw f refl)))))

@@ -1,6 +1,5 @@
 -- What the documents of a request say, or their first fault.
 use Rattle.std.specs.Prelude.{◌≡◌, ◌⊎◌, ℕ, List, codes, map, Option, Some, None, Result, Ok, Err}
-use Rattle.serde_json.specs.Data.{Data}
 use Rattle.peg_json.specs.Duplicates.{first_unknown}
 use Rattle.peg_json.specs.Tree.{◌>>=◌, some_or}
 use Rattle.outside.specs.declared.documents.Documents.{Documents}
@@ -42,34 +41,31 @@ abbrev pub workflow_in : List ℕ → Result WorkflowEntry PlanFault
 workflow_in bytes = answered Workflow (workflows.read_of bytes)
 
 -- a catalogue that has to be there
-abbrev pub sites_in : Option (List ℕ) → Option Data → Result (List SiteEntry) PlanFault
-sites_in named inlined = held Sites site_reader.read_of site_reader.from_tree_of (codes "siteCatalog") named inlined >>= some_or (plan.NoCatalogue Sites)
+abbrev pub sites_in : Documents → WorkflowEntry → Result (List SiteEntry) PlanFault
+sites_in d w = held Sites site_reader.read_of site_reader.from_tree_of (codes "siteCatalog") d.sites w.sites >>= some_or (plan.NoCatalogue Sites)
 
-abbrev pub transformations_in : Option (List ℕ) → Option Data → Result (List TransformationEntry) PlanFault
-transformations_in named inlined = held Transformations transformation_reader.read_of transformation_reader.from_tree_of (codes "transformationCatalog") named inlined >>= some_or (plan.NoCatalogue Transformations)
+abbrev pub transformations_in : Documents → WorkflowEntry → Result (List TransformationEntry) PlanFault
+transformations_in d w = held Transformations transformation_reader.read_of transformation_reader.from_tree_of (codes "transformationCatalog") d.transformations w.transformations >>= some_or (plan.NoCatalogue Transformations)
 
 -- a catalogue that is empty where there is none
 abbrev pub or_empty : Option replica_reader.CatalogEntry → Result replica_reader.CatalogEntry PlanFault
 or_empty None = Ok replica_reader.no_replicas
 or_empty (Some says) = Ok says
 
-abbrev pub replicas_in : Option (List ℕ) → Option Data → Result replica_reader.CatalogEntry PlanFault
-replicas_in named inlined = held Replicas replica_reader.read_of replica_reader.from_tree_of (codes "replicaCatalog") named inlined >>= or_empty
+abbrev pub replicas_in : Documents → WorkflowEntry → Result replica_reader.CatalogEntry PlanFault
+replicas_in d w = held Replicas replica_reader.read_of replica_reader.from_tree_of (codes "replicaCatalog") d.replicas w.replicas >>= or_empty
 
 -- the paths of the keys of each catalogue that are in no table
-abbrev pub unknown_in_sites : Option (List ℕ) → Option Data → List (List ℕ)
-unknown_in_sites named inlined = held_unknown site_reader.unknown_in_text site_root.unknown_of (codes "siteCatalog") named inlined
+abbrev pub unknown_in_sites : Documents → WorkflowEntry → List (List ℕ)
+unknown_in_sites d w = held_unknown site_reader.unknown_in_text site_root.unknown_of (codes "siteCatalog") d.sites w.sites
 
-abbrev pub unknown_in_replicas : Option (List ℕ) → Option Data → List (List ℕ)
-unknown_in_replicas named inlined = held_unknown replica_reader.unknown_in_text replica_root.unknown_of (codes "replicaCatalog") named inlined
+abbrev pub unknown_in_replicas : Documents → WorkflowEntry → List (List ℕ)
+unknown_in_replicas d w = held_unknown replica_reader.unknown_in_text replica_root.unknown_of (codes "replicaCatalog") d.replicas w.replicas
 
-abbrev pub unknown_in_transformations : Option (List ℕ) → Option Data → List (List ℕ)
-unknown_in_transformations named inlined = held_unknown transformation_reader.unknown_in_text transformation_root.unknown_of (codes "transformationCatalog") named inlined
+abbrev pub unknown_in_transformations : Documents → WorkflowEntry → List (List ℕ)
+unknown_in_transformations d w = held_unknown transformation_reader.unknown_in_text transformation_root.unknown_of (codes "transformationCatalog") d.transformations w.transformations
 
 -- ---- the execution sites
-
-abbrev pub names_of : List SiteEntry → List (List ℕ)
-names_of sites = map (λ (s : SiteEntry). s.name) sites
 
 abbrev pub execution_names : List Execution → List (List ℕ)
 execution_names execute = map (λ (e : Execution). e.site) execute
@@ -79,7 +75,7 @@ unknown_refused None = Ok tt
 unknown_refused (Some name) = Err (plan.UnknownSite name)
 
 abbrev pub all_listed : List SiteEntry → List Execution → Result (Unit {0}) PlanFault
-all_listed sites execute = unknown_refused (first_unknown (names_of sites) (execution_names execute))
+all_listed sites execute = unknown_refused (first_unknown (site_reader.names_of sites) (execution_names execute))
 
 -- ---- the course
 
@@ -87,9 +83,9 @@ all_listed sites execute = unknown_refused (first_unknown (names_of sites) (exec
 unfoldable pub surveyed : PlanRequest → Documents → Result SurveyEntry PlanFault
 surveyed r d = do
   workflow ← workflow_in d.workflow
-  sites ← sites_in d.sites workflow.sites
-  replicas ← replicas_in d.replicas workflow.replicas
-  transformations ← transformations_in d.transformations workflow.transformations
+  sites ← sites_in d workflow
+  replicas ← replicas_in d workflow
+  transformations ← transformations_in d workflow
   listed ← all_listed sites r.execute
   Ok (record { workflow = workflow; sites = sites; replicas = replicas; transformations = transformations })
 
@@ -104,9 +100,9 @@ said_by w s r t = record {
 -- The paths of the keys that aren't acted on, document by document.
 pub record ListsIgnored (d : Documents) (w : WorkflowValue) (s : SiteCatalog) (r : ReplicaCatalog) (t : TransformationCatalog) : Type 0 where
   pub workflow : IsListing (workflows.unknown_in_text d.workflow) w.ignored
-  pub sites : IsListing (unknown_in_sites d.sites (workflow_view w).sites) s.ignored
-  pub replicas : IsListing (unknown_in_replicas d.replicas (workflow_view w).replicas) r.ignored
-  pub transformations : IsListing (unknown_in_transformations d.transformations (workflow_view w).transformations) t.ignored
+  pub sites : IsListing (unknown_in_sites d (workflow_view w)) s.ignored
+  pub replicas : IsListing (unknown_in_replicas d (workflow_view w)) r.ignored
+  pub transformations : IsListing (unknown_in_transformations d (workflow_view w)) t.ignored
 
 -- This is what the documents say, with a graph of their workflow.
 pub record IsSurvey (r : PlanRequest) (d : Documents) (s : Survey) : Type 0 where

@@ -6,7 +6,7 @@ ghost use Rattle.std.specs.Str.{bytes_eq};
 ghost use Rattle.workflow_core.specs.View.{view as workflow_view};
 ghost use Rattle.workflow_core.specs.WellFormed.{IsWellFormed};
 ghost use Rattle.workflow_reader.specs.Reader.{read_of as workflow_of, unknown_in_text as unknown_in_workflow};
-ghost use Rattle.site_catalog.specs.Reader.{view as site_view};
+ghost use Rattle.site_catalog.specs.Reader.{names_of, view as site_view};
 ghost use Rattle.site_catalog.specs.declared.catalog.SiteEntry.{SiteEntry};
 ghost use Rattle.replica_catalog.specs.Reader.{view as replica_view};
 ghost use Rattle.transformation_catalog.specs.Reader.{view as transformation_view};
@@ -44,8 +44,9 @@ fn sites_in(
     documents: &Documents,
     workflow: &Workflow,
 ) -> Result<SiteCatalog, PlanFault>
-    ensures answer { GivesPlan site_view result (defined.sites_in documents.now.sites (workflow_view workflow.now).sites) }
-    ensures listed { IfOk result (λ c. IsListing (defined.unknown_in_sites documents.now.sites (workflow_view workflow.now).sites) c.ignored) }
+    ensures answer { GivesPlan site_view result (defined.sites_in documents.now (workflow_view workflow.now)) }
+    ensures listed { IfOk result
+        (λ c. IsListing (defined.unknown_in_sites documents.now (workflow_view workflow.now)) c.ignored) }
 {
     let inlined = &workflow.inlined.sites;
     let found = held(
@@ -66,8 +67,9 @@ fn replicas_in(
     documents: &Documents,
     workflow: &Workflow,
 ) -> Result<ReplicaCatalog, PlanFault>
-    ensures answer { GivesPlan replica_view result (defined.replicas_in documents.now.replicas (workflow_view workflow.now).replicas) }
-    ensures listed { IfOk result (λ c. IsListing (defined.unknown_in_replicas documents.now.replicas (workflow_view workflow.now).replicas) c.ignored) }
+    ensures answer { GivesPlan replica_view result (defined.replicas_in documents.now (workflow_view workflow.now)) }
+    ensures listed { IfOk result
+        (λ c. IsListing (defined.unknown_in_replicas documents.now (workflow_view workflow.now)) c.ignored) }
 {
     let inlined = &workflow.inlined.replicas;
     let found = held(
@@ -88,8 +90,10 @@ fn transformations_in(
     documents: &Documents,
     workflow: &Workflow,
 ) -> Result<TransformationCatalog, PlanFault>
-    ensures answer { GivesPlan transformation_view result (defined.transformations_in documents.now.transformations (workflow_view workflow.now).transformations) }
-    ensures listed { IfOk result (λ c. IsListing (defined.unknown_in_transformations documents.now.transformations (workflow_view workflow.now).transformations) c.ignored) }
+    ensures answer { GivesPlan transformation_view result
+        (defined.transformations_in documents.now (workflow_view workflow.now)) }
+    ensures listed { IfOk result
+        (λ c. IsListing (defined.unknown_in_transformations documents.now (workflow_view workflow.now)) c.ignored) }
 {
     let named = &documents.transformations;
     let inlined = &workflow.inlined.transformations;
@@ -107,7 +111,7 @@ fn transformations_in(
 }
 
 fn is_listed(sites: &[SiteEntry], name: &Text) -> bool
-    ensures { result ≡ list_any (bytes_eq name.now) (defined.names_of sites.now) }
+    ensures { result ≡ list_any (bytes_eq name.now) (names_of sites.now) }
 {
     for site in sites {
         if name.as_str() == site.name.as_str() {
@@ -149,8 +153,10 @@ fn read_documents(
     request: &PlanRequest,
     documents: &Documents,
 ) -> Result<ReadDocuments, PlanFault>
-    ensures answer { GivesPlan (λ d. defined.said_by d.workflow d.sites d.replicas d.transformations) result (defined.surveyed request.now documents.now) }
-    ensures ignored { IfOk result (λ d. defined.ListsIgnored documents.now d.workflow d.sites d.replicas d.transformations) }
+    ensures answer { GivesPlan (λ d. defined.said_by d.workflow d.sites d.replicas d.transformations) result
+        (defined.surveyed request.now documents.now) }
+    ensures ignored { IfOk result
+        (λ d. defined.ListsIgnored documents.now d.workflow d.sites d.replicas d.transformations) }
     ensures well_formed { IfOk result (λ d. IsWellFormed d.workflow) }
 {
     let workflow = workflow_in(alloc, &documents.workflow)?;
