@@ -4,3 +4,4 @@ pub mod BuiltLemmas
 pub mod GraphLemmas
 pub mod ValueLemmas
 pub mod FlowLemmas
+pub mod LevelsLemmas

@@ -1,6 +1,7 @@
 -- What the public contracts say
 pub mod Edges
 pub mod Graph
+pub mod Levels
 pub mod Built
 pub mod Value
 pub mod Flow

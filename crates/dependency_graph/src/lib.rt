@@ -5,6 +5,8 @@
 //! at most one producer and no job returns to itself; `specs/Built.antt` has the faults. What an order
 //! and the named cycle are stands in `digraph`, which searches.
 //!
+//! The level of a kept job is one more than the greatest of its kept parents: `specs/Levels.antt`.
+//!
 //! The value of a file is defined in `specs/Value.antt`. Laws in `value.rt` and `flow.rt` say that nothing
 //! else fits together so, and that values flow along the graph's order (`specs/Flow.antt`).
 #![tactic(auto)]
@@ -14,6 +16,7 @@ mod edges;
 mod fault;
 mod flow;
 mod graph;
+mod levels;
 mod makers;
 mod sources;
 mod value;
@@ -23,4 +26,5 @@ pub use edges::producer_is_the_first_maker;
 pub use fault::GraphFault;
 pub use flow::{makers_come_before, values_flow_in_order};
 pub use graph::Graph;
+pub use levels::levels_are_determined;
 pub use value::{value_is_determined, value_is_made_of_values};
