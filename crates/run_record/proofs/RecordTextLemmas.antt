@@ -1,5 +1,5 @@
 -- The rows of a record's text.
-use Rattle.std.proofs.Common.{◌≡◌, ℕ, zero, suc, ◌+◌, ◌^◌, ◌<◌, ◌||◌, ◌++◌, List, [], ◌∷◌, Some, map, get_or, drop, codes, refl, sym, ap, ◌∙◌, append_assoc, add-one, arith}
+use Rattle.std.proofs.Common.{◌≡◌, ℕ, zero, suc, ◌+◌, ◌^◌, ◌<◌, ◌||◌, ◌++◌, List, [], ◌∷◌, Some, map, get_or, drop, codes, refl, sym, ap, ◌∙◌, append_assoc, add-one}
 use Rattle.std.specs.List.{list_any, concat, slice_get}
 use Rattle.std.proofs.lemmas.List.Folds.{concat-append}
 use Rattle.run_record.specs.Events.{Event, is_second}

@@ -1,6 +1,6 @@
 -- The text of a record: a line of its version, a line for each entry, and the line `closed`.
-use Rattle.std.specs.Prelude.{◌≡◌, ℕ, ◌+◌, ◌-◌, ◌^◌, ◌<◌, ◌++◌, Bool, true, if◌then◌else◌, List, [], ◌∷◌, map, take, length, nat_eq, codes, ⊤}
-use Rattle.std.specs.List.{list_any, concat, onto_first}
+use Rattle.std.specs.Prelude.{◌≡◌, ℕ, ◌^◌, ◌<◌, ◌++◌, Bool, true, if◌then◌else◌, List, [], ◌∷◌, map, length, codes, ⊤}
+use Rattle.std.specs.List.{list_any, concat}
 use Rattle.std.specs.Fmt.{decimal}
 use Rattle.hex.specs.Hex.{encode_lower, IsBytes}
 use Rattle.run_record.specs.declared.entry.Cause.{Cause}
@@ -86,19 +86,3 @@ record_lines es = version_line (list_any is_second es) ∷ map entry_line es ++ 
 
 abbrev pub record_text : List Event → List ℕ
 record_text es = concat (record_lines es)
-
--- the lines of a text: it is cut after each line feed, and a last piece without one is a line
-abbrev pub lines : List ℕ → List (List ℕ)
-lines [] = []
-lines (b ∷ bs) = if nat_eq b 10 then (b ∷ []) ∷ lines bs else onto_first b (lines bs)
-
--- up to a number of lines a text and a record's text are the same
-abbrev pub AgreeUpTo : ℕ → List ℕ → List Event → Type 0
-AgreeUpTo n text es = take n (lines text) ≡ take n (record_lines es)
-
--- the line, from 1, at which a text is malformed: all lines before it are those of some record's
--- text, and with it they are those of none
-pub record IsMalformedAt (text : List ℕ) (line : ℕ) : Type 0 where
-  pub counted : 0 < line
-  pub before : (es : List Event) × AreEntries es × AgreeUpTo (line - 1) text es
-  pub at : (es : List Event) → AreEntries es → AgreeUpTo line text es → ⊥

@@ -1,4 +1,4 @@
-use Rattle.std.proofs.Common.{◌≡◌, ◌||◌, ◌+◌, Bool, drop, sym, ap, ◌∙◌}
+use Rattle.std.proofs.Common.{◌||◌, ◌+◌, Bool, drop, sym, ap, ◌∙◌}
 use Rattle.std.specs.List.{list_any}
 use Rattle.run_record.specs.Events.{event, is_second}
 use Rattle.run_record.proofs.RecordTextLemmas.{any_from}
