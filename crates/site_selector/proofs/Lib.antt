@@ -1,0 +1,4 @@
+pub mod TestLemmas
+pub mod TotalLemmas
+pub mod LeveledLemmas
+pub mod TurnLemmas

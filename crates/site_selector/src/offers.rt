@@ -1,0 +1,1 @@
+//! Which execution sites have which transformations.
