@@ -2,3 +2,4 @@ pub mod TestLemmas
 pub mod TotalLemmas
 pub mod LeveledLemmas
 pub mod TurnLemmas
+pub mod OfferLemmas
