@@ -3,3 +3,5 @@ pub mod TotalLemmas
 pub mod LeveledLemmas
 pub mod TurnLemmas
 pub mod OfferLemmas
+pub mod CandidateLemmas
+pub mod SelectingLemmas

@@ -4,7 +4,10 @@ use Rattle.std.specs.declared.alloc.Global.{Global}
 use Rattle.outside.specs.declared.numbers.JobId.{JobId}
 use Rattle.outside.specs.declared.numbers.SiteId.{SiteId}
 use Rattle.workflow_core.specs.declared.workflow.Job.{Job}
+use Rattle.workflow_core.specs.declared.workflow.Workflow.{Workflow}
+use Rattle.transformation_catalog.specs.declared.catalog.TransformationCatalog.{TransformationCatalog}
 use Rattle.transformation_catalog.specs.declared.catalog.TransformationEntry.{TransformationEntry}
+use Rattle.plan_request.specs.declared.request.PlanRequest.{PlanRequest}
 use Rattle.plan_request.specs.declared.request.Execution.{Execution}
 use Rattle.site_selector.specs.declared.fault.SelectFault.{SelectFault}
 use Rattle.site_selector.specs.declared.fault.SelectFault.TheVariants.{NoSite, NoTransformation, Memory}
@@ -18,6 +21,9 @@ pub record Selection : Type 0 where
   pub levels : List ℕ
   pub execute : List Execution
   pub entries : List TransformationEntry
+
+abbrev pub selection : Workflow → List Bool → List ℕ → PlanRequest → TransformationCatalog → Selection
+selection w kept levels r t = record { jobs = w.jobs; kept = kept; levels = levels; execute = r.execute; entries = t.entries; }
 
 -- the job of number a is j, and it is kept
 abbrev pub IsKeptJob : Selection → ℕ → Job → Type 0
@@ -51,10 +57,3 @@ Selects c (Ok v) = IsSelected c v.items
 Selects c (Err Memory) = Unit {0}
 Selects c (Err (NoSite a name)) = IsFirstFault c (NoSite a name)
 Selects c (Err (NoTransformation a)) = IsFirstFault c (NoTransformation a)
-
--- one job's answer is the definition's. Want of memory is free.
-abbrev pub IsAnswer : Result SiteId SelectFault → Result SiteId SelectFault → Type 0
-IsAnswer answer (Ok s) = answer ≡ Ok s
-IsAnswer answer (Err Memory) = Unit {0}
-IsAnswer answer (Err (NoSite a name)) = answer ≡ Err (NoSite a name)
-IsAnswer answer (Err (NoTransformation a)) = answer ≡ Err (NoTransformation a)

@@ -12,4 +12,4 @@ mod order;
 mod selecting;
 
 pub use fault::SelectFault;
-pub use order::in_order;
+pub use selecting::select;
