@@ -3,6 +3,7 @@ use Rattle.std.proofs.Common.{◌≡◌, ℕ, zero, suc, ◌+◌, ◌<◌, ◌||
 use Rattle.std.proofs.Math.ListN.{replicate}
 use Rattle.std.specs.Prelude.{set, is_ok, slice_get, Vec, Option, Some, None, Result, Ok, Err}
 use Rattle.std.specs.declared.alloc.Global.{Global}
+use Rattle.std.specs.Result.{IsErrAnd}
 use Rattle.std.proofs.lemmas.Bool.{eqb-false}
 use Rattle.std.proofs.lemmas.List.{take_all, length-set, length-replicate, get_or-set_same, get_or-set_other}
 use Rattle.outside.specs.declared.numbers.SiteId.{SiteId}
@@ -39,20 +40,27 @@ pub record IsNext (c : Selection) (order : List ℕ) (k : ℕ) (j : Job) (r : Re
   pub at : slice_get c.jobs (get_or order k 0) ≡ Some j
   pub answer : site_of c.execute c.entries k (get_or order k 0) j ≡ r
 
+-- a job of the order is one of the jobs
+pub number_below : (kept : List Bool) (levels order : List ℕ) (k n : ℕ) → IsInOrder kept levels order → length kept ≡ n → k < length order → get_or order k 0 < n
+number_below kept levels order k n sorted one_each below = let l = sorted.below (get_or order k 0) (has_at order k below) in omega (arith, l, one_each)
+
 known_answer : (c : Selection) (b : ℕ) (j : Job) → slice_get c.jobs b ≡ Some j → answer_at c b ≡ answer_of c b j
 known_answer c b j at = ap (λ (o : Option Job). answer_in c (turn_of c.kept c.levels b) b o) at
 
 next_answer : (c : Selection) (order : List ℕ) (k : ℕ) (j : Job) (r : Result SiteId SelectFault) → IsInOrder c.kept c.levels order → IsNext c order k j r → answer_of c (get_or order k 0) j ≡ r
 next_answer c order k j r sorted next = ap (λ (n : ℕ). site_of c.execute c.entries n (get_or order k 0) j) (turn_is c.kept c.levels order k sorted next.below) ∙ next.answer
 
-none_at : (n a : ℕ) → get_or (replicate n (None {X = SiteId})) a None ≡ None
+abbrev no_site : Option SiteId
+no_site = None
+
+none_at : (n a : ℕ) → get_or (replicate n no_site) a None ≡ None
 none_at zero zero = refl
 none_at zero (suc a) = refl
 none_at (suc n) zero = refl
 none_at (suc n) (suc a) = none_at n a
 
-pub none_placed : (c : Selection) (order : List ℕ) (n : ℕ) → n ≡ length c.jobs → ArePlaced c order (replicate n None) 0
-none_placed c order n long = record { long = length-replicate n None ∙ long; fine = λ i m. absurd (omega arith); each = λ a. none_at n a; }
+pub none_placed : (c : Selection) (order : List ℕ) (n : ℕ) → n ≡ length c.jobs → ArePlaced c order (replicate n no_site) 0
+none_placed c order n long = record { long = length-replicate n no_site ∙ long; fine = λ i m. absurd (omega arith); each = λ a. none_at n a; }
 
 site_set : (xs : List (Option SiteId)) (i j : ℕ) (a : Option SiteId) → i < length xs → get_or (set xs i a) j None ≡ cond (eqb i j) a (get_or xs j None)
 site_set xs i j a l = by_place (eqb i j) refl
@@ -106,6 +114,11 @@ pub refused_is : (c : Selection) (order : List ℕ) (sites : List (Option SiteId
 refused_is c order sites k j Memory sorted placed below at is = tt
 refused_is c order sites k j (NoSite a name) sorted placed below at is = first_fault c order sites k j (NoSite a name) sorted placed (record { below = below; at = at; answer = is; })
 refused_is c order sites k j (NoTransformation a) sorted placed below at is = first_fault c order sites k j (NoTransformation a) sorted placed (record { below = below; at = at; answer = is; })
+
+-- a fault that is handed on
+pub handed_on : (c : Selection) (r : Result (Vec (Option SiteId) Global) SelectFault) (e : SelectFault) → IsErrAnd r (λ (f : SelectFault). f ≡ e) → Selects c (Err e) → Selects c r
+handed_on c (Ok v) e is selects = absurd is
+handed_on c (Err f) e is selects = subst (λ (x : SelectFault). Selects c (Err x)) (sym is) selects
 
 pub selected_is : (c : Selection) (order : List ℕ) (sites : List (Option SiteId)) → IsInOrder c.kept c.levels order → ArePlaced c order sites (length order) → IsSelected c sites
 selected_is c order sites sorted placed = record {
