@@ -13,11 +13,9 @@ use Rattle.site_selector.specs.Order.{has, is_kept, level_of, AreOnce, comes_bef
 use Rattle.site_selector.proofs.TestLemmas.{or_left, or_right, or_case, by_bool, itself, has_at, fresh_at}
 
 pub leveled_kept : (kept : List Bool) (levels : List ℕ) (n : ℕ) → is_kept kept n ≡ true → leveled kept levels (n + 1) ≡ leveled kept levels n ++ (get_or levels n 0, n) ∷ []
-unfolding leveled
 leveled_kept kept levels n e = rw add-one (ap (λ (b : Bool). leveled kept levels n ++ cond b ((get_or levels n 0, n) ∷ []) []) e)
 
 pub leveled_dropped : (kept : List Bool) (levels : List ℕ) (n : ℕ) → is_kept kept n ≡ false → leveled kept levels (n + 1) ≡ leveled kept levels n
-unfolding leveled
 leveled_dropped kept levels n e = rw add-one (ap (λ (b : Bool). leveled kept levels n ++ cond b ((get_or levels n 0, n) ∷ []) []) e ∙ append-nil (leveled kept levels n))
 
 -- how often a number stands, and how many stand under another level than theirs
@@ -31,7 +29,6 @@ abbrev if_so : Bool → ℕ
 if_so b = cond b 1 0
 
 pub times_leveled : (kept : List Bool) (levels : List ℕ) (a n : ℕ) → times a (leveled kept levels n) ≡ if_so (is_kept kept a && ltb a n)
-unfolding leveled
 times_leveled kept levels a zero = ap if_so (sym (none (is_kept kept a) (ltb a 0) (let e : ltb a 0 ≡ false = grind arith in e)))
   where
     none : (x y : Bool) → y ≡ false → (x && y) ≡ false
@@ -68,7 +65,6 @@ times_leveled kept levels a (suc n) =
         omega (arith, sum, new, goal)
 
 pub wrong_leveled : (kept : List Bool) (levels : List ℕ) (n : ℕ) → wrong levels (leveled kept levels n) ≡ 0
-unfolding leveled
 wrong_leveled kept levels zero = refl
 wrong_leveled kept levels (suc n) =
     let split = sum_by-append (λ (p : ℕ × ℕ). cond (eqb p.0 (get_or levels p.1 0)) 0 1) (leveled kept levels n) (cond (is_kept kept n) ((get_or levels n 0, n) ∷ []) []) in
@@ -89,9 +85,9 @@ has_times (p ∷ ps) a = by_head (eqb p.1 a) refl (has_times ps a)
 once_times : (ps : List (ℕ × ℕ)) → ((a : ℕ) → times a ps ≤ 1) → AreOnce (numbers_in ps)
 once_times [] h = tt
 once_times (p ∷ ps) h = (
-    has_times ps p.1 ∙ (let one : if_so (eqb p.1 p.1) ≡ 1 = ap if_so (itself p.1) in let sum = sum_by-cons (λ (q : ℕ × ℕ). cond (eqb q.1 p.1) 1 0) p ps in let most = h p.1 in let g : ltb 0 (times p.1 ps) ≡ false = grind (arith, one, sum, most) in g),
-    once_times ps (λ a. let sum = sum_by-cons (λ (q : ℕ × ℕ). cond (eqb q.1 a) 1 0) p ps in omega (arith, sum, h a)),
-  )
+  has_times ps p.1 ∙ (let one : if_so (eqb p.1 p.1) ≡ 1 = ap if_so (itself p.1) in let sum = sum_by-cons (λ (q : ℕ × ℕ). cond (eqb q.1 p.1) 1 0) p ps in let most = h p.1 in let g : ltb 0 (times p.1 ps) ≡ false = grind (arith, one, sum, most) in g),
+  once_times ps (λ a. let sum = sum_by-cons (λ (q : ℕ × ℕ). cond (eqb q.1 a) 1 0) p ps in omega (arith, sum, h a)),
+)
 
 number_at : (ps : List (ℕ × ℕ)) (i : ℕ) → i < length ps → get_or (numbers_in ps) i 0 ≡ (get_or ps i (0, 0)).1
 number_at [] i l = absurd (omega arith)

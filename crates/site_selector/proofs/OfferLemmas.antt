@@ -86,7 +86,7 @@ checked_are es h = by_count (nat_lt 64 (length (names_of es))) refl h
 
     by_count : (b : Bool) → nat_lt 64 (length (names_of es)) ≡ b → (cond b (Err (TooMany Sites (length (names_of es)) 64)) passes >>= λ _. refused DuplicateSite (first_repeat bytes_eq [] (names_of es))) ≡ passes → AreChecked es
     by_count true e k = absurd cc
-    by_count false e k = record { few = (let l = long es in grind (arith, e, l)); unrepeated = by_repeat (first_repeat bytes_eq [] (names_of es)) k; }
+    by_count false e k = record { few = (let l = long es in grind (arith, e, l)); unrepeated = by_repeat (first_repeat bytes_eq [] (names_of es)) k }
 
 pub distinct_names : (es : List Execution) → execute_checked es ≡ Ok tt → AreDistinct (with_names [] (names_of es))
 distinct_names es h =

@@ -60,7 +60,7 @@ none_at (suc n) zero = refl
 none_at (suc n) (suc a) = none_at n a
 
 pub none_placed : (c : Selection) (order : List ℕ) (n : ℕ) → n ≡ length c.jobs → ArePlaced c order (replicate n no_site) 0
-none_placed c order n long = record { long = length-replicate n no_site ∙ long; fine = λ i m. absurd (omega arith); each = λ a. none_at n a; }
+none_placed c order n long = record { long = length-replicate n no_site ∙ long; fine = λ i m. absurd (omega arith); each = λ a. none_at n a }
 
 site_set : (xs : List (Option SiteId)) (i j : ℕ) (a : Option SiteId) → i < length xs → get_or (set xs i a) j None ≡ cond (eqb i j) a (get_or xs j None)
 site_set xs i j a l = by_place (eqb i j) refl
@@ -112,8 +112,8 @@ first_fault c order sites k j e sorted placed next = record {
 pub refused_is : (c : Selection) (order : List ℕ) (sites : List (Option SiteId)) (k : ℕ) (j : Job) (e : SelectFault) → IsInOrder c.kept c.levels order → ArePlaced c order sites k → k < length order → slice_get c.jobs (get_or order k 0) ≡ Some j
     → IsAnswer (site_of c.execute c.entries k (get_or order k 0) j) (Err e) → Selects c (Err e)
 refused_is c order sites k j Memory sorted placed below at is = tt
-refused_is c order sites k j (NoSite a name) sorted placed below at is = first_fault c order sites k j (NoSite a name) sorted placed (record { below = below; at = at; answer = is; })
-refused_is c order sites k j (NoTransformation a) sorted placed below at is = first_fault c order sites k j (NoTransformation a) sorted placed (record { below = below; at = at; answer = is; })
+refused_is c order sites k j (NoSite a name) sorted placed below at is = first_fault c order sites k j (NoSite a name) sorted placed (record { below = below; at = at; answer = is })
+refused_is c order sites k j (NoTransformation a) sorted placed below at is = first_fault c order sites k j (NoTransformation a) sorted placed (record { below = below; at = at; answer = is })
 
 -- a fault that is handed on
 pub handed_on : (c : Selection) (r : Result (Vec (Option SiteId) Global) SelectFault) (e : SelectFault) → IsErrAnd r (λ (f : SelectFault). f ≡ e) → Selects c (Err e) → Selects c r

@@ -38,7 +38,7 @@ pub record IsInOrder (kept : List Bool) (levels : List ℕ) (order : List ℕ) :
   pub rising : (i j : ℕ) → i < j → j < length order → comes_before levels (get_or order i 0) (get_or order j 0) ≡ true
 
 -- the kept jobs below n by number, each under its level
-unfoldable pub leveled : List Bool → List ℕ → ℕ → List (ℕ × ℕ)
+abbrev pub leveled : List Bool → List ℕ → ℕ → List (ℕ × ℕ)
 leveled kept levels zero = []
 leveled kept levels (suc n) = leveled kept levels n ++ cond (is_kept kept n) ((level_of levels n, n) ∷ []) []
 

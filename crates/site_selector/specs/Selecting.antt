@@ -23,7 +23,7 @@ pub record Selection : Type 0 where
   pub entries : List TransformationEntry
 
 abbrev pub selection : Workflow → List Bool → List ℕ → PlanRequest → TransformationCatalog → Selection
-selection w kept levels r t = record { jobs = w.jobs; kept = kept; levels = levels; execute = r.execute; entries = t.entries; }
+selection w kept levels r t = record { jobs = w.jobs; kept = kept; levels = levels; execute = r.execute; entries = t.entries }
 
 -- the job of number a is j, and it is kept
 abbrev pub IsKeptJob : Selection → ℕ → Job → Type 0

@@ -10,7 +10,9 @@ use outside::Memory;
 use plan_request::Execution;
 use std::alloc::Global;
 use std::marker::Model;
-use transformation_catalog::{Entries, TransformationCatalog, TransformationEntry, TransformationSite};
+use transformation_catalog::{
+    Entries, TransformationCatalog, TransformationEntry, TransformationSite,
+};
 use workflow_core::{Names, Transformation};
 
 /// The execution sites and the entries of a catalogue, with a flag for each entry and site.
@@ -73,10 +75,7 @@ fn is_any_stageable(sites: &[TransformationSite]) -> bool
     sites.iter().any(|site| !site.installed)
 }
 
-#[tactic(
-    auto,
-    using(crate::proofs::OfferLemmas::all_offered, crate::proofs::OfferLemmas::only_installed)
-)]
+#[tactic(auto, using(crate::proofs::OfferLemmas::all_offered, crate::proofs::OfferLemmas::only_installed))]
 fn offer_flags(
     alloc: Global,
     names: &Names,

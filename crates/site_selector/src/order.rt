@@ -25,11 +25,7 @@ fn level_of(levels: &[u32], job: u32) -> u32
 }
 
 /// The kept jobs by number, each under its level.
-#[tactic(
-    auto,
-    using(crate::proofs::LeveledLemmas::leveled_kept, crate::proofs::LeveledLemmas::leveled_dropped),
-    unfolding(crate::specs::Order::leveled)
-)]
+#[tactic(auto, using(crate::proofs::LeveledLemmas::leveled_kept, crate::proofs::LeveledLemmas::leveled_dropped))]
 fn leveled(alloc: Global, kept: &[bool], levels: &[u32]) -> Result<Vec<(u32, u32)>, Memory>
     requires few { length kept.now ≤ 10000 }
     ensures { IfOk result (λ v. v.items ≡ leveled kept.now levels.now (length kept.now)) }

@@ -46,7 +46,7 @@ loop-turn-preserved c =
     ap (λ (es : List Execution). site_of es c.args.transformations.now.entries c.loop-turn.turn number job) (sym c.as_slice.ensures)
     ∙ sym (ap (λ (o : Offered). site_of o.execute o.entries c.loop-turn.turn number job) c.in_ok-offers.ensures)
     ∙ c.in_ok-site.ensures in
-    place_more (selection c.args.workflow.now c.args.kept.now c.args.levels.now c.args.request.now c.args.transformations.now) order c.loop-turn.sites.items c.loop-turn.turn job c.in_ok-site.site c.requires.kept sorted c.loop-turn.invariant (record { below = c.loop-turn-test.true; at = at; answer = answer; })
+    place_more (selection c.args.workflow.now c.args.kept.now c.args.levels.now c.args.request.now c.args.transformations.now) order c.loop-turn.sites.items c.loop-turn.turn job c.in_ok-site.site c.requires.kept sorted c.loop-turn.invariant (record { below = c.loop-turn-test.true; at = at; answer = answer })
 
 pub returns-in_err-site : goal.returns-in_err-site
 returns-in_err-site c =
