@@ -1,0 +1,4 @@
+pub mod Order
+pub mod Offers
+pub mod Candidates
+pub mod Selecting
