@@ -1,16 +1,16 @@
 -- The kept jobs, sorted by (level, number), are in order.
-use Rattle.std.proofs.Common.{◌≡◌, ℕ, zero, suc, ◌+◌, ◌<◌, ◌≤◌, ◌||◌, ◌&&◌, Bool, true, false, cond, eqb, eqb-true, ltb, List, [], ◌∷◌, ◌++◌, length, take, get_or, refl, sym, ap, subst, ◌∙◌, add-one, arith}
-use Rattle.std.specs.Prelude.{sum_by, map, All}
+use Rattle.std.proofs.Common.{◌≡◌, ℕ, zero, suc, ◌+◌, ◌<◌, ◌≤◌, ◌||◌, ◌&&◌, Bool, true, false, cond, eqb, eqb-true, ltb, List, [], ◌∷◌, ◌++◌, length, take, get_or, refl, sym, ap, ◌∙◌, add-one, arith}
+use Rattle.std.specs.Prelude.{sum_by}
 use Rattle.std.specs.List.Sorted.{IsPermutation, IsSorted}
-use Rattle.std.specs.Ordering.{nat_cmp, ordering_then, is_lt, then_cmp, on}
+use Rattle.std.specs.Ordering.{nat_cmp, ordering_then, is_lt}
 use Rattle.std.proofs.lemmas.Cmp.{nat_cmp_total, on_total, then_total}
-use Rattle.std.proofs.lemmas.List.Sorted.{ranks_by, sorted_far, sum_by-IsPermutation, All-permutation}
+use Rattle.std.proofs.lemmas.List.Sorted.{ranks_by, sorted_far, sum_by-IsPermutation}
 use Rattle.std.proofs.lemmas.Bool.{eqb-false}
-use Rattle.std.proofs.lemmas.List.{append-nil, map_push}
+use Rattle.std.proofs.lemmas.List.{append-nil}
 use Rattle.std.specs.declared.cmp.Ordering.TheVariants.{Less, Equal, Greater}
 use Rattle.std.proofs.lemmas.List.Sums.{sum_by-cons, sum_by-append}
-use Rattle.site_selector.specs.Order.{has, is_kept, level_of, AreOnce, comes_before, IsInOrder, leveled, numbers_in}
-use Rattle.site_selector.proofs.TestLemmas.{or_left, or_right, or_case, by_bool, itself, has_at, fresh_at}
+use Rattle.site_selector.specs.Order.{has, is_kept, AreOnce, comes_before, IsInOrder, leveled, numbers_in}
+use Rattle.site_selector.proofs.TestLemmas.{or_left, or_right, by_bool, itself, fresh_at}
 
 pub leveled_kept : (kept : List Bool) (levels : List ℕ) (n : ℕ) → is_kept kept n ≡ true → leveled kept levels (n + 1) ≡ leveled kept levels n ++ (get_or levels n 0, n) ∷ []
 leveled_kept kept levels n e = rw add-one (ap (λ (b : Bool). leveled kept levels n ++ cond b ((get_or levels n 0, n) ∷ []) []) e)

@@ -1,9 +1,9 @@
 -- Flags of sites: one site more, and the flags of all entries.
-use Rattle.std.proofs.Common.{◌≡◌, ℕ, zero, suc, ◌+◌, ◌<◌, ◌||◌, ◌&&◌, Bool, true, false, cond, List, [], ◌∷◌, ◌++◌, length, map, refl, sym, ap, subst, ◌∙◌, nat_lt, arith}
+use Rattle.std.proofs.Common.{◌≡◌, ℕ, suc, ◌+◌, ◌<◌, ◌||◌, ◌&&◌, Bool, true, false, cond, List, [], ◌∷◌, ◌++◌, length, map, refl, sym, ap, subst, ◌∙◌, nat_lt, arith}
 use Rattle.std.proofs.Math.ListN.{replicate}
 use Rattle.std.specs.Prelude.{set, not, slice_get, Vec, Option, Some, None, Result, Ok, Err, option_map}
 use Rattle.std.specs.declared.alloc.Global.{Global}
-use Rattle.std.specs.List.{list_any, position_or_len}
+use Rattle.std.specs.List.{list_any}
 use Rattle.std.specs.Str.{bytes_eq}
 use Rattle.std.specs.Cmp.Lexicographic.{bytes_decides}
 use Rattle.std.proofs.lemmas.Option.{slice_get-map}
@@ -12,14 +12,14 @@ use Rattle.peg_json.specs.Duplicates.{first_repeat, refused}
 use Rattle.peg_json.specs.declared.read_fault.ReadFault.{ReadFault}
 use Rattle.peg_json.specs.declared.read_fault.ReadFault.TheVariants.{DuplicateSite, TooMany}
 use Rattle.peg_json.specs.declared.read_fault.Counted.TheVariants.{Sites}
-use Rattle.workflow_core.specs.Names.{number, with_name, with_names}
+use Rattle.workflow_core.specs.Names.{number, with_names}
 use Rattle.workflow_core.specs.declared.workflow.Transformation.{Transformation}
 use Rattle.transformation_catalog.specs.declared.catalog.TransformationEntry.{TransformationEntry}
 use Rattle.transformation_catalog.specs.declared.catalog.TransformationSite.{TransformationSite}
 use Rattle.transformation_catalog.specs.Lookup.{place_of}
 use Rattle.plan_request.specs.declared.request.Execution.{Execution}
 use Rattle.plan_request.specs.Reader.{execute_checked}
-use Rattle.site_selector.specs.Offers.{is_installed_at, is_stageable, are_offered_at, sites_in, sites_at, sites_of, names_of, installed_flags, offer_flags, marked, flags_in, offer_table, AreDistinct, Offered, IsFound}
+use Rattle.site_selector.specs.Offers.{is_installed_at, is_stageable, sites_in, sites_at, names_of, installed_flags, offer_flags, marked, flags_in, offer_table, AreDistinct, Offered, IsFound}
 use Rattle.site_selector.proofs.TestLemmas.{any_more, or_right, or_left}
 
 -- ---- distinct names

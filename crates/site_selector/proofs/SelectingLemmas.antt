@@ -1,5 +1,5 @@
 -- Sites of the first jobs of the order, and of one more.
-use Rattle.std.proofs.Common.{◌≡◌, ℕ, zero, suc, ◌+◌, ◌<◌, ◌||◌, Bool, true, false, cond, eqb, eqb-true, List, [], ◌∷◌, length, take, get_or, refl, sym, ap, subst, ◌∙◌, arith}
+use Rattle.std.proofs.Common.{◌≡◌, ℕ, zero, suc, ◌+◌, ◌<◌, ◌||◌, Bool, true, false, cond, eqb, eqb-true, List, length, take, get_or, refl, sym, ap, subst, ◌∙◌, arith}
 use Rattle.std.proofs.Math.ListN.{replicate}
 use Rattle.std.specs.Prelude.{set, is_ok, slice_get, Vec, Option, Some, None, Result, Ok, Err}
 use Rattle.std.specs.declared.alloc.Global.{Global}
@@ -10,9 +10,9 @@ use Rattle.outside.specs.declared.numbers.SiteId.{SiteId}
 use Rattle.workflow_core.specs.declared.workflow.Job.{Job}
 use Rattle.site_selector.specs.declared.fault.SelectFault.{SelectFault}
 use Rattle.site_selector.specs.declared.fault.SelectFault.TheVariants.{NoSite, NoTransformation, Memory}
-use Rattle.site_selector.specs.Order.{has, is_kept, comes_before, turn_of, IsInOrder}
+use Rattle.site_selector.specs.Order.{has, is_kept, turn_of, IsInOrder}
 use Rattle.site_selector.specs.Candidates.{site_of, IsAnswer}
-use Rattle.site_selector.specs.Selecting.{Selection, IsKeptJob, answer_of, Gets, IsSelected, IsFirstFault, Selects}
+use Rattle.site_selector.specs.Selecting.{Selection, answer_of, Gets, IsSelected, IsFirstFault, Selects}
 use Rattle.site_selector.proofs.TestLemmas.{by_bool, has_at, has_more}
 use Rattle.site_selector.proofs.TurnLemmas.{turn_is, stands, stands_before}
 

@@ -1,7 +1,6 @@
 -- A site for each kept job, or the first fault.
 use Rattle.std.specs.Prelude.{◌≡◌, ℕ, Bool, true, false, is_ok, List, length, get_or, slice_get, Vec, Option, Some, None, Result, Ok, Err}
 use Rattle.std.specs.declared.alloc.Global.{Global}
-use Rattle.outside.specs.declared.numbers.JobId.{JobId}
 use Rattle.outside.specs.declared.numbers.SiteId.{SiteId}
 use Rattle.workflow_core.specs.declared.workflow.Job.{Job}
 use Rattle.workflow_core.specs.declared.workflow.Workflow.{Workflow}

@@ -1,4 +1,4 @@
-use Rattle.std.proofs.Common.{◌≡◌, ◌∙◌, ◌+◌, ◌++◌, ◌∷◌, [], List, take, sym, ap}
+use Rattle.std.proofs.Common.{◌≡◌, ◌∙◌, ◌+◌, ◌++◌, ◌∷◌, [], take, sym, ap}
 use Rattle.std.proofs.lemmas.List.{take_more}
 use Rattle.transformation_catalog.specs.declared.catalog.TransformationSite.{TransformationSite}
 use Rattle.site_selector.specs.Offers.{installed_flags, marked}

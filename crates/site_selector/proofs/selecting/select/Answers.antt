@@ -1,4 +1,4 @@
-use Rattle.std.proofs.Common.{◌≡◌, ◌∙◌, ◌<◌, ℕ, List, length, get_or, sym, ap, subst, arith}
+use Rattle.std.proofs.Common.{◌≡◌, ◌∙◌, ℕ, List, length, get_or, sym, ap, subst, arith}
 use Rattle.std.specs.Prelude.{Result, Ok, Err, Some, slice_get}
 use Rattle.std.proofs.lemmas.Option.{slice_get-get_or}
 use Rattle.outside.specs.declared.numbers.SiteId.{SiteId}
@@ -8,7 +8,7 @@ use Rattle.site_selector.specs.declared.fault.SelectFault.{SelectFault}
 use Rattle.site_selector.specs.Order.{IsInOrder}
 use Rattle.site_selector.specs.Offers.{Offered}
 use Rattle.site_selector.specs.Candidates.{site_of, IsAnswer}
-use Rattle.site_selector.specs.Selecting.{Selection, selection}
+use Rattle.site_selector.specs.Selecting.{selection}
 use Rattle.site_selector.proofs.OfferLemmas.{checked_are}
 use Rattle.site_selector.proofs.SelectingLemmas.{ArePlaced, number_below, place_more, handed_on, refused_is, selected_is}
 use Rattle.site_selector.proofs.selecting.select.Goals as goal
