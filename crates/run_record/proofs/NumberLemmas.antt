@@ -32,8 +32,8 @@ passes_to k ds h =
 passes_from : (k : ℕ) (ds : List ℕ) → IsNumeral 10 ds → digits_value 10 ds < 2 ^ k → passes k ds ≡ true
 passes_from k ds h l =
     and_from (is_numeral ds) (ltb (digits_value 10 ds) (2 ^ k))
-      (and_from (ltb 0 (length ds)) (list_all (λ (b : ℕ). ltb (digit_value b) 10) ds) (lt-ltb 0 (length ds) h.0) (digits_from ds h.1))
-      (lt-ltb (digits_value 10 ds) (2 ^ k) l)
+    (and_from (ltb 0 (length ds)) (list_all (λ (b : ℕ). ltb (digit_value b) 10) ds) (lt-ltb 0 (length ds) h.0) (digits_from ds h.1))
+    (lt-ltb (digits_value 10 ds) (2 ^ k) l)
 
 abbrev taken : {E : Type 0} → Bool → ℕ → E → Result ℕ E
 taken true v e = Ok v

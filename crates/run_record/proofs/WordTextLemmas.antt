@@ -42,7 +42,7 @@ digest_visible [] h = refl
 digest_visible (b ∷ bs) h =
     let byte = h 0 in
     and_from (visible (slice_index lower_digits (b / 16))) (visible (slice_index lower_digits (b % 16)) && list_all visible (encode_lower bs)) (hex_visible (b / 16) (omega (arith, byte)))
-      (and_from (visible (slice_index lower_digits (b % 16))) (list_all visible (encode_lower bs)) (hex_visible (b % 16) (omega arith)) (digest_visible bs (λ i. h (suc i))))
+    (and_from (visible (slice_index lower_digits (b % 16))) (list_all visible (encode_lower bs)) (hex_visible (b % 16) (omega arith)) (digest_visible bs (λ i. h (suc i))))
 
 sizes_visible : (ns : List ℕ) → AllFit (map Size ns) → AllVisible (map Size ns)
 sizes_visible [] h = tt

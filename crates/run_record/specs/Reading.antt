@@ -63,29 +63,29 @@ oversize words = option_and_then (λ (j : ℕ). option_and_then (λ (f : ℕ). o
 
 abbrev pub cause_named : List ℕ → List (List ℕ) → Option Cause
 cause_named name words =
-  if bytes_eq name (codes "absent") then Some Absent
-  else if bytes_eq name (codes "toolong") then option_map TooLong (size_at words 4)
-  else if bytes_eq name (codes "checksum") then option_map Checksum (digest_at words 4)
-  else if bytes_eq name (codes "oversize") then oversize words
-  else if bytes_eq name (codes "declined") then option_map (λ (n : ℕ). Declined (job n)) (number_at words 4)
-  else if bytes_eq name (codes "toolfailed") then option_map (λ (n : ℕ). ToolFailed (job n)) (number_at words 4)
-  else if bytes_eq name (codes "hostfailed") then Some HostFailed
-  else if bytes_eq name (codes "memory") then Some Memory
-  else None
+    if bytes_eq name (codes "absent") then Some Absent
+    else if bytes_eq name (codes "toolong") then option_map TooLong (size_at words 4)
+    else if bytes_eq name (codes "checksum") then option_map Checksum (digest_at words 4)
+    else if bytes_eq name (codes "oversize") then oversize words
+    else if bytes_eq name (codes "declined") then option_map (λ (n : ℕ). Declined (job n)) (number_at words 4)
+    else if bytes_eq name (codes "toolfailed") then option_map (λ (n : ℕ). ToolFailed (job n)) (number_at words 4)
+    else if bytes_eq name (codes "hostfailed") then Some HostFailed
+    else if bytes_eq name (codes "memory") then Some Memory
+    else None
 
 unfoldable pub cause_of : List (List ℕ) → Option Cause
 cause_of words = cause_named (word_at words 3) words
 
 abbrev pub event_named : List ℕ → ℕ → ℕ → List ℕ → List (List ℕ) → Option Event
 event_named kind w t sizes words =
-  if bytes_eq kind (codes "grant") then Some (Grant w t)
-  else if bytes_eq kind (codes "arrive") then option_map (λ (n : ℕ). Arrive w t n) (size_at words 3)
-  else if bytes_eq kind (codes "end") then Some (End w t sizes)
-  else if bytes_eq kind (codes "clean") then Some (Clean w t)
-  else if bytes_eq kind (codes "fail") then option_map (λ (c : Cause). Fail w t c sizes) (cause_of words)
-  else if bytes_eq kind (codes "again") then option_map (λ (c : Cause). Again w t c sizes) (cause_of words)
-  else if bytes_eq kind (codes "regrant") then Some (Regrant w t)
-  else None
+    if bytes_eq kind (codes "grant") then Some (Grant w t)
+    else if bytes_eq kind (codes "arrive") then option_map (λ (n : ℕ). Arrive w t n) (size_at words 3)
+    else if bytes_eq kind (codes "end") then Some (End w t sizes)
+    else if bytes_eq kind (codes "clean") then Some (Clean w t)
+    else if bytes_eq kind (codes "fail") then option_map (λ (c : Cause). Fail w t c sizes) (cause_of words)
+    else if bytes_eq kind (codes "again") then option_map (λ (c : Cause). Again w t c sizes) (cause_of words)
+    else if bytes_eq kind (codes "regrant") then Some (Regrant w t)
+    else None
 
 unfoldable pub event_with : List ℕ → List (List ℕ) → Option Event
 event_with sizes words = option_and_then (λ (w : ℕ). option_and_then (λ (t : ℕ). event_named (word_at words 0) w t sizes words) (number_at words 2)) (number_at words 1)
