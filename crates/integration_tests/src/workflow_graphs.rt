@@ -70,7 +70,10 @@ fn a_small_graph(rt: HostRuntime) -> Result<(), Fail> {
     assert_eq!(&rt; graph.ordered(), [JobId(2), JobId(1), JobId(0)].as_slice());
     assert_eq!(&rt; graph.producer(FileId(1)), Some(JobId(1)));
     assert!(&rt; graph.is_made());
-    for (kept, levels) in [([true, true, true], [2, 1, 0]), ([true, false, true], [1, 0, 0])] {
+    for (kept, levels) in [
+        ([true, true, true], [2, 1, 0]),
+        ([true, false, true], [1, 0, 0]),
+    ] {
         assert_eq!(&rt; graph.levels(alloc, &kept)?.as_slice(), levels.as_slice());
     }
     Ok(())
