@@ -3,7 +3,8 @@ use Rattle.std.proofs.Common.{◌≡◌, ℕ, zero, suc, ◌+◌, ◌-◌, ◌<�
 use Rattle.std.specs.Prelude.{slice_set, replicate, Decides}
 use Rattle.std.specs.List.{list_any, AllByRecursion}
 use Rattle.std.proofs.lemmas.Bool.{eqb-true, eqb-false, eq-eqb}
-use Rattle.std.proofs.lemmas.List.{drop_more, drop_all, length-set, length-map, length-take-le, take-append-drop, get_or-take, get_or-map, get_or_past, get_or_default}
+use Rattle.std.proofs.Math.Seq.{drop-cons}
+use Rattle.std.proofs.lemmas.List.{drop_all, length-set, length-map, length-take-le, take-append-drop, get_or-take, get_or-map, get_or_past, get_or_default}
 use Rattle.std.proofs.lemmas.List.Folds.{list_any-append}
 use Rattle.outside.specs.declared.numbers.FileId.{FileId}
 use Rattle.outside.specs.declared.numbers.JobId.{JobId}
@@ -206,7 +207,7 @@ walk_more absent w g kept needed new p keep graph walked low is long marked = re
     x = placed g p
 
     more : seen g p ≡ x ∷ seen g (suc p)
-    more = drop_more (numbers g.ordered) p 0 (order_low g p low)
+    more = drop-cons (numbers g.ordered) p 0 (order_low g p low)
 
     within : x < length kept
     within = let l = placed_in w g graph p low in omega (arith, l, walked.kept_long)

@@ -19,10 +19,8 @@ use workflow_core::{Job, Workflow};
 fn is_needed(job: &Job, absent: &[bool], needed: &[bool]) -> bool
     ensures { result ≡ has_both absent.now needed.now job.now }
 {
-    job.outputs
-        .as_slice()
-        .iter()
-        .any(|output| is_set(absent, output.file) && is_set(needed, output.file))
+    job.outputs.as_slice().iter().any(|output| is_set(absent, output.file)
+        && is_set(needed, output.file))
 }
 
 /// Whether a job is kept. The inputs of a kept job are needed.

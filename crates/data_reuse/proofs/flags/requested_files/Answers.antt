@@ -13,11 +13,10 @@ use Rattle.data_reuse.proofs.flags.requested_files.Goals as goal
 
 pub loop-job-init : goal.loop-job-init
 loop-job-init c =
-    let zeros : c.in_ok-flags.flags.items ≡ replicate (length c.as_slice.result.now) false = c.in_ok-flags.ensures.items_if_clones_equal (λ y h. h) in
-    (
+    let zeros : c.in_ok-flags.flags.items ≡ replicate (length c.as_slice.result.now) false = c.in_ok-flags.ensures.items_if_clones_equal (λ y h. h) in (
       ap (λ (bs : List Bool). length bs) zeros ∙ length-replicate (length c.as_slice.result.now) false ∙ ap (λ (ns : List (List ℕ)). length ns) c.as_slice.ensures,
       λ f. ap (λ (js : List Job). list_any (requests f) js || is_set c.in_ok-flags.flags.items f) c.as_slice-job-items.ensures
-      ∙ ap (λ (b : Bool). is_requested c.args.workflow.now f || b) (ap (λ (bs : List Bool). is_set bs f) zeros ∙ none_set (length c.as_slice.result.now) f) ∙ no_name (is_requested c.args.workflow.now f),
+          ∙ ap (λ (b : Bool). is_requested c.args.workflow.now f || b) (ap (λ (bs : List Bool). is_set bs f) zeros ∙ none_set (length c.as_slice.result.now) f) ∙ no_name (is_requested c.args.workflow.now f),
     )
 
 pub set_requested-requires : goal.set_requested-requires
@@ -29,7 +28,7 @@ pub loop-job-preserved : goal.loop-job-preserved
 loop-job-preserved c = (
   c.set_requested.ensures.long ∙ c.loop-job.invariant.0,
   rest_more (λ (f : ℕ) (j : Job). requests f j) (is_set c.set_requested.new.flags.items) (is_set c.loop-job.flags.items) (is_requested c.args.workflow.now) c.as_slice-job-items.result.now c.loop-job.job-index c.job-item.result c.loop-job-test.true
-  (λ f. c.set_requested.ensures.each f ∙ ap (λ (j : Job). requests f j || is_set c.loop-job.flags.items f) c.job-item.is) c.loop-job.invariant.1,
+      (λ f. c.set_requested.ensures.each f ∙ ap (λ (j : Job). requests f j || is_set c.loop-job.flags.items f) c.job-item.is) c.loop-job.invariant.1,
 )
 
 pub returns-clause-each : goal.returns-clause-each

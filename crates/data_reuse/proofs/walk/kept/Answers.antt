@@ -32,10 +32,10 @@ loop-place-preserved c =
     let is = ap (λ (js : List Job). slice_index_or js (placed g q) j) (sym c.as_slice-jobs.ensures) ∙ ap (λ (n : ℕ). slice_index_or c.as_slice-jobs.result.now n j) (sym at.1) ∙ sym c.index-jobs-number.is in
     let within = placed_in w g c.requires.graph q at.0 in
     let flags_are : c.deref.result.now ≡ map (is_absent es c.args.force) w.files =
-      c.deref.ensures.value ∙ c.in_ok-absent.ensures ∙ ap (λ (rs : List Replica). map (is_absent rs c.args.force) c.as_slice.result.now) c.as_slice-2.ensures ∙ ap (λ (ns : List (List ℕ)). map (is_absent es c.args.force) ns) c.as_slice.ensures in
+    c.deref.ensures.value ∙ c.in_ok-absent.ensures ∙ ap (λ (rs : List Replica). map (is_absent rs c.args.force) c.as_slice.result.now) c.as_slice-2.ensures ∙ ap (λ (ns : List (List ℕ)). map (is_absent es c.args.force) ns) c.as_slice.ensures in
     let keep = c.visit.ensures.kept ∙ keeps_is w es c.args.force c.deref.result.now c.loop-place.needed.items (placed g q) j c.requires.well_formed within is flags_are in
     let walked : IsWalked (absent_in w es c.args.force) w g c.loop-place.kept.items c.loop-place.needed.items (suc (c.loop-place.place - 1)) =
-      subst (λ (p : ℕ). IsWalked (absent_in w es c.args.force) w g c.loop-place.kept.items c.loop-place.needed.items p) (let one : c.loop-place.place ≡ suc (c.loop-place.place - 1) = omega (arith, some) in one) c.loop-place.invariant in
+    subst (λ (p : ℕ). IsWalked (absent_in w es c.args.force) w g c.loop-place.kept.items c.loop-place.needed.items p) (let one : c.loop-place.place ≡ suc (c.loop-place.place - 1) = omega (arith, some) in one) c.loop-place.invariant in
     subst (λ (x : ℕ). IsWalked (absent_in w es c.args.force) w g (slice_set c.loop-place.kept.items x c.visit.result) c.visit.new.needed.items (c.loop-place.place - 1)) (sym at.1)
     (walk_more (absent_in w es c.args.force) w g c.loop-place.kept.items c.loop-place.needed.items c.visit.new.needed.items (c.loop-place.place - 1) c.visit.result c.requires.graph walked at.0 keep c.visit.ensures.long
     (marked_is w (placed g q) j c.visit.result c.visit.new.needed.items c.loop-place.needed.items within is c.visit.ensures.each))
