@@ -1,0 +1,4 @@
+pub mod TestsLemmas
+pub mod FlagsLemmas
+pub mod AbsentLemmas
+pub mod WalkLemmas
