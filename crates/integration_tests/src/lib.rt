@@ -21,6 +21,8 @@ mod objects_in_memory;
 #[cfg(test)]
 mod requests;
 #[cfg(test)]
+mod reuse;
+#[cfg(test)]
 mod site_selection;
 #[cfg(test)]
 mod transformations;
