@@ -3,10 +3,10 @@
 ghost use Rattle.std.specs.Prelude.{◌≡◌, Ok};
 ghost use Rattle.plan_request.specs.Reader.{execute_checked};
 
-use outside::SiteId;
+use outside::{SelectFault, SiteId};
 use peg_json::ReadFault;
 use plan_request::{PlanRequest, read as read_request};
-use site_selector::{SelectFault, select};
+use site_selector::select;
 use std::alloc::Global;
 use std::test::Fail;
 use transformation_catalog::{TransformationCatalog, read as read_transformations};

@@ -1,4 +1,6 @@
 -- A store in memory.
+use Rattle.std.specs.Prelude.{ℕ, List}
+use Rattle.std.specs.FinMap as map
 use Rattle.outside.specs.declared.counts.Counts.{Counts}
 use Rattle.outside.specs.declared.failing.Failing.{Failing}
 use Rattle.outside.specs.declared.memory_host.MemoryHost.{MemoryHost}
@@ -13,3 +15,7 @@ host_failing h = h.failing
 
 abbrev pub host_counts : MemoryHost → Counts
 host_counts h = h.counts
+
+-- the store with a replica set
+abbrev pub with_replica : List ℕ → List ℕ → Store → Store
+with_replica pfn bytes s = record s { replicas = map.insert s.replicas pfn bytes }

@@ -2,8 +2,9 @@
 
 use crate::file_map::FileMap;
 
-/// The delivered files, by name.
+/// The replicas by their physical names, and the delivered files by name.
 #[derive(Drop)]
 pub struct Store {
+    pub replicas: FileMap,
     pub delivered: FileMap,
 }

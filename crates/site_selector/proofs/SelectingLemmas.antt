@@ -8,8 +8,8 @@ use Rattle.std.proofs.lemmas.Bool.{eqb-false}
 use Rattle.std.proofs.lemmas.List.{take_all, length-set, length-replicate, get_or-set_same, get_or-set_other}
 use Rattle.outside.specs.declared.numbers.SiteId.{SiteId}
 use Rattle.workflow_core.specs.declared.workflow.Job.{Job}
-use Rattle.site_selector.specs.declared.fault.SelectFault.{SelectFault}
-use Rattle.site_selector.specs.declared.fault.SelectFault.TheVariants.{NoSite, NoTransformation, Memory}
+use Rattle.outside.specs.declared.select_fault.SelectFault.{SelectFault}
+use Rattle.outside.specs.declared.select_fault.SelectFault.TheVariants.{NoSite, NoTransformation, Memory}
 use Rattle.site_selector.specs.Order.{has, is_kept, turn_of, IsInOrder}
 use Rattle.site_selector.specs.Candidates.{site_of, IsAnswer}
 use Rattle.site_selector.specs.Selecting.{Selection, answer_of, Gets, IsSelected, IsFirstFault, Selects}

@@ -8,8 +8,8 @@ use Rattle.workflow_core.specs.declared.workflow.Job.{Job}
 use Rattle.transformation_catalog.specs.declared.catalog.TransformationEntry.{TransformationEntry}
 use Rattle.transformation_catalog.specs.declared.catalog.TransformationSite.{TransformationSite}
 use Rattle.plan_request.specs.declared.request.Execution.{Execution}
-use Rattle.site_selector.specs.declared.fault.SelectFault.{SelectFault}
-use Rattle.site_selector.specs.declared.fault.SelectFault.TheVariants.{NoSite, NoTransformation, Memory}
+use Rattle.outside.specs.declared.select_fault.SelectFault.{SelectFault}
+use Rattle.outside.specs.declared.select_fault.SelectFault.TheVariants.{NoSite, NoTransformation, Memory}
 use Rattle.site_selector.specs.Offers.{are_offered_at, sites_of}
 
 abbrev pub job_id : ℕ → JobId

@@ -8,8 +8,8 @@ use Rattle.transformation_catalog.specs.declared.catalog.TransformationCatalog.{
 use Rattle.transformation_catalog.specs.declared.catalog.TransformationEntry.{TransformationEntry}
 use Rattle.plan_request.specs.declared.request.PlanRequest.{PlanRequest}
 use Rattle.plan_request.specs.declared.request.Execution.{Execution}
-use Rattle.site_selector.specs.declared.fault.SelectFault.{SelectFault}
-use Rattle.site_selector.specs.declared.fault.SelectFault.TheVariants.{NoSite, NoTransformation, Memory}
+use Rattle.outside.specs.declared.select_fault.SelectFault.{SelectFault}
+use Rattle.outside.specs.declared.select_fault.SelectFault.TheVariants.{NoSite, NoTransformation, Memory}
 use Rattle.site_selector.specs.Order.{is_kept, comes_before, turn_of}
 use Rattle.site_selector.specs.Candidates.{site_of}
 

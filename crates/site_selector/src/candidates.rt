@@ -5,9 +5,8 @@ ghost use Rattle.std.specs.List.{list_any};
 ghost use Rattle.site_selector.specs.Offers.{sites_of};
 ghost use Rattle.site_selector.specs.Candidates.{is_allowed, is_named, listed_from, candidates, unknown_site, chosen, site_of, IsAnswer};
 
-use crate::fault::SelectFault;
 use crate::offers::Offers;
-use outside::{JobId, Memory, SiteId, Text};
+use outside::{JobId, Memory, SelectFault, SiteId, Text};
 use plan_request::Execution;
 use std::alloc::Global;
 use workflow_core::Job;

@@ -6,10 +6,8 @@
 #![tactic(auto)]
 
 mod candidates;
-mod fault;
 mod offers;
 mod order;
 mod selecting;
 
-pub use fault::SelectFault;
 pub use selecting::select;

@@ -6,10 +6,9 @@ ghost use Rattle.plan_request.specs.Reader.{execute_checked};
 ghost use Rattle.site_selector.specs.Selecting.{selection, Selects};
 
 use crate::candidates::site_of;
-use crate::fault::SelectFault;
 use crate::offers::Offers;
 use crate::order::in_order;
-use outside::{Memory, SiteId};
+use outside::{Memory, SelectFault, SiteId};
 use plan_request::PlanRequest;
 use std::alloc::Global;
 use transformation_catalog::TransformationCatalog;

@@ -4,7 +4,7 @@ use Rattle.std.proofs.lemmas.Option.{slice_get-get_or}
 use Rattle.outside.specs.declared.numbers.SiteId.{SiteId}
 use Rattle.workflow_core.specs.declared.workflow.Job.{Job}
 use Rattle.plan_request.specs.declared.request.Execution.{Execution}
-use Rattle.site_selector.specs.declared.fault.SelectFault.{SelectFault}
+use Rattle.outside.specs.declared.select_fault.SelectFault.{SelectFault}
 use Rattle.site_selector.specs.Order.{IsInOrder}
 use Rattle.site_selector.specs.Offers.{Offered}
 use Rattle.site_selector.specs.Candidates.{site_of, IsAnswer}

@@ -1,10 +1,13 @@
 //! Why a job has no site.
 
 ghost use Rattle.std.specs.Prelude.{◌≡◌};
-ghost use Rattle.site_selector.specs.declared.fault.SelectFault.TheVariants as faults;
+ghost use Rattle.outside.specs.declared.select_fault.SelectFault.TheVariants as faults;
 
-use outside::{JobId, Memory, Text};
+use crate::memory::Memory;
+use crate::numbers::JobId;
+use crate::text::Text;
 
+/// Why a job that has to run has no site.
 #[derive(Debug, Drop)]
 pub enum SelectFault {
     /// A job that is pinned, and the name, which is no execution site's.
