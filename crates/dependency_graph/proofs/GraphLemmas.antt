@@ -11,7 +11,6 @@ use Rattle.dependency_graph.proofs.EdgesLemmas.{first_producer, no_producer}
 use Rattle.dependency_graph.specs.Built.{AreProducers}
 use Rattle.dependency_graph.specs.Edges.{edge, makers, producer}
 use Rattle.dependency_graph.specs.Graph.{IsGraphOf, Links, made_at, numbers}
-use Rattle.dependency_graph.specs.Value.{AllMade}
 use Rattle.digraph.specs.Adjacency.{AreNeighbours, has}
 use Rattle.digraph.specs.Cycle.{Returns}
 use Rattle.digraph.specs.Order.{IsTopologicalOrder}
@@ -31,32 +30,10 @@ comes_first w g graph i a h at p into =
 pub numbers_in : (n : ℕ) (js : List JobId) → All (λ a. a < n) (numbers js) → All (λ (j : JobId). j.0 < n) js
 numbers_in n js all i d h = subst (λ (x : ℕ). x < n) (get_or-map (λ (j : JobId). j.0) js i d d.0 h) (all i d.0 (omega (arith, h, length-map js (λ (j : JobId). j.0))))
 
--- each file has a producer where each is known to have one
-known_maker : (w : Workflow) (g : Links) → IsGraphOf w g → (f : ℕ) → f < length w.files → (o : Option JobId) → made_at g.producers f ≡ o → is_some (producer w.jobs f) ≡ is_some o
-known_maker w g graph f h None e = ap is_some (no_producer w f (subst (λ (o : Option JobId). MatchOption o (makers w f ≡ []) (λ (j : JobId). makers w f ≡ j.0 ∷ [])) e (graph.producer f h)))
-known_maker w g graph f h (Some j) e = ap is_some (first_producer w f j.0 [] (subst (λ (o : Option JobId). MatchOption o (makers w f ≡ []) (λ (j : JobId). makers w f ≡ j.0 ∷ [])) e (graph.producer f h))).1
-
-each_made : (os : List (Option JobId)) → list_all is_some os ≡ true → (f : ℕ) → f < length os → is_some (made_at os f) ≡ true
-each_made [] all f h = absurd (omega arith)
-each_made (o ∷ os) all zero h = (and_parts (is_some o) (list_all is_some os) all).0
-each_made (o ∷ os) all (suc f) h = each_made os (and_parts (is_some o) (list_all is_some os) all).1 f (omega arith)
-
-one_unmade : (os : List (Option JobId)) → list_all is_some os ≡ false → (f : ℕ) × (f < length os) × (is_some (made_at os f) ≡ false)
-one_unmade [] all = absurd cc
-one_unmade (o ∷ os) all = by (is_some o) refl all (λ e. one_unmade os e)
-  where
-    by : (t : Bool) → is_some o ≡ t → (t && list_all is_some os) ≡ false → (list_all is_some os ≡ false → (f : ℕ) × (f < length os) × (is_some (made_at os f) ≡ false)) → (f : ℕ) × (f < length (o ∷ os)) × (is_some (made_at (o ∷ os) f) ≡ false)
-    by true e none rest = let found = rest none in (suc found.0, (let l : found.0 < length os = found.1 in omega arith), found.2)
-    by false e none rest = (0, omega arith, e)
-
-pub all_made : (w : Workflow) (g : Links) → IsGraphOf w g → list_all is_some g.producers ≡ true → AllMade w
-all_made w g graph all f h = known_maker w g graph f h (made_at g.producers f) refl ∙ each_made g.producers all f (omega (arith, h, graph.files))
-
-pub not_all_made : (w : Workflow) (g : Links) → IsGraphOf w g → list_all is_some g.producers ≡ false → (f : ℕ) × (f < length w.files) × (is_some (producer w.jobs f) ≡ false)
-not_all_made w g graph none =
-    let found = one_unmade g.producers none in
-    let low : found.0 < length w.files = (let l : found.0 < length g.producers = found.1 in omega (arith, l, graph.files)) in
-    (found.0, low, known_maker w g graph found.0 low (made_at g.producers found.0) refl ∙ found.2)
+-- a file has a producer where the graph has one for it
+pub known_maker : (w : Workflow) (g : Links) → IsGraphOf w g → (f : ℕ) → f < length g.producers → (o : Option JobId) → made_at g.producers f ≡ o → is_some (producer w.jobs f) ≡ is_some o
+known_maker w g graph f h None e = ap is_some (no_producer w f (subst (λ (o : Option JobId). MatchOption o (makers w f ≡ []) (λ (j : JobId). makers w f ≡ j.0 ∷ [])) e (graph.producer f (omega (arith, h, graph.files)))))
+known_maker w g graph f h (Some j) e = ap is_some (first_producer w f j.0 [] (subst (λ (o : Option JobId). MatchOption o (makers w f ≡ []) (λ (j : JobId). makers w f ≡ j.0 ∷ [])) e (graph.producer f (omega (arith, h, graph.files))))).1
 
 -- the graph of the numbers is the graph of the jobs
 pub graph_is : (w : Workflow) (g : Links) (e : ℕ → ℕ → Bool) (count : ℕ) (order : List ℕ) → e ≡ edge w → count ≡ length w.jobs → AreProducers w g.producers

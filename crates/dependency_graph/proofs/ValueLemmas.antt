@@ -3,7 +3,6 @@ use Rattle.std.proofs.Common.{◌≡◌, ℕ, zero, suc, ◌+◌, ◌-◌, ◌<�
 use Rattle.std.specs.Prelude.{Option, Some, None, option_and_then}
 use Rattle.std.specs.List.{list_any, AllByRecursion}
 use Rattle.std.proofs.lemmas.List.{get_or-map}
-use Rattle.outside.specs.Tool.{Apply}
 use Rattle.workflow_core.specs.declared.workflow.Workflow.{Workflow}
 use Rattle.workflow_core.specs.declared.workflow.Job.{Job}
 use Rattle.workflow_core.specs.WellFormed.{inputs_of, outputs_of, IsJobOver, IsWellFormed}
@@ -12,7 +11,7 @@ use Rattle.std.proofs.lemmas.Bool.{eq-eqb, eqb-true}
 use Rattle.dependency_graph.proofs.EdgesLemmas.{makes}
 use Rattle.dependency_graph.specs.Edges.{edge, has_output, is_among, is_paired, producer, read_by, written_by}
 use Rattle.dependency_graph.specs.Graph.{IsSound}
-use Rattle.dependency_graph.specs.Value.{IsValuation, all_of, made_by, made_for, part, run_of, value, value_within}
+use Rattle.dependency_graph.specs.Value.{Basis, IsValuation, all_of, base_at, by_producer, made_by, made_for, part, run_of, tool_for, value, value_within}
 use Rattle.digraph.proofs.OrderLemmas.{fresh, fresh_less, fresh_small}
 use Rattle.digraph.specs.Distances.{Walk}
 
@@ -57,14 +56,19 @@ same_all u v (g ∷ gs) same =
     ap (λ (x : Option (List ℕ)). x ∷ map u gs) (same g (ap (λ (t : Bool). t || is_among g gs) (eq-eqb g g refl)))
     ∙ ap (λ (xs : List (Option (List ℕ))). v g ∷ xs) (same_all u v gs (λ h e. same h (ap (λ (t : Bool). nat_eq g h || t) e ∙ or-true (nat_eq g h))))
 
-pub unmade : (apply : Apply) (js : List Job) (m f : ℕ) → producer js f ≡ None → value_within apply js m f ≡ None
+-- the base of a file that no job makes
+pub unmade : (b : Basis) (js : List Job) (m f : ℕ) → producer js f ≡ None → value_within b js m f ≡ base_at b f
 unfolding value_within
-unmade apply js zero f e = refl
-unmade apply js (suc m) f e = ap (option_and_then (λ (j : Job). option_and_then (part f (outputs_of j)) (run_of apply j (all_of (map (value_within apply js m) (inputs_of j)))))) e
+unmade b js zero f e = ap (λ (o : Option Job). by_producer o (base_at b f) (λ j. None)) e
+unmade b js (suc m) f e = ap (λ (o : Option Job). by_producer o (base_at b f) (made_for b js (value_within b js m) f)) e
 
-pub one_down : (apply : Apply) (js : List Job) (f m : ℕ) (j : Job) → producer js f ≡ Some j → value_within apply js (suc m) f ≡ option_and_then (part f (outputs_of j)) (run_of apply j (all_of (map (value_within apply js m) (inputs_of j))))
+pub one_down : (b : Basis) (js : List Job) (f m : ℕ) (j : Job) → producer js f ≡ Some j → value_within b js (suc m) f ≡ made_for b js (value_within b js m) f j
 unfolding value_within
-one_down apply js f m j e = ap (option_and_then (λ (j : Job). option_and_then (part f (outputs_of j)) (run_of apply j (all_of (map (value_within apply js m) (inputs_of j)))))) e
+one_down b js f m j e = ap (λ (o : Option Job). by_producer o (base_at b f) (made_for b js (value_within b js m) f)) e
+
+-- what is made of the same inputs
+same_made : (b : Basis) (js : List Job) (u v : ℕ → Option (List ℕ)) (f : ℕ) (j : Job) → ((g : ℕ) → is_among g (inputs_of j) ≡ true → u g ≡ v g) → made_for b js u f j ≡ made_for b js v f j
+same_made b js u v f j same = ap (λ (xs : List (Option (List ℕ))). option_and_then (part f (outputs_of j)) (run_of b.apply (tool_for js b.tools f) j (all_of xs))) (same_all u v (inputs_of j) same)
 
 -- who makes the file leads to each of these jobs
 abbrev pub LeadsTo : Workflow → List ℕ → ℕ → Type 0
@@ -89,39 +93,39 @@ leads_on w vs f a g j made leads reads b q makes v h = by (nat_eq a v) refl h
     by true s e = (0, (a, into, eqb-true a v s))
     by false s e = let way = leads a j made v e in (suc way.0, (a, into, way.1))
 
-step : (apply : Apply) (w : Workflow) → IsSound w → (k m : ℕ) (vs : List ℕ) (f : ℕ) → fresh (length w.jobs) vs ≤ suc k → LeadsTo w vs f
-    → ((g a : ℕ) → fresh (length w.jobs) (a ∷ vs) ≤ k → LeadsTo w (a ∷ vs) g → value_within apply w.jobs m g ≡ value_within apply w.jobs k g) → (o : Option Job) → producer w.jobs f ≡ o → value_within apply w.jobs (suc m) f ≡ value_within apply w.jobs (suc k) f
-step apply w sound k m vs f small leads rest None e = unmade apply w.jobs (suc m) f e ∙ sym (unmade apply w.jobs (suc k) f e)
-step apply w sound k m vs f small leads rest (Some j) e =
+step : (b : Basis) (w : Workflow) → IsSound w → (k m : ℕ) (vs : List ℕ) (f : ℕ) → fresh (length w.jobs) vs ≤ suc k → LeadsTo w vs f
+    → ((g a : ℕ) → fresh (length w.jobs) (a ∷ vs) ≤ k → LeadsTo w (a ∷ vs) g → value_within b w.jobs m g ≡ value_within b w.jobs k g) → (o : Option Job) → producer w.jobs f ≡ o → value_within b w.jobs (suc m) f ≡ value_within b w.jobs (suc k) f
+step b w sound k m vs f small leads rest None e = unmade b w.jobs (suc m) f e ∙ sym (unmade b w.jobs (suc k) f e)
+step b w sound k m vs f small leads rest (Some j) e =
     let found = maker w f j e in
     let less : fresh (length w.jobs) (found.0 ∷ vs) + 1 ≡ fresh (length w.jobs) vs = fresh_less (length w.jobs) found.0 vs found.1.below (is_new w sound vs f found.0 j found.1 leads) in
-    one_down apply w.jobs f m j e
-    ∙ ap (λ (xs : List (Option (List ℕ))). option_and_then (part f (outputs_of j)) (run_of apply j (all_of xs))) (same_all (value_within apply w.jobs m) (value_within apply w.jobs k) (inputs_of j) (λ g reads. rest g found.0 (omega (arith, less, small)) (leads_on w vs f found.0 g j found.1 leads reads)))
-    ∙ sym (one_down apply w.jobs f k j e)
+    one_down b w.jobs f m j e
+    ∙ same_made b w.jobs (value_within b w.jobs m) (value_within b w.jobs k) f j (λ g reads. rest g found.0 (omega (arith, less, small)) (leads_on w vs f found.0 g j found.1 leads reads))
+    ∙ sym (one_down b w.jobs f k j e)
 
-none_left : (apply : Apply) (w : Workflow) → IsSound w → (m : ℕ) (vs : List ℕ) (f : ℕ) → fresh (length w.jobs) vs ≤ 0 → LeadsTo w vs f → (o : Option Job) → producer w.jobs f ≡ o → value_within apply w.jobs m f ≡ value_within apply w.jobs 0 f
-none_left apply w sound m vs f small leads None e = unmade apply w.jobs m f e ∙ sym (unmade apply w.jobs 0 f e)
-none_left apply w sound m vs f small leads (Some j) e =
+none_left : (b : Basis) (w : Workflow) → IsSound w → (m : ℕ) (vs : List ℕ) (f : ℕ) → fresh (length w.jobs) vs ≤ 0 → LeadsTo w vs f → (o : Option Job) → producer w.jobs f ≡ o → value_within b w.jobs m f ≡ value_within b w.jobs 0 f
+none_left b w sound m vs f small leads None e = unmade b w.jobs m f e ∙ sym (unmade b w.jobs 0 f e)
+none_left b w sound m vs f small leads (Some j) e =
     let found = maker w f j e in
     absurd (let less : fresh (length w.jobs) (found.0 ∷ vs) + 1 ≡ fresh (length w.jobs) vs = fresh_less (length w.jobs) found.0 vs found.1.below (is_new w sound vs f found.0 j found.1 leads) in omega (arith, less, small))
 
-settles : (apply : Apply) (w : Workflow) → IsSound w → (k m : ℕ) (vs : List ℕ) (f : ℕ) → fresh (length w.jobs) vs ≤ k → k ≤ m → LeadsTo w vs f → value_within apply w.jobs m f ≡ value_within apply w.jobs k f
-settles apply w sound zero m vs f small h leads = none_left apply w sound m vs f small leads (producer w.jobs f) refl
-settles apply w sound (suc k) zero vs f small h leads = absurd (omega arith)
-settles apply w sound (suc k) (suc m) vs f small h leads =
-    step apply w sound k m vs f small leads (λ g a less on. settles apply w sound k m (a ∷ vs) g less (omega arith) on) (producer w.jobs f) refl
+settles : (b : Basis) (w : Workflow) → IsSound w → (k m : ℕ) (vs : List ℕ) (f : ℕ) → fresh (length w.jobs) vs ≤ k → k ≤ m → LeadsTo w vs f → value_within b w.jobs m f ≡ value_within b w.jobs k f
+settles b w sound zero m vs f small h leads = none_left b w sound m vs f small leads (producer w.jobs f) refl
+settles b w sound (suc k) zero vs f small h leads = absurd (omega arith)
+settles b w sound (suc k) (suc m) vs f small h leads =
+    step b w sound k m vs f small leads (λ g a less on. settles b w sound k m (a ∷ vs) g less (omega arith) on) (producer w.jobs f) refl
 
-pub value_law : (apply : Apply) (w : Workflow) (f : ℕ) (j : Job) → IsSound w → producer w.jobs f ≡ Some j → value apply w f ≡ option_and_then (part f (outputs_of j)) (made_by apply w j)
-value_law apply w f j sound e =
+pub value_law : (b : Basis) (w : Workflow) (f : ℕ) (j : Job) → IsSound w → producer w.jobs f ≡ Some j → value b w f ≡ made_for b w.jobs (value b w) f j
+value_law b w f j sound e =
     let found = maker w f j e in
     let n : ℕ = length w.jobs in
     let one_less : length w.jobs ≡ suc (length w.jobs - 1) = omega (arith, found.1.below) in
     let less : fresh (length w.jobs) (found.0 ∷ []) + 1 ≡ fresh (length w.jobs) [] = fresh_less (length w.jobs) found.0 [] found.1.below refl in
     let none : LeadsTo w [] f = λ a q made v h. absurd (let t : false ≡ true = h in cc) in
-    ap (λ (m : ℕ). value_within apply w.jobs m f) one_less
-    ∙ one_down apply w.jobs f (length w.jobs - 1) j e
-    ∙ sym (ap (λ (xs : List (Option (List ℕ))). option_and_then (part f (outputs_of j)) (run_of apply j (all_of xs))) (same_all (value_within apply w.jobs (length w.jobs)) (value_within apply w.jobs (length w.jobs - 1)) (inputs_of j) (λ g reads.
-    settles apply w sound (length w.jobs - 1) (length w.jobs) (found.0 ∷ []) g (omega (arith, less, fresh_small (length w.jobs) [])) (omega arith) (leads_on w [] f found.0 g j found.1 none reads))))
+    ap (λ (m : ℕ). value_within b w.jobs m f) one_less
+    ∙ one_down b w.jobs f (length w.jobs - 1) j e
+    ∙ sym (same_made b w.jobs (value_within b w.jobs (length w.jobs)) (value_within b w.jobs (length w.jobs - 1)) f j (λ g reads.
+    settles b w sound (length w.jobs - 1) (length w.jobs) (found.0 ∷ []) g (omega (arith, less, fresh_small (length w.jobs) [])) (omega arith) (leads_on w [] f found.0 g j found.1 none reads)))
 
 -- the job at a place of a list of such jobs
 pub job_over : (n : ℕ) (js : List Job) (a : ℕ) (j : Job) → AllByRecursion (IsJobOver n) js → a < length js → get_or js a j ≡ j → IsJobOver n j
@@ -138,41 +142,41 @@ among_below n g (f ∷ fs) all h = by (nat_eq f g) refl h (λ k. among_below n g
     by true e k rest = let same : f ≡ g = eqb-true f g e in let below : f < n = all.0 in omega (arith, same, below)
     by false e k rest = rest k
 
--- what the producer makes
-made_by_producer : (apply : Apply) (w : Workflow) (v : ℕ → Option (List ℕ)) (f : ℕ) (o : Option Job) → producer w.jobs f ≡ o
-    → made_for apply w v f ≡ option_and_then (λ (j : Job). option_and_then (part f (outputs_of j)) (run_of apply j (all_of (map v (inputs_of j))))) o
-made_by_producer apply w v f o e = ap (option_and_then (λ (j : Job). option_and_then (part f (outputs_of j)) (run_of apply j (all_of (map v (inputs_of j)))))) e
+-- what is made by the producer, if there is one
+by_this : (b : Basis) (w : Workflow) (v : ℕ → Option (List ℕ)) (f : ℕ) (o : Option Job) → producer w.jobs f ≡ o
+    → by_producer (producer w.jobs f) (base_at b f) (made_for b w.jobs v f) ≡ by_producer o (base_at b f) (made_for b w.jobs v f)
+by_this b w v f o e = ap (λ (p : Option Job). by_producer p (base_at b f) (made_for b w.jobs v f)) e
 
-pub fits : (apply : Apply) (w : Workflow) → IsSound w → IsValuation apply w (value apply w)
-fits apply w sound f h = by (producer w.jobs f) refl
+pub fits : (b : Basis) (w : Workflow) → IsSound w → IsValuation b w (value b w)
+fits b w sound f h = by (producer w.jobs f) refl
   where
-    by : (o : Option Job) → producer w.jobs f ≡ o → value apply w f ≡ made_for apply w (value apply w) f
-    by None e = unmade apply w.jobs (length w.jobs) f e ∙ sym (made_by_producer apply w (value apply w) f None e)
-    by (Some j) e = value_law apply w f j sound e ∙ sym (made_by_producer apply w (value apply w) f (Some j) e)
+    by : (o : Option Job) → producer w.jobs f ≡ o → value b w f ≡ by_producer (producer w.jobs f) (base_at b f) (made_for b w.jobs (value b w) f)
+    by None e = unmade b w.jobs (length w.jobs) f e ∙ sym (by_this b w (value b w) f None e)
+    by (Some j) e = value_law b w f j sound e ∙ sym (by_this b w (value b w) f (Some j) e)
 
 -- as far down as there are new jobs
-agrees : (apply : Apply) (w : Workflow) (v : ℕ → Option (List ℕ)) → IsWellFormed w → IsSound w → IsValuation apply w v → (k : ℕ) (vs : List ℕ) (f : ℕ) → f < length w.files → fresh (length w.jobs) vs ≤ k → LeadsTo w vs f → v f ≡ value_within apply w.jobs k f
-agrees apply w v formed sound fit zero vs f h small leads = by (producer w.jobs f) refl
+agrees : (b : Basis) (w : Workflow) (v : ℕ → Option (List ℕ)) → IsWellFormed w → IsSound w → IsValuation b w v → (k : ℕ) (vs : List ℕ) (f : ℕ) → f < length w.files → fresh (length w.jobs) vs ≤ k → LeadsTo w vs f → v f ≡ value_within b w.jobs k f
+agrees b w v formed sound fit zero vs f h small leads = by (producer w.jobs f) refl
   where
-    by : (o : Option Job) → producer w.jobs f ≡ o → v f ≡ value_within apply w.jobs 0 f
-    by None e = fit f h ∙ made_by_producer apply w v f None e ∙ sym (unmade apply w.jobs 0 f e)
+    by : (o : Option Job) → producer w.jobs f ≡ o → v f ≡ value_within b w.jobs 0 f
+    by None e = fit f h ∙ by_this b w v f None e ∙ sym (unmade b w.jobs 0 f e)
     by (Some j) e =
         let found = maker w f j e in
         absurd (let less : fresh (length w.jobs) (found.0 ∷ vs) + 1 ≡ fresh (length w.jobs) vs = fresh_less (length w.jobs) found.0 vs found.1.below (is_new w sound vs f found.0 j found.1 leads) in omega (arith, less, small))
-agrees apply w v formed sound fit (suc k) vs f h small leads = by (producer w.jobs f) refl (λ g a within less on. agrees apply w v formed sound fit k (a ∷ vs) g within less on)
+agrees b w v formed sound fit (suc k) vs f h small leads = by (producer w.jobs f) refl (λ g a within less on. agrees b w v formed sound fit k (a ∷ vs) g within less on)
   where
-    by : (o : Option Job) → producer w.jobs f ≡ o → ((g a : ℕ) → g < length w.files → fresh (length w.jobs) (a ∷ vs) ≤ k → LeadsTo w (a ∷ vs) g → v g ≡ value_within apply w.jobs k g) → v f ≡ value_within apply w.jobs (suc k) f
-    by None e rest = fit f h ∙ made_by_producer apply w v f None e ∙ sym (unmade apply w.jobs (suc k) f e)
+    by : (o : Option Job) → producer w.jobs f ≡ o → ((g a : ℕ) → g < length w.files → fresh (length w.jobs) (a ∷ vs) ≤ k → LeadsTo w (a ∷ vs) g → v g ≡ value_within b w.jobs k g) → v f ≡ value_within b w.jobs (suc k) f
+    by None e rest = fit f h ∙ by_this b w v f None e ∙ sym (unmade b w.jobs (suc k) f e)
     by (Some j) e rest =
         let found = maker w f j e in
         let less : fresh (length w.jobs) (found.0 ∷ vs) + 1 ≡ fresh (length w.jobs) vs = fresh_less (length w.jobs) found.0 vs found.1.below (is_new w sound vs f found.0 j found.1 leads) in
         let over : IsJobOver (length w.files) j = job_over (length w.files) w.jobs found.0 j formed.jobs found.1.below found.1.is in
         fit f h
-        ∙ made_by_producer apply w v f (Some j) e
-        ∙ ap (λ (xs : List (Option (List ℕ))). option_and_then (part f (outputs_of j)) (run_of apply j (all_of xs))) (same_all v (value_within apply w.jobs k) (inputs_of j) (λ g reads. rest g found.0 (among_below (length w.files) g (inputs_of j) over.inputs reads) (omega (arith, less, small)) (leads_on w vs f found.0 g j found.1 leads reads)))
-        ∙ sym (one_down apply w.jobs f k j e)
+        ∙ by_this b w v f (Some j) e
+        ∙ same_made b w.jobs v (value_within b w.jobs k) f j (λ g reads. rest g found.0 (among_below (length w.files) g (inputs_of j) over.inputs reads) (omega (arith, less, small)) (leads_on w vs f found.0 g j found.1 leads reads))
+        ∙ sym (one_down b w.jobs f k j e)
 
-pub alone : (apply : Apply) (w : Workflow) (v : ℕ → Option (List ℕ)) → IsWellFormed w → IsSound w → IsValuation apply w v → (f : ℕ) → f < length w.files → v f ≡ value apply w f
-alone apply w v formed sound fit f h =
+pub alone : (b : Basis) (w : Workflow) (v : ℕ → Option (List ℕ)) → IsWellFormed w → IsSound w → IsValuation b w v → (f : ℕ) → f < length w.files → v f ≡ value b w f
+alone b w v formed sound fit f h =
     let none : LeadsTo w [] f = λ a q made g e. absurd (let t : false ≡ true = e in cc) in
-    agrees apply w v formed sound fit (length w.jobs) [] f h (fresh_small (length w.jobs) []) none
+    agrees b w v formed sound fit (length w.jobs) [] f h (fresh_small (length w.jobs) []) none

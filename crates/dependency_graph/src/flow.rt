@@ -7,7 +7,6 @@ ghost use Rattle.workflow_core.specs.WellFormed.{IsWellFormed};
 ghost use Rattle.digraph.specs.Adjacency.{has};
 ghost use Rattle.dependency_graph.specs.Edges.{is_among, makers, read_by};
 ghost use Rattle.dependency_graph.specs.Graph.{Links, IsGraphOf, numbers};
-ghost use Rattle.dependency_graph.specs.Value.{AllMade};
 ghost use Rattle.dependency_graph.specs.Flow.{FlowsAlong};
 
 /// In a graph's order, who makes an input of a job comes before it.
@@ -16,7 +15,7 @@ pub fn makers_come_before()
         → (f p : ℕ) → is_among f (read_by w a.0) ≡ true → is_among p (makers w f) ≡ true → has p (numbers (take i g.ordered)) ≡ true }
 {}
 
-/// Where each file is made, values flow along a graph's order.
+/// Values flow along a graph's order.
 pub fn values_flow_in_order()
-    ensures { (w : Workflow) (g : Links) → IsWellFormed w → AllMade w → IsGraphOf w g → FlowsAlong w g.ordered }
+    ensures { (w : Workflow) (g : Links) → IsWellFormed w → IsGraphOf w g → FlowsAlong w g.ordered }
 {}

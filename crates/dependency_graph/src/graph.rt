@@ -1,13 +1,11 @@
 //! The graph of a workflow.
 
-ghost use Rattle.std.specs.Prelude.{◌≡◌, ◌<◌, ℕ, true, false, length, map, is_some, IfOk};
-ghost use Rattle.std.specs.List.{list_all};
+ghost use Rattle.std.specs.Prelude.{◌≡◌, ◌<◌, ℕ, length, map, is_some, IfOk};
 ghost use Rattle.workflow_core.specs.declared.workflow.Workflow.{Workflow};
 ghost use Rattle.digraph.specs.Adjacency.{lists_of, AreNeighbours};
 ghost use Rattle.digraph.specs.Digraph.{count, edge};
 ghost use Rattle.dependency_graph.specs.Edges.{producer};
 ghost use Rattle.dependency_graph.specs.Graph.{numbers, job_lists, jobs_at, made_at, IsGraphOf};
-ghost use Rattle.dependency_graph.specs.Value.{AllMade};
 
 use digraph::Digraph;
 use outside::{FileId, JobId, Memory};
@@ -56,12 +54,12 @@ impl Graph {
         self.producers[file.0 as usize]
     }
 
-    /// Whether each file of the graph's workflow has a producer.
-    pub fn is_made(&self) -> bool
-        ensures made { (w : Workflow) → IsGraphOf w self.now → result ≡ true → AllMade w }
-        ensures unmade { (w : Workflow) → IsGraphOf w self.now → result ≡ false → (f : ℕ) × (f < length w.files) × (is_some (producer w.jobs f) ≡ false) }
+    /// Whether a job makes the file.
+    pub fn is_made(&self, file: FileId) -> bool
+        requires { file.0 < length self.now.producers }
+        ensures { (w : Workflow) → IsGraphOf w self.now → result ≡ is_some (producer w.jobs file.0) }
     {
-        are_known(&self.producers)
+        self.producer(file).is_some()
     }
 
     /// Every job once, each after its parents.
@@ -70,12 +68,6 @@ impl Graph {
     {
         &self.ordered
     }
-}
-
-fn are_known(producers: &[Option<JobId>]) -> bool
-    ensures { result ≡ list_all (λ o. is_some o) producers.now }
-{
-    producers.iter().all(|producer| producer.is_some())
 }
 
 fn job_ids(alloc: Global, nodes: &[u32]) -> Result<Vec<JobId>, Memory>

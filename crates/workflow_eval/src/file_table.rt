@@ -1,6 +1,6 @@
 //! A table with a place for each file, filled job by job.
 
-ghost use Rattle.std.specs.Prelude.{◌≡◌, ◌<◌, Option, Some, None, length, replicate, IfOk, IsSome, All};
+ghost use Rattle.std.specs.Prelude.{◌≡◌, ◌<◌, Option, Some, length, IfOk, IsSome, All};
 ghost use Rattle.dependency_graph.specs.Value.{all_of};
 ghost use Rattle.workflow_core.specs.WellFormed.{inputs_of, outputs_of};
 ghost use Rattle.workflow_eval.specs.FileTable.{looked_up, placed, IsLookedUp};
@@ -9,13 +9,22 @@ use outside::{Blob, Memory};
 use std::alloc::Global;
 use workflow_core::Job;
 
-/// A table with nothing at each place.
-pub fn empty(alloc: Global, files: usize) -> Result<Vec<Option<Blob>>, Memory>
-    ensures { IfOk result (λ table. table.items ≡ replicate files None) }
+fn copy_of(alloc: Global, base: &Option<Blob>) -> Result<Option<Blob>, Memory>
+    ensures { IfOk result (λ b. b ≡ base.now) }
+{
+    match base {
+        Some(blob) => Ok(Some(Blob::copy_of(alloc, blob.as_slice())?)),
+        None => Ok(None),
+    }
+}
+
+/// A table with each base at its place.
+pub fn table_of(alloc: Global, base: &[Option<Blob>]) -> Result<Vec<Option<Blob>>, Memory>
+    ensures { IfOk result (λ table. table.items ≡ base.now) }
 {
     let mut table = Vec::new(alloc);
-    for _ in 0..files {
-        table.push(None)?;
+    for bytes in base {
+        table.push(copy_of(alloc, bytes)?)?;
     }
     Ok(table)
 }

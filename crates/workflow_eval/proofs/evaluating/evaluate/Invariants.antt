@@ -1,4 +1,5 @@
 use Rattle.std.proofs.Common.{◌≡◌, ◌≤◌, length}
+use Rattle.dependency_graph.specs.Value.{basis}
 use Rattle.workflow_eval.proofs.JobLemmas.{Evaluated}
 use Rattle.workflow_eval.proofs.EvaluatingLemmas.{NoneBefore}
 use Rattle.workflow_eval.proofs.evaluating.evaluate.Given as goal
@@ -6,6 +7,6 @@ use Rattle.workflow_eval.proofs.evaluating.evaluate.Given as goal
 abbrev pub invariant-loop-number : goal.invariant-loop-number
 invariant-loop-number g l =
     (length l.table.items ≡ length l.workflow.files)
-    × Evaluated g.T.Tool.apply l.workflow l.graph.ordered l.number-index l.table.items
-    × NoneBefore g.T.Tool.apply l.workflow l.graph.ordered l.number-index
+    × Evaluated (basis g.T.Tool.apply l.tools l.base) l.workflow l.graph.ordered l.number-index l.table.items
+    × NoneBefore (basis g.T.Tool.apply l.tools l.base) l.workflow l.graph.ordered l.number-index
     × (g.T.Tool.faults l.initial.tool ≤ g.T.Tool.faults l.tool)
