@@ -5,3 +5,4 @@ pub mod Root
 pub mod Joining
 pub mod Reader
 pub mod Merged
+pub mod Lookup

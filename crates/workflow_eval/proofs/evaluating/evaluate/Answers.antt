@@ -1,4 +1,5 @@
-use Rattle.std.proofs.Common.{◌≡◌, arith, ap, length, ◌∙◌}
+use Rattle.std.proofs.Common.{◌≡◌, [], arith, ap, length, ◌∙◌}
+use Rattle.std.proofs.lemmas.List.{get_or_default}
 use Rattle.std.proofs.lemmas.Result.{err_from_is_err_and}
 use Rattle.workflow_core.specs.WellFormed.{outputs_of}
 use Rattle.dependency_graph.specs.Value.{basis}
@@ -32,7 +33,8 @@ returns-in_err-outputs-clause-answer g c =
     let looked = rw c.deref.ensures.value at c.in_ok-inputs.ensures in
     let made = made_of (basis g.T.Tool.apply c.args.tools.now c.args.base.now) c.args.workflow.now c.args.graph.now.ordered c.loop-number.number-index _ c.index-jobs-number.result c.requires.well_formed flow here _ c.loop-number.invariant.1 _ looked in
     let p = err_from_is_err_and c.from_residual-in_err-outputs.result c.from_residual-in_err-outputs.ensures.1 in
-    let fault = rw c.deref-in-loop-number.ensures.value at c.in_err-outputs.ensures.fault in
+    let named = c.index-tools-number.is ∙ get_or_default c.args.tools.now _ _ [] (omega (arith, here.number.below, c.requires.tools)) in
+    let fault = rw named at (rw c.deref-in-loop-number.ensures.value at c.in_err-outputs.ensures.fault) in
     rw (p.1, p.2) (ends_with (basis g.T.Tool.apply c.args.tools.now c.args.base.now) c.args.workflow.now c.args.graph.now.ordered c.loop-number.number-index _ _ _ _ c.index-jobs-number.result here c.loop-number.invariant.2 c.loop-number.invariant.3 _ made c.in_err-outputs.field-0.0 fault)
 
 pub returns-in_err-outputs-clause-reached : goal.returns-in_err-outputs-clause-reached
@@ -52,7 +54,8 @@ loop-number-preserved g c =
     let flow = c.values_flow_in_order.ensures c.args.workflow.now c.args.graph.now c.requires.well_formed c.requires.graph in
     let here = job_at c.args.workflow.now c.args.graph.now.ordered _ _ _ _ _ _ c.ordered-number-items.ensures c.as_slice-jobs.ensures c.requires.graph.in_range c.loop-number-test.true c.index-jobs-number.is in
     let looked = rw c.deref.ensures.value at c.in_ok-inputs.ensures in
-    let ran = rw c.deref-in-loop-number.ensures.value at c.in_ok-outputs.ensures.ok in
+    let named = c.index-tools-number.is ∙ get_or_default c.args.tools.now _ _ [] (omega (arith, here.number.below, c.requires.tools)) in
+    let ran = rw named at (rw c.deref-in-loop-number.ensures.value at c.in_ok-outputs.ensures.ok) in
     let made = made_of (basis g.T.Tool.apply c.args.tools.now c.args.base.now) c.args.workflow.now c.args.graph.now.ordered c.loop-number.number-index _ c.index-jobs-number.result c.requires.well_formed flow here _ c.loop-number.invariant.1 _ looked in
     let kept = c.loop-number.invariant in
     rw c.place.ensures (
