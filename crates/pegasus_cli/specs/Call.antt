@@ -6,18 +6,18 @@ use Rattle.outside.specs.FileMap.{Files}
 use Rattle.workflow_core.specs.View.{view}
 use Rattle.workflow_core.specs.declared.workflow.Workflow.{Workflow}
 use Rattle.dependency_graph.specs.Graph.{IsSound}
-use Rattle.planner.specs.Course.{IsSurvey, SurveyEntry, surveyed}
+use Rattle.planner.specs.Course.{SurveyEntry, surveyed}
 use Rattle.pegasus_cli.specs.declared.commands.Command.{Command}
 use Rattle.pegasus_cli.specs.declared.course.Requested.{Requested}
 use Rattle.pegasus_cli.specs.declared.early.Early.{Early}
 use Rattle.pegasus_cli.specs.declared.outcome.Outcome.{Outcome}
 use Rattle.pegasus_cli.specs.declared.outcome.Outcome.TheVariants as outcomes
-use Rattle.planner.specs.declared.inputs.Survey.{Survey}
+use Rattle.pegasus_cli.specs.declared.survey.Surveyed.{Surveyed}
 use Rattle.pegasus_cli.specs.Commands.{spec_of}
 use Rattle.pegasus_cli.specs.Course.{documents, read_from}
 use Rattle.pegasus_cli.specs.Moments.{Call, Output}
 use Rattle.pegasus_cli.specs.Outcome.{line_of, outcome_of}
-use Rattle.pegasus_cli.specs.Survey.{GoesOn, Stops}
+use Rattle.pegasus_cli.specs.Survey.{GoesOn, IsSurveyed, Stops}
 use Rattle.pegasus_cli.specs.Words.{command as command_of}
 
 -- The words are no command: nothing was asked for, and nothing was done.
@@ -44,9 +44,9 @@ pub record HasWorked (c : Call) (text : List ℕ) (answer : Outcome) : Type 0 wh
   pub command : Command
   pub request : List ℕ
   pub is_command : command_of c.asked.words ≡ Some (command, request)
-  pub survey : Survey
-  pub goes_on : GoesOn request c.asked.before c.asked.after survey
-  pub works : (spec_of command).Works c.work survey text answer
+  pub surveyed : Surveyed
+  pub goes_on : GoesOn request c.asked.before c.asked.after surveyed
+  pub works : (spec_of command).Works c.work surveyed text answer
 
 -- What was written: the text and the answer's line; a prefix of them where the sink failed; nothing at want of memory.
 abbrev pub Ends : Output → List ℕ → Outcome → Outcome → Type 0
@@ -73,7 +73,7 @@ pub record MayFinish (c : Call) : Type 0 where
   pub said : SurveyEntry
   pub says : surveyed requested.request requested.documents ≡ Ok said
   pub sound : (w : Workflow) → view w ≡ said.workflow → IsSound w
-  pub can_finish : (s : Survey) → IsSurvey requested.request requested.documents s → (spec_of command).CanFinish c.work s
+  pub can_finish : (s : Surveyed) → IsSurveyed requested s → (spec_of command).CanFinish c.work s
 
 abbrev pub IsDoneOrMemory : Outcome → Type 0
 IsDoneOrMemory outcomes.Done = Unit {0}

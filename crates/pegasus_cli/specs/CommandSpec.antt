@@ -1,12 +1,12 @@
 -- What the contract of a command says.
 use Rattle.std.specs.Prelude.{ℕ, List}
 use Rattle.pegasus_cli.specs.declared.outcome.Outcome.{Outcome}
-use Rattle.planner.specs.declared.inputs.Survey.{Survey}
+use Rattle.pegasus_cli.specs.declared.survey.Surveyed.{Surveyed}
 use Rattle.pegasus_cli.specs.Moments.{Work}
 
 -- Each command states one, in its own file.
 pub record CommandSpec : Type 1 where
   -- when its work gives this answer, and what it leaves at the host, at the tool and in the text
-  pub Works : Work → Survey → List ℕ → Outcome → Type 0
+  pub Works : Work → Surveyed → List ℕ → Outcome → Type 0
   -- where nothing but a fault that is counted, or want of memory, keeps it from Done
-  pub CanFinish : Work → Survey → Type 0
+  pub CanFinish : Work → Surveyed → Type 0

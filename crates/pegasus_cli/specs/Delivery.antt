@@ -1,20 +1,20 @@
 -- What is delivered, and the lines that say so.
 use Rattle.std.specs.Prelude.{◌≡◌, ℕ, ◌++◌, Bool, List, [], ◌∷◌, codes, length, slice_index_or, slice_set, option_map, replicate, true, false, if◌then◌else◌, Option, Some, Result, Ok, Err}
 use Rattle.std.specs.Fmt.{decimal}
+use Rattle.std.specs.List.{flat_map}
 use Rattle.hex.specs.Hex.{encode_lower}
 use Rattle.sha2.specs.Sha256.{sha256}
 use Rattle.outside.specs.Counts.{Rose}
 use Rattle.outside.specs.Host.{delivering}
 use Rattle.outside.specs.Printed.{printed_name}
-use Rattle.outside.specs.Tool.{Apply}
 use Rattle.outside.specs.declared.counts.Counts.{Counts}
 use Rattle.outside.specs.declared.host.HostFault.{HostFault}
-use Rattle.outside.specs.declared.host.HostFault.TheVariants.{Failed, Memory}
+use Rattle.outside.specs.declared.host.HostFault.TheVariants.{Absent, Failed, Over, Memory}
 use Rattle.outside.specs.declared.store.Store.{Store}
 use Rattle.workflow_core.specs.declared.workflow.Workflow.{Workflow}
 use Rattle.workflow_core.specs.declared.workflow.Job.{Job}
 use Rattle.workflow_core.specs.declared.workflow.Output.{Output}
-use Rattle.dependency_graph.specs.Value.{value}
+use Rattle.dependency_graph.specs.Value.{Basis, value}
 
 -- a file's name and its bytes
 pub record Delivery : Type 0 where
@@ -22,19 +22,25 @@ pub record Delivery : Type 0 where
   pub bytes : List ℕ
 
 -- for each of the files its name and its value
-abbrev pub AreDeliveries : Apply → Workflow → List ℕ → List Delivery → Type 0
-AreDeliveries apply w [] [] = Unit {0}
-AreDeliveries apply w (f ∷ fs) (d ∷ ds) = (d.name ≡ slice_index_or w.files f []) × (value apply w f ≡ Some d.bytes) × AreDeliveries apply w fs ds
-AreDeliveries apply w _ _ = ⊥
+abbrev pub AreDeliveries : Basis → Workflow → List ℕ → List Delivery → Type 0
+AreDeliveries on w [] [] = Unit {0}
+AreDeliveries on w (f ∷ fs) (d ∷ ds) = (d.name ≡ slice_index_or w.files f []) × (value on w f ≡ Some d.bytes) × AreDeliveries on w fs ds
+AreDeliveries on w _ _ = ⊥
 
 -- the store with each delivery made
 abbrev pub delivering_all : List Delivery → Store → Store
 delivering_all [] s = s
 delivering_all (d ∷ ds) s = delivering_all ds (delivering d.name d.bytes s)
 
--- a delivery's line: its name, its length and the SHA-256 of its bytes
+-- a file's line: a word, its name, its length and the SHA-256 of its bytes
+abbrev pub file_line : List ℕ → Delivery → List ℕ
+file_line word d = word ++ codes " " ++ printed_name d.name ++ codes " " ++ decimal (length d.bytes) ++ codes " " ++ encode_lower (sha256 d.bytes) ++ codes "\n"
+
 abbrev pub delivered_line : Delivery → List ℕ
-delivered_line d = codes "delivered " ++ printed_name d.name ++ codes " " ++ decimal (length d.bytes) ++ codes " " ++ encode_lower (sha256 d.bytes) ++ codes "\n"
+delivered_line d = file_line (codes "delivered") d
+
+abbrev pub value_lines : List Delivery → List ℕ
+value_lines ds = flat_map (file_line (codes "value")) ds
 
 abbrev pub delivered_lines : List Delivery → List ℕ
 delivered_lines [] = []

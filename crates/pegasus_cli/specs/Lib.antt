@@ -6,6 +6,10 @@ pub mod Moments
 pub mod Words
 pub mod Course
 pub mod Survey
+pub mod Evaluation
+pub mod Sources
+pub mod JobTools
+pub mod Bases
 pub mod Delivery
 pub mod CheckText
 -- The lines and the status of an outcome.

@@ -1,5 +1,5 @@
 -- What the objects of a call show before and after it.
-use Rattle.std.specs.Prelude.{ℕ, List, Option}
+use Rattle.std.specs.Prelude.{ℕ, Bool, List, Option}
 use Rattle.outside.specs.FileMap.{Files}
 use Rattle.outside.specs.Tool.{Apply}
 use Rattle.outside.specs.declared.counts.Counts.{Counts}
@@ -30,9 +30,10 @@ pub record Asked : Type 0 where
   pub before : DocsMoment
   pub after : DocsMoment
 
--- what the work meets: what the tool makes, the host and the tool before and after
+-- what the work meets: what the tool makes and knows, the host and the tool before and after
 pub record Work : Type 0 where
   pub apply : Apply
+  pub known : List ℕ → Bool
   pub before : WorkMoment
   pub after : WorkMoment
 
@@ -60,8 +61,8 @@ sink_moment g k = record { written = g.written k; faults = g.faults k }
 abbrev pub asking : List (List ℕ) → DocsMoment → DocsMoment → Asked
 asking words before after = record { words = words; before = before; after = after }
 
-abbrev pub working : Apply → WorkMoment → WorkMoment → Work
-working apply before after = record { apply = apply; before = before; after = after }
+abbrev pub working : Apply → (List ℕ → Bool) → WorkMoment → WorkMoment → Work
+working apply known before after = record { apply = apply; known = known; before = before; after = after }
 
 abbrev pub writing : SinkMoment → SinkMoment → Output
 writing before after = record { before = before; after = after }

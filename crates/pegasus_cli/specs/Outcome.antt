@@ -1,12 +1,12 @@
 -- The line of an outcome, and its status.
-use Rattle.std.specs.Prelude.{ℕ, ◌++◌, List, [], codes}
+use Rattle.std.specs.Prelude.{ℕ, ◌++◌, List, [], codes, Result, Ok, Err, Vec}
+use Rattle.std.specs.declared.alloc.Global.{Global}
 use Rattle.outside.specs.Printed.{printed_name}
 use Rattle.pegasus_cli.specs.declared.early.Early.{Early}
 use Rattle.pegasus_cli.specs.declared.early.Early.TheVariants as early
 use Rattle.pegasus_cli.specs.declared.outcome.Outcome.{Outcome}
-use Rattle.pegasus_cli.specs.declared.outcome.Outcome.TheVariants.{Done, Memory, Usage, DocAbsent, DocTooLong, DocFailed, Refused, Exceeds, NotBuilt, Failed, SinkFailed}
+use Rattle.pegasus_cli.specs.declared.outcome.Outcome.TheVariants.{Done, Memory, Usage, DocAbsent, DocTooLong, DocFailed, Refused, Exceeds, Failed, SinkFailed}
 use Rattle.outside.specs.declared.numbers.TaskId.{TaskId}
-use Rattle.planner.specs.Document.{document_word}
 use Rattle.planner.specs.Refused.{and_name, and_number, refused_line}
 use Rattle.pegasus_cli.specs.RunFault.{failed_line}
 
@@ -23,7 +23,6 @@ line_of (DocTooLong name limit) = codes "document too long " ++ printed_name nam
 line_of (DocFailed name) = codes "document failed " ++ printed_name name ++ codes "\n"
 line_of (Refused fault) = refused_line fault
 line_of (Exceeds site task needed bound) = exceeds_line site task needed bound
-line_of (NotBuilt which) = codes "not built " ++ document_word which ++ codes "\n"
 line_of (Failed fault) = failed_line fault
 line_of SinkFailed = []
 
@@ -39,7 +38,6 @@ status_of (Refused fault) = 4
 status_of (Exceeds site task needed bound) = 5
 status_of (Failed fault) = 6
 status_of SinkFailed = 7
-status_of (NotBuilt which) = 9
 
 -- an early answer as an outcome
 abbrev pub outcome_of : Early → Outcome
@@ -49,3 +47,13 @@ outcome_of (early.DocTooLong name limit) = DocTooLong name limit
 outcome_of (early.DocFailed name) = DocFailed name
 outcome_of (early.Refused fault) = Refused fault
 outcome_of (early.Exceeds site task needed bound) = Exceeds site task needed bound
+
+-- memory ran out, or this holds
+abbrev pub UnlessMemory : {A : Type 0} → Result A Outcome → Type 0 → Type 0
+UnlessMemory (Err Memory) P = Unit {0}
+UnlessMemory _ P = P
+
+-- an answer with a vector, as one with the vector's list
+abbrev pub items_of : {X : Type 0} → Result (Vec X Global) Outcome → Result (List X) Outcome
+items_of (Ok v) = Ok v.items
+items_of (Err answer) = Err answer

@@ -1,11 +1,15 @@
 -- The line of a failed run.
 use Rattle.std.specs.Prelude.{ℕ, ◌++◌, List, codes, Some, None}
 use Rattle.std.specs.Fmt.{decimal}
+use Rattle.hex.specs.Hex.{encode_lower}
 use Rattle.outside.specs.Printed.{printed_name}
 use Rattle.pegasus_cli.specs.declared.run_fault.RunFault.{RunFault}
-use Rattle.pegasus_cli.specs.declared.run_fault.RunFault.TheVariants.{Declined, ToolFailed, HostFailed}
+use Rattle.pegasus_cli.specs.declared.run_fault.RunFault.TheVariants.{ReplicaAbsent, ReplicaTooLong, ChecksumDiffers, Declined, ToolFailed, HostFailed}
 
 abbrev pub failed_line : RunFault → List ℕ
+failed_line (ReplicaAbsent lfn pfn) = codes "failed absent " ++ printed_name lfn ++ codes " " ++ printed_name pfn ++ codes "\n"
+failed_line (ReplicaTooLong lfn limit n) = codes "failed replica " ++ printed_name lfn ++ codes " " ++ decimal limit ++ codes " " ++ decimal n ++ codes "\n"
+failed_line (ChecksumDiffers lfn wanted got) = codes "failed checksum " ++ printed_name lfn ++ codes " " ++ encode_lower wanted ++ codes " " ++ encode_lower got ++ codes "\n"
 failed_line (Declined id) = codes "failed declined " ++ printed_name id ++ codes "\n"
 failed_line (ToolFailed id) = codes "failed tool " ++ printed_name id ++ codes "\n"
 failed_line (HostFailed None) = codes "failed host -\n"

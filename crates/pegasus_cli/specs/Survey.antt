@@ -1,7 +1,7 @@
 -- When the documents end a call, and when it goes on.
 use Rattle.std.specs.Prelude.{◌≡◌, ◌⊎◌, ℕ, List, Result, Ok, Err}
 use Rattle.planner.specs.Course.{IsSurvey, Refuses}
-use Rattle.planner.specs.declared.inputs.Survey.{Survey}
+use Rattle.pegasus_cli.specs.declared.survey.Surveyed.{Surveyed}
 use Rattle.planner.specs.declared.plan_fault.PlanFault.{PlanFault}
 use Rattle.pegasus_cli.specs.declared.course.Requested.{Requested}
 use Rattle.pegasus_cli.specs.declared.early.Early.{Early}
@@ -20,12 +20,17 @@ pub record IsRefused (name : List ℕ) (before after : DocsMoment) (e : Early) :
 abbrev pub Stops : List ℕ → DocsMoment → DocsMoment → Early → Type 0
 Stops name before after e = IsStep (documents name) before after (Err e) ⊎ IsRefused name before after e
 
--- The call goes on with this survey of its documents.
-pub record GoesOn (name : List ℕ) (before after : DocsMoment) (s : Survey) : Type 0 where
+-- This is a call's request, with a survey of its documents.
+pub record IsSurveyed (r : Requested) (s : Surveyed) : Type 0 where
+  pub request : s.request ≡ r.request
+  pub survey : IsSurvey r.request r.documents s.survey
+
+-- The call goes on with its request and a survey of its documents.
+pub record GoesOn (name : List ℕ) (before after : DocsMoment) (s : Surveyed) : Type 0 where
   pub requested : Requested
   pub came : IsStep (documents name) before after (Ok requested)
-  pub survey : IsSurvey requested.request requested.documents s
+  pub surveyed : IsSurveyed requested s
 
-abbrev pub Surveys : List ℕ → DocsMoment → DocsMoment → Result Survey Early → Type 0
+abbrev pub Surveys : List ℕ → DocsMoment → DocsMoment → Result Surveyed Early → Type 0
 Surveys name before after (Ok s) = GoesOn name before after s
 Surveys name before after (Err e) = Stops name before after e

@@ -47,7 +47,7 @@ pub fn quick<D: Docs, K: Sink, H: Host, T: Tool>(
     tool: T,
 ) -> (Outcome, H, T)
     ensures { let asked = asking (list_map string_bytes words.now) (docs_moment D.Docs docs.old) (docs_moment D.Docs docs.new) in
-        let work = working T.apply (work_moment H.Host host (T.faults tool)) (work_moment H.Host result.1 (T.faults result.2)) in
+        let work = working T.apply T.known (work_moment H.Host host (T.faults tool)) (work_moment H.Host result.1 (T.faults result.2)) in
         let output = writing (sink_moment K.Sink out.old) (sink_moment K.Sink out.new) in
         IsAnswered (call asked work output) result.0 }
 {
@@ -57,14 +57,14 @@ pub fn quick<D: Docs, K: Sink, H: Host, T: Tool>(
         let outcome = finish(alloc, out, Vec::new(alloc), Outcome::Usage);
         return (outcome, host, tool);
     };
-    let survey = match read_survey(alloc, docs, request) {
-        Ok(survey) => survey,
+    let surveyed = match read_survey(alloc, docs, request) {
+        Ok(surveyed) => surveyed,
         Err(early) => {
             let outcome = finish(alloc, out, Vec::new(alloc), of_early(early));
             return (outcome, host, tool);
         }
     };
-    let worked = work(alloc, command, &survey, &mut host, &mut tool);
+    let worked = work(alloc, command, &surveyed, &mut host, &mut tool);
     let outcome = finish(alloc, out, worked.text, worked.answer);
     (outcome, host, tool)
 }

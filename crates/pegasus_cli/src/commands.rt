@@ -1,6 +1,6 @@
 //! The commands.
 
-ghost use Rattle.std.specs.Prelude.{◌≡◌};
+ghost use Rattle.std.specs.Prelude.{◌≡◌, []};
 ghost use Rattle.workflow_core.specs.WellFormed.{IsWellFormed};
 ghost use Rattle.dependency_graph.specs.Graph.{IsGraphOf};
 ghost use Rattle.pegasus_cli.specs.Call.{IsAnswer};
@@ -9,10 +9,11 @@ ghost use Rattle.pegasus_cli.specs.Moments.{work_moment, working};
 
 mod alone;
 mod check;
+mod eval;
 
 use crate::outcome::Outcome;
+use crate::survey::Surveyed;
 use outside::{Host, Tool};
-use planner::Survey;
 use std::alloc::Global;
 
 /// What is asked for.
@@ -20,6 +21,8 @@ use std::alloc::Global;
 pub enum Command {
     /// Reads the workflow and lists what isn't acted on.
     Check,
+    /// Evaluates the workflow and tells the requested files.
+    Eval,
     /// Runs the workflow's jobs one after the other.
     Alone,
 }
@@ -31,22 +34,34 @@ pub(crate) struct Worked {
     pub(crate) text: Vec<u8>,
 }
 
+/// An answer with no text before its line.
+fn at_once(alloc: Global, answer: Outcome) -> Worked
+    ensures answer { result.answer ≡ answer }
+    ensures text { result.text.items ≡ [] }
+{
+    Worked {
+        answer,
+        text: Vec::new(alloc),
+    }
+}
+
 /// The work of a command over what the documents gave.
 pub(crate) fn work<H: Host, T: Tool>(
     alloc: Global,
     command: Command,
-    survey: &Survey,
+    surveyed: &Surveyed,
     host: &mut H,
     tool: &mut T,
 ) -> Worked
-    requires well_formed { IsWellFormed survey.now.workflow }
-    requires graph { IsGraphOf survey.now.workflow survey.now.graph }
-    ensures works { (spec_of command).Works (working T.apply (work_moment H.Host host.old (T.faults tool.old)) (work_moment H.Host host.new (T.faults tool.new)))
-        survey.now result.text.items result.answer }
+    requires well_formed { IsWellFormed surveyed.now.survey.workflow }
+    requires graph { IsGraphOf surveyed.now.survey.workflow surveyed.now.survey.graph }
+    ensures works { (spec_of command).Works (working T.apply T.known (work_moment H.Host host.old (T.faults tool.old)) (work_moment H.Host host.new (T.faults tool.new)))
+        surveyed.now result.text.items result.answer }
     ensures answer { IsAnswer result.answer }
 {
     match command {
-        Command::Check => check::work(alloc, survey, host, tool),
-        Command::Alone => alone::work(alloc, survey, host, tool),
+        Command::Check => check::work(alloc, surveyed, host, tool),
+        Command::Eval => eval::work(alloc, surveyed, host, tool),
+        Command::Alone => alone::work(alloc, surveyed, host, tool),
     }
 }

@@ -2,7 +2,7 @@
 
 ghost use Rattle.std.specs.Prelude.{◌≡◌, ◌++◌, OnErr, OnOk, length, replicate, false, IfOk};
 ghost use Rattle.outside.specs.Counts.{IsLater};
-ghost use Rattle.pegasus_cli.specs.Delivery.{DeliversEach, DeliversOne, chosen, delivered_line, marked, marked_by, picked};
+ghost use Rattle.pegasus_cli.specs.Delivery.{DeliversEach, DeliversOne, chosen, delivered_line, file_line, marked, marked_by, picked, value_lines};
 
 use hex::encode;
 use outside::{Blob, Host, HostFault, Memory, Text, Word, push_line};
@@ -32,21 +32,30 @@ fn requested_marks(alloc: Global, workflow: &Workflow) -> Result<Vec<bool>, Memo
     Ok(marks)
 }
 
-/// The line that tells a delivery.
-fn line_for(alloc: Global, name: &Text, bytes: &Blob) -> Result<Vec<u8>, Memory>
-    ensures { IfOk result (λ v. v.items ≡ delivered_line (record { name = name.now; bytes = bytes.now })) }
+/// Adds the line of a file, which begins with a word.
+fn push_file(
+    alloc: Global,
+    text: &mut Vec<u8>,
+    word: &str,
+    name: &Text,
+    bytes: &Blob,
+) -> Result<(), Memory>
+    ensures { OnOk result (text.new.items ≡ text.old.items ++ file_line word.now (record { name = name.now; bytes = bytes.now })) }
 {
     let digest = Sha256::digest(bytes.as_slice());
     let digits = encode(alloc, digest.as_slice())?;
     let name = Word::Name(name.as_bytes());
     let length = Word::Number(bytes.as_slice().len() as u64);
+    let digits = Word::Plain(digits.as_str());
+    push_line(alloc, text, word, &[name, length, digits])
+}
+
+/// The line that tells a delivery.
+fn line_for(alloc: Global, name: &Text, bytes: &Blob) -> Result<Vec<u8>, Memory>
+    ensures { IfOk result (λ v. v.items ≡ delivered_line (record { name = name.now; bytes = bytes.now })) }
+{
     let mut line = Vec::new(alloc);
-    push_line(
-        alloc,
-        &mut line,
-        "delivered",
-        &[name, length, Word::Plain(digits.as_str())],
-    )?;
+    push_file(alloc, &mut line, "delivered", name, bytes)?;
     Ok(line)
 }
 
@@ -125,4 +134,39 @@ pub(crate) fn deliver_requested<H: Host>(
 {
     let marks = requested_marks(alloc, workflow)?;
     deliver_marked(alloc, host, &marks, workflow.files.as_slice(), values, text)
+}
+
+/// Adds a line for each marked one of some named files, in order.
+fn push_values(
+    alloc: Global,
+    marks: &[bool],
+    names: &[Text],
+    values: &[Blob],
+    text: &mut Vec<u8>,
+) -> Result<(), Memory>
+    requires names { length marks.now ≡ length names.now }
+    requires values { length marks.now ≡ length values.now }
+    ensures { OnOk result (text.new.items ≡ text.old.items ++ value_lines (picked marks.now names.now values.now)) }
+{
+    for (i, marked) in marks.iter().enumerate() {
+        if *marked {
+            push_file(alloc, text, "value", &names[i], &values[i])?;
+        }
+    }
+    Ok(())
+}
+
+/// A line for each requested file of a workflow, by file number.
+pub(crate) fn value_text(
+    alloc: Global,
+    workflow: &Workflow,
+    values: &[Blob],
+) -> Result<Vec<u8>, Memory>
+    requires { length values.now ≡ length workflow.now.files }
+    ensures { IfOk result (λ text. text.items ≡ value_lines (chosen workflow.now values.now)) }
+{
+    let marks = requested_marks(alloc, workflow)?;
+    let mut text = Vec::new(alloc);
+    push_values(alloc, &marks, workflow.files.as_slice(), values, &mut text)?;
+    Ok(text)
 }

@@ -5,15 +5,19 @@
 //! crates below; begin with `specs/Call.antt`.
 #![tactic(auto)]
 
+mod bases;
 mod call;
 mod check_text;
 mod commands;
 mod course;
 mod delivery;
 mod early;
+mod evaluation;
+mod job_tools;
 mod law;
 mod outcome;
 mod run_fault;
+mod sources;
 mod survey;
 mod words;
 

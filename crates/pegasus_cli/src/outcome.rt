@@ -1,13 +1,14 @@
 //! How a call ends, its line and its status.
 
 ghost use Rattle.std.specs.Prelude.{◌≡◌, ◌++◌, OnOk};
+ghost use Rattle.pegasus_cli.specs.declared.outcome.Outcome.TheVariants as outcomes;
 ghost use Rattle.pegasus_cli.specs.Outcome.{exceeds_line, line_of, outcome_of};
 
 use crate::early::Early;
 use crate::run_fault::{RunFault, push_failed};
 use outside::{Memory, TaskId, Text, Word, push_line};
-use planner::{Document, PlanFault, push_refused};
-use std::alloc::Global;
+use planner::{PlanFault, push_refused};
+use std::alloc::{AllocFailed, Global};
 
 const USAGE: &str =
     "usage: pegasus check|plan|eval|alone REQ, run REQ --workers N, audit|stat REQ RECORD, rehearse N [--workers N]";
@@ -32,11 +33,25 @@ pub enum Outcome {
         needed: u64,
         bound: u64,
     },
-    /// The document has a form that isn't read yet.
-    NotBuilt(Document),
     Failed(RunFault),
     /// The output could not be written whole.
     SinkFailed,
+}
+
+impl From<Memory> for Outcome {
+    ghost from_gives = { λ _ e. e ≡ outcomes.Memory };
+
+    fn from(_e: Memory) -> Outcome {
+        Outcome::Memory
+    }
+}
+
+impl<T: Drop> From<AllocFailed<T>> for Outcome {
+    ghost from_gives = { λ _ e. e ≡ outcomes.Memory };
+
+    fn from(_e: AllocFailed<T>) -> Outcome {
+        Outcome::Memory
+    }
 }
 
 impl Outcome {
@@ -55,7 +70,6 @@ impl Outcome {
             Outcome::Exceeds { .. } => 5,
             Outcome::Failed(_) => 6,
             Outcome::SinkFailed => 7,
-            Outcome::NotBuilt(_) => 9,
         }
     }
 }
@@ -138,12 +152,6 @@ pub(crate) fn push_outcome(
             needed,
             bound,
         } => push_exceeds(alloc, text, site, *task, *needed, *bound),
-        Outcome::NotBuilt(which) => push_line(
-            alloc,
-            text,
-            "not built",
-            &[Word::Plain(which.word())],
-        ),
         Outcome::Failed(fault) => push_failed(alloc, text, fault),
     }
 }

@@ -8,20 +8,35 @@ ghost use Rattle.pegasus_cli.specs.Survey.{Surveys};
 use crate::course::{fetch_documents, of_plan_fault};
 use crate::early::Early;
 use outside::Docs;
+use plan_request::PlanRequest;
 use planner::{Survey, survey};
 use std::alloc::Global;
 
+/// A call's request, and what its documents say.
+#[derive(Drop)]
+pub struct Surveyed {
+    pub request: PlanRequest,
+    pub survey: Survey,
+}
+
 /// Fetches a call's documents and surveys them.
-pub(crate) fn read_survey<D: Docs>(alloc: Global, docs: &mut D, name: &str) -> Result<Survey, Early>
+pub(crate) fn read_survey<D: Docs>(
+    alloc: Global,
+    docs: &mut D,
+    name: &str,
+) -> Result<Surveyed, Early>
     ensures answer { Surveys name.now (docs_moment D.Docs docs.old) (docs_moment D.Docs docs.new) result }
-    ensures well_formed { IfOk result (λ s. IsWellFormed s.workflow) }
+    ensures well_formed { IfOk result (λ s. IsWellFormed s.survey.workflow) }
 {
     let requested = match fetch_documents(alloc, docs, name) {
         Ok(requested) => requested,
         Err(early) => return Err(early),
     };
     match survey(alloc, &requested.request, &requested.documents) {
-        Ok(survey) => Ok(survey),
+        Ok(survey) => Ok(Surveyed {
+            request: requested.request,
+            survey,
+        }),
         Err(fault) => Err(of_plan_fault(fault)),
     }
 }

@@ -3,6 +3,7 @@ use Rattle.std.specs.Prelude.{◌≡◌, ℕ, List}
 use Rattle.pegasus_cli.specs.declared.outcome.Outcome.{Outcome}
 use Rattle.pegasus_cli.specs.declared.outcome.Outcome.TheVariants as outcomes
 use Rattle.planner.specs.declared.inputs.Survey.{Survey}
+use Rattle.pegasus_cli.specs.declared.survey.Surveyed.{Surveyed}
 use Rattle.pegasus_cli.specs.CheckText.{check_lines}
 use Rattle.pegasus_cli.specs.CommandSpec.{CommandSpec}
 use Rattle.pegasus_cli.specs.Moments.{Work}
@@ -12,9 +13,9 @@ Says s text outcomes.Done = text ≡ check_lines s
 Says s text outcomes.Memory = Unit {0}
 Says s text _ = ⊥
 
-pub record Checks (w : Work) (s : Survey) (text : List ℕ) (answer : Outcome) : Type 0 where
+pub record Checks (w : Work) (s : Surveyed) (text : List ℕ) (answer : Outcome) : Type 0 where
   pub untouched : w.after ≡ w.before
-  pub says : Says s text answer
+  pub says : Says s.survey text answer
 
 abbrev pub check : CommandSpec
 check = record { Works = Checks; CanFinish = λ w s. Unit {0} }

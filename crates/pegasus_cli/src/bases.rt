@@ -1,0 +1,91 @@
+//! The bases of a workflow's files, read from their sources.
+
+ghost use Rattle.std.specs.Prelude.{◌≡◌, List, ℕ, Result};
+ghost use Rattle.outside.specs.Host.{Reads};
+ghost use Rattle.outside.specs.declared.host.HostFault.{HostFault as Fault};
+ghost use Rattle.pegasus_cli.specs.Bases.{ReadsBases, base_answer, base_limit, checked};
+ghost use Rattle.pegasus_cli.specs.Outcome.{UnlessMemory, items_of};
+
+use crate::outcome::Outcome;
+use crate::run_fault::RunFault;
+use crate::sources::Source;
+use outside::{Blob, Host, HostFault};
+use sha2::{Digest, Sha256};
+use std::alloc::Global;
+
+/// The longest base, in bytes.
+const BASE_LIMIT: u64 = 1 << 40;
+
+/// The bytes of a source, if they have the checksum that is registered.
+fn checked(alloc: Global, source: &Source, bytes: Blob) -> Result<Blob, Outcome>
+    ensures { UnlessMemory result (result ≡ checked source.now bytes source.now.checksum) }
+{
+    let Some(wanted) = source.checksum else {
+        return Ok(bytes);
+    };
+    let got = Sha256::digest(bytes.as_slice());
+    if got == wanted {
+        return Ok(bytes);
+    }
+    let lfn = source.lfn.copied(alloc)?;
+    Err(Outcome::Failed(RunFault::ChecksumDiffers(lfn, wanted, got)))
+}
+
+/// What the reading of a source answers.
+fn base_answer(
+    alloc: Global,
+    source: &Source,
+    read: Result<Blob, HostFault>,
+) -> Result<Blob, Outcome>
+    ensures { UnlessMemory result (result ≡ base_answer source.now read) }
+{
+    let fault = match read {
+        Ok(bytes) => return checked(alloc, source, bytes),
+        Err(fault) => fault,
+    };
+    let lfn = source.lfn.copied(alloc)?;
+    match fault {
+        HostFault::Absent => {
+            let pfn = source.pfn.copied(alloc)?;
+            Err(Outcome::Failed(RunFault::ReplicaAbsent(lfn, pfn)))
+        }
+        HostFault::Failed => Err(Outcome::Failed(RunFault::HostFailed(None))),
+        HostFault::Over(limit, length) => {
+            Err(Outcome::Failed(RunFault::ReplicaTooLong(lfn, limit, length)))
+        }
+        HostFault::Memory => Err(Outcome::Memory),
+    }
+}
+
+/// Reads the bytes of a source.
+fn read_base<H: Host>(alloc: Global, host: &mut H, source: &Source) -> Result<Blob, Outcome>
+    ensures answer { UnlessMemory result ((read : Result (List ℕ) Fault)
+        × Reads (H.told host.old) source.now.pfn base_limit (H.counts host.old) (H.counts host.new) read
+        × (result ≡ base_answer source.now read)) }
+    ensures told { H.told host.new ≡ H.told host.old }
+{
+    let read = host.read_replica(alloc, source.pfn.as_str(), BASE_LIMIT);
+    base_answer(alloc, source, read)
+}
+
+/// Reads the base of each file that has a source, by number, up to the first fault.
+pub(crate) fn read_bases<H: Host>(
+    alloc: Global,
+    host: &mut H,
+    sources: &[Option<Source>],
+) -> Result<Vec<Option<Blob>>, Outcome>
+    ensures answer { UnlessMemory result (ReadsBases (H.told host.old) sources.now (H.counts host.old) (H.counts host.new) (items_of result)) }
+    ensures told { H.told host.new ≡ H.told host.old }
+{
+    let mut bases = Vec::new(alloc);
+    for source in sources {
+        match source {
+            Some(source) => match read_base(alloc, host, source) {
+                Ok(bytes) => bases.push(Some(bytes))?,
+                Err(answer) => return Err(answer),
+            },
+            None => bases.push(None)?,
+        }
+    }
+    Ok(bases)
+}

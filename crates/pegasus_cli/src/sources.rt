@@ -1,0 +1,83 @@
+//! Where the bytes of the files that no job makes come from.
+
+ghost use Rattle.std.specs.Prelude.{◌≡◌, ◌<◌, length, option_map, IfOk};
+ghost use Rattle.dependency_graph.specs.Graph.{IsGraphOf};
+ghost use Rattle.pegasus_cli.specs.Outcome.{UnlessMemory, items_of};
+ghost use Rattle.pegasus_cli.specs.Sources.{registered, source_if_base, source_in, source_of, sources_of};
+
+use crate::outcome::Outcome;
+use outside::{FileId, Memory, Text};
+use planner::{PlanFault, Survey};
+use replica_catalog::{Replica, Replicas};
+use std::alloc::Global;
+
+/// The first place of a file that is registered, and the SHA-256 that is registered for it.
+#[derive(Debug, Drop)]
+pub struct Source {
+    pub lfn: Text,
+    pub pfn: Text,
+    pub checksum: Option<[u8; 32]>,
+}
+
+fn source_in(alloc: Global, lfn: &Text, entry: Option<&Replica>) -> Result<Option<Source>, Memory>
+    ensures { IfOk result (λ s. s ≡ source_in lfn.now (option_map (λ e. e.now) entry)) }
+{
+    let Some(entry) = entry else {
+        return Ok(None);
+    };
+    match entry.pfns.as_slice() {
+        [] => Ok(None),
+        [first, ..] => Ok(Some(Source {
+            lfn: lfn.copied(alloc)?,
+            pfn: first.pfn.copied(alloc)?,
+            checksum: entry.checksum,
+        })),
+    }
+}
+
+/// The source of a file that no job makes.
+fn registered(alloc: Global, replicas: &Replicas<'_>, lfn: &Text) -> Result<Option<Source>, Outcome>
+    ensures { UnlessMemory result (result ≡ registered lfn.now (source_of replicas.now lfn.now)) }
+{
+    match source_in(alloc, lfn, replicas.entry_of(lfn))? {
+        Some(source) => Ok(Some(source)),
+        None => Err(Outcome::Refused(PlanFault::NoReplica(lfn.copied(alloc)?))),
+    }
+}
+
+/// The source of a file, if no job makes it.
+fn source_if_base(
+    alloc: Global,
+    survey: &Survey,
+    replicas: &Replicas<'_>,
+    file: FileId,
+    lfn: &Text,
+) -> Result<Option<Source>, Outcome>
+    requires graph { IsGraphOf survey.now.workflow survey.now.graph }
+    requires below { file.0 < length survey.now.workflow.files }
+    requires replicas { replicas.now ≡ survey.now.replicas.entries }
+    ensures { UnlessMemory result (result ≡ source_if_base survey.now file.0 lfn.now) }
+{
+    if survey.graph.is_made(file) {
+        return Ok(None);
+    }
+    registered(alloc, replicas, lfn)
+}
+
+/// The source of each file that no job makes, by number. The first file without one is refused.
+#[tactic(auto, unfolding(crate::specs::Sources::sources_of))]
+pub(crate) fn sources_of(alloc: Global, survey: &Survey) -> Result<Vec<Option<Source>>, Outcome>
+    requires { IsGraphOf survey.now.workflow survey.now.graph }
+    ensures { UnlessMemory result (items_of result ≡ sources_of survey.now) }
+{
+    let replicas = Replicas::new(alloc, &survey.replicas)?;
+    let mut sources = Vec::new(alloc);
+    for (number, lfn) in survey.workflow.files.as_slice().iter().enumerate() {
+        let file = FileId(number as u32);
+        match source_if_base(alloc, survey, &replicas, file, lfn) {
+            Ok(source) => sources.push(source)?,
+            Err(answer) => return Err(answer),
+        }
+    }
+    Ok(sources)
+}
