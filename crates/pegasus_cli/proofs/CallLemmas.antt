@@ -16,7 +16,7 @@ use Rattle.dependency_graph.specs.Built.{AreTwoProducers}
 use Rattle.dependency_graph.specs.Graph.{IsSound}
 use Rattle.workflow_eval.specs.Evaluating.{first_undefined, made_by_number}
 use Rattle.plan_request.specs.declared.request.PlanRequest.{PlanRequest}
-use Rattle.planner.specs.Course.{GraphRefuses, IsSurvey, Refuses, SurveyEntry, surveyed}
+use Rattle.planner.specs.Course.{GraphRefuses, Refuses, SurveyEntry, surveyed}
 use Rattle.planner.specs.declared.plan_fault.PlanFault.{PlanFault}
 use Rattle.pegasus_cli.specs.declared.course.Requested.{Requested}
 use Rattle.pegasus_cli.specs.declared.commands.Command.{Command}
@@ -31,15 +31,18 @@ use Rattle.pegasus_cli.specs.declared.run_fault.RunFault.TheVariants.{Declined, 
 use Rattle.planner.specs.declared.inputs.Survey.{Survey}
 use Rattle.pegasus_cli.specs.Call.{Ends, HasWorked, IsAnswer, IsAnswered, IsDoneOrMemory, IsStopped, IsUsage, MayFinish, NoneRose}
 use Rattle.pegasus_cli.specs.Commands.{spec_of}
-use Rattle.pegasus_cli.specs.Commands.Alone.{AllDefined, Tells}
+use Rattle.pegasus_cli.specs.Commands.Alone.{Tells}
+use Rattle.pegasus_cli.specs.Commands.Eval.{Says as eval_says}
 use Rattle.pegasus_cli.specs.Commands.Check.{Says}
 use Rattle.pegasus_cli.specs.Course.{ButMemory, Gives, HasFailed, IsStep, documents, plan_answer, read_from}
 use Rattle.pegasus_cli.specs.Delivery.{Delivery}
 use Rattle.pegasus_cli.specs.Moments.{Call, DocsMoment, Output, Work}
 use Rattle.pegasus_cli.specs.Outcome.{line_of, outcome_of}
-use Rattle.pegasus_cli.specs.Survey.{GoesOn, Stops}
+use Rattle.pegasus_cli.specs.Survey.{GoesOn, IsSurveyed, Stops}
+use Rattle.pegasus_cli.specs.declared.survey.Surveyed.{Surveyed}
 use Rattle.pegasus_cli.specs.Words.{command as command_of}
 use Rattle.pegasus_cli.proofs.CourseLemmas.{result_again, told_gives}
+use Rattle.pegasus_cli.proofs.FinishLemmas.{alone_finishes, eval_finishes}
 
 pub ends_as : (o : Output) (text : List ℕ) (a : Outcome) → (a ≡ outcomes.Memory → ⊥) → IsAnswer a → Appends o.before.written o.after.written (text ++ line_of a) → Ends o text a a
 ends_as o text outcomes.Memory m i h = absurd (m refl)
@@ -146,67 +149,45 @@ stopped_answered c k request e outcome text is stops untouched no_text ends = re
       ends_done c.output text (outcome_of e) outcome ends (of_memory e (stops_short c e may still mine)) still.sink;
 }
 
--- one step of the search for the first job that makes nothing
-undefined_step : (there : Bool) (rest : Option ℕ) (n place : ℕ) → cond there rest (Some n) ≡ Some place → (rest ≡ Some place) ⊎ ((there ≡ false) × (n ≡ place))
-undefined_step true rest n place h = inl h
-undefined_step false rest n place h = inr (refl, (let same : ◌≡◌ {A = Option ℕ} (Some n) (Some place) = h in cc))
-
--- the first job that makes nothing makes nothing
-undefined_there : (apply : Apply) (w : Workflow) (order : List JobId) (place : ℕ) → first_undefined apply w order ≡ Some place → is_some (made_by_number apply w place) ≡ false
-unfolding first_undefined
-undefined_there apply w [] place first = (let clash : ◌≡◌ {A = Option ℕ} None (Some place) = first in absurd cc)
-undefined_there apply w (j ∷ js) place first =
-    elim (undefined_step (is_some (made_by_number apply w j.0)) (first_undefined apply w js) j.0 place first) [
-      | inl h ↦ undefined_there apply w js place h
-      | inr h ↦ subst (λ (n : ℕ). is_some (made_by_number apply w n) ≡ false) h.1 h.0
-    ]
-
-not_both : (b : Bool) → b ≡ false → b ≡ true → ⊥
-not_both b i j = absurd cc
-
-alone_finishes : (w : Work) (s : Survey) (first rest : List Delivery) (a : Outcome) → Tells w s first rest a → AllDefined w s → (Rose w.before.counts.faults w.after.counts.faults → ⊥) → (Rose w.before.tool w.after.tool → ⊥) → IsDoneOrMemory a
-alone_finishes w s first rest outcomes.Done h can host tool = tt
-alone_finishes w s first rest outcomes.Memory h can host tool = tt
-alone_finishes w s first rest (outcomes.NotBuilt documents_named.Workflow) h can host tool = absurd (not_both _ h.0.none (can.made h.0.file h.0.within))
-alone_finishes w s first rest (outcomes.Failed (Declined id)) h can host tool = absurd (not_both _ (undefined_there w.apply s.workflow s.graph.ordered h.0.place h.0.first) (can.defined h.0.place h.0.within))
-alone_finishes w s first rest (outcomes.Failed (ToolFailed id)) h can host tool = absurd (tool h.0)
-alone_finishes w s first rest (outcomes.Failed (HostFailed task)) h can host tool = absurd (host h.0)
-alone_finishes w s first rest a h can host tool = absurd h
-
 check_finishes : (s : Survey) (text : List ℕ) (a : Outcome) → Says s text a → IsDoneOrMemory a
 check_finishes s text outcomes.Done h = tt
 check_finishes s text outcomes.Memory h = tt
 check_finishes s text a h = absurd h
 
-finishes : (k : Command) (w : Work) (s : Survey) (text : List ℕ) (a : Outcome) → (spec_of k).Works w s text a → (spec_of k).CanFinish w s → (Rose w.before.counts.faults w.after.counts.faults → ⊥) → (Rose w.before.tool w.after.tool → ⊥) → IsDoneOrMemory a
-finishes commands.Check w s text a works can host tool = check_finishes s text a works.says
+finishes : (k : Command) (w : Work) (s : Surveyed) (text : List ℕ) (a : Outcome) → (spec_of k).Works w s text a → (spec_of k).CanFinish w s → (Rose w.before.counts.faults w.after.counts.faults → ⊥) → (Rose w.before.tool w.after.tool → ⊥) → IsDoneOrMemory a
+finishes commands.Check w s text a works can host tool = check_finishes s.survey text a works.says
+finishes commands.Eval w s text a works can host tool = eval_finishes w s text a works.says can host tool
 finishes commands.Alone w s text a works can host tool = alone_finishes w s works.first works.rest a works.tells can host tool
 
 -- The command did its work.
-pub worked_answered : (c : Call) (k : Command) (request : List ℕ) (s : Survey) (answer outcome : Outcome) (text : List ℕ) → command_of c.asked.words ≡ Some (k, request) → GoesOn request c.asked.before c.asked.after s → (spec_of k).Works c.work s text answer
+pub worked_answered : (c : Call) (k : Command) (request : List ℕ) (s : Surveyed) (answer outcome : Outcome) (text : List ℕ) → command_of c.asked.words ≡ Some (k, request) → GoesOn request c.asked.before c.asked.after s → (spec_of k).Works c.work s text answer
     → Ends c.output text answer outcome → IsAnswered c outcome
 worked_answered c k request s answer outcome text is goes_on works ends = record {
   answer = answer;
   text = text;
-  came = inr (inr (record { command = k; request = request; is_command = is; survey = s; goes_on = goes_on; works = works }));
+  came = inr (inr (record { command = k; request = request; is_command = is; surveyed = s; goes_on = goes_on; works = works }));
   ends = ends;
   completes = λ may still.
       let same = same_command (command_of c.asked.words) (may.command, may.request) (k, request) may.is_command is in
       let mine = subst (λ (r : List ℕ). GoesOn r c.asked.before c.asked.after s) (ap (λ (x : Command × List ℕ). x.1) (sym same)) goes_on in
       let came = came_as mine.requested may.requested (told_step may.request c.asked.before c.asked.after may.files may.requested (Ok mine.requested) may.told may.reads still.docs mine.came) in
-      let survey = subst (λ (x : Requested). IsSurvey x.request x.documents s) came mine.survey in
-      let can = subst (λ (x : Command). (spec_of x).CanFinish c.work s) (ap (λ (x : Command × List ℕ). x.0) same) (may.can_finish s survey) in
+      let surveyed = subst (λ (x : Requested). IsSurveyed x s) came mine.surveyed in
+      let can = subst (λ (x : Command). (spec_of x).CanFinish c.work s) (ap (λ (x : Command × List ℕ). x.0) same) (may.can_finish s surveyed) in
       ends_done c.output text answer outcome ends (finishes k c.work s text answer works can still.host still.tool) still.sink;
 }
 
 check_is_no_usage : (s : Survey) (text : List ℕ) → Says s text outcomes.Usage → ⊥
 check_is_no_usage s text h = h
 
-alone_is_no_usage : (w : Work) (s : Survey) (first rest : List Delivery) → Tells w s first rest outcomes.Usage → ⊥
-alone_is_no_usage w s first rest h = h
+eval_is_no_usage : (w : Work) (s : Surveyed) (text : List ℕ) → eval_says w s text outcomes.Usage → ⊥
+eval_is_no_usage w s text h = h.0
 
-work_is_no_usage : (k : Command) (w : Work) (s : Survey) (text : List ℕ) → (spec_of k).Works w s text outcomes.Usage → ⊥
-work_is_no_usage commands.Check w s text h = check_is_no_usage s text h.says
+alone_is_no_usage : (w : Work) (s : Surveyed) (first rest : List Delivery) → Tells w s first rest outcomes.Usage → ⊥
+alone_is_no_usage w s first rest h = h.0
+
+work_is_no_usage : (k : Command) (w : Work) (s : Surveyed) (text : List ℕ) → (spec_of k).Works w s text outcomes.Usage → ⊥
+work_is_no_usage commands.Check w s text h = check_is_no_usage s.survey text h.says
+work_is_no_usage commands.Eval w s text h = eval_is_no_usage w s text h.says
 work_is_no_usage commands.Alone w s text h = alone_is_no_usage w s h.first h.rest h.tells
 
 early_is_no_usage : (e : Early) → outcomes.Usage ≡ outcome_of e → ⊥
@@ -224,7 +205,7 @@ usage_is_no_command c answered = came_so answered.came
     came_so : IsUsage c answered.text answered.answer ⊎ (IsStopped c answered.text answered.answer ⊎ HasWorked c answered.text answered.answer) → command_of c.asked.words ≡ None
     came_so (inl usage) = usage.no_command
     came_so (inr (inl stopped)) = absurd (early_is_no_usage stopped.early (answered.ends.0 ∙ stopped.answers))
-    came_so (inr (inr worked)) = absurd (work_is_no_usage worked.command c.work worked.survey answered.text (subst ((spec_of worked.command).Works c.work worked.survey answered.text) (sym answered.ends.0) worked.works))
+    came_so (inr (inr worked)) = absurd (work_is_no_usage worked.command c.work worked.surveyed answered.text (subst ((spec_of worked.command).Works c.work worked.surveyed answered.text) (sym answered.ends.0) worked.works))
 
 -- Where the words are no command, the answer is Usage.
 pub no_command_is_usage : (c : Call) (outcome : Outcome) → command_of c.asked.words ≡ None → (answered : IsAnswered c outcome) → answered.answer ≡ outcomes.Usage

@@ -7,16 +7,15 @@ use Rattle.std.proofs.lemmas.Bool.Decides.{nat_tests}
 use Rattle.std.proofs.lemmas.List.{append-nil}
 use Rattle.outside.specs.Counts.{IsLater, Rose}
 use Rattle.outside.specs.Host.{delivering}
-use Rattle.outside.specs.Tool.{Apply}
 use Rattle.outside.specs.declared.counts.Counts.{Counts}
 use Rattle.outside.specs.declared.host.HostFault.{HostFault}
-use Rattle.outside.specs.declared.host.HostFault.TheVariants.{Failed, Memory}
+use Rattle.outside.specs.declared.host.HostFault.TheVariants.{Absent, Failed, Over, Memory}
 use Rattle.outside.specs.declared.store.Store.{Store}
 use Rattle.workflow_core.specs.declared.workflow.Workflow.{Workflow}
 use Rattle.workflow_core.specs.declared.workflow.Job.{Job}
 use Rattle.workflow_core.specs.declared.workflow.Output.{Output}
 use Rattle.workflow_core.specs.Requested.{requests, is_requested, requested, requested_from}
-use Rattle.dependency_graph.specs.Value.{value}
+use Rattle.dependency_graph.specs.Value.{Basis, value}
 use Rattle.workflow_eval.specs.Evaluating.{AreValues}
 use Rattle.pegasus_cli.specs.Delivery.{AreDeliveries, Delivery, DeliversEach, DeliversOne, HasDelivered, chosen, delivered_line, delivered_lines, delivering_all, marked, marked_by, picked}
 
@@ -74,11 +73,11 @@ mark_is w f h =
     let long : length (replicate (length w.files) false) ≡ length w.files = grind (arith, common_steps) in
     at_marked_by w.jobs (replicate (length w.files) false) f (omega (arith, long)) ∙ or_false (list_any (requests f) w.jobs) _ (unmarked (length w.files) f h)
 
-at_mark : (apply : Apply) (w : Workflow) (f : ℕ) (name v : List ℕ) (names values : List (List ℕ)) (marks : List Bool) (b : Bool) → name ≡ get_or w.files f [] → value apply w f ≡ Some v
-    → AreDeliveries apply w (requested_from w (suc f) names) (picked marks names values)
-    → AreDeliveries apply w (cond b (f ∷ requested_from w (suc f) names) (requested_from w (suc f) names)) (picked (b ∷ marks) (name ∷ names) (v ∷ values))
-at_mark apply w f name v names values marks true named defined rest = (named, defined, rest)
-at_mark apply w f name v names values marks false named defined rest = rest
+at_mark : (on : Basis) (w : Workflow) (f : ℕ) (name v : List ℕ) (names values : List (List ℕ)) (marks : List Bool) (b : Bool) → name ≡ get_or w.files f [] → value on w f ≡ Some v
+    → AreDeliveries on w (requested_from w (suc f) names) (picked marks names values)
+    → AreDeliveries on w (cond b (f ∷ requested_from w (suc f) names) (requested_from w (suc f) names)) (picked (b ∷ marks) (name ∷ names) (v ∷ values))
+at_mark on w f name v names values marks true named defined rest = (named, defined, rest)
+at_mark on w f name v names values marks false named defined rest = rest
 
 here : (f : ℕ) → f + 0 ≡ f
 here f = omega arith
@@ -87,31 +86,31 @@ next : (f k : ℕ) → f + suc k ≡ suc f + k
 next f k = omega arith
 
 -- what is picked from file f on are the deliveries of the requested files from f on
-picked_from : (apply : Apply) (w : Workflow) (f : ℕ) (names : List (List ℕ)) (marks : List Bool) (values : List (List ℕ)) → length marks ≡ length names → length values ≡ length names
+picked_from : (on : Basis) (w : Workflow) (f : ℕ) (names : List (List ℕ)) (marks : List Bool) (values : List (List ℕ)) → length marks ≡ length names → length values ≡ length names
     → ((k : ℕ) → k < length names → get_or marks k false ≡ is_requested w (f + k)) → ((k : ℕ) → k < length names → get_or names k [] ≡ get_or w.files (f + k) [])
-    → ((k : ℕ) → k < length names → value apply w (f + k) ≡ Some (get_or values k [])) → AreDeliveries apply w (requested_from w f names) (picked marks names values)
-picked_from apply w f [] [] values p q are named defined = tt
-picked_from apply w f [] (m ∷ marks) values p q are named defined = absurd (omega arith)
-picked_from apply w f (name ∷ names) [] values p q are named defined = absurd (omega arith)
-picked_from apply w f (name ∷ names) (m ∷ marks) [] p q are named defined = absurd (omega arith)
-picked_from apply w f (name ∷ names) (m ∷ marks) (v ∷ values) p q are named defined =
-    let rest = picked_from apply w (suc f) names marks values (omega arith) (omega arith)
+    → ((k : ℕ) → k < length names → value on w (f + k) ≡ Some (get_or values k [])) → AreDeliveries on w (requested_from w f names) (picked marks names values)
+picked_from on w f [] [] values p q are named defined = tt
+picked_from on w f [] (m ∷ marks) values p q are named defined = absurd (omega arith)
+picked_from on w f (name ∷ names) [] values p q are named defined = absurd (omega arith)
+picked_from on w f (name ∷ names) (m ∷ marks) [] p q are named defined = absurd (omega arith)
+picked_from on w f (name ∷ names) (m ∷ marks) (v ∷ values) p q are named defined =
+    let rest = picked_from on w (suc f) names marks values (omega arith) (omega arith)
     (λ k h. are (suc k) (omega arith) ∙ ap (is_requested w) (next f k))
     (λ k h. named (suc k) (omega arith) ∙ ap (λ (i : ℕ). get_or w.files i []) (next f k))
-    (λ k h. ap (value apply w) (sym (next f k)) ∙ defined (suc k) (omega arith)) in
+    (λ k h. ap (value on w) (sym (next f k)) ∙ defined (suc k) (omega arith)) in
     let mark_is : m ≡ is_requested w f = are 0 (omega arith) ∙ ap (is_requested w) (here f) in
-    subst (λ (x : Bool). AreDeliveries apply w (cond (is_requested w f) (f ∷ requested_from w (suc f) names) (requested_from w (suc f) names)) (picked (x ∷ marks) (name ∷ names) (v ∷ values)))
+    subst (λ (x : Bool). AreDeliveries on w (cond (is_requested w f) (f ∷ requested_from w (suc f) names) (requested_from w (suc f) names)) (picked (x ∷ marks) (name ∷ names) (v ∷ values)))
     (sym mark_is)
-    (at_mark apply w f name v names values marks (is_requested w f) (named 0 (omega arith) ∙ ap (λ (i : ℕ). get_or w.files i []) (here f)) (ap (value apply w) (sym (here f)) ∙ defined 0 (omega arith)) rest)
+    (at_mark on w f name v names values marks (is_requested w f) (named 0 (omega arith) ∙ ap (λ (i : ℕ). get_or w.files i []) (here f)) (ap (value on w) (sym (here f)) ∙ defined 0 (omega arith)) rest)
 
 -- the chosen files are the requested ones, with their values
-pub chosen_are : (apply : Apply) (w : Workflow) (values : List (List ℕ)) → AreValues apply w values
-    → AreDeliveries apply w (requested w) (chosen w values)
-chosen_are apply w values are =
-    picked_from apply w 0 w.files (marked_by w.jobs (replicate (length w.files) false)) values (length_all w) are.many
+pub chosen_are : (on : Basis) (w : Workflow) (values : List (List ℕ)) → AreValues on w values
+    → AreDeliveries on w (requested w) (chosen w values)
+chosen_are on w values are =
+    picked_from on w 0 w.files (marked_by w.jobs (replicate (length w.files) false)) values (length_all w) are.many
     (λ k h. mark_is w k h ∙ ap (is_requested w) (zero_more k))
     (λ k h. ap (λ (i : ℕ). get_or w.files i []) (zero_more k))
-    (λ k h. ap (value apply w) (sym (zero_more k)) ∙ are.each k h)
+    (λ k h. ap (value on w) (sym (zero_more k)) ∙ are.each k h)
   where
     zero_more : (k : ℕ) → k ≡ 0 + k
     zero_more k = omega arith
@@ -158,7 +157,7 @@ pub delivered_same : (all first rest : List Delivery) (old mid new : Option Stor
 delivered_same all first rest old mid new before now after so_far held told = record { split = so_far.split; held = held ∙ so_far.held; told = told ∙ so_far.told }
 
 -- what rose since a later moment rose since an earlier one
-rose_since : (from here to : Counts) → from.faults ≤ here.faults → Rose here.faults to.faults → Rose from.faults to.faults
+pub rose_since : (from here to : Counts) → from.faults ≤ here.faults → Rose here.faults to.faults → Rose from.faults to.faults
 rose_since from here to more rose = grind arith
 
 -- a delivery that is refused
@@ -166,6 +165,8 @@ pub one_refused : (all first rest : List Delivery) (d : Delivery) (old mid new :
     → from.faults ≤ here.faults → DeliversOne d mid new here to now after (Err e) → DeliversEach all old new from to before after (Err e)
 one_refused all first rest d old mid new from here to before now after Failed so_far more h = (rose_since from here to more h.0, first, d, rest, delivered_same all first (d ∷ rest) old mid new before now after so_far h.1 h.2)
 one_refused all first rest d old mid new from here to before now after Memory so_far more h = (first, d ∷ rest, delivered_same all first (d ∷ rest) old mid new before now after so_far h.0 h.1)
+one_refused all first rest d old mid new from here to before now after Absent so_far more h = absurd h
+one_refused all first rest d old mid new from here to before now after (Over limit n) so_far more h = absurd h
 
 pub keeps_old : (old : Option Store) → old ≡ option_map (delivering_all []) old
 keeps_old None = refl

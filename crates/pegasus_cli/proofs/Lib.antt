@@ -1,4 +1,9 @@
 pub mod CourseLemmas
+pub mod RestLemmas
+pub mod PreparedLemmas
+pub mod BasesLemmas
+pub mod EvaluationLemmas
+pub mod FinishLemmas
 pub mod CallLemmas
 pub mod DeliveryLemmas
 pub mod SurveyLemmas

@@ -76,9 +76,13 @@ abbrev pub DeliversOne : Delivery → Option Store → Option Store → Counts �
 DeliversOne d old new from to before after (Ok u) = (new ≡ option_map (delivering d.name d.bytes) old) × (after ≡ before ++ delivered_line d)
 DeliversOne d old new from to before after (Err Failed) = Rose from.faults to.faults × (new ≡ old) × (after ≡ before)
 DeliversOne d old new from to before after (Err Memory) = (new ≡ old) × (after ≡ before)
+DeliversOne d old new from to before after (Err Absent) = ⊥
+DeliversOne d old new from to before after (Err (Over limit n)) = ⊥
 
 -- all of the deliveries, or the first ones and a fault at the next
 abbrev pub DeliversEach : List Delivery → Option Store → Option Store → Counts → Counts → List ℕ → List ℕ → Result (Unit {0}) HostFault → Type 0
 DeliversEach all old new from to before after (Ok u) = HasDelivered all old new before after all []
 DeliversEach all old new from to before after (Err Failed) = Rose from.faults to.faults × (first : List Delivery) × (next : Delivery) × (rest : List Delivery) × HasDelivered all old new before after first (next ∷ rest)
 DeliversEach all old new from to before after (Err Memory) = (first : List Delivery) × (rest : List Delivery) × HasDelivered all old new before after first rest
+DeliversEach all old new from to before after (Err Absent) = ⊥
+DeliversEach all old new from to before after (Err (Over limit n)) = ⊥

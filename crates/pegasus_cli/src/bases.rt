@@ -1,6 +1,7 @@
 //! The bases of a workflow's files, read from their sources.
 
 ghost use Rattle.std.specs.Prelude.{◌≡◌, List, ℕ, Result};
+ghost use Rattle.outside.specs.Counts.{IsLater};
 ghost use Rattle.outside.specs.Host.{Reads};
 ghost use Rattle.outside.specs.declared.host.HostFault.{HostFault as Fault};
 ghost use Rattle.pegasus_cli.specs.Bases.{ReadsBases, base_answer, base_limit, checked};
@@ -63,6 +64,7 @@ fn read_base<H: Host>(alloc: Global, host: &mut H, source: &Source) -> Result<Bl
         × Reads (H.told host.old) source.now.pfn base_limit (H.counts host.old) (H.counts host.new) read
         × (result ≡ base_answer source.now read)) }
     ensures told { H.told host.new ≡ H.told host.old }
+    ensures later { IsLater (H.counts host.old) (H.counts host.new) }
 {
     let read = host.read_replica(alloc, source.pfn.as_str(), BASE_LIMIT);
     base_answer(alloc, source, read)
@@ -76,6 +78,7 @@ pub(crate) fn read_bases<H: Host>(
 ) -> Result<Vec<Option<Blob>>, Outcome>
     ensures answer { UnlessMemory result (ReadsBases (H.told host.old) sources.now (H.counts host.old) (H.counts host.new) (items_of result)) }
     ensures told { H.told host.new ≡ H.told host.old }
+    ensures later { IsLater (H.counts host.old) (H.counts host.new) }
 {
     let mut bases = Vec::new(alloc);
     for source in sources {

@@ -1,6 +1,7 @@
 //! The evaluation of a call.
 
 ghost use Rattle.std.specs.Prelude.{◌≡◌, ◌<◌, ℕ, length, IfOk};
+ghost use Rattle.outside.specs.Counts.{IsLater};
 ghost use Rattle.workflow_core.specs.WellFormed.{IsWellFormed};
 ghost use Rattle.dependency_graph.specs.Graph.{IsGraphOf};
 ghost use Rattle.pegasus_cli.specs.Evaluation.{AnswersFault, Evaluated, IsIdOf, NamesJob, prepared};
@@ -26,7 +27,8 @@ pub struct Prepared {
 }
 
 fn prepare<T: Tool>(alloc: Global, surveyed: &Surveyed, tool: &T) -> Result<Prepared, Outcome>
-    requires { IsGraphOf surveyed.now.survey.workflow surveyed.now.survey.graph }
+    requires well_formed { IsWellFormed surveyed.now.survey.workflow }
+    requires graph { IsGraphOf surveyed.now.survey.workflow surveyed.now.survey.graph }
     ensures { UnlessMemory result (result ≡ prepared T.known surveyed.now) }
 {
     let survey = &surveyed.survey;
@@ -82,6 +84,7 @@ pub(crate) fn values_of<H: Host, T: Tool>(
     ensures answer { Evaluated (working T.apply T.known (work_moment H.Host host.old (T.faults tool.old)) (work_moment H.Host host.new (T.faults tool.new)))
         surveyed.now result }
     ensures told { H.told host.new ≡ H.told host.old }
+    ensures later { IsLater (H.counts host.old) (H.counts host.new) }
 {
     let prepared = match prepare(alloc, surveyed, tool) {
         Ok(prepared) => prepared,

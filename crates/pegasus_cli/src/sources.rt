@@ -1,9 +1,10 @@
 //! Where the bytes of the files that no job makes come from.
 
-ghost use Rattle.std.specs.Prelude.{◌≡◌, ◌<◌, length, option_map, IfOk};
+ghost use Rattle.std.specs.Prelude.{◌≡◌, ◌<◌, length, IfOk};
+ghost use Rattle.workflow_core.specs.WellFormed.{IsWellFormed};
 ghost use Rattle.dependency_graph.specs.Graph.{IsGraphOf};
 ghost use Rattle.pegasus_cli.specs.Outcome.{UnlessMemory, items_of};
-ghost use Rattle.pegasus_cli.specs.Sources.{registered, source_if_base, source_in, source_of, sources_of};
+ghost use Rattle.pegasus_cli.specs.Sources.{first_place, registered, source_if_base, source_of, sources_of};
 
 use crate::outcome::Outcome;
 use outside::{FileId, Memory, Text};
@@ -19,12 +20,10 @@ pub struct Source {
     pub checksum: Option<[u8; 32]>,
 }
 
-fn source_in(alloc: Global, lfn: &Text, entry: Option<&Replica>) -> Result<Option<Source>, Memory>
-    ensures { IfOk result (λ s. s ≡ source_in lfn.now (option_map (λ e. e.now) entry)) }
+/// The first place of a file's entry.
+fn first_place(alloc: Global, lfn: &Text, entry: &Replica) -> Result<Option<Source>, Memory>
+    ensures { IfOk result (λ s. s ≡ first_place lfn.now entry.now.pfns entry.now.checksum) }
 {
-    let Some(entry) = entry else {
-        return Ok(None);
-    };
     match entry.pfns.as_slice() {
         [] => Ok(None),
         [first, ..] => Ok(Some(Source {
@@ -35,11 +34,24 @@ fn source_in(alloc: Global, lfn: &Text, entry: Option<&Replica>) -> Result<Optio
     }
 }
 
+fn source_of(
+    alloc: Global,
+    replicas: &Replicas<'_>,
+    lfn: &Text,
+) -> Result<Option<Source>, Memory>
+    ensures { IfOk result (λ s. s ≡ source_of replicas.now lfn.now) }
+{
+    match replicas.entry_of(lfn) {
+        Some(entry) => first_place(alloc, lfn, entry),
+        None => Ok(None),
+    }
+}
+
 /// The source of a file that no job makes.
 fn registered(alloc: Global, replicas: &Replicas<'_>, lfn: &Text) -> Result<Option<Source>, Outcome>
     ensures { UnlessMemory result (result ≡ registered lfn.now (source_of replicas.now lfn.now)) }
 {
-    match source_in(alloc, lfn, replicas.entry_of(lfn))? {
+    match source_of(alloc, replicas, lfn)? {
         Some(source) => Ok(Some(source)),
         None => Err(Outcome::Refused(PlanFault::NoReplica(lfn.copied(alloc)?))),
     }
@@ -67,7 +79,8 @@ fn source_if_base(
 /// The source of each file that no job makes, by number. The first file without one is refused.
 #[tactic(auto, unfolding(crate::specs::Sources::sources_of))]
 pub(crate) fn sources_of(alloc: Global, survey: &Survey) -> Result<Vec<Option<Source>>, Outcome>
-    requires { IsGraphOf survey.now.workflow survey.now.graph }
+    requires well_formed { IsWellFormed survey.now.workflow }
+    requires graph { IsGraphOf survey.now.workflow survey.now.graph }
     ensures { UnlessMemory result (items_of result ≡ sources_of survey.now) }
 {
     let replicas = Replicas::new(alloc, &survey.replicas)?;

@@ -15,4 +15,4 @@ returns-in-Err g c =
 
 pub returns : goal.returns
 returns g c =
-    worked_answered _ c.in-Some.command c.in-Some.request.now c.in-Ok.survey c.work-worked.result.answer c.finish-outcome-2.result c.work-worked.result.text.items (sym c.in-Some.ensures) c.in-Ok.ensures.answer c.work-worked.ensures.works c.finish-outcome-2.ensures
+    worked_answered _ c.in-Some.command c.in-Some.request.now c.in-Ok.surveyed c.work-worked.result.answer c.finish-outcome-2.result c.work-worked.result.text.items (sym c.in-Some.ensures) c.in-Ok.ensures.answer c.work-worked.ensures.works c.finish-outcome-2.ensures

@@ -3,5 +3,8 @@ use Rattle.pegasus_cli.proofs.commands.work.Goals as goal
 pub returns-in-Check-clause-works : goal.returns-in-Check-clause-works
 returns-in-Check-clause-works g c = rw c.in-Check.is c.work.ensures.works
 
+pub returns-in-Eval-clause-works : goal.returns-in-Eval-clause-works
+returns-in-Eval-clause-works g c = rw c.in-Eval.is c.work-in-Eval.ensures.works
+
 pub returns-in-Alone-clause-works : goal.returns-in-Alone-clause-works
 returns-in-Alone-clause-works g c = rw c.in-Alone.is c.work-in-Alone.ensures.works
