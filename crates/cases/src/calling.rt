@@ -1,17 +1,24 @@
 //! The calls of a case, over objects in memory.
 
-use crate::case::{Case, CommandLine, Setup, Weather};
+use crate::case::{Case, CommandLine, Document, Setup, Weather};
 use crate::comparing::is_met;
 use crate::failing_tool::FailingTool;
 use outside::{Memory, MemoryDocs, MemoryHost, MemorySink};
 use pegasus_cli::quick;
 use std::alloc::Global;
 
-/// A document under its name.
+/// A document or a replica under its name.
 #[derive(Drop)]
 struct Given<'a> {
     name: &'a str,
     bytes: Vec<u8>,
+}
+
+/// What the calls of a case find.
+#[derive(Drop)]
+struct Found<'a> {
+    documents: Vec<Given<'a>>,
+    replicas: Vec<Given<'a>>,
 }
 
 /// What a call left.
@@ -34,9 +41,9 @@ pub struct Difference<'a> {
 fn add_given<'a>(
     alloc: Global,
     given: &mut Vec<Given<'a>>,
-    setup: &'a Setup,
+    documents: &'a [Document],
 ) -> Result<(), Memory> {
-    for document in &setup.documents {
+    for document in documents {
         given.push(Given {
             name: document.name.as_str(),
             bytes: document.bytes(alloc)?,
@@ -64,15 +71,24 @@ fn documents(
     Ok(docs)
 }
 
+fn host(alloc: Global, failing: &[u64], replicas: &[Given<'_>]) -> Result<MemoryHost, Memory> {
+    let mut host = MemoryHost::new(alloc, Vec::from_slice(alloc, failing)?);
+    for replica in replicas {
+        host.put_replica(alloc, replica.name, &replica.bytes)?;
+    }
+    Ok(host)
+}
+
 fn call(
     alloc: Global,
     weather: &Weather,
     docs: &mut MemoryDocs,
+    replicas: &[Given<'_>],
     words: &[String],
 ) -> Result<Ended, Memory> {
     let writes = Vec::from_slice(alloc, &weather.writes)?;
     let mut sink = MemorySink::new(alloc, weather.room, weather.taken, writes)?;
-    let host = MemoryHost::new(alloc, Vec::from_slice(alloc, &weather.deliveries)?);
+    let host = host(alloc, &weather.host_calls, replicas)?;
     let tool = FailingTool::new(Vec::from_slice(alloc, &weather.runs)?);
     let (outcome, host, _) = quick(alloc, words, docs, &mut sink, host, tool);
     Ok(Ended {
@@ -98,15 +114,15 @@ fn length_of(given: &[Given<'_>], name: &str) -> usize {
 fn try_call<'a>(
     alloc: Global,
     case: &Case,
-    given: &[Given<'_>],
+    found: &Found<'_>,
     line: &'a CommandLine,
 ) -> Result<Option<Difference<'a>>, Memory> {
     let Some(name) = &case.cut else {
-        return try_once(alloc, case, given, line, None);
+        return try_once(alloc, case, found, line, None);
     };
     let name = name.as_str();
-    for end in 0..length_of(given, name) {
-        let difference = try_once(alloc, case, given, line, Some((name, end)))?;
+    for end in 0..length_of(&found.documents, name) {
+        let difference = try_once(alloc, case, found, line, Some((name, end)))?;
         if difference.is_some() {
             return Ok(difference);
         }
@@ -117,12 +133,18 @@ fn try_call<'a>(
 fn try_once<'a>(
     alloc: Global,
     case: &Case,
-    given: &[Given<'_>],
+    found: &Found<'_>,
     line: &'a CommandLine,
     cut: Option<(&str, usize)>,
 ) -> Result<Option<Difference<'a>>, Memory> {
-    let mut docs = documents(alloc, &case.weather.fetches, given, cut)?;
-    let ended = call(alloc, &case.weather, &mut docs, &line.words)?;
+    let mut docs = documents(alloc, &case.weather.fetches, &found.documents, cut)?;
+    let ended = call(
+        alloc,
+        &case.weather,
+        &mut docs,
+        &found.replicas,
+        &line.words,
+    )?;
     if is_met(case, &ended) {
         return Ok(None);
     }
@@ -140,16 +162,21 @@ pub fn first_difference<'a>(
     common: &'a Setup,
     case: &'a Case,
 ) -> Result<Option<Difference<'a>>, Memory> {
-    let mut given = Vec::new(alloc);
-    add_given(alloc, &mut given, common)?;
-    add_given(alloc, &mut given, &case.setup)?;
+    let mut found = Found {
+        documents: Vec::new(alloc),
+        replicas: Vec::new(alloc),
+    };
+    add_given(alloc, &mut found.documents, &common.documents)?;
+    add_given(alloc, &mut found.documents, &case.setup.documents)?;
+    add_given(alloc, &mut found.replicas, &common.replicas)?;
+    add_given(alloc, &mut found.replicas, &case.setup.replicas)?;
     let calls = if case.setup.calls.is_empty() {
         &common.calls
     } else {
         &case.setup.calls
     };
     for line in calls {
-        let difference = try_call(alloc, case, &given, line)?;
+        let difference = try_call(alloc, case, &found, line)?;
         if difference.is_some() {
             return Ok(difference);
         }

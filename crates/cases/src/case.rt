@@ -14,7 +14,7 @@ pub struct CommandLine {
     pub words: Vec<String>,
 }
 
-/// A document under its name.
+/// A document or a replica under its name.
 #[derive(Drop)]
 pub struct Document {
     pub name: String,
@@ -31,11 +31,30 @@ impl Document {
     }
 }
 
-/// The calls of a case, and the documents that they find.
+/// The calls of a case, and the documents and replicas that they find.
 #[derive(Drop)]
 pub struct Setup {
     pub calls: Vec<CommandLine>,
     pub documents: Vec<Document>,
+    pub replicas: Vec<Document>,
+}
+
+/// Adds a piece to the one of a name.
+pub fn add_piece(
+    alloc: Global,
+    all: &mut Vec<Document>,
+    name: String,
+    piece: Piece,
+) -> Result<(), Memory> {
+    for document in all.iter_mut() {
+        if document.name == name {
+            document.pieces.push(piece)?;
+            return Ok(());
+        }
+    }
+    let pieces = vec![in alloc; piece]?;
+    all.push(Document { name, pieces })?;
+    Ok(())
 }
 
 impl Setup {
@@ -43,20 +62,8 @@ impl Setup {
         Setup {
             calls: Vec::new(alloc),
             documents: Vec::new(alloc),
+            replicas: Vec::new(alloc),
         }
-    }
-
-    /// Adds a piece to the document of a name.
-    pub fn add_piece(&mut self, alloc: Global, name: String, piece: Piece) -> Result<(), Memory> {
-        for document in self.documents.iter_mut() {
-            if document.name == name {
-                document.pieces.push(piece)?;
-                return Ok(());
-            }
-        }
-        let pieces = vec![in alloc; piece]?;
-        self.documents.push(Document { name, pieces })?;
-        Ok(())
     }
 
     pub fn has_document(&self, name: &str) -> bool {
@@ -71,7 +78,8 @@ impl Setup {
 pub struct Weather {
     pub fetches: Vec<u64>,
     pub writes: Vec<u64>,
-    pub deliveries: Vec<u64>,
+    /// Calls of the host: readings of replicas, and deliveries.
+    pub host_calls: Vec<u64>,
     pub runs: Vec<u64>,
     /// How many bytes a write takes at most.
     pub taken: usize,
@@ -86,7 +94,7 @@ impl Weather {
         Weather {
             fetches: Vec::new(alloc),
             writes: Vec::new(alloc),
-            deliveries: Vec::new(alloc),
+            host_calls: Vec::new(alloc),
             runs: Vec::new(alloc),
             taken: 65_536,
             room: 65_536,

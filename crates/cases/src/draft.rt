@@ -1,6 +1,6 @@
 //! A case as far as it is read.
 
-use crate::case::{Case, Delivered, Ending, Setup, Weather};
+use crate::case::{Case, Delivered, Ending, Setup, Weather, add_piece};
 use crate::fault::Complaint;
 use crate::header::Header;
 use crate::piece::Piece;
@@ -40,7 +40,10 @@ impl Draft {
     ) -> Result<(), Complaint> {
         match header {
             Header::Document(name, form) => {
-                self.setup.add_piece(alloc, name, Piece { text, form })?
+                add_piece(alloc, &mut self.setup.documents, name, Piece { text, form })?
+            }
+            Header::Replica(name, form) => {
+                add_piece(alloc, &mut self.setup.replicas, name, Piece { text, form })?
             }
             Header::Status(_) if self.ending.is_some() => return Err(Complaint::StatusTwice),
             Header::Status(status) => self.ending = Some(Ending { status, text }),

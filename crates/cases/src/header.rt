@@ -9,6 +9,7 @@ use std::alloc::Global;
 #[derive(Drop)]
 pub enum Header {
     Document(String, Form),
+    Replica(String, Form),
     Status(u8),
     Delivered(String),
     NotDelivered(String),
@@ -77,12 +78,20 @@ fn header_of(alloc: Global, line: &str) -> Result<Header, Complaint> {
         ["status", status] => Ok(Header::Status(status_of(status)?)),
         ["delivered", name] => Ok(Header::Delivered(name_of(alloc, name)?)),
         ["not", "delivered", name] => Ok(Header::NotDelivered(name_of(alloc, name)?)),
-        [name] => Ok(Header::Document(name_of(alloc, name)?, Form::Plain)),
-        [name, "escaped"] => Ok(Header::Document(name_of(alloc, name)?, Form::Escaped)),
-        [name, "times", times] => {
-            let form = Form::Repeated(number_of(times)?);
-            Ok(Header::Document(name_of(alloc, name)?, form))
+        ["replica", name, rest @ ..] => {
+            Ok(Header::Replica(name_of(alloc, name)?, form_of(rest)?))
         }
+        [name, rest @ ..] => Ok(Header::Document(name_of(alloc, name)?, form_of(rest)?)),
+        [] => Err(Complaint::UnknownSection),
+    }
+}
+
+/// How bytes are written, by the words after their name.
+fn form_of(words: &[&str]) -> Result<Form, Complaint> {
+    match words {
+        [] => Ok(Form::Plain),
+        ["escaped"] => Ok(Form::Escaped),
+        ["times", times] => Ok(Form::Repeated(number_of(times)?)),
         _ => Err(Complaint::UnknownSection),
     }
 }

@@ -1,6 +1,6 @@
 //! Reading a file of cases.
 
-use crate::case::{CaseFile, Setup};
+use crate::case::{CaseFile, Setup, add_piece};
 use crate::draft::Draft;
 use crate::fault::{Complaint, FileFault, at_line};
 use crate::header::{Header, Section, words_between};
@@ -95,11 +95,16 @@ impl Reader {
         if let Some(draft) = &mut self.draft {
             return draft.add_section(alloc, header, text);
         }
-        let Header::Document(name, form) = header else {
-            return Err(Complaint::SectionOfNoCase);
-        };
-        let piece = Piece { text, form };
-        self.file.common.add_piece(alloc, name, piece)?;
+        let common = &mut self.file.common;
+        match header {
+            Header::Document(name, form) => {
+                add_piece(alloc, &mut common.documents, name, Piece { text, form })?
+            }
+            Header::Replica(name, form) => {
+                add_piece(alloc, &mut common.replicas, name, Piece { text, form })?
+            }
+            _ => return Err(Complaint::SectionOfNoCase),
+        }
         Ok(())
     }
 

@@ -36,7 +36,7 @@ fn add_weather(weather: &mut Weather, setting: &str, word: &str) -> Result<(), C
     match setting {
         "failing fetch" => weather.fetches.push(number_of(word)?)?,
         "failing write" => weather.writes.push(number_of(word)?)?,
-        "failing delivery" => weather.deliveries.push(number_of(word)?)?,
+        "failing host" => weather.host_calls.push(number_of(word)?)?,
         "failing run" => weather.runs.push(number_of(word)?)?,
         "write takes" => weather.taken = number_of(word)? as usize,
         "room" => weather.room = number_of(word)? as usize,

@@ -66,7 +66,7 @@ impl<R: Files> Docs for FolderDocs<R> {
                 self.counts.add_done();
                 Ok(())
             }
-            Reading::Longer => {
+            Reading::Longer(_) => {
                 into.clear();
                 self.counts.add_miss();
                 Err(DocFault::TooLong(limit))

@@ -8,7 +8,8 @@ use std::io::Read;
 /// How a reading of a file ended.
 pub enum Reading {
     Whole,
-    Longer,
+    /// So many bytes were seen, which is more than the limit.
+    Longer(u64),
     Failed,
     Memory,
 }
@@ -27,7 +28,7 @@ pub fn read_within<F: Read>(file: &mut F, limit: u64, into: &mut Vec<u8>) -> Rea
         };
         let room = limit.saturating_sub(into.len() as u64);
         if count as u64 > room {
-            return Reading::Longer;
+            return Reading::Longer(into.len() as u64 + count as u64);
         }
         match into.extend_from_slice(&piece[..count]) {
             Ok(()) => {}

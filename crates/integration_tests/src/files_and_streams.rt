@@ -1,7 +1,7 @@
 //! A file and a stream.
 
 use host_files::*;
-use outside::{DocFault, Docs, Sink, SinkFault, write_all};
+use outside::{DocFault, Docs, Host, HostFault, Sink, SinkFault, write_all};
 use std::alloc::Global;
 use std::fs;
 use std::rt::Files;
@@ -52,6 +52,39 @@ fn documents_of_a_folder(rt: HostRuntime) -> Result<(), Fail> {
     assert_eq!(rt; docs.faults(), 1);
     assert_eq!(rt; docs.misses(), 2);
     fs::remove_file(&rt, NAME)?;
+    Ok(())
+}
+
+/// What a reading gave: how many bytes, or the fault.
+fn length_of<R: Files + Drop>(
+    alloc: Global,
+    host: &mut FolderHost<R>,
+    pfn: &str,
+) -> Result<usize, HostFault> {
+    let replica = host.read_replica(alloc, pfn, 5)?;
+    Ok(replica.as_slice().len())
+}
+
+#[test]
+fn replicas_of_a_folder(rt: HostRuntime) -> Result<(), Fail> {
+    let alloc = rt.alloc();
+    fs::write(&rt, "host_files_replica", "hello")?;
+    fs::write(&rt, "host_files_long_replica", "hello!")?;
+    let mut host = FolderHost::new(alloc, rt);
+    for (pfn, wanted) in [
+        ("host_files_replica", Ok(5)),
+        ("file://host_files_replica", Ok(5)),
+        ("gsiftp://host_files_replica", Err(HostFault::Absent)),
+        ("host_files_long_replica", Err(HostFault::Over(5, 6))),
+        ("host_files_no_replica", Err(HostFault::Absent)),
+        (".", Err(HostFault::Failed)),
+    ] {
+        assert!(rt; length_of(alloc, &mut host, pfn) == wanted, "{pfn}");
+    }
+    assert_eq!(rt; host.faults(), 1);
+    assert_eq!(rt; host.misses(), 3);
+    fs::remove_file(&rt, "host_files_replica")?;
+    fs::remove_file(&rt, "host_files_long_replica")?;
     Ok(())
 }
 

@@ -5,21 +5,11 @@
 #![tactic(auto)]
 
 #[cfg(test)]
-mod catalogues_of_replicas;
-#[cfg(test)]
-mod catalogues_of_sites;
-#[cfg(test)]
-mod catalogues_of_transformations;
-#[cfg(test)]
 mod directed_graphs;
 #[cfg(test)]
 mod files_and_streams;
 #[cfg(test)]
-mod json_rows;
-#[cfg(test)]
 mod objects_in_memory;
-#[cfg(test)]
-mod requests;
 #[cfg(test)]
 mod reuse;
 #[cfg(test)]
@@ -27,8 +17,4 @@ mod site_selection;
 #[cfg(test)]
 mod transformations;
 #[cfg(test)]
-mod workflow_documents;
-#[cfg(test)]
 mod workflow_graphs;
-#[cfg(test)]
-mod workflow_types;

@@ -36,12 +36,18 @@ fn a_sink_in_memory(rt: HostRuntime) -> Result<(), Fail> {
 fn a_store_in_memory(rt: HostRuntime) -> Result<(), Fail> {
     let alloc = rt.alloc();
     let mut host = MemoryHost::new(alloc, vec![in alloc; 2]?);
+    host.put_replica(alloc, "/a", b"xyz")?;
     host.deliver(alloc, "a", b"1")?;
     assert!(rt; host.deliver(alloc, "b", b"2") == Err(HostFault::Failed));
     host.deliver(alloc, "a", b"3")?;
     assert!(rt; host.delivered("b").is_none());
     assert_eq!(rt; host.delivered("a").ok_or("a")?, b"3".as_slice());
+    let replica = host.read_replica(alloc, "/a", 3)?;
+    assert_eq!(rt; replica.as_slice(), b"xyz".as_slice());
+    assert!(rt; host.read_replica(alloc, "/a", 2).err() == Some(HostFault::Over(2, 3)));
+    assert!(rt; host.read_replica(alloc, "a", 2).err() == Some(HostFault::Absent));
     assert_eq!(rt; host.faults(), 1);
+    assert_eq!(rt; host.misses(), 2);
     Ok(())
 }
 

@@ -197,7 +197,7 @@ fn are_answered(
 }
 
 #[test]
-fn sites_in_turn(rt: HostRuntime) -> Result<(), Fail> {
+fn round_robin_sites(rt: HostRuntime) -> Result<(), Fail> {
     let alloc = rt.alloc();
     let request = read_request(alloc, REQUEST.as_bytes())?;
     let transformations = read_transformations(alloc, TRANSFORMATIONS.as_bytes())?;

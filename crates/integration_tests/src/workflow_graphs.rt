@@ -69,7 +69,7 @@ fn a_small_graph(rt: HostRuntime) -> Result<(), Fail> {
     assert_eq!(&rt; graph.children(JobId(2)), [JobId(0), JobId(1)].as_slice());
     assert_eq!(&rt; graph.ordered(), [JobId(2), JobId(1), JobId(0)].as_slice());
     assert_eq!(&rt; graph.producer(FileId(1)), Some(JobId(1)));
-    assert!(&rt; graph.is_made());
+    assert!(&rt; graph.is_made(FileId(1)));
     for (kept, levels) in [
         ([true, true, true], [2, 1, 0]),
         ([true, false, true], [1, 0, 0]),

@@ -1,12 +1,10 @@
 -- The clause of a call.
-use Rattle.std.proofs.Common.{◌≡◌, ℕ, ◌++◌, Bool, true, false, cond, List, [], ◌∷◌, length, take, refl, sym, ap, subst, ◌∙◌, inl, inr, arith}
-use Rattle.std.specs.Prelude.{◌⊎◌, Option, Some, None, Result, Ok, Err, is_some}
+use Rattle.std.proofs.Common.{◌≡◌, ℕ, ◌++◌, List, [], length, take, refl, sym, ap, subst, ◌∙◌, inl, inr, arith}
+use Rattle.std.specs.Prelude.{◌⊎◌, Option, Some, None, Result, Ok, Err}
 use Rattle.std.specs.Io.KnownBytes.{Appends}
 use Rattle.outside.specs.Counts.{Rose}
 use Rattle.outside.specs.FileMap.{Files}
 use Rattle.outside.specs.Sink.{WroteAll}
-use Rattle.outside.specs.Tool.{Apply}
-use Rattle.outside.specs.declared.numbers.JobId.{JobId}
 use Rattle.outside.specs.declared.sink.SinkFault.{SinkFault}
 use Rattle.outside.specs.declared.sink.SinkFault.TheVariants as sink_faults
 use Rattle.outside.specs.declared.documents.Documents.{Documents}
@@ -14,7 +12,6 @@ use Rattle.workflow_core.specs.View.{view}
 use Rattle.workflow_core.specs.declared.workflow.Workflow.{Workflow}
 use Rattle.dependency_graph.specs.Built.{AreTwoProducers}
 use Rattle.dependency_graph.specs.Graph.{IsSound}
-use Rattle.workflow_eval.specs.Evaluating.{first_undefined, made_by_number}
 use Rattle.plan_request.specs.declared.request.PlanRequest.{PlanRequest}
 use Rattle.planner.specs.Course.{GraphRefuses, Refuses, SurveyEntry, surveyed}
 use Rattle.planner.specs.declared.plan_fault.PlanFault.{PlanFault}
@@ -25,9 +22,7 @@ use Rattle.pegasus_cli.specs.declared.early.Early.{Early}
 use Rattle.pegasus_cli.specs.declared.early.Early.TheVariants as early
 use Rattle.pegasus_cli.specs.declared.outcome.Outcome.{Outcome}
 use Rattle.pegasus_cli.specs.declared.outcome.Outcome.TheVariants as outcomes
-use Rattle.planner.specs.declared.document.Document.TheVariants as documents_named
 use Rattle.planner.specs.declared.plan_fault.PlanFault.TheVariants as plan
-use Rattle.pegasus_cli.specs.declared.run_fault.RunFault.TheVariants.{Declined, ToolFailed, HostFailed}
 use Rattle.planner.specs.declared.inputs.Survey.{Survey}
 use Rattle.pegasus_cli.specs.Call.{Ends, HasWorked, IsAnswer, IsAnswered, IsDoneOrMemory, IsStopped, IsUsage, MayFinish, NoneRose}
 use Rattle.pegasus_cli.specs.Commands.{spec_of}

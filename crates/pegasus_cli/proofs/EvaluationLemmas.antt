@@ -1,5 +1,5 @@
 -- How an evaluation ends.
-use Rattle.std.proofs.Common.{◌≡◌, ℕ, ◌<◌, Bool, List, length, refl, sym, ap, subst, ◌∙◌}
+use Rattle.std.proofs.Common.{◌≡◌, ℕ, Bool, List, refl, sym, ap, ◌∙◌}
 use Rattle.std.specs.Prelude.{Option, Result, Ok, Err, Vec}
 use Rattle.std.specs.declared.alloc.Global.{Global}
 use Rattle.outside.specs.Counts.{Rose}
@@ -10,7 +10,7 @@ use Rattle.workflow_eval.specs.declared.fault.EvalFault.{EvalFault}
 use Rattle.workflow_eval.specs.declared.fault.EvalFault.TheVariants as eval_faults
 use Rattle.pegasus_cli.specs.Bases.{ReadsBases}
 use Rattle.pegasus_cli.specs.Delivery.{chosen}
-use Rattle.pegasus_cli.specs.Evaluation.{AnswersFault, Evaluated, HasBases, HasNoValues, HasValues, IsUnread, prepared}
+use Rattle.pegasus_cli.specs.Evaluation.{AnswersFault, Evaluated, HasBases, HasNoValues, HasValues, prepared}
 use Rattle.outside.specs.Tool.{Apply}
 use Rattle.pegasus_cli.specs.Moments.{Work, WorkMoment, working}
 use Rattle.pegasus_cli.specs.Outcome.{UnlessMemory}

@@ -1,16 +1,14 @@
 -- What sources, tools and bases come to.
 use Rattle.std.proofs.Common.{◌≡◌, ℕ, zero, suc, ◌+◌, ◌<◌, Bool, true, false, cond, List, [], ◌∷◌, length, refl, sym, ap, subst, ◌∙◌, arith}
-use Rattle.std.specs.Prelude.{Option, Some, None, is_some, Result, Ok, Err, find, slice_index_or}
+use Rattle.std.specs.Prelude.{Option, Some, None, is_some, Result, Ok, Err, slice_index_or}
 use Rattle.std.specs.Str.{bytes_eq}
 use Rattle.sha2.specs.Sha256.{sha256}
 use Rattle.peg_json.specs.Tree.{◌>>=◌}
-use Rattle.outside.specs.Host.{Reads}
 use Rattle.outside.specs.declared.counts.Counts.{Counts}
 use Rattle.outside.specs.declared.host.HostFault.{HostFault}
 use Rattle.outside.specs.declared.host.HostFault.TheVariants as host_faults
 use Rattle.outside.specs.declared.store.Store.{Store}
 use Rattle.workflow_core.specs.declared.workflow.Job.{Job}
-use Rattle.workflow_core.specs.declared.workflow.Workflow.{Workflow}
 use Rattle.dependency_graph.specs.Edges.{producer}
 use Rattle.dependency_graph.specs.Value.{AllBased, basis}
 use Rattle.outside.specs.Tool.{Apply}
@@ -18,7 +16,7 @@ use Rattle.plan_request.specs.JobTools.{tool_of}
 use Rattle.plan_request.specs.declared.request.ToolOf.{ToolOf}
 use Rattle.planner.specs.declared.inputs.Survey.{Survey}
 use Rattle.planner.specs.declared.plan_fault.PlanFault.TheVariants.{ToolUnknown}
-use Rattle.pegasus_cli.specs.Bases.{Continues, ReadsBases, after_base, base_answer, base_limit, checked}
+use Rattle.pegasus_cli.specs.Bases.{Continues, ReadsBases, after_base, base_answer, checked}
 use Rattle.pegasus_cli.specs.Evaluation.{prepared}
 use Rattle.pegasus_cli.specs.JobTools.{known_tool, tools_of}
 use Rattle.pegasus_cli.specs.Sources.{registered, source_if_base, source_of, sources_from, sources_of}

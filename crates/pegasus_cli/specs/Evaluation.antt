@@ -1,11 +1,10 @@
 -- The evaluation of a call: what it asks of the documents and the tool, the bases that it reads, and how it ends.
-use Rattle.std.specs.Prelude.{◌≡◌, ◌⊎◌, ℕ, ◌<◌, Bool, true, List, length, is_some, Option, Some, None, Result, Ok, Err, Vec, slice_index_or}
+use Rattle.std.specs.Prelude.{◌≡◌, ℕ, ◌<◌, Bool, true, List, length, is_some, Option, Some, None, Result, Ok, Err, Vec, slice_index_or}
 use Rattle.std.specs.declared.alloc.Global.{Global}
 use Rattle.peg_json.specs.Tree.{◌>>=◌}
 use Rattle.outside.specs.Counts.{Rose}
 use Rattle.outside.specs.declared.counts.Counts.{Counts}
 use Rattle.outside.specs.declared.numbers.JobId.{JobId}
-use Rattle.outside.specs.declared.store.Store.{Store}
 use Rattle.workflow_core.specs.Requested.{requested}
 use Rattle.workflow_core.specs.declared.workflow.Job.{Job}
 use Rattle.workflow_core.specs.declared.workflow.Workflow.{Workflow}

@@ -96,7 +96,14 @@ pub(crate) fn values_of<H: Host, T: Tool>(
     };
     let workflow = &surveyed.survey.workflow;
     let graph = &surveyed.survey.graph;
-    match evaluate(alloc, workflow, graph, prepared.tools.as_slice(), &bases, tool) {
+    match evaluate(
+        alloc,
+        workflow,
+        graph,
+        prepared.tools.as_slice(),
+        &bases,
+        tool,
+    ) {
         Ok(values) => Ok(values),
         Err(fault) => Err(of_eval_fault(alloc, workflow, fault)),
     }

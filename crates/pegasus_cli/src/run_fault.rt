@@ -57,7 +57,11 @@ pub(crate) fn push_failed(alloc: Global, text: &mut Vec<u8>, fault: &RunFault) -
             alloc,
             text,
             "failed replica",
-            &[Word::Name(lfn.as_bytes()), Word::Number(*limit), Word::Number(*length)],
+            &[
+                Word::Name(lfn.as_bytes()),
+                Word::Number(*limit),
+                Word::Number(*length),
+            ],
         ),
         RunFault::ChecksumDiffers(lfn, wanted, got) => push_differs(alloc, text, lfn, wanted, got),
         RunFault::Declined(id) => push_line(

@@ -34,11 +34,7 @@ fn first_place(alloc: Global, lfn: &Text, entry: &Replica) -> Result<Option<Sour
     }
 }
 
-fn source_of(
-    alloc: Global,
-    replicas: &Replicas<'_>,
-    lfn: &Text,
-) -> Result<Option<Source>, Memory>
+fn source_of(alloc: Global, replicas: &Replicas<'_>, lfn: &Text) -> Result<Option<Source>, Memory>
     ensures { IfOk result (λ s. s ≡ source_of replicas.now lfn.now) }
 {
     match replicas.entry_of(lfn) {

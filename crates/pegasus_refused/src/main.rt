@@ -1,9 +1,8 @@
 //! The command line `pegasus`: `pegasus_cli::quick` over files of the user's folder, standard output, a
-//! store and the shipped tools. What it does is said in the contract of that call.
+//! store whose replicas are files and the shipped tools. What it does is said in the contract of that call.
 #![tactic(auto)]
 
-use host_files::{FolderDocs, StreamSink};
-use outside::MemoryHost;
+use host_files::{FolderDocs, FolderHost, StreamSink};
 use pegasus_cli::{Outcome, quick, user_words};
 use std::process::ExitCode;
 use std::{env, io};
@@ -15,7 +14,7 @@ fn main(rt: HostRuntime) -> ExitCode {
         return ExitCode::from(Outcome::Memory.code());
     };
     let mut out = StreamSink::new(io::writer(&rt));
-    let host = MemoryHost::new(alloc, Vec::new(alloc));
+    let host = FolderHost::new(alloc, rt);
     let mut docs = FolderDocs::new(rt);
     let (outcome, _, _) = quick(alloc, &words, &mut docs, &mut out, host, Shipped::new());
     ExitCode::from(outcome.code())

@@ -3,7 +3,6 @@ use Rattle.std.specs.Prelude.{◌≡◌, ◌⊎◌, ℕ, ◌++◌, List, [], Non
 use Rattle.outside.specs.Counts.{Rose}
 use Rattle.outside.specs.declared.host.HostFault.{HostFault}
 use Rattle.outside.specs.declared.host.HostFault.TheVariants as host_faults
-use Rattle.outside.specs.declared.numbers.TaskId.{TaskId}
 use Rattle.pegasus_cli.specs.CommandSpec.{CommandSpec}
 use Rattle.pegasus_cli.specs.Delivery.{Delivery, delivered_lines, delivering_all}
 use Rattle.pegasus_cli.specs.Evaluation.{AllDefined, HasNoValues, HasValues}

@@ -16,7 +16,8 @@ returns-in-Ok-eq0 g c =
 pub returns-then-count-room : goal.returns-then-count-room
 returns-then-count-room g c =
     let more : c.args.limit < length c.loop.into.items + length (take c.in-Ok.count c.read.new.buf) = omega (arith, c.if-count-room.true, c.saturating_sub-room.ensures, c.len.ensures, c.loop.invariant.1, c.in-Ok.ensures.bound.1) in
-    too_much _ _ _ _ _ c.args.limit c.loop.invariant.0 c.in-Ok.ensures.bytes.0 more
+    let seen : c.args.limit < c.len-then-count-room.result + c.in-Ok.count = omega (arith, c.if-count-room.true, c.saturating_sub-room.ensures, c.len.ensures, c.len-then-count-room.ensures, c.loop.invariant.1) in
+    (seen, too_much _ _ _ _ _ c.args.limit c.loop.invariant.0 c.in-Ok.ensures.bytes.0 more)
 
 pub loop-preserved : goal.loop-preserved
 loop-preserved g c =

@@ -1,4 +1,4 @@
-use Rattle.std.proofs.Common.{◌≡◌, ◌+◌, ℕ, List, ◌++◌, drop, sym, ap, ◌∙◌, append_assoc, arith}
+use Rattle.std.proofs.Common.{◌+◌, List, ◌++◌, drop, sym, ap, ◌∙◌, append_assoc, arith}
 use Rattle.std.specs.Prelude.{codes}
 use Rattle.pegasus_cli.specs.Delivery.{Delivery, file_line, picked, value_lines}
 use Rattle.pegasus_cli.proofs.DeliveryLemmas.{picked_here, picked_not_here}

@@ -52,5 +52,5 @@ returns-clause-answer g c =
     let fault = c.in-Err-evaluate.fault in
     let evaluated = subst (λ (on : Basis). Evaluates on survey.workflow survey.graph.ordered (Rose (g.T.Tool.faults c.args.tool.now) (g.T.Tool.faults c.evaluate.new.tool)) (Err fault)) on_is c.in-Err-evaluate.ensures.answer in
     let reached : (j : JobId) → fault ≡ ToolFailed j → IsReached (basis g.T.Tool.apply c.in-Ok.prepared.tools c.in-Ok-read_bases.bases.items) survey.workflow survey.graph.ordered j =
-      λ j is. subst (λ (on : Basis). IsReached on survey.workflow survey.graph.ordered j) on_is (c.in-Err-evaluate.ensures.reached j (ap Err is)) in
+    λ j is. subst (λ (on : Basis). IsReached on survey.workflow survey.graph.ordered j) on_is (c.in-Err-evaluate.ensures.reached j (ap Err is)) in
     fault_ends w c.args.surveyed.now (basis g.T.Tool.apply c.in-Ok.prepared.tools c.in-Ok-read_bases.bases.items) fault c.of_eval_fault.result has evaluated reached c.of_eval_fault.ensures

@@ -1,4 +1,4 @@
-use Rattle.std.proofs.Common.{◌≡◌, ◌+◌, ℕ, List, [], ◌∷◌, ◌++◌, drop, sym, ap, ◌∙◌, arith}
+use Rattle.std.proofs.Common.{◌≡◌, ◌+◌, ℕ, List, ◌∷◌, drop, sym, ap, ◌∙◌, arith}
 use Rattle.std.specs.Prelude.{Ok}
 use Rattle.std.proofs.lemmas.List.{drop_more}
 use Rattle.plan_request.specs.JobTools.{tool_of}
@@ -18,13 +18,13 @@ loop-job-preserved g c =
     let front = c.loop-job.tools.items in
     let list = c.as_slice-job-items.result.now in
     let cut : drop i jobs ≡ c.job-item.result ∷ later =
-      ap (λ (l : List Job). drop i l) (sym c.as_slice-job-items.ensures)
-      ∙ drop_more list i c.job-item.result (omega arith)
-      ∙ ap (λ (j : Job). j ∷ drop (i + 1) list) (sym c.job-item.is)
-      ∙ ap (λ (l : List Job). c.job-item.result ∷ drop (i + 1) l) c.as_slice-job-items.ensures in
+    ap (λ (l : List Job). drop i l) (sym c.as_slice-job-items.ensures)
+    ∙ drop_more list i c.job-item.result (omega arith)
+    ∙ ap (λ (j : Job). j ∷ drop (i + 1) list) (sym c.job-item.is)
+    ∙ ap (λ (l : List Job). c.job-item.result ∷ drop (i + 1) l) c.as_slice-job-items.ensures in
     let tool : known_tool known c.job-item.result (tool_of stated c.job-item.result.transformation.name) ≡ Ok c.in-Ok.name =
-      ap (known_tool known c.job-item.result) (sym (c.tool_of-name.ensures ∙ ap (λ (ts : List ToolOf). tool_of ts c.job-item.result.transformation.name) c.in_ok-stated.ensures))
-      ∙ sym c.in-Ok.ensures in
+    ap (known_tool known c.job-item.result) (sym (c.tool_of-name.ensures ∙ ap (λ (ts : List ToolOf). tool_of ts c.job-item.result.transformation.name) c.in_ok-stated.ensures))
+    ∙ sym c.in-Ok.ensures in
     ap (λ (names : List (List ℕ)). front_then names (tools_of known stated later)) c.in_ok-push-in-Ok.ensures.items
     ∙ sym (one_more front c.in-Ok.name _ (tools_of known stated later) tool)
     ∙ ap (λ (js : List Job). front_then front (tools_of known stated js)) (sym cut)

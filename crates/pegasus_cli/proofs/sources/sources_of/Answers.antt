@@ -16,10 +16,10 @@ loop-number-preserved c =
     let next : i + 1 ≡ suc i = omega arith in
     let list = c.as_slice-lfn-items.result.now in
     let cut : drop i files ≡ c.lfn-item.result ∷ later =
-      ap (λ (l : List (List ℕ)). drop i l) (sym c.as_slice-lfn-items.ensures)
-      ∙ drop_more list i c.lfn-item.result (omega arith)
-      ∙ ap (λ (name : List ℕ). name ∷ drop (i + 1) list) (sym c.lfn-item.is)
-      ∙ ap (λ (l : List (List ℕ)). c.lfn-item.result ∷ drop (i + 1) l) c.as_slice-lfn-items.ensures in
+    ap (λ (l : List (List ℕ)). drop i l) (sym c.as_slice-lfn-items.ensures)
+    ∙ drop_more list i c.lfn-item.result (omega arith)
+    ∙ ap (λ (name : List ℕ). name ∷ drop (i + 1) list) (sym c.lfn-item.is)
+    ∙ ap (λ (l : List (List ℕ)). c.lfn-item.result ∷ drop (i + 1) l) c.as_slice-lfn-items.ensures in
     let source : source_if_base survey i c.lfn-item.result ≡ Ok c.in-Ok.source = sym c.in-Ok.ensures in
     ap (λ (found : List (Option Source)). front_then found (sources_from survey (i + 1) later)) c.in_ok-push-in-Ok.ensures.items
     ∙ ap (λ (n : ℕ). front_then (front ++ c.in-Ok.source ∷ []) (sources_from survey n later)) next

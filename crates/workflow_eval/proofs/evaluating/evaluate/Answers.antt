@@ -11,8 +11,7 @@ use Rattle.workflow_eval.proofs.evaluating.evaluate.Goals as goal
 pub loop-number-init : goal.loop-number-init
 loop-number-init g c =
     let flow = c.values_flow_in_order.ensures c.args.workflow.now c.args.graph.now c.requires.well_formed c.requires.graph in
-    let on = basis g.T.Tool.apply c.args.tools.now c.args.base.now in
-    (
+    let on = basis g.T.Tool.apply c.args.tools.now c.args.base.now in (
       ap length c.in_ok-table.ensures ∙ c.requires.bases,
       bases_stand on c.args.workflow.now c.args.graph.now.ordered flow c.requires.based _ c.in_ok-table.ensures,
       none_at_first on c.args.workflow.now c.args.graph.now.ordered,

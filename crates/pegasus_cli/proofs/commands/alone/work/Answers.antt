@@ -1,4 +1,3 @@
-use Rattle.std.proofs.Common.{refl}
 use Rattle.pegasus_cli.specs.Delivery.{chosen}
 use Rattle.pegasus_cli.specs.Moments.{work_moment, working}
 use Rattle.pegasus_cli.proofs.AloneLemmas.{delivered_runs, runs_nothing}

@@ -1,4 +1,3 @@
-use Rattle.std.proofs.Common.{refl}
 use Rattle.pegasus_cli.specs.Moments.{work_moment}
 use Rattle.pegasus_cli.proofs.EvaluationLemmas.{values_are}
 use Rattle.pegasus_cli.proofs.commands.eval.work.Goals as goal

@@ -1,7 +1,8 @@
 //! What a replica catalogue gives: pfns and checksums of joined entries, and how many the document lists.
 
 use hex::encode;
-use replica_catalog::{Replica, ReplicaCatalog, read};
+use outside::Text;
+use replica_catalog::{Replica, ReplicaCatalog, Replicas, read};
 use std::alloc::{AllocError, Global};
 use std::test::Fail;
 
@@ -73,5 +74,26 @@ fn joined_entries(rt: HostRuntime) -> Result<(), Fail> {
     }
     let empty = ReplicaCatalog::empty(alloc);
     assert!(rt; empty.listed == 0 && empty.entries.as_slice().is_empty());
+    Ok(())
+}
+
+const TWO: &str =
+    r#"{"replicas":[{"lfn":"a","pfns":[]},{"lfn":"b c","pfns":[{"site":"s","pfn":"/b"}]}]}"#;
+
+/// How many places the entry of a name has.
+fn places(replicas: &Replicas<'_>, name: &Text) -> Option<usize> {
+    let entry = replicas.entry_of(name)?;
+    Some(entry.pfns.as_slice().len())
+}
+
+#[test]
+fn an_entry_by_its_name(rt: HostRuntime) -> Result<(), Fail> {
+    let alloc = rt.alloc();
+    let catalog = read(alloc, TWO.as_bytes()).ok().ok_or("a catalogue")?;
+    let replicas = Replicas::new(alloc, &catalog)?;
+    for (name, wanted) in [("a", Some(0)), ("b c", Some(1)), ("b", None)] {
+        let name = Text::copy_of(alloc, name)?;
+        assert_eq!(rt; places(&replicas, &name), wanted);
+    }
     Ok(())
 }
