@@ -10,7 +10,7 @@ use Rattle.std.proofs.lemmas.List.Splits.{slice_split_at, slice_split_none}
 use Rattle.std.proofs.lemmas.Str.{IsUtf8-from_ascii}
 use Rattle.std.proofs.lemmas.Str.Ascii.{IsAscii-from_all}
 use Rattle.run_record.specs.RecordText.{Word, word_text, spaced, joined}
-use Rattle.run_record.specs.Reading.{words_of}
+use Rattle.run_record.specs.Words.{words_of}
 use Rattle.run_record.specs.Lines.{lines, line_length}
 use Rattle.run_record.proofs.WordTextLemmas.{visible, AllVisible}
 
@@ -59,13 +59,13 @@ plain_utf8 xs h = IsUtf8-from_ascii xs (IsAscii-from_all xs (λ k d l.
     let x = slice_index_or xs k d in
     ltb-true x 128 (and_parts (ltb 31 x) (ltb x 128) (AllPass-from_list_all plain xs h k d l)).1))
 
-pub first_line : (xs rest : List ℕ) → list_all plain xs ≡ true → lines (xs ++ 10 ∷ rest) ≡ (xs ++ 10 ∷ []) ∷ lines rest
-first_line [] rest h = refl
-first_line (x ∷ xs) rest h =
+pub lines_from_first : (xs rest : List ℕ) → list_all plain xs ≡ true → lines (xs ++ 10 ∷ rest) ≡ (xs ++ 10 ∷ []) ∷ lines rest
+lines_from_first [] rest h = refl
+lines_from_first (x ∷ xs) rest h =
     let parts = and_parts (plain x) (list_all plain xs) h in
     let l = ltb-true 31 x (and_parts (ltb 31 x) (ltb x 128) parts.0).0 in
     ap (λ (t : Bool). if t then (x ∷ []) ∷ lines (xs ++ 10 ∷ rest) else onto_first x (lines (xs ++ 10 ∷ rest))) (ne_eqb x 10 (λ s. omega (arith, l, s)))
-    ∙ ap (onto_first x) (first_line xs rest parts.1)
+    ∙ ap (onto_first x) (lines_from_first xs rest parts.1)
 
 pub first_length : (xs rest : List ℕ) → list_all plain xs ≡ true → line_length (xs ++ 10 ∷ rest) ≡ suc (length xs)
 first_length [] rest h = refl

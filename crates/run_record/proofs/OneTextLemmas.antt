@@ -4,10 +4,11 @@ use Rattle.std.specs.List.{concat, list_any}
 use Rattle.std.proofs.lemmas.List.{append_cancel_right}
 use Rattle.run_record.specs.Events.{Event, Grant, Arrive, End, Clean, Fail, Again, Regrant, is_second}
 use Rattle.run_record.specs.RecordText.{Word, IsEntry, AreEntries, word_text, joined, entry_words, entry_line, closed_line, version_line, record_lines, record_text}
-use Rattle.run_record.specs.Reading.{words_of, event_in}
+use Rattle.run_record.specs.Reading.{event_in}
+use Rattle.run_record.specs.Words.{words_of}
 use Rattle.run_record.specs.Lines.{lines}
 use Rattle.run_record.proofs.WordTextLemmas.{AllVisible, entry_visible}
-use Rattle.run_record.proofs.LineLemmas.{words_are, joined_plain, first_line}
+use Rattle.run_record.proofs.LineLemmas.{words_are, joined_plain, lines_from_first}
 use Rattle.run_record.proofs.ReadingLemmas.{event_is}
 use Rattle.run_record.proofs.RecordTextLemmas.{lines_closed}
 
@@ -62,12 +63,12 @@ entry_lines (e ∷ es) rest p =
     let more = concat (map entry_line es) in
     let xs = joined (entry_words e) in
     ap lines (append_assoc (entry_line e) more rest ∙ append_assoc xs (codes "\n") (more ++ rest))
-    ∙ first_line xs (more ++ rest) (joined_plain (entry_words e) (entry_visible e p.0))
+    ∙ lines_from_first xs (more ++ rest) (joined_plain (entry_words e) (entry_visible e p.0))
     ∙ ap (λ (l : List (List ℕ)). entry_line e ∷ l) (entry_lines es rest p.1)
 
-version_cut : (second : Bool) (rest : List ℕ) → lines (version_line second ++ rest) ≡ version_line second ∷ lines rest
-version_cut true rest = first_line (codes "record 2") rest refl
-version_cut false rest = first_line (codes "record 1") rest refl
+pub version_cut : (second : Bool) (rest : List ℕ) → lines (version_line second ++ rest) ≡ version_line second ∷ lines rest
+version_cut true rest = lines_from_first (codes "record 2") rest refl
+version_cut false rest = lines_from_first (codes "record 1") rest refl
 
 pub text_lines : (es : List Event) → AreEntries es → lines (record_text es) ≡ record_lines es
 unfolding record_lines

@@ -1,6 +1,6 @@
 -- How a line is read: leniently, as an entry whose line it may be. It is one only if that entry has this line.
-use Rattle.std.specs.Prelude.{ℕ, ◌^◌, ◌==◌, ◌&&◌, ◌||◌, Bool, if◌then◌else◌, List, [], ◌∷◌, drop, length, nat_lt, codes, Option, Some, None, option_map, option_and_then, slice_index_or}
-use Rattle.std.specs.List.{list_all, slice_split}
+use Rattle.std.specs.Prelude.{ℕ, ◌^◌, ◌&&◌, ◌||◌, Bool, if◌then◌else◌, List, [], ◌∷◌, drop, length, nat_lt, codes, Option, Some, None, option_map, option_and_then}
+use Rattle.std.specs.List.{list_all}
 use Rattle.std.specs.Result.{result_ok}
 use Rattle.std.specs.Char.{digit_value}
 use Rattle.std.specs.Str.{bytes_eq}
@@ -9,11 +9,8 @@ use Rattle.hex.specs.Hex.{decode_sized}
 use Rattle.outside.specs.declared.numbers.JobId.{JobId}
 use Rattle.run_record.specs.declared.entry.Cause.{Cause}
 use Rattle.run_record.specs.declared.entry.Cause.TheVariants.{Absent, TooLong, Checksum, Oversize, Declined, ToolFailed, HostFailed, Memory}
+use Rattle.run_record.specs.Words.{word_at}
 use Rattle.run_record.specs.Events.{Event, Grant, Arrive, End, Clean, Fail, Again, Regrant}
-
--- the parts of a line between its spaces
-abbrev pub words_of : List ℕ → List (List ℕ)
-words_of text = slice_split (λ (b : ℕ). b == 32) text
 
 abbrev pub is_numeral : List ℕ → Bool
 is_numeral ds = nat_lt 0 (length ds) && list_all (λ (b : ℕ). nat_lt (digit_value b) 10) ds
@@ -24,10 +21,6 @@ numeral_value k ds = if is_numeral ds && nat_lt (digits_value 10 ds) (2 ^ k) the
 -- the number of at most k bits that a word writes
 unfoldable pub number_of : ℕ → List ℕ → Option ℕ
 number_of k word = numeral_value k (without_leading_plus word)
-
--- the word at a place, and none past the end
-abbrev pub word_at : List (List ℕ) → ℕ → List ℕ
-word_at words k = slice_index_or words k []
 
 abbrev pub number_at : List (List ℕ) → ℕ → Option ℕ
 number_at words k = number_of 32 (word_at words k)
@@ -54,6 +47,13 @@ published_place cause count = if bytes_eq cause (codes "hostfailed") || bytes_eq
 -- the place of the first word of an entry's list of sizes
 abbrev pub sizes_place : List (List ℕ) → ℕ
 sizes_place words = if bytes_eq (word_at words 0) (codes "end") then 3 else published_place (word_at words 3) (length words)
+
+-- the words of an entry's list of sizes, and those that follow a cause
+abbrev pub listed_words : List (List ℕ) → List (List ℕ)
+listed_words words = drop (sizes_place words) words
+
+abbrev pub published_words : List (List ℕ) → List (List ℕ)
+published_words words = drop (published_place (word_at words 3) (length words)) words
 
 abbrev pub job : ℕ → JobId
 job n = record { 0 = n }
@@ -92,4 +92,4 @@ event_with sizes words = option_and_then (λ (w : ℕ). option_and_then (λ (t :
 
 -- the event that a line's words may be
 abbrev pub event_in : List (List ℕ) → Option Event
-event_in words = event_with (sizes_of (drop (sizes_place words) words)) words
+event_in words = event_with (sizes_of (listed_words words)) words

@@ -170,7 +170,6 @@ fn push_entries(alloc: Global, text: &mut Vec<u8>, history: &Record) -> Result<(
 }
 
 /// Whether an entry of a retry or of a fresh order stands.
-
 pub fn is_version_two(history: &Record) -> bool
     ensures { result ≡ list_any is_second history.now.events }
 {
