@@ -1,0 +1,16 @@
+//! A list of numbers, of which a front is raised or lowered at once and the greatest of a front is known.
+//!
+//! The layer above sees a list with a number, or none, at each position; `specs/Numbers.antt` says what becomes
+//! of it. Inside is a binary tree, of which each call visits the nodes on the way to one position.
+#![tactic(auto)]
+
+mod change;
+mod law;
+mod node;
+mod shape;
+mod steps;
+mod tree;
+
+pub use law::{add_front_by_position, filled_by_position, greatest_is_the_greatest};
+pub use steps::Steps;
+pub use tree::PeakTree;
