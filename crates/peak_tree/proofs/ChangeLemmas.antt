@@ -8,8 +8,8 @@ use Rattle.std.specs.List.{AllByRecursion}
 use Rattle.peak_tree.specs.Numbers.{greater, greatest, added}
 use Rattle.peak_tree.specs.Node.{below, numbers, IsShaped, IsGap, IsUnder}
 use Rattle.peak_tree.specs.Change.{before, CanTake, changed}
-use Rattle.peak_tree.specs.declared.node.Gaps.{Gaps}
 use Rattle.peak_tree.specs.declared.node.Node.{Node}
+use Rattle.peak_tree.specs.declared.node.Parts.{Parts}
 use Rattle.peak_tree.specs.declared.node.Node.TheVariants.{Empty, Position, Fork, Fork'}
 use Rattle.peak_tree.specs.declared.change.Change.{Change}
 use Rattle.peak_tree.specs.declared.change.Change.TheVariants.{Add, Remove}
@@ -70,7 +70,7 @@ pub before_under : (c : Change) (top : Option ℕ) (node : Node) → IsUnder top
 before_under (Add d) top Empty under all = ap (added d) under
 before_under Remove top Empty under all = under
 before_under c top Position under all = tt
-before_under c top (Fork' m gaps p l q r) under all =
+before_under c top (Fork' p m gaps l r) under all =
     let both = all_split (CanTake c) (numbers (below top gaps.left) l) (numbers (below top gaps.right) r) all in
     let first = take_top c (below top gaps.left) l under.3 both.0 in
     let second = take_top c (below top gaps.right) r under.4 both.1 in
@@ -86,7 +86,7 @@ before_under c top (Fork' m gaps p l q r) under all =
 pub before_numbers : (c : Change) (top : Option ℕ) (node : Node) → IsUnder top node → AllByRecursion (CanTake c) (numbers top node) → numbers (before c top) node ≡ map (before c) (numbers top node)
 before_numbers c top Empty under all = refl
 before_numbers c top Position under all = refl
-before_numbers c top (Fork' m gaps p l q r) under all =
+before_numbers c top (Fork' p m gaps l r) under all =
     let both = all_split (CanTake c) (numbers (below top gaps.left) l) (numbers (below top gaps.right) r) all in
     let first = take_top c (below top gaps.left) l under.3 both.0 in
     let second = take_top c (below top gaps.right) r under.4 both.1 in
@@ -108,31 +108,31 @@ changed_right c zero (x ∷ xs) ys le = absurd (omega (arith, le))
 changed_right c (suc i) (x ∷ xs) ys le = ap (λ (zs : List (Option ℕ)). before c x ∷ zs) (changed_right c i xs ys (omega (arith, le)) ∙ ap (λ (k : ℕ). map (before c) xs ++ changed c k ys) (let e : i - length xs ≡ suc i - suc (length xs) = omega arith in e))
 
 -- the left part and a front of the right one take the change, where the front does
-pub takes_right : (c : Change) (top : Option ℕ) (node : Node) (m : ℕ) (gaps : Gaps) (l r : Box Node Global) (i : ℕ) → node ≡ Fork m gaps l r → IsShaped node → m ≤ i → AllByRecursion (CanTake c) (take (i + 1) (numbers top node))
-    → AllByRecursion (CanTake c) (numbers (below top gaps.left) l.value) × AllByRecursion (CanTake c) (take (i - m + 1) (numbers (below top gaps.right) r.value))
-takes_right c top node m gaps l r i is shaped le all =
-    all_split (CanTake c) (numbers (below top gaps.left) l.value) (take (i - m + 1) (numbers (below top gaps.right) r.value))
-    (subst (AllByRecursion (CanTake c)) (ap (λ (n : Node). take (i + 1) (numbers top n)) is ∙ take-append-gt (numbers (below top gaps.left) l.value) (numbers (below top gaps.right) r.value) m i (middle_is top node m gaps l r is shaped) le) all)
+pub takes_right : (c : Change) (top : Option ℕ) (node : Node) (b : Box Parts Global) (i : ℕ) → node ≡ Fork b → IsShaped node → b.value.middle ≤ i → AllByRecursion (CanTake c) (take (i + 1) (numbers top node))
+    → AllByRecursion (CanTake c) (numbers (below top b.value.gaps.left) b.value.left) × AllByRecursion (CanTake c) (take (i - b.value.middle + 1) (numbers (below top b.value.gaps.right) b.value.right))
+takes_right c top node b i is shaped le all =
+    all_split (CanTake c) (numbers (below top b.value.gaps.left) b.value.left) (take (i - b.value.middle + 1) (numbers (below top b.value.gaps.right) b.value.right))
+    (subst (AllByRecursion (CanTake c)) (ap (λ (n : Node). take (i + 1) (numbers top n)) is ∙ take-append-gt (numbers (below top b.value.gaps.left) b.value.left) (numbers (below top b.value.gaps.right) b.value.right) b.value.middle i (middle_is top node b is shaped) le) all)
 
-pub takes_second : (c : Change) (top : Option ℕ) (node : Node) (m : ℕ) (gaps : Gaps) (l r : Box Node Global) (i : ℕ) (second : Option ℕ) (right : Node) → node ≡ Fork m gaps l r → IsShaped node → m ≤ i → AllByRecursion (CanTake c) (take (i + 1) (numbers top node))
-    → second ≡ below top gaps.right → right ≡ r.value → AllByRecursion (CanTake c) (take (i - m + 1) (numbers second right))
-takes_second c top node m gaps l r i second right is shaped le all e f =
-    subst₂ (λ (x : Option ℕ) (n : Node). AllByRecursion (CanTake c) (take (i - m + 1) (numbers x n))) (sym e) (sym f) (takes_right c top node m gaps l r i is shaped le all).1
+pub takes_second : (c : Change) (top : Option ℕ) (node : Node) (b : Box Parts Global) (i : ℕ) (second : Option ℕ) (right : Node) → node ≡ Fork b → IsShaped node → b.value.middle ≤ i → AllByRecursion (CanTake c) (take (i + 1) (numbers top node))
+    → second ≡ below top b.value.gaps.right → right ≡ b.value.right → AllByRecursion (CanTake c) (take (i - b.value.middle + 1) (numbers second right))
+takes_second c top node b i second right is shaped le all e f =
+    subst₂ (λ (x : Option ℕ) (n : Node). AllByRecursion (CanTake c) (take (i - b.value.middle + 1) (numbers x n))) (sym e) (sym f) (takes_right c top node b i is shaped le all).1
 
-pub left_under : (top : Option ℕ) (node : Node) (m : ℕ) (gaps : Gaps) (l r : Box Node Global) → node ≡ Fork m gaps l r → IsUnder top node → IsUnder (below top gaps.left) l.value
-left_under top node m gaps l r is under = let fork : IsUnder top (Fork m gaps l r) = subst (IsUnder top) is under in fork.3
+pub left_under : (top : Option ℕ) (node : Node) (b : Box Parts Global) → node ≡ Fork b → IsUnder top node → IsUnder (below top b.value.gaps.left) b.value.left
+left_under top node b is under = let fork : IsUnder top (Fork b) = subst (IsUnder top) is under in fork.3
 
-pub made_left : (c : Change) (top : Option ℕ) (node : Node) (m : ℕ) (gaps : Gaps) (l r : Box Node Global) (i : ℕ) → node ≡ Fork m gaps l r → IsShaped node → i < m
-    → changed c i (numbers (below top gaps.left) l.value) ++ numbers (below top gaps.right) r.value ≡ changed c i (numbers top node)
-made_left c top node m gaps l r i is shaped less =
-    sym (ap (λ (n : Node). changed c i (numbers top n)) is ∙ changed_left c i (numbers (below top gaps.left) l.value) (numbers (below top gaps.right) r.value) (omega (arith, less, middle_is top node m gaps l r is shaped)))
+pub made_left : (c : Change) (top : Option ℕ) (node : Node) (b : Box Parts Global) (i : ℕ) → node ≡ Fork b → IsShaped node → i < b.value.middle
+    → changed c i (numbers (below top b.value.gaps.left) b.value.left) ++ numbers (below top b.value.gaps.right) b.value.right ≡ changed c i (numbers top node)
+made_left c top node b i is shaped less =
+    sym (ap (λ (n : Node). changed c i (numbers top n)) is ∙ changed_left c i (numbers (below top b.value.gaps.left) b.value.left) (numbers (below top b.value.gaps.right) b.value.right) (omega (arith, less, middle_is top node b is shaped)))
 
-pub made_right : (c : Change) (top : Option ℕ) (node : Node) (m : ℕ) (gaps : Gaps) (l r : Box Node Global) (i : ℕ) → node ≡ Fork m gaps l r → IsShaped node → IsUnder top node → m ≤ i
-    → AllByRecursion (CanTake c) (numbers (below top gaps.left) l.value)
-    → numbers (before c (below top gaps.left)) l.value ++ changed c (i - m) (numbers (below top gaps.right) r.value) ≡ changed c i (numbers top node)
-made_right c top node m gaps l r i is shaped under le all =
-    let first = numbers (below top gaps.left) l.value in
-    let second = numbers (below top gaps.right) r.value in
-    ap (λ (xs : List (Option ℕ)). xs ++ changed c (i - m) second) (before_numbers c (below top gaps.left) l.value (left_under top node m gaps l r is under) all)
-    ∙ ap (λ (k : ℕ). map (before c) first ++ changed c (i - k) second) (sym (middle_is top node m gaps l r is shaped))
-    ∙ sym (ap (λ (n : Node). changed c i (numbers top n)) is ∙ changed_right c i first second (omega (arith, le, middle_is top node m gaps l r is shaped)))
+pub made_right : (c : Change) (top : Option ℕ) (node : Node) (b : Box Parts Global) (i : ℕ) → node ≡ Fork b → IsShaped node → IsUnder top node → b.value.middle ≤ i
+    → AllByRecursion (CanTake c) (numbers (below top b.value.gaps.left) b.value.left)
+    → numbers (before c (below top b.value.gaps.left)) b.value.left ++ changed c (i - b.value.middle) (numbers (below top b.value.gaps.right) b.value.right) ≡ changed c i (numbers top node)
+made_right c top node b i is shaped under le all =
+    let first = numbers (below top b.value.gaps.left) b.value.left in
+    let second = numbers (below top b.value.gaps.right) b.value.right in
+    ap (λ (xs : List (Option ℕ)). xs ++ changed c (i - b.value.middle) second) (before_numbers c (below top b.value.gaps.left) b.value.left (left_under top node b is under) all)
+    ∙ ap (λ (k : ℕ). map (before c) first ++ changed c (i - k) second) (sym (middle_is top node b is shaped))
+    ∙ sym (ap (λ (n : Node). changed c i (numbers top n)) is ∙ changed_right c i first second (omega (arith, le, middle_is top node b is shaped)))

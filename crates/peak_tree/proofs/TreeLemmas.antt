@@ -9,8 +9,8 @@ use Rattle.peak_tree.specs.Numbers.{added, add_front, filled, StaysInRange}
 use Rattle.peak_tree.specs.Node.{width, depth, nodes, way, IsShaped}
 use Rattle.peak_tree.specs.Change.{CanTake, changed}
 use Rattle.peak_tree.specs.Tree.{list_of, IsTree}
-use Rattle.peak_tree.specs.declared.node.Gaps.{Gaps}
 use Rattle.peak_tree.specs.declared.node.Node.{Node}
+use Rattle.peak_tree.specs.declared.node.Parts.{Parts}
 use Rattle.peak_tree.specs.declared.node.Node.TheVariants.{Empty, Position, Fork, Fork'}
 use Rattle.peak_tree.specs.declared.change.Change.TheVariants.{Add, Remove}
 use Rattle.peak_tree.specs.declared.tree.PeakTree.TheInside.{Inside}
@@ -48,7 +48,7 @@ takes_remove (x ∷ xs) = (tt, takes_remove xs)
 way_low : (i : ℕ) (node : Node) → way i node ≤ depth node + 1
 way_low i Empty = omega arith
 way_low i Position = omega arith
-way_low i (Fork' m gaps p l q r) = by (ltb i m) (way i l) (way (i - m) r) (depth l) (depth r) (way_low i l) (way_low (i - m) r)
+way_low i (Fork' p m gaps l r) = by (ltb i m) (way i l) (way (i - m) r) (depth l) (depth r) (way_low i l) (way_low (i - m) r)
   where
     by : (b : Bool) (x y u v : ℕ) → x ≤ u + 1 → y ≤ v + 1 → cond b x y + 1 ≤ max u v + 1 + 1
     by true x y u v first second = omega (arith, first)
@@ -57,7 +57,7 @@ way_low i (Fork' m gaps p l q r) = by (ltb i m) (way i l) (way (i - m) r) (depth
 nodes_low : (node : Node) → nodes node + 1 ≤ 2 * 2 ^ depth node
 nodes_low Empty = omega arith
 nodes_low Position = omega arith
-nodes_low (Fork' m gaps p l q r) =
+nodes_low (Fork' p m gaps l r) =
     let top = max (depth l) (depth r) in
     let one = pow_mono {i = depth l} {j = max (depth l) (depth r)} (omega arith) in
     let two = pow_mono {i = depth r} {j = max (depth l) (depth r)} (omega arith) in
@@ -91,12 +91,12 @@ filled_split (x ∷ ns) (suc m) n (suc k) e =
     ∙ ap (λ (zs : List (Option ℕ)). Some x ∷ zs) (filled_split ns m n k (omega (arith, e)))
     ∙ sym (filled_more x ns (m + n)) ∙ ap (filled (x ∷ ns)) (let f : suc (m + n) ≡ suc m + n = omega arith in f)
 
-pub filled_fork : (ns : List ℕ) (node : Node) (m : ℕ) (gaps : Gaps) (l r : Box Node Global) (k : ℕ) (front back : List ℕ) (left right : Node) → node ≡ Fork m gaps l r → IsShaped node → k ≡ min (length ns) m
-    → front ≡ take k ns → back ≡ drop k ns → left ≡ l.value → right ≡ r.value → filled front (width left) ++ filled back (width right) ≡ filled ns (width node)
-filled_fork ns node m gaps l r k front back left right is shaped few one two first second =
-    let fork : IsShaped (Fork m gaps l r) = subst IsShaped is shaped in
+pub filled_fork : (ns : List ℕ) (node : Node) (b : Box Parts Global) (k : ℕ) (front back : List ℕ) (left right : Node) → node ≡ Fork b → IsShaped node → k ≡ min (length ns) b.value.middle
+    → front ≡ take k ns → back ≡ drop k ns → left ≡ b.value.left → right ≡ b.value.right → filled front (width left) ++ filled back (width right) ≡ filled ns (width node)
+filled_fork ns node b k front back left right is shaped few one two first second =
+    let fork : IsShaped (Fork b) = subst IsShaped is shaped in
     ap₂ (λ (xs ys : List (Option ℕ)). xs ++ ys) (ap₂ filled one (ap width first)) (ap₂ filled two (ap width second))
-    ∙ filled_split ns (width l.value) (width r.value) k (few ∙ ap (min (length ns)) fork.0) ∙ ap (filled ns) (sym (ap width is))
+    ∙ filled_split ns (width b.value.left) (width b.value.right) k (few ∙ ap (min (length ns)) fork.0) ∙ ap (filled ns) (sym (ap width is))
 
 pub filled_whole : (ns : List ℕ) (count : ℕ) → count ≡ length ns → filled ns count ≡ map Some ns
 filled_whole ns count e = ap (λ (k : ℕ). map Some ns ++ replicate k None) (let f : count - length ns ≡ 0 = omega (arith, e) in f) ∙ append-nil (map Some ns)

@@ -6,7 +6,7 @@ ghost use Rattle.peak_tree.specs.Numbers.{added, StaysInRange};
 ghost use Rattle.peak_tree.specs.Node.{width, depth, way, numbers, IsShaped, IsUnder};
 ghost use Rattle.peak_tree.specs.Change.{before, at, CanTake, changed};
 
-use crate::node::{Gaps, Node, greater, visit};
+use crate::node::{Gaps, Node, Parts, greater, visit};
 use crate::steps::Steps;
 use std::sync::ledger::Ledger;
 
@@ -76,12 +76,13 @@ pub fn apply<L: Ledger>(
     match node {
         Node::Empty => None,
         Node::Position => change.at(top),
-        Node::Fork {
-            middle,
-            gaps,
-            left,
-            right,
-        } => {
+        Node::Fork(fork) => {
+            let Parts {
+                middle,
+                gaps,
+                left,
+                right,
+            } = &mut **fork;
             let (first, second) = gaps.parts(top);
             if position < *middle {
                 let first = apply(left, first, position, change, steps);

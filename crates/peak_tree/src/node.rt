@@ -15,17 +15,22 @@ pub struct Gaps {
 }
 
 /// Some positions side by side. The node over it, or the tree, knows its greatest number.
+#[cycle(node)]
 #[derive(Debug, Drop)]
 pub enum Node {
     Empty,
     Position,
-    /// Its left part has so many positions.
-    Fork {
-        middle: usize,
-        gaps: Gaps,
-        left: Box<Node>,
-        right: Box<Node>,
-    },
+    Fork(Box<Parts>),
+}
+
+/// Two parts, of which the left one has so many positions.
+#[cycle(node)]
+#[derive(Debug, Drop)]
+pub struct Parts {
+    pub middle: usize,
+    pub gaps: Gaps,
+    pub left: Node,
+    pub right: Node,
 }
 
 /// The greater one of two numbers.
@@ -101,12 +106,13 @@ pub fn number<L: Ledger>(
     match visit(node, steps) {
         Node::Empty => None,
         Node::Position => { if position == 0 { top } else { None } }
-        Node::Fork {
-            middle,
-            gaps,
-            left,
-            right,
-        } => {
+        Node::Fork(fork) => {
+            let Parts {
+                middle,
+                gaps,
+                left,
+                right,
+            } = &**fork;
             let (first, second) = gaps.parts(top);
             if position < *middle {
                 number(left, first, position, steps)
@@ -132,12 +138,13 @@ pub fn greatest_up_to<L: Ledger>(
     match visit(node, steps) {
         Node::Empty => None,
         Node::Position => top,
-        Node::Fork {
-            middle,
-            gaps,
-            left,
-            right,
-        } => {
+        Node::Fork(fork) => {
+            let Parts {
+                middle,
+                gaps,
+                left,
+                right,
+            } = &**fork;
             let (first, second) = gaps.parts(top);
             if position < *middle {
                 greatest_up_to(left, first, position, steps)

@@ -1,21 +1,14 @@
 //! A tree is made, and filled with numbers.
 
-ghost use Rattle.std.specs.Prelude.{◌≡◌, ℕ, ◌+◌, ◌≤◌, ◌^◌, length, None, IfOk};
+ghost use Rattle.std.specs.Prelude.{◌≡◌, ℕ, ◌+◌, ◌≤◌, ◌<◌, ◌^◌, length, None, IfOk};
 ghost use Rattle.peak_tree.specs.Numbers.{filled};
 ghost use Rattle.peak_tree.specs.Node.{width, depth, nodes, numbers, IsShaped, IsUnder};
 
-use crate::node::{Gaps, Node, greater, visit};
+use crate::node::{Gaps, Node, Parts, greater, visit};
 use crate::steps::Steps;
 use outside::Memory;
 use std::alloc::Global;
 use std::sync::ledger::{Blank, Ledger};
-
-fn boxed(alloc: Global, node: Node) -> Result<Box<Node>, Memory>
-    ensures { IfOk result (λ b. b.value ≡ node) }
-{
-    let boxed = Box::new(alloc, node)?;
-    Ok(boxed)
-}
 
 /// So many positions, of which none is live.
 pub fn shape(alloc: Global, count: usize) -> Result<Node, Memory>
@@ -30,15 +23,19 @@ pub fn shape(alloc: Global, count: usize) -> Result<Node, Memory>
         return Ok(Node::Position);
     }
     let middle = count / 2;
-    let left = boxed(alloc, shape(alloc, middle)?)?;
-    let right = boxed(alloc, shape(alloc, count - middle)?)?;
+    let left = shape(alloc, middle)?;
+    let right = shape(alloc, count - middle)?;
     let gaps = Gaps::of(None, None);
-    Ok(Node::Fork {
-        middle,
-        gaps,
-        left,
-        right,
-    })
+    let fork = Box::new(
+        alloc,
+        Parts {
+            middle,
+            gaps,
+            left,
+            right,
+        },
+    )?;
+    Ok(Node::Fork(fork))
 }
 
 /// Puts these numbers to the first positions and none to the others, and answers the greatest one.
@@ -56,12 +53,13 @@ pub fn fill<L: Ledger>(node: &mut Node, values: &[u64], steps: &mut Steps<L>) ->
     match node {
         Node::Empty => None,
         Node::Position => values.first().copied(),
-        Node::Fork {
-            middle,
-            gaps,
-            left,
-            right,
-        } => {
+        Node::Fork(fork) => {
+            let Parts {
+                middle,
+                gaps,
+                left,
+                right,
+            } = &mut **fork;
             let (before, after) = values.split_at(values.len().min(*middle));
             let first = fill(left, before, steps);
             let second = fill(right, after, steps);
@@ -75,7 +73,7 @@ pub fn fill<L: Ledger>(node: &mut Node, values: &[u64], steps: &mut Steps<L>) ->
 pub fn fill_uncounted<L: Ledger>(node: &mut Node, values: &[u64], blank: Blank) -> Option<u64>
     requires name { blank.name ≡ L.name }
     requires parts { blank.parts ≡ L.parts }
-    requires some { 1 ≤ blank.parts }
+    requires some { 0 < blank.parts }
     requires shaped { IsShaped node.old }
     requires few { length values.now ≤ width node.old }
     ensures shaped { IsShaped node.new }

@@ -41,7 +41,7 @@ fn number_uncounted<L: Ledger>(
 ) -> Option<u64>
     requires name { blank.name ≡ L.name }
     requires parts { blank.parts ≡ L.parts }
-    requires some { 1 ≤ blank.parts }
+    requires some { 0 < blank.parts }
     requires shaped { IsShaped node.now }
     ensures { result ≡ get_or (numbers top node.now) position None }
 {

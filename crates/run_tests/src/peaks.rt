@@ -1,6 +1,6 @@
 //! A tree of numbers beside a plain list of them, which is changed position by position.
 
-ghost use Rattle.std.specs.Prelude.{◌≡◌, ◌≤◌, length, take, IsTrue};
+ghost use Rattle.std.specs.Prelude.{◌≡◌, ◌≤◌, ◌<◌, length, take, IsTrue};
 ghost use Rattle.std.specs.List.{All};
 ghost use Rattle.peak_tree.specs.Numbers.{StaysInRange};
 
@@ -225,7 +225,7 @@ fn small_tree<L: Ledger>(rt: &impl Abort, alloc: Global, steps: &mut Steps<L>) -
 fn all_calls<L: Ledger>(rt: &impl Abort, alloc: Global, blank: Blank) -> Result<(), Fail>
     requires name { blank.name ≡ L.name }
     requires parts { blank.parts ≡ L.parts }
-    requires some { 1 ≤ blank.parts }
+    requires some { 0 < blank.parts }
 {
     let mut steps = Steps::<L>::new(blank);
     small_tree(rt, alloc, &mut steps)?;
