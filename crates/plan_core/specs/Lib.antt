@@ -1,0 +1,7 @@
+-- What the public contracts say
+pub mod Numbers
+pub mod Words
+pub mod Kinds
+pub mod Proper
+pub mod Grounded
+pub mod Carried
