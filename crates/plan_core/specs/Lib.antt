@@ -3,5 +3,6 @@ pub mod Numbers
 pub mod Words
 pub mod Kinds
 pub mod Proper
+pub mod Printing
 pub mod Grounded
 pub mod Carried

@@ -4,6 +4,7 @@
 mod copying;
 mod law;
 mod plan;
+mod printing;
 mod words;
 
 pub use law::{
@@ -11,3 +12,4 @@ pub use law::{
     parents_come_before, rising_lists_are_one, some_task_is_first, ways_back_end,
 };
 pub use plan::{Pair, Plan, PlanFile, PlanJob, PlanSite, Source, Target, Task, TaskKind};
+pub use printing::print;
