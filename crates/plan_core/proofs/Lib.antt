@@ -6,3 +6,4 @@ mod SettlingLemmas
 mod PairLemmas
 mod CarriedLemmas
 mod LawLemmas
+mod SortingLemmas

@@ -6,3 +6,5 @@ pub mod Proper
 pub mod Printing
 pub mod Grounded
 pub mod Carried
+-- Steps of the check
+pub mod Rising

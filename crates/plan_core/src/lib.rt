@@ -5,6 +5,7 @@ mod copying;
 mod law;
 mod plan;
 mod printing;
+mod rising;
 mod words;
 
 pub use law::{
