@@ -7,3 +7,6 @@ mod PairLemmas
 mod CarriedLemmas
 mod LawLemmas
 mod SortingLemmas
+mod FilesLemmas
+mod ListingLemmas
+mod TablesLemmas

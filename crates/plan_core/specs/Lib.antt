@@ -7,4 +7,6 @@ pub mod Printing
 pub mod Grounded
 pub mod Carried
 -- Steps of the check
+pub mod Checking
 pub mod Rising
+pub mod Files

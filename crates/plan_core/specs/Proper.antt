@@ -30,6 +30,9 @@ is_site_below sites (Some s) = nat_lt s.0 sites
 abbrev pub are_files_below : ℕ → List FileId → Bool
 are_files_below files fs = list_all (λ (f : FileId). nat_lt f.0 files) fs
 
+abbrev pub are_jobs_below : ℕ → List JobId → Bool
+are_jobs_below jobs js = list_all (λ (j : JobId). nat_lt j.0 jobs) js
+
 abbrev pub is_source_below : ℕ → Source → Bool
 is_source_below sites (Pfn x) = true
 is_source_below sites (Site a) = nat_lt a.0 sites
@@ -46,7 +49,7 @@ is_job_in_range p j = is_site_below (length p.sites) j.site && (are_files_below 
 
 abbrev pub is_kind_in_range : Plan → TaskKind → Bool
 is_kind_in_range p (Transfer f from to) = nat_lt f.0 (length p.files) && (is_source_below (length p.sites) from && is_target_below (length p.sites) to)
-is_kind_in_range p (Run a js) = nat_lt a.0 (length p.sites) && list_all (λ (j : JobId). nat_lt j.0 (length p.jobs)) js
+is_kind_in_range p (Run a js) = nat_lt a.0 (length p.sites) && are_jobs_below (length p.jobs) js
 is_kind_in_range p (Clean q) = nat_lt q.0 (count_pairs p)
 
 -- Each part has a number of 32 bits, and each number stands for a part. What tasks read, write and wait for is in
@@ -66,10 +69,13 @@ abbrev pub is_before : Pair → Pair → Bool
 is_before q r = nat_lt q.site.0 r.site.0 || ((q.site.0 == r.site.0) && nat_lt q.file.0 r.file.0)
 
 -- each pair comes before the next one
+abbrev pub rise_after : Pair → List Pair → Bool
+rise_after last [] = true
+rise_after last (q ∷ qs) = is_before last q && rise_after q qs
+
 abbrev pub are_rising : List Pair → Bool
 are_rising [] = true
-are_rising (q ∷ []) = true
-are_rising (q ∷ r ∷ rs) = is_before q r && are_rising (r ∷ rs)
+are_rising (q ∷ qs) = rise_after q qs
 
 pub record HasTables (p : Plan) : Type 0 where
   pub in_range : IsInRange p

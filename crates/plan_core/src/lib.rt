@@ -2,10 +2,12 @@
 #![tactic(auto)]
 
 mod copying;
+mod files;
 mod law;
 mod plan;
 mod printing;
 mod rising;
+mod tables;
 mod words;
 
 pub use law::{
