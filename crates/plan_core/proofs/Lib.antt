@@ -10,3 +10,4 @@ mod SortingLemmas
 mod FilesLemmas
 mod ListingLemmas
 mod TablesLemmas
+mod OwnLemmas

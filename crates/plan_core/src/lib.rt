@@ -4,6 +4,7 @@
 mod copying;
 mod files;
 mod law;
+mod own;
 mod plan;
 mod printing;
 mod rising;
