@@ -11,3 +11,6 @@ mod FilesLemmas
 mod ListingLemmas
 mod TablesLemmas
 mod OwnLemmas
+mod ListingGraphLemmas
+mod FlowLemmas
+mod CheckingLemmas

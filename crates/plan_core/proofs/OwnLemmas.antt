@@ -87,7 +87,7 @@ sequence_is jobs (Run s js) = sequence_same jobs js [] [] (λ x. refl)
 sequence_is jobs (Clean q) = refl
 
 -- a test that all pass, at one of them, and back
-all_at : (test : ℕ → Bool) (xs : List ℕ) → list_all test xs ≡ true → (x : ℕ) → has xs x ≡ true → test x ≡ true
+pub all_at : (test : ℕ → Bool) (xs : List ℕ) → list_all test xs ≡ true → (x : ℕ) → has xs x ≡ true → test x ≡ true
 all_at test [] h x k = absurd cc
 all_at test (y ∷ ys) h x k = by (nat_eq y x) refl k (λ l. all_at test ys parts.1 x l)
   where

@@ -10,3 +10,5 @@ pub mod Carried
 pub mod Checking
 pub mod Rising
 pub mod Files
+pub mod Listing
+pub mod Flow
