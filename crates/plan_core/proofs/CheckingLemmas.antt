@@ -20,7 +20,7 @@ use Rattle.plan_core.specs.Listing.{listed, nodes, cleaned, delivered}
 use Rattle.plan_core.specs.Flow.{HasOneWriter, HasOrder}
 use Rattle.plan_core.proofs.TestLemmas.{both, same_number, by_bool}
 use Rattle.plan_core.proofs.NumbersLemmas.{below_has}
-use Rattle.plan_core.proofs.ListingGraphLemmas.{tasks_are_nodes, pairs_are_nodes, files_are_nodes}
+use Rattle.plan_core.proofs.ListingLemmas.{tasks_are_nodes, pairs_are_nodes, files_are_nodes}
 
 lower : (a b : ℕ) → nat_lt a b ≡ true → a < b
 lower a b h = grind arith
@@ -48,12 +48,12 @@ writes_low p h t x k = let l : x < count_pairs p = writes_pairs p h t x k in let
 pub parents_low : (p : Plan) → ((t : ℕ) → AreParents p t) → (t x : ℕ) → has (listed p Parents t) x ≡ true → x < nodes p
 parents_low p h t x k = let l : x < count_tasks p = (below_has (count_tasks p) (has (parents p t)) x (ap (λ (xs : List ℕ). has xs x) (sym (h t).listed) ∙ k)).0 in let m = tasks_are_nodes p in omega (arith, l, m)
 
-all_place : {A : Type 0} (test : A → Bool) (xs : List A) (i : ℕ) (x : A) → list_all test xs ≡ true → slice_get xs i ≡ Some x → test x ≡ true
+pub all_place : {A : Type 0} (test : A → Bool) (xs : List A) (i : ℕ) (x : A) → list_all test xs ≡ true → slice_get xs i ≡ Some x → test x ≡ true
 all_place test [] i x h e = absurd cc
 all_place test (y ∷ ys) zero x h e = let s : y ≡ x = cc in ap test (sym s) ∙ (both (test y) (list_all test ys) h).0
 all_place test (y ∷ ys) (suc i) x h e = all_place test ys i x (both (test y) (list_all test ys) h).1 e
 
-in_range_at : (p : Plan) → HasTables p → (t : ℕ) (o : Option Task) → slice_get p.tasks t ≡ o → (k : TaskKind) → kind_in o ≡ Some k → is_kind_in_range p k ≡ true
+pub in_range_at : (p : Plan) → HasTables p → (t : ℕ) (o : Option Task) → slice_get p.tasks t ≡ o → (k : TaskKind) → kind_in o ≡ Some k → is_kind_in_range p k ≡ true
 in_range_at p h t None e k f = absurd cc
 in_range_at p h t (Some x) e k f = let s : x.kind ≡ k = cc in ap (is_kind_in_range p) (sym s) ∙ all_place (λ (y : Task). is_kind_in_range p y.kind) p.tasks t x h.in_range.kinds e
 

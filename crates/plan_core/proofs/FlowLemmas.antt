@@ -26,8 +26,8 @@ use Rattle.plan_core.proofs.NumbersLemmas.{below_has}
 use Rattle.plan_core.proofs.RisingLemmas.{rising_is_below, below_rises}
 use Rattle.plan_core.proofs.SortingLemmas.{rising_rises, rises_rising}
 use Rattle.plan_core.proofs.PairLemmas.{writer_of, written_of}
-use Rattle.plan_core.proofs.OwnLemmas.{at_all, all_at}
-use Rattle.plan_core.proofs.ListingGraphLemmas.{made_lists, tasks_are_nodes, all_low}
+use Rattle.plan_core.proofs.TasksLemmas.{at_all, all_at}
+use Rattle.plan_core.proofs.ListingLemmas.{made_lists, tasks_are_nodes, all_low}
 use Rattle.digraph.specs.Cycle.{Returns}
 use Rattle.std.specs.Option.{MatchOption}
 

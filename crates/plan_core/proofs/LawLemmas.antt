@@ -1,5 +1,5 @@
 -- What the laws say.
-use Rattle.std.proofs.Common.{◌≡◌, ℕ, ◌<◌, ◌||◌, Bool, true, false, List, [], ◌∷◌, refl, sym, ap, ◌∙◌, ◌⊎◌, inl, inr, nat_eq, arith}
+use Rattle.std.proofs.Common.{◌≡◌, ℕ, ◌<◌, ◌||◌, Bool, true, false, List, [], ◌∷◌, refl, sym, ap, ◌∙◌, ◌⊎◌, inl, inr, nat_eq, nat_lt, length, arith}
 use Rattle.std.specs.Prelude.{Option, Some, None, slice_get}
 use Rattle.std.specs.List.{list_any}
 use Rattle.plan_core.specs.declared.plan.Plan.{Plan}
@@ -9,13 +9,15 @@ use Rattle.plan_core.specs.declared.plan.TaskKind.TheVariants.{Transfer, Run, Cl
 use Rattle.plan_core.specs.Numbers.{has, below}
 use Rattle.plan_core.specs.Words.{reads, writes, parents, kind, is_pair, is_clean, is_clean_kind, cleans, kind_cleans, count_pairs, count_tasks}
 use Rattle.plan_core.specs.Kinds.{on_pair, kind_reads, kind_writes, reads_file, writes_file, reads_pair, writes_pair, sweeps, waits_for}
-use Rattle.plan_core.specs.Proper.{IsProper, is_parent}
-use Rattle.plan_core.proofs.TestLemmas.{same_number, or_left, or_right, either, by_bool, is_itself}
+use Rattle.plan_core.specs.Proper.{IsProper, is_parent, is_kind_in_range, is_pair_in_range}
+use Rattle.plan_core.proofs.TestLemmas.{same_number, or_left, or_right, either, by_bool, is_itself, both}
 use Rattle.plan_core.proofs.NumbersLemmas.{below_has, has_below, any_has}
 use Rattle.plan_core.proofs.PairLemmas.{on_this_pair, reads_below, writes_below}
 use Rattle.plan_core.specs.Grounded.{Grounded, ground}
 use Rattle.plan_core.proofs.GroundedLemmas.{all_grounded}
 use Rattle.plan_core.proofs.CarriedLemmas.{low_parent}
+use Rattle.plan_core.proofs.FilePairLemmas.{known, number_once, numbers_follow}
+use Rattle.plan_core.proofs.CheckingLemmas.{all_place, in_range_at}
 
 -- a list of the numbers that pass has those that pass
 pub in_below : (n : ℕ) (test : ℕ → Bool) (q : ℕ) → q < n → has (below n test) q ≡ test q
@@ -105,3 +107,29 @@ first_task p proper test t h = first_from p test t (all_grounded (is_parent p) (
 
 pub proper_is_grounded : (p : Plan) → IsProper p → (t : ℕ) → Grounded (is_parent p) t
 proper_is_grounded p proper = all_grounded (is_parent p) (count_tasks p) (low_parent p proper) proper.flow.acyclic
+
+pub once : (p : Plan) → IsProper p → (q r s f : ℕ) → is_pair p q s f ≡ true → is_pair p r s f ≡ true → q ≡ r
+unfolding is_pair
+once p proper q r s f h k = number_once p.pairs s f q r proper.tables.pairs_rise h k
+
+pub in_order : (p : Plan) → IsProper p → (q r s f g : ℕ) → is_pair p q s f ≡ true → is_pair p r s g ≡ true → f < g → q < r
+unfolding is_pair
+in_order p proper q r s f g h k l = numbers_follow p.pairs s f g q r proper.tables.pairs_rise h k l
+
+lower : (a b : ℕ) → nat_lt a b ≡ true → a < b
+lower a b h = grind arith
+
+pub pair_in_range : (p : Plan) → IsProper p → (q s f : ℕ) → is_pair p q s f ≡ true → (s < length p.sites) × (f < length p.files)
+unfolding is_pair
+pair_in_range p proper q s f h =
+    let x = known (slice_get p.pairs q) s f h in
+    let parts = both (nat_lt x.0.site.0 (length p.sites)) (nat_lt x.0.file.0 (length p.files)) (all_place (is_pair_in_range p) p.pairs q x.0 proper.tables.in_range.pairs x.1) in
+    let a : x.0.site.0 ≡ s = x.2 in
+    let b : x.0.file.0 ≡ f = x.3 in
+    let low : x.0.site.0 < length p.sites = lower x.0.site.0 (length p.sites) parts.0 in
+    let small : x.0.file.0 < length p.files = lower x.0.file.0 (length p.files) parts.1 in
+    (omega (arith, a, low), omega (arith, b, small))
+
+pub kind_in_range : (p : Plan) → IsProper p → (t : ℕ) (k : TaskKind) → kind p t ≡ Some k → is_kind_in_range p k ≡ true
+unfolding kind
+kind_in_range p proper t k e = in_range_at p proper.tables t (slice_get p.tasks t) refl k e

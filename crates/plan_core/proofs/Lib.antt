@@ -8,9 +8,9 @@ mod CarriedLemmas
 mod LawLemmas
 mod SortingLemmas
 mod FilesLemmas
-mod ListingLemmas
+mod FilePairLemmas
 mod TablesLemmas
-mod OwnLemmas
-mod ListingGraphLemmas
+mod TasksLemmas
+mod ListingLemmas
 mod FlowLemmas
 mod CheckingLemmas

@@ -10,7 +10,7 @@ use Rattle.plan_core.specs.declared.plan.Plan.{Plan}
 use Rattle.plan_core.specs.declared.plan.PlanFile.{PlanFile}
 use Rattle.plan_core.specs.declared.plan.PlanSite.{PlanSite}
 use Rattle.plan_core.specs.Proper.{HasTables, IsInRange, are_rising}
-use Rattle.plan_core.specs.Checking.{are_few, are_in_range, are_unknown, tables_pass}
+use Rattle.plan_core.specs.Tables.{are_few, are_in_range, are_unknown, tables_pass}
 use Rattle.plan_core.proofs.TestLemmas.{both, and_both, by_bool, or_left, or_right, not_true}
 
 below : (a b : ℕ) → nat_lt a b ≡ true → a < b

@@ -5,6 +5,8 @@ use Rattle.std.specs.Str.{bytes_eq}
 use Rattle.outside.specs.declared.numbers.FileId.{FileId}
 use Rattle.outside.specs.declared.numbers.JobId.{JobId}
 use Rattle.outside.specs.declared.numbers.SiteId.{SiteId}
+use Rattle.std.proofs.Props.{props}
+use Rattle.std.proofs.lemmas.Map.Keys.{IsDistinct-prop}
 use Rattle.digraph.specs.Cycle.{Returns}
 use Rattle.plan_core.specs.declared.plan.Plan.{Plan}
 use Rattle.plan_core.specs.declared.plan.Pair.{Pair}
@@ -136,3 +138,6 @@ pub record IsProper (p : Plan) : Type 0 where
   pub tables : HasTables p
   pub tasks : (t : ℕ) → IsTask p (slice_get p.tasks t)
   pub flow : HasFlow p
+
+pub IsProper-prop : (p : Plan) → IsProp (IsProper p)
+IsProper-prop p = Prim.hlevel (props, IsDistinct-prop)

@@ -114,13 +114,16 @@ outputs jobs j = outputs_in (slice_get jobs j)
 unfoldable pub made : Apply → List PlanJob → ℕ → List (List ℕ) → Option (List (List ℕ))
 made apply jobs j ins = option_and_then (λ (x : PlanJob). apply x.tool x.arguments ins (length x.outputs)) (slice_get jobs j)
 
--- pairs: the file of pair q, and whether it stands at a site
+-- pairs
 abbrev pub count_pairs : Plan → ℕ
 count_pairs p = length p.pairs
 
 abbrev pub pair_at : Option Pair → ℕ → ℕ → Bool
 pair_at None s f = false
 pair_at (Some q) s f = (q.site.0 == s) && (q.file.0 == f)
+
+unfoldable pub pair : Plan → ℕ → Option Pair
+pair p q = slice_get p.pairs q
 
 -- pair q is this file at this site
 unfoldable pub is_pair : Plan → ℕ → ℕ → ℕ → Bool
@@ -130,17 +133,11 @@ abbrev pub site_in : Option Pair → ℕ → Bool
 site_in None s = false
 site_in (Some q) s = q.site.0 == s
 
+-- pair q is at this site
 unfoldable pub is_at : Plan → ℕ → ℕ → Bool
 is_at p q s = site_in (slice_get p.pairs q) s
 
-abbrev pub file_in : Option Pair → Option ℕ
-file_in None = None
-file_in (Some q) = Some q.file.0
-
-unfoldable pub file_of : Plan → ℕ → Option ℕ
-file_of p q = file_in (slice_get p.pairs q)
-
--- the declared size of a file, and of a pair's file
+-- the declared size of a file
 abbrev pub declared_in : Option PlanFile → Option ℕ
 declared_in None = None
 declared_in (Some f) = f.declared

@@ -4,7 +4,7 @@ ghost use Rattle.std.specs.Prelude.{◌≡◌, ◌↔◌, true, IfOk};
 ghost use Rattle.plan_core.specs.Proper.{IsProper};
 
 use crate::flow::has_flow;
-use crate::own::are_tasks;
+use crate::tasks::are_tasks;
 use crate::plan::Plan;
 use crate::tables::has_tables;
 use outside::Memory;

@@ -1,18 +1,31 @@
 //! What the definitions come to.
 
-ghost use Rattle.std.specs.Prelude.{◌≡◌, ◌<◌, ◌||◌, ℕ, Bool, true, false, List, Option};
+ghost use Rattle.std.specs.Prelude.{◌≡◌, ◌<◌, ◌||◌, ℕ, Bool, true, false, length, List, Option, Some};
 ghost use Rattle.outside.specs.Tool.{Apply};
 ghost use Rattle.plan_core.specs.declared.plan.Plan.{Plan};
+ghost use Rattle.plan_core.specs.declared.plan.TaskKind.{TaskKind};
 ghost use Rattle.plan_core.specs.Carried.{Bytes, IsCarrying, carried};
 ghost use Rattle.plan_core.specs.Grounded.{Grounded};
 ghost use Rattle.plan_core.specs.Kinds.{reads_file, writes_file};
 ghost use Rattle.plan_core.specs.Numbers.{RisesFrom, below, has};
-ghost use Rattle.plan_core.specs.Proper.{IsProper, is_parent};
-ghost use Rattle.plan_core.specs.Words.{cleans, count_pairs, count_tasks, is_clean, is_pair, reads, writes};
+ghost use Rattle.plan_core.specs.Proper.{IsProper, is_kind_in_range, is_parent};
+ghost use Rattle.plan_core.specs.Words.{cleans, count_pairs, count_tasks, is_clean, is_pair, kind, reads, writes};
 
 /// A rising list of exactly the numbers below a bound that pass is their list.
 pub fn rising_lists_are_one()
     ensures { (n : ℕ) (test : ℕ → Bool) (xs : List ℕ) → RisesFrom 0 xs → ((x : ℕ) → has xs x ≡ true → (x < n) × (test x ≡ true)) → ((x : ℕ) → x < n → test x ≡ true → has xs x ≡ true) → xs ≡ below n test }
+{}
+
+/// In a proper plan a file has one pair at a site, and the pairs of a site follow the order of their files.
+pub fn pairs_stand_once()
+    ensures once { (p : Plan) → IsProper p → (q r s f : ℕ) → is_pair p q s f ≡ true → is_pair p r s f ≡ true → q ≡ r }
+    ensures in_order { (p : Plan) → IsProper p → (q r s f g : ℕ) → is_pair p q s f ≡ true → is_pair p r s g ≡ true → f < g → q < r }
+{}
+
+/// In a proper plan the numbers in pairs and in what tasks do stand for sites, files, jobs and pairs.
+pub fn numbers_are_in_range()
+    ensures pairs { (p : Plan) → IsProper p → (q s f : ℕ) → is_pair p q s f ≡ true → (s < length p.sites) × (f < length p.files) }
+    ensures kinds { (p : Plan) → IsProper p → (t : ℕ) (k : TaskKind) → kind p t ≡ Some k → is_kind_in_range p k ≡ true }
 {}
 
 /// A proper plan's tasks list the pairs of the files that they read and write, and no others.

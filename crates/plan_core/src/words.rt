@@ -2,9 +2,9 @@
 
 ghost use Rattle.std.specs.Prelude.{◌≡◌};
 ghost use Rattle.std.specs.Option.{option_copied};
-ghost use Rattle.plan_core.specs.Words.{bound, cleans, declared, delivers, file_of, is_at, is_clean, is_fresh, is_pair, is_run, is_transfer, kind, output_bound, pair_numbers, parents, reads, retries, task_numbers, writes};
+ghost use Rattle.plan_core.specs.Words.{bound, cleans, declared, delivers, is_at, is_clean, is_fresh, is_pair, is_run, is_transfer, kind, output_bound, pair, pair_numbers, parents, reads, retries, task_numbers, writes};
 
-use crate::plan::{Plan, Target, TaskKind};
+use crate::plan::{Pair, Plan, Target, TaskKind};
 use outside::{FileId, PairId, SiteId, TaskId};
 
 impl Plan {
@@ -114,6 +114,17 @@ impl Plan {
                 _ => false,
             },
             None => false,
+        }
+    }
+
+    /// A pair, by its number.
+    #[tactic(auto, unfolding(crate::specs::Words::pair))]
+    pub fn pair(&self, number: PairId) -> Option<Pair>
+        ensures { result ≡ pair self.now number.0 }
+    {
+        match self.pairs.as_slice().get(number.0 as usize) {
+            Some(found) => Some(*found),
+            None => None,
         }
     }
 

@@ -8,7 +8,7 @@ use Rattle.plan_core.specs.Listing.{nodes}
 use Rattle.plan_core.specs.Words.{count_pairs}
 use Rattle.plan_core.specs.declared.plan.Pair.{Pair}
 use Rattle.plan_core.proofs.FlowLemmas.{writers_decided}
-use Rattle.plan_core.proofs.ListingGraphLemmas.{pairs_are_nodes}
+use Rattle.plan_core.proofs.ListingLemmas.{pairs_are_nodes}
 use Rattle.plan_core.proofs.flow.has_one_writer.Goals as goal
 
 pub returns : goal.returns

@@ -4,7 +4,7 @@ use Rattle.std.specs.declared.alloc.Global.{Global}
 use Rattle.digraph.specs.Adjacency.{lists_of, neighbours}
 use Rattle.plan_core.specs.Listing.{listed, nodes}
 use Rattle.plan_core.specs.Numbers.{has}
-use Rattle.plan_core.proofs.ListingGraphLemmas.{listed_lists, lists_low}
+use Rattle.plan_core.proofs.ListingLemmas.{listed_lists, lists_low}
 use Rattle.plan_core.proofs.listing.graph.Goals as goal
 
 pub new-requires-clause-in_range : goal.new-requires-clause-in_range

@@ -1,7 +1,7 @@
 use Rattle.std.proofs.Common.{ℕ, List, length, ap, refl, arith, ◌≡◌, ◌≤◌}
 use Rattle.plan_core.specs.declared.plan.Task.{Task}
-use Rattle.plan_core.proofs.OwnLemmas.{all_tasks}
-use Rattle.plan_core.proofs.own.are_tasks.Goals as goal
+use Rattle.plan_core.proofs.TasksLemmas.{all_tasks}
+use Rattle.plan_core.proofs.tasks.are_tasks.Goals as goal
 
 pub returns : goal.returns
 returns c =
