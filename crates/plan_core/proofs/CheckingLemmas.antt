@@ -1,24 +1,22 @@
 -- A plan passes the tests exactly where it is proper.
-use Rattle.std.proofs.Common.{◌≡◌, ℕ, zero, suc, ◌<◌, ◌≤◌, Bool, true, false, ◌&&◌, ◌||◌, List, [], ◌∷◌, length, max, refl, sym, ap, ◌∙◌, nat_eq, nat_lt, arith, ◌⊎◌, inl, inr}
+use Rattle.std.proofs.Common.{◌≡◌, ℕ, zero, suc, ◌<◌, Bool, true, false, ◌&&◌, ◌||◌, List, [], ◌∷◌, length, max, refl, sym, ap, ◌∙◌, nat_eq, nat_lt, arith}
 use Rattle.std.specs.Prelude.{◌^◌, Option, Some, None, slice_get}
 use Rattle.std.specs.Bool.{Decides}
-use Rattle.std.specs.List.{list_any, list_all}
-use Rattle.std.proofs.lemmas.Bool.{cases_lt}
+use Rattle.std.specs.List.{list_all}
 use Rattle.digraph.specs.Cycle.{Returns}
 use Rattle.plan_core.specs.declared.plan.Plan.{Plan}
 use Rattle.plan_core.specs.declared.plan.Task.{Task}
 use Rattle.plan_core.specs.declared.plan.TaskKind.{TaskKind}
 use Rattle.plan_core.specs.declared.plan.TaskKind.TheVariants.{Transfer, Run, Clean}
-use Rattle.plan_core.specs.declared.plan.Source.{Source}
 use Rattle.plan_core.specs.declared.plan.Target.TheVariants.{Site as Into, Delivery}
 use Rattle.plan_core.specs.declared.listing.Listing.TheVariants.{Reads, Writes, Cleaned, Delivered, Parents}
-use Rattle.plan_core.specs.Numbers.{has, below}
+use Rattle.plan_core.specs.Numbers.{has}
 use Rattle.plan_core.specs.Words.{reads, writes, parents, kind, kind_in, count_tasks, count_pairs, cleans, delivers, kind_cleans, kind_delivers}
 use Rattle.plan_core.specs.Kinds.{kind_reads, kind_writes, on_pair}
-use Rattle.plan_core.specs.Proper.{HasTables, IsInRange, IsTask, HasFlow, IsProper, AreParents, is_parent, is_kind_in_range, is_source_below, is_target_below}
+use Rattle.plan_core.specs.Proper.{HasTables, IsTask, HasFlow, IsProper, AreParents, is_parent, is_kind_in_range, is_source_below}
 use Rattle.plan_core.specs.Listing.{listed, nodes, cleaned, delivered}
 use Rattle.plan_core.specs.Flow.{HasOneWriter, HasOrder}
-use Rattle.plan_core.proofs.TestLemmas.{both, same_number, by_bool}
+use Rattle.plan_core.proofs.TestLemmas.{both, same_number}
 use Rattle.plan_core.proofs.NumbersLemmas.{below_has}
 use Rattle.plan_core.proofs.ListingLemmas.{tasks_are_nodes, pairs_are_nodes, files_are_nodes}
 

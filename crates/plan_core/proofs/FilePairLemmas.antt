@@ -1,5 +1,5 @@
 -- Files at a site, and the numbers of their pairs.
-use Rattle.std.proofs.Common.{◌≡◌, ℕ, zero, suc, ◌<◌, ◌≤◌, Bool, true, false, not, ◌&&◌, ◌||◌, List, [], ◌∷◌, length, refl, sym, ap, ◌∙◌, nat_eq, nat_lt, arith, subst, ◌⊎◌, inl, inr}
+use Rattle.std.proofs.Common.{◌≡◌, ℕ, zero, suc, ◌<◌, ◌≤◌, Bool, true, false, ◌&&◌, ◌||◌, List, [], ◌∷◌, length, refl, sym, ap, ◌∙◌, nat_eq, arith, ◌⊎◌, inl, inr}
 use Rattle.std.specs.Prelude.{Option, Some, None, slice_get}
 use Rattle.std.specs.List.{list_any}
 use Rattle.std.proofs.lemmas.Bool.{cases_lt}
@@ -10,7 +10,7 @@ use Rattle.plan_core.specs.Words.{pair_at}
 use Rattle.plan_core.specs.Kinds.{on_pair}
 use Rattle.plan_core.specs.Proper.{is_before, rise_after, are_rising}
 use Rattle.plan_core.specs.Files.{are_pairs}
-use Rattle.plan_core.proofs.TestLemmas.{same_number, is_itself, by_bool, or_left, or_right, both, and_both, either}
+use Rattle.plan_core.proofs.TestLemmas.{same_number, is_itself, or_left, or_right, both, and_both}
 use Rattle.plan_core.proofs.RisingLemmas.{rising_is_below}
 use Rattle.plan_core.proofs.PairLemmas.{any_place, place_any}
 

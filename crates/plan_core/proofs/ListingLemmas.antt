@@ -1,27 +1,22 @@
 -- Graphs of tasks and what is listed of them.
-use Rattle.std.proofs.Common.{◌≡◌, ℕ, zero, suc, ◌+◌, ◌<◌, ◌≤◌, Bool, true, false, ◌||◌, List, [], ◌∷◌, ◌++◌, length, max, refl, sym, ap, ◌∙◌, nat_eq, arith, subst, get_or, ◌⊎◌, inl, inr}
-use Rattle.std.specs.Prelude.{Option, Some, None, Vec, slice_get, slice_index_or}
-use Rattle.std.specs.List.{list_any, flat_map, All}
+use Rattle.std.proofs.Common.{◌≡◌, ℕ, zero, suc, ◌<◌, ◌≤◌, true, List, [], ◌∷◌, length, max, refl, sym, ap, ◌∙◌, nat_eq, arith, get_or, ◌⊎◌, inl, inr}
+use Rattle.std.specs.Prelude.{Option, Vec}
+use Rattle.std.specs.List.{All}
 use Rattle.std.specs.declared.alloc.Global.{Global}
 use Rattle.std.proofs.lemmas.Bool.{cases_lt}
 use Rattle.std.proofs.lemmas.Option.{slice_get_past}
-use Rattle.std.proofs.lemmas.List.Folds.{list_any-append, list_any_at}
-use Rattle.std.proofs.lemmas.List.Elements.{All-from_get_or, All-get_or, All-head, All-tail}
+use Rattle.std.proofs.lemmas.List.Folds.{list_any_at}
+use Rattle.std.proofs.lemmas.List.Elements.{All-from_get_or}
 use Rattle.std.proofs.Math.Nat.{le-max_left, le-max_right}
-use Rattle.digraph.specs.Adjacency.{lists_of, neighbours, IsRising, AreNeighbours}
-use Rattle.digraph.specs.Digraph.{count, edge}
-use Rattle.digraph.specs.declared.digraph.Digraph.{Digraph}
+use Rattle.digraph.specs.Adjacency.{lists_of, neighbours}
 use Rattle.plan_core.specs.declared.listing.Listing.{Listing}
 use Rattle.plan_core.specs.declared.listing.Listing.TheVariants.{Reads, Writes, Cleaned, Delivered, Parents}
 use Rattle.plan_core.specs.declared.plan.Plan.{Plan}
 use Rattle.plan_core.specs.declared.plan.Task.{Task}
-use Rattle.plan_core.specs.declared.plan.TaskKind.{TaskKind}
-use Rattle.plan_core.specs.declared.plan.TaskKind.TheVariants.{Transfer, Run, Clean}
-use Rattle.plan_core.specs.Numbers.{has, RisesFrom}
+use Rattle.plan_core.specs.Numbers.{has}
 use Rattle.plan_core.specs.Words.{reads, writes, parents, kind, reads_in, writes_in, parents_in, kind_in, count_tasks}
-use Rattle.plan_core.specs.Kinds.{sweeps, task_waits, waits_for}
-use Rattle.plan_core.specs.Listing.{listed, cleaned, delivered, nodes, awaited, swept}
-use Rattle.plan_core.proofs.TestLemmas.{is_itself, or_left, or_right, by_bool}
+use Rattle.plan_core.specs.Listing.{listed, cleaned, delivered, nodes}
+use Rattle.plan_core.proofs.TestLemmas.{is_itself}
 
 none_past : (vs : List (Vec ℕ Global)) (k : ℕ) → length vs ≤ k → neighbours (lists_of vs) k ≡ []
 none_past [] k l = refl

@@ -1,5 +1,5 @@
 -- Pairs by number: what is read or written at a site and what is listed are one.
-use Rattle.std.proofs.Common.{◌≡◌, ℕ, zero, suc, ◌<◌, ◌||◌, Bool, true, false, List, [], ◌∷◌, length, refl, sym, ap, ◌∙◌, nat_eq, arith}
+use Rattle.std.proofs.Common.{◌≡◌, ℕ, zero, suc, ◌<◌, ◌||◌, Bool, true, false, List, [], ◌∷◌, refl, sym, ap, ◌∙◌, nat_eq, arith}
 use Rattle.std.specs.Prelude.{Option, Some, None, slice_get}
 use Rattle.std.specs.List.{list_any}
 use Rattle.std.proofs.lemmas.Option.{slice_get_within}
@@ -7,10 +7,10 @@ use Rattle.plan_core.specs.declared.plan.Plan.{Plan}
 use Rattle.plan_core.specs.declared.plan.Pair.{Pair}
 use Rattle.plan_core.specs.declared.plan.Task.{Task}
 use Rattle.plan_core.specs.Numbers.{has, below}
-use Rattle.plan_core.specs.Words.{reads, writes, kind, writes_in, is_pair, pair_at, pair_numbers, count_pairs, count_tasks}
+use Rattle.plan_core.specs.Words.{reads, writes, kind, writes_in, is_pair, pair_at, pair_numbers, count_pairs}
 use Rattle.plan_core.specs.Kinds.{on_pair, reads_file, writes_file, reads_pair, writes_pair}
 use Rattle.plan_core.specs.Proper.{IsProper, stands, is_written}
-use Rattle.plan_core.proofs.TestLemmas.{same_number, both, or_left, or_right, by_bool}
+use Rattle.plan_core.proofs.TestLemmas.{same_number, both, or_left, or_right}
 use Rattle.plan_core.proofs.NumbersLemmas.{has_below, below_has}
 
 -- an element that passes, by its place, and back

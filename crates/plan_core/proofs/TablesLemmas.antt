@@ -1,17 +1,16 @@
 -- A plan passes the tests of its tables exactly where they are proper.
-use Rattle.std.proofs.Common.{◌≡◌, ℕ, ◌<◌, Bool, true, false, not, ◌&&◌, ◌||◌, List, [], ◌∷◌, ◌++◌, length, map, refl, sym, ap, ◌∙◌, nat_lt, arith}
-use Rattle.std.specs.Prelude.{◌^◌}
+use Rattle.std.proofs.Common.{◌≡◌, ℕ, ◌<◌, Bool, true, false, not, ◌||◌, List, [], ◌∷◌, ◌++◌, map, refl, sym, ap, ◌∙◌, nat_lt, arith}
 use Rattle.std.specs.Bool.{Decides}
 use Rattle.std.proofs.lemmas.Cmp.{nat_list_eq_equiv}
-use Rattle.std.specs.List.{list_any, list_all, AllByRecursion, IsDistinct}
+use Rattle.std.specs.List.{list_any, AllByRecursion, IsDistinct}
 use Rattle.std.specs.Str.{bytes_eq}
 use Rattle.std.proofs.lemmas.List.Folds.{list_any-append}
 use Rattle.plan_core.specs.declared.plan.Plan.{Plan}
 use Rattle.plan_core.specs.declared.plan.PlanFile.{PlanFile}
 use Rattle.plan_core.specs.declared.plan.PlanSite.{PlanSite}
-use Rattle.plan_core.specs.Proper.{HasTables, IsInRange, are_rising}
+use Rattle.plan_core.specs.Proper.{HasTables, IsInRange}
 use Rattle.plan_core.specs.Tables.{are_few, are_in_range, are_unknown, tables_pass}
-use Rattle.plan_core.proofs.TestLemmas.{both, and_both, by_bool, or_left, or_right, not_true}
+use Rattle.plan_core.proofs.TestLemmas.{both, and_both, not_true}
 
 below : (a b : ℕ) → nat_lt a b ≡ true → a < b
 below a b h = grind arith

@@ -15,12 +15,12 @@ use Rattle.plan_core.specs.declared.plan.Task.{Task}
 use Rattle.plan_core.specs.declared.plan.TaskKind.{TaskKind}
 use Rattle.plan_core.specs.declared.plan.TaskKind.TheVariants.{Transfer, Run, Clean}
 use Rattle.plan_core.specs.Numbers.{has, below}
-use Rattle.plan_core.specs.Words.{inputs, outputs, reads_in, writes_in, kind_in, declared, count_pairs}
+use Rattle.plan_core.specs.Words.{inputs, outputs, reads_in, writes_in, declared}
 use Rattle.plan_core.specs.Kinds.{makes, kind_reads, kind_writes, kind_carries, on_pair}
 use Rattle.plan_core.specs.Proper.{IsTask, are_new, are_rising, is_sequence, is_sequence_kind}
 use Rattle.plan_core.specs.Files.{AreFilesOf, are_pairs}
 use Rattle.plan_core.specs.Tasks.{with_one, with_all, are_fresh, in_sequence, kind_in_sequence, have_sizes, are_jobs_sized, is_kind_sized, HasReads, HasWrites}
-use Rattle.plan_core.proofs.TestLemmas.{both, and_both, by_bool, or_left, or_right, same_number, is_itself, either}
+use Rattle.plan_core.proofs.TestLemmas.{both, and_both, or_left, or_right, same_number, is_itself, either}
 use Rattle.plan_core.proofs.FilePairLemmas.{Passes, listing_is, listing_stands, listing_has}
 
 turned : (f : ℕ) (known : List ℕ) → list_any (nat_eq f) known ≡ has known f

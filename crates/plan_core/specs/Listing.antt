@@ -1,5 +1,5 @@
 -- What is listed of each task, and the graph of tasks and what is listed of them.
-use Rattle.std.specs.Prelude.{ℕ, ◌++◌, List, [], ◌∷◌, length, max, Option, Some, None}
+use Rattle.std.specs.Prelude.{ℕ, ◌++◌, List, [], ◌∷◌, length, max, Option, Some}
 use Rattle.std.specs.List.{flat_map}
 use Rattle.digraph.specs.Adjacency.{neighbours}
 use Rattle.plan_core.specs.declared.listing.Listing.{Listing}
@@ -7,7 +7,7 @@ use Rattle.plan_core.specs.declared.listing.Listing.TheVariants.{Reads, Writes, 
 use Rattle.plan_core.specs.declared.plan.Plan.{Plan}
 use Rattle.plan_core.specs.declared.plan.Task.{Task}
 use Rattle.plan_core.specs.declared.plan.TaskKind.{TaskKind}
-use Rattle.plan_core.specs.declared.plan.TaskKind.TheVariants.{Transfer, Run, Clean}
+use Rattle.plan_core.specs.declared.plan.TaskKind.TheVariants.{Transfer, Clean}
 use Rattle.plan_core.specs.declared.plan.Target.TheVariants.{Delivery}
 use Rattle.plan_core.specs.Words.{reads, writes, parents, kind, reads_in, kind_in}
 

@@ -21,7 +21,7 @@ use Rattle.plan_core.specs.declared.plan.Source.TheVariants.{Pfn, Site}
 use Rattle.plan_core.specs.declared.plan.Target.{Target}
 use Rattle.plan_core.specs.declared.plan.Target.TheVariants.{Site as Into, Delivery}
 use Rattle.plan_core.specs.Numbers.{has, below}
-use Rattle.plan_core.specs.Words.{reads_in, writes_in, kind_in, kind, reads, writes, parents, cleans, delivers, inputs, outputs, is_run, is_pair, pair_at, declared, count_tasks, count_pairs, pair_numbers}
+use Rattle.plan_core.specs.Words.{reads_in, writes_in, kind_in, writes, parents, cleans, delivers, inputs, outputs, is_run, pair_at, declared, count_tasks, count_pairs, pair_numbers}
 use Rattle.plan_core.specs.Kinds.{kind_reads, kind_writes, kind_carries, on_pair, waits_for}
 
 -- sites and files are among so many

@@ -1,20 +1,16 @@
 -- The tests of each task by itself.
-use Rattle.std.specs.Prelude.{◌≡◌, ℕ, ◌^◌, ◌&&◌, ◌++◌, Bool, true, false, not, List, [], ◌∷◌, length, map, cond, nat_lt, nat_eq, Option, Some, None, is_some, slice_get}
+use Rattle.std.specs.Prelude.{◌≡◌, ℕ, ◌&&◌, ◌++◌, Bool, true, not, List, [], ◌∷◌, cond, nat_eq, Option, is_some, slice_get}
 use Rattle.std.specs.List.{list_any, list_all}
-use Rattle.std.specs.Str.{bytes_eq}
-use Rattle.outside.specs.declared.numbers.FileId.{FileId}
 use Rattle.outside.specs.declared.numbers.JobId.{JobId}
 use Rattle.plan_core.specs.declared.plan.Plan.{Plan}
-use Rattle.plan_core.specs.declared.plan.PlanFile.{PlanFile}
 use Rattle.plan_core.specs.declared.plan.PlanJob.{PlanJob}
-use Rattle.plan_core.specs.declared.plan.PlanSite.{PlanSite}
 use Rattle.plan_core.specs.declared.plan.Task.{Task}
 use Rattle.plan_core.specs.declared.plan.TaskKind.{TaskKind}
 use Rattle.plan_core.specs.declared.plan.TaskKind.TheVariants.{Transfer, Run, Clean}
 use Rattle.plan_core.specs.Words.{declared, inputs, outputs, reads_in, writes_in, kind_in, count_pairs}
 use Rattle.plan_core.specs.Kinds.{kind_reads, kind_writes, on_pair}
 use Rattle.plan_core.specs.Numbers.{below}
-use Rattle.plan_core.specs.Proper.{is_pair_in_range, is_job_in_range, is_kind_in_range, are_rising, stands}
+use Rattle.plan_core.specs.Proper.{stands}
 
 -- each of the files has a declared size
 abbrev pub have_sizes : Plan → List ℕ → Bool

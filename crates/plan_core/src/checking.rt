@@ -4,9 +4,9 @@ ghost use Rattle.std.specs.Prelude.{◌≡◌, ◌↔◌, true, IfOk};
 ghost use Rattle.plan_core.specs.Proper.{IsProper};
 
 use crate::flow::has_flow;
-use crate::tasks::are_tasks;
 use crate::plan::Plan;
 use crate::tables::has_tables;
+use crate::tasks::are_tasks;
 use outside::Memory;
 use std::alloc::Global;
 

@@ -1,4 +1,4 @@
-use Rattle.std.proofs.Common.{◌≡◌, ◌≤◌, ℕ, length, ap, arith, refl, sym, subst}
+use Rattle.std.proofs.Common.{◌≡◌, ◌≤◌, length, ap, arith, refl, sym, subst}
 use Rattle.digraph.specs.Adjacency.{lists_of, neighbours}
 use Rattle.plan_core.specs.Numbers.{RisesFrom}
 use Rattle.plan_core.specs.Words.{count_tasks}

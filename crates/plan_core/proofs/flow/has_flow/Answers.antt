@@ -1,4 +1,3 @@
-use Rattle.plan_core.specs.Flow.{HasOneWriter}
 use Rattle.plan_core.proofs.CheckingLemmas.{cleaned_low, delivered_low, writes_low, writes_pairs, fails, clean_once, once_clean, delivery_once, once_delivery, flow_decided}
 use Rattle.plan_core.proofs.flow.has_flow.Goals as goal
 

@@ -1,6 +1,3 @@
-use Rattle.std.proofs.Common.{ℕ, ◌∙◌, arith, ◌<◌, ◌≤◌, ◌^◌}
-use Rattle.plan_core.specs.Listing.{nodes}
-use Rattle.plan_core.specs.Words.{count_tasks}
 use Rattle.plan_core.proofs.CheckingLemmas.{few_nodes, reads_low, parents_low, fails, order_decided}
 use Rattle.plan_core.proofs.flow.has_order.Goals as goal
 

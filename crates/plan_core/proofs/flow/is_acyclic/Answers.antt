@@ -1,5 +1,3 @@
-use Rattle.std.proofs.Common.{ℕ}
-use Rattle.std.specs.Prelude.{length}
 use Rattle.digraph.specs.Digraph.{count, edge}
 use Rattle.digraph.specs.Order.{IsTopologicalOrder}
 use Rattle.plan_core.specs.Proper.{is_parent}

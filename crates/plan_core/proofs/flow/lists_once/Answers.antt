@@ -1,4 +1,3 @@
-use Rattle.std.proofs.Common.{ℕ}
 use Rattle.digraph.specs.Digraph.{count, edge}
 use Rattle.plan_core.specs.Listing.{listed}
 use Rattle.plan_core.specs.Numbers.{has}

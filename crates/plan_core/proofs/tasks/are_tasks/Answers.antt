@@ -1,5 +1,4 @@
-use Rattle.std.proofs.Common.{ℕ, List, length, ap, refl, arith, ◌≡◌, ◌≤◌}
-use Rattle.plan_core.specs.declared.plan.Task.{Task}
+use Rattle.std.proofs.Common.{length, ap, refl, arith, ◌≡◌, ◌≤◌}
 use Rattle.plan_core.proofs.TasksLemmas.{all_tasks}
 use Rattle.plan_core.proofs.tasks.are_tasks.Goals as goal
 
