@@ -1,7 +1,9 @@
 //! Plans that are proper or fail for one reason, and the text of plans.
 
 use outside::{FileId, Items, JobId, Memory, PairId, Policy, SiteId, TaskId, Text};
-use plan_core::{Pair, Plan, PlanFile, PlanJob, PlanSite, Source, Target, Task, TaskKind, check, print};
+use plan_core::{
+    Pair, Plan, PlanFile, PlanJob, PlanSite, Source, Target, Task, TaskKind, check, print,
+};
 use std::alloc::Global;
 use std::test::Fail;
 
@@ -180,8 +182,14 @@ fn plan_of(alloc: Global, sketch: &Sketch<'_>, policy: Policy) -> Result<Plan, M
 }
 
 const ONE_SITE: [(&str, u64); 1] = [("s", 100)];
+
 const TWO_SITES: [(&str, u64); 2] = [("s", 100), ("t", 100)];
-const THREE_FILES: [(&str, Option<u64>); 3] = [("in", Some(10)), ("mid", Some(10)), ("out", Some(10))];
+
+const THREE_FILES: [(&str, Option<u64>); 3] = [
+    ("in", Some(10)),
+    ("mid", Some(10)),
+    ("out", Some(10)),
+];
 
 /// A job makes mid of in, the next one out of mid; out is delivered, and each pair has its Clean.
 const CHAIN: Sketch<'static> = Sketch {
@@ -201,7 +209,10 @@ const CHAIN: Sketch<'static> = Sketch {
     ],
 };
 
-const CASES: [(&str, Sketch<'static>, bool); 25] = [
+/// A plan's name here, the plan, and whether it is proper.
+type Case = (&'static str, Sketch<'static>, bool);
+
+const TABLES: [Case; 7] = [
     ("chain", CHAIN, true),
     (
         "nothing",
@@ -236,6 +247,43 @@ const CASES: [(&str, Sketch<'static>, bool); 25] = [
         false,
     ),
     (
+        "pairs_out_of_order",
+        Sketch {
+            jobs: &[],
+            pairs: &[(0, 1), (0, 0)],
+            tasks: &[
+                (Does::Fetch(0, 0), &[], &[1], &[]),
+                (Does::Fetch(1, 0), &[], &[0], &[]),
+            ],
+            ..CHAIN
+        },
+        false,
+    ),
+    (
+        "two_sites_of_a_name",
+        Sketch {
+            sites: &[("s", 100), ("s", 100)],
+            ..CHAIN
+        },
+        false,
+    ),
+    (
+        "two_files_of_a_name",
+        Sketch {
+            files: &[
+                ("in", Some(10)),
+                ("mid", Some(10)),
+                ("out", Some(10)),
+                ("mid", Some(10)),
+            ],
+            ..CHAIN
+        },
+        false,
+    ),
+];
+
+const LISTS: [Case; 4] = [
+    (
         "reads_at_its_site",
         Sketch {
             sites: &TWO_SITES,
@@ -265,6 +313,87 @@ const CASES: [(&str, Sketch<'static>, bool); 25] = [
         },
         false,
     ),
+    (
+        "made_file_without_size",
+        Sketch {
+            files: &[("in", Some(10)), ("mid", None), ("out", Some(10))],
+            ..CHAIN
+        },
+        false,
+    ),
+    (
+        "other_file_without_size",
+        Sketch {
+            files: &[
+                ("in", Some(10)),
+                ("mid", Some(10)),
+                ("out", Some(10)),
+                ("more", None),
+            ],
+            ..CHAIN
+        },
+        true,
+    ),
+];
+
+const SEQUENCES: [Case; 5] = [
+    (
+        "jobs_in_sequence",
+        Sketch {
+            pairs: &[(0, 0), (0, 1), (0, 2)],
+            tasks: &[
+                (Does::Run(0, &[0, 1]), &[0], &[1, 2], &[1]),
+                (Does::Fetch(0, 0), &[], &[0], &[]),
+            ],
+            ..CHAIN
+        },
+        true,
+    ),
+    (
+        "job_reads_what_a_later_one_makes",
+        Sketch {
+            pairs: &[(0, 0), (0, 1), (0, 2)],
+            tasks: &[
+                (Does::Run(0, &[1, 0]), &[0], &[1, 2], &[1]),
+                (Does::Fetch(0, 0), &[], &[0], &[]),
+            ],
+            ..CHAIN
+        },
+        false,
+    ),
+    (
+        "job_reads_what_it_makes",
+        Sketch {
+            jobs: &[("a", Some(0), &[0], &[0])],
+            pairs: &[(0, 0)],
+            tasks: &[(Does::Run(0, &[0]), &[], &[0], &[])],
+            ..CHAIN
+        },
+        false,
+    ),
+    (
+        "two_jobs_make_a_file",
+        Sketch {
+            jobs: &[("a", Some(0), &[], &[0]), ("b", Some(0), &[], &[0])],
+            pairs: &[(0, 0)],
+            tasks: &[(Does::Run(0, &[0, 1]), &[], &[0], &[])],
+            ..CHAIN
+        },
+        false,
+    ),
+    (
+        "job_makes_a_file_twice",
+        Sketch {
+            jobs: &[("a", Some(0), &[], &[0, 0])],
+            pairs: &[(0, 0)],
+            tasks: &[(Does::Run(0, &[0]), &[], &[0], &[])],
+            ..CHAIN
+        },
+        false,
+    ),
+];
+
+const ORDERS: [Case; 5] = [
     (
         "parent_missing",
         Sketch {
@@ -331,6 +460,9 @@ const CASES: [(&str, Sketch<'static>, bool); 25] = [
         },
         false,
     ),
+];
+
+const COUNTS: [Case; 4] = [
     (
         "two_writers",
         Sketch {
@@ -369,19 +501,6 @@ const CASES: [(&str, Sketch<'static>, bool); 25] = [
         false,
     ),
     (
-        "pairs_out_of_order",
-        Sketch {
-            jobs: &[],
-            pairs: &[(0, 1), (0, 0)],
-            tasks: &[
-                (Does::Fetch(0, 0), &[], &[1], &[]),
-                (Does::Fetch(1, 0), &[], &[0], &[]),
-            ],
-            ..CHAIN
-        },
-        false,
-    ),
-    (
         "two_deliveries",
         Sketch {
             jobs: &[],
@@ -391,92 +510,6 @@ const CASES: [(&str, Sketch<'static>, bool); 25] = [
                 (Does::Deliver(0, 0), &[0], &[], &[0]),
                 (Does::Deliver(0, 0), &[0], &[], &[0]),
             ],
-            ..CHAIN
-        },
-        false,
-    ),
-    (
-        "jobs_in_sequence",
-        Sketch {
-            pairs: &[(0, 0), (0, 1), (0, 2)],
-            tasks: &[
-                (Does::Run(0, &[0, 1]), &[0], &[1, 2], &[1]),
-                (Does::Fetch(0, 0), &[], &[0], &[]),
-            ],
-            ..CHAIN
-        },
-        true,
-    ),
-    (
-        "job_reads_what_a_later_one_makes",
-        Sketch {
-            pairs: &[(0, 0), (0, 1), (0, 2)],
-            tasks: &[
-                (Does::Run(0, &[1, 0]), &[0], &[1, 2], &[1]),
-                (Does::Fetch(0, 0), &[], &[0], &[]),
-            ],
-            ..CHAIN
-        },
-        false,
-    ),
-    (
-        "job_reads_what_it_makes",
-        Sketch {
-            jobs: &[("a", Some(0), &[0], &[0])],
-            pairs: &[(0, 0)],
-            tasks: &[(Does::Run(0, &[0]), &[], &[0], &[])],
-            ..CHAIN
-        },
-        false,
-    ),
-    (
-        "two_jobs_make_a_file",
-        Sketch {
-            jobs: &[("a", Some(0), &[], &[0]), ("b", Some(0), &[], &[0])],
-            pairs: &[(0, 0)],
-            tasks: &[(Does::Run(0, &[0, 1]), &[], &[0], &[])],
-            ..CHAIN
-        },
-        false,
-    ),
-    (
-        "job_makes_a_file_twice",
-        Sketch {
-            jobs: &[("a", Some(0), &[], &[0, 0])],
-            pairs: &[(0, 0)],
-            tasks: &[(Does::Run(0, &[0]), &[], &[0], &[])],
-            ..CHAIN
-        },
-        false,
-    ),
-    (
-        "made_file_without_size",
-        Sketch {
-            files: &[("in", Some(10)), ("mid", None), ("out", Some(10))],
-            ..CHAIN
-        },
-        false,
-    ),
-    (
-        "other_file_without_size",
-        Sketch {
-            files: &[("in", Some(10)), ("mid", Some(10)), ("out", Some(10)), ("more", None)],
-            ..CHAIN
-        },
-        true,
-    ),
-    (
-        "two_sites_of_a_name",
-        Sketch {
-            sites: &[("s", 100), ("s", 100)],
-            ..CHAIN
-        },
-        false,
-    ),
-    (
-        "two_files_of_a_name",
-        Sketch {
-            files: &[("in", Some(10)), ("mid", Some(10)), ("out", Some(10)), ("mid", Some(10))],
             ..CHAIN
         },
         false,
@@ -592,26 +625,67 @@ fn has_text(
     Ok(printed.as_slice() == text.as_bytes())
 }
 
-#[test]
-fn plans_are_proper_or_fail_for_one_reason(rt: HostRuntime) -> Result<(), Fail> {
-    let alloc = rt.alloc();
-    for (name, sketch, proper) in &CASES {
+fn are_right(alloc: Global, cases: &[Case]) -> Result<(), Fail> {
+    for (name, sketch, proper) in cases {
         if !is_right(alloc, sketch, *proper)? {
             return Err(Fail::new(name));
         }
     }
-    let diamond = plan_of(alloc, &DIAMOND, Policy::plain())?;
-    if !has_text(alloc, &diamond, &[], &[0], DIAMOND_TEXT)? {
-        return Err(Fail::new("text of the diamond"));
+    Ok(())
+}
+
+fn tables_are_right(alloc: Global) -> Result<(), Fail> {
+    are_right(alloc, &TABLES)
+}
+
+fn lists_are_right(alloc: Global) -> Result<(), Fail> {
+    are_right(alloc, &LISTS)
+}
+
+fn sequences_are_right(alloc: Global) -> Result<(), Fail> {
+    are_right(alloc, &SEQUENCES)
+}
+
+fn orders_are_right(alloc: Global) -> Result<(), Fail> {
+    are_right(alloc, &ORDERS)
+}
+
+fn counts_are_right(alloc: Global) -> Result<(), Fail> {
+    are_right(alloc, &COUNTS)
+}
+
+fn diamond_is_printed(alloc: Global) -> Result<(), Fail> {
+    let plan = plan_of(alloc, &DIAMOND, Policy::plain())?;
+    if has_text(alloc, &plan, &[], &[0], DIAMOND_TEXT)? {
+        Ok(())
+    } else {
+        Err(Fail::new("the diamond's text"))
     }
+}
+
+fn odd_names_are_printed(alloc: Global) -> Result<(), Fail> {
     let policy = Policy {
         retries: 2,
         fresh: true,
         output: None,
     };
-    let odd = plan_of(alloc, &ODD, policy)?;
-    if !has_text(alloc, &odd, &[0, 1, 2], &[7, 14], ODD_TEXT)? {
-        return Err(Fail::new("text of odd names"));
+    let plan = plan_of(alloc, &ODD, policy)?;
+    if has_text(alloc, &plan, &[0, 1, 2], &[7, 14], ODD_TEXT)? {
+        Ok(())
+    } else {
+        Err(Fail::new("the text of odd names"))
     }
+}
+
+#[test]
+fn plans_are_checked_and_printed(rt: HostRuntime) -> Result<(), Fail> {
+    let alloc = rt.alloc();
+    tables_are_right(alloc)?;
+    lists_are_right(alloc)?;
+    sequences_are_right(alloc)?;
+    orders_are_right(alloc)?;
+    counts_are_right(alloc)?;
+    diamond_is_printed(alloc)?;
+    odd_names_are_printed(alloc)?;
     Ok(())
 }
