@@ -6,4 +6,6 @@
 #[cfg(test)]
 mod peaks;
 #[cfg(test)]
+mod plans;
+#[cfg(test)]
 mod records;

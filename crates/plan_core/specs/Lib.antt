@@ -1,0 +1,15 @@
+-- What the public contracts say
+pub mod Words
+pub mod Numbers
+pub mod Kinds
+pub mod Proper
+pub mod Files
+pub mod Printing
+pub mod Carried
+pub mod Grounded
+-- Steps of the check
+pub mod Rising
+pub mod Tables
+pub mod Tasks
+pub mod Listing
+pub mod Flow
