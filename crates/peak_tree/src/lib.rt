@@ -3,7 +3,7 @@
 //! The layer above sees a list with a number, or none, at each position; `specs/Numbers.antt` says what becomes
 //! of it. Inside is a binary tree (`specs/Node.antt`), of which a call visits the nodes on the way to one position.
 //! Each visit goes through `node::visit` and is a step of the caller's counter, over std's ledgers: a call adds at
-//! most 4 d + 4, where 2^d is the least power of two that isn't below the length, and `refill` at most 4 * 2^d.
+//! most 4 d + 4, and `refill` at most 4 * 2^d, for each d with a length of at most 2^d.
 //! No call takes memory but `of`.
 #![tactic(auto)]
 
