@@ -1,0 +1,2 @@
+-- A proper plan with Cleans is proper, and carries the same.
+use Rattle.std.proofs.Common.{◌≡◌}

@@ -1,0 +1,4 @@
+pub mod NumbersLemmas
+pub mod TouchingLemmas
+pub mod CleanTaskLemmas
+pub mod LawLemmas

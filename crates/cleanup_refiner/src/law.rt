@@ -1,0 +1,20 @@
+//! What a plan with Cleans comes to.
+
+ghost use Rattle.std.specs.Prelude.{◌≡◌, ◌<◌, ◌+◌, ◌^◌, ℕ, Option};
+ghost use Rattle.outside.specs.Tool.{Apply};
+ghost use Rattle.plan_core.specs.declared.plan.Plan.{Plan};
+ghost use Rattle.plan_core.specs.Words.{count_pairs, count_tasks};
+ghost use Rattle.plan_core.specs.Proper.{IsProper};
+ghost use Rattle.plan_core.specs.Carried.{Bytes, carried};
+ghost use Rattle.cleanup_refiner.specs.Cleans.{HasNoClean, with_cleans};
+
+/// A proper plan without Cleans is proper with them.
+pub fn cleaned_plan_is_proper()
+    ensures { (p : Plan) → IsProper p → HasNoClean p → count_tasks p + count_pairs p < 2 ^ 32 → IsProper (with_cleans p) }
+{}
+
+/// The tasks of a proper plan carry with Cleans what they carry without.
+pub fn cleaned_plan_carries_the_same()
+    ensures { (apply : Apply) (told : Bytes → Option Bytes) (p : Plan) → IsProper p → HasNoClean p → count_tasks p + count_pairs p < 2 ^ 32
+        → (t f : ℕ) → t < count_tasks p → carried apply told (with_cleans p) t f ≡ carried apply told p t f }
+{}
