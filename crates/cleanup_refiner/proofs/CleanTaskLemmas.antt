@@ -1,11 +1,10 @@
 -- The tasks of a plan with Cleans: the old ones, and then one Clean for each pair.
-use Rattle.std.proofs.Common.{◌≡◌, ℕ, zero, suc, ◌+◌, ◌-◌, ◌<◌, ◌≤◌, Bool, true, false, cond, ◌||◌, List, [], ◌∷◌, ◌++◌, length, map, refl, sym, ap, subst, ◌∙◌, arith, ◌⊎◌, inl, inr, length-append}
+use Rattle.std.proofs.Common.{◌≡◌, ℕ, zero, suc, ◌+◌, ◌-◌, ◌<◌, ◌≤◌, Bool, true, false, cond, ◌||◌, List, [], ◌∷◌, ◌++◌, length, map, refl, sym, ap, ◌∙◌, arith, ◌⊎◌, inl, inr, length-append}
 use Rattle.std.specs.Prelude.{Option, Some, None, slice_get}
 use Rattle.std.specs.List.{list_any}
 use Rattle.std.proofs.lemmas.Option.{slice_get_past}
 use Rattle.std.proofs.lemmas.Bool.{cases_lt}
 use Rattle.std.proofs.lemmas.List.{length-map, append-nil}
-use Rattle.outside.specs.declared.numbers.TaskId.{TaskId}
 use Rattle.plan_core.specs.declared.plan.Plan.{Plan}
 use Rattle.plan_core.specs.declared.plan.Task.{Task}
 use Rattle.plan_core.specs.declared.plan.TaskKind.{TaskKind}
@@ -13,7 +12,7 @@ use Rattle.plan_core.specs.declared.plan.TaskKind.TheVariants.{Transfer, Run, Cl
 use Rattle.plan_core.specs.Numbers.{has, below}
 use Rattle.plan_core.specs.Words.{reads_in, writes_in, parents_in, kind_in, reads, writes, parents, kind, task_numbers, count_tasks, count_pairs}
 use Rattle.plan_core.specs.Kinds.{sweeps, task_waits, waits_for}
-use Rattle.cleanup_refiner.specs.Cleans.{clean_of, cleans_of, task, touched, touches, with_cleans}
+use Rattle.cleanup_refiner.specs.Cleans.{clean_of, cleans_of, task, touches, with_cleans}
 use Rattle.cleanup_refiner.proofs.NumbersLemmas.{below_has, has_append, has_below, same_below}
 
 -- ---- one list after another

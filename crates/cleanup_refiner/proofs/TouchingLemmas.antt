@@ -1,7 +1,7 @@
 -- Which tasks write or read each pair.
 use Rattle.std.proofs.Common.{◌≡◌, ℕ, zero, suc, ◌+◌, ◌<◌, ◌≤◌, ◌||◌, ◌⊎◌, inl, inr, Bool, true, false, List, [], ◌∷◌, ◌++◌, length, map, max, refl, sym, ap, ◌∙◌, nat_eq, arith, get_or}
-use Rattle.std.specs.Prelude.{Option, Vec}
-use Rattle.std.specs.List.{All, list_any}
+use Rattle.std.specs.Prelude.{Vec}
+use Rattle.std.specs.List.{All}
 use Rattle.std.specs.declared.alloc.Global.{Global}
 use Rattle.std.proofs.lemmas.Bool.{cases_lt}
 use Rattle.std.proofs.lemmas.Option.{slice_get_past}

@@ -8,13 +8,20 @@ ghost use Rattle.plan_core.specs.Proper.{IsProper};
 ghost use Rattle.plan_core.specs.Carried.{Bytes, carried};
 ghost use Rattle.cleanup_refiner.specs.Cleans.{HasNoClean, with_cleans};
 
+use plan_core::{carried_is_carried_along, ways_back_end};
+
 /// A proper plan without Cleans is proper with them.
 pub fn cleaned_plan_is_proper()
     ensures { (p : Plan) → IsProper p → HasNoClean p → count_tasks p + count_pairs p < 2 ^ 32 → IsProper (with_cleans p) }
-{}
+{
+    ways_back_end();
+}
 
 /// The tasks of a proper plan carry with Cleans what they carry without.
 pub fn cleaned_plan_carries_the_same()
     ensures { (apply : Apply) (told : Bytes → Option Bytes) (p : Plan) → IsProper p → HasNoClean p → count_tasks p + count_pairs p < 2 ^ 32
         → (t f : ℕ) → t < count_tasks p → carried apply told (with_cleans p) t f ≡ carried apply told p t f }
-{}
+{
+    ways_back_end();
+    carried_is_carried_along();
+}

@@ -1,8 +1,8 @@
-use Rattle.std.proofs.Common.{◌≡◌, ◌<◌, ℕ, List, [], ◌∷◌, ◌++◌, length, map, max, ap, sym, ◌∙◌, arith}
+use Rattle.std.proofs.Common.{◌≡◌, ◌<◌, ℕ, List, [], ◌∷◌, ◌++◌, length, map, ap, sym, ◌∙◌, arith}
 use Rattle.std.specs.Prelude.{Vec}
 use Rattle.std.specs.declared.alloc.Global.{Global}
 use Rattle.std.proofs.lemmas.List.{get_or-map, length-map}
-use Rattle.digraph.specs.Adjacency.{lists_of, neighbours}
+use Rattle.digraph.specs.Adjacency.{lists_of}
 use Rattle.digraph.specs.Digraph.{count, edge}
 use Rattle.plan_core.specs.declared.plan.Task.{Task}
 use Rattle.plan_core.specs.declared.plan.TaskKind.TheVariants.{Clean}
@@ -25,7 +25,7 @@ loop-q-preserved c =
     let within : q < length vs = omega (arith, c.loop-q-test.true, ap length c.as_slice-q-end.ensures, enough, c.requires.count, c.successors-lists.ensures.long, length-map vs items) in
     let listed = ap items c.index-lists-q.is ∙ sym (get_or-map items vs q c.index-lists-q.result [] within) in
     let tasks : c.as_slice.result.now ≡ below (count_tasks p) (touches p q) =
-      c.as_slice.ensures.value ∙ listed ∙ tasks_of c.rising_lists_are_one.ensures p (edge c.args.touching.now) (count c.args.touching.now) (lists_of vs) c.successors-lists.ensures c.requires.edges q in
+    c.as_slice.ensures.value ∙ listed ∙ tasks_of c.rising_lists_are_one.ensures p (edge c.args.touching.now) (count c.args.touching.now) (lists_of vs) c.successors-lists.ensures c.requires.edges q in
     let clean : c.in_ok-clean.clean ≡ clean_of p q = c.in_ok-clean.ensures ∙ ap (λ (ts : List ℕ). record { kind = Clean (record { 0 = q }); reads = []; writes = []; parents = map task ts }) tasks in
     c.in_ok-push.ensures.items
     ∙ ap (λ (t : Task). c.loop-q.cleans.items ++ t ∷ []) clean
