@@ -4,8 +4,12 @@
 #![tactic(auto)]
 
 #[cfg(test)]
+mod cleans;
+#[cfg(test)]
 mod peaks;
 #[cfg(test)]
 mod plans;
 #[cfg(test)]
 mod records;
+#[cfg(test)]
+mod sketches;
