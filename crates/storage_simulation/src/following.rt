@@ -1,0 +1,69 @@
+//! Whether a list of tasks is an order in which each task comes after its parents.
+
+ghost use Rattle.std.specs.Prelude.{◌≡◌, ◌||◌, Decides, IfOk, not};
+ghost use Rattle.std.specs.List.{list_all};
+ghost use Rattle.outside.specs.declared.numbers.TaskId.{TaskId};
+ghost use Rattle.plan_core.specs.Words.{parents, task_numbers};
+ghost use Rattle.storage_simulation.specs.Following.{Follows, is_marked, may_come};
+ghost use Rattle.storage_simulation.specs.Standings.{phase_of, waits};
+
+use crate::standing::Standing;
+use outside::{Memory, TaskId};
+use plan_core::Plan;
+use std::alloc::Global;
+
+/// Whether a task has a mark.
+fn is_marked(marks: &[bool], task: TaskId) -> bool
+    ensures { result ≡ is_marked marks.now task.0 }
+{
+    match marks.get(task.0 as usize) {
+        Some(mark) => *mark,
+        None => false,
+    }
+}
+
+fn none_missing(standing: &Standing, marks: &[bool], parents: &[TaskId]) -> bool
+    ensures { result ≡ list_all (λ (u : TaskId). not (waits (phase_of standing.now u.0)) || is_marked marks.now u.0) parents.now }
+{
+    parents
+        .iter()
+        .all(|parent| !standing.waits(*parent) || is_marked(marks, *parent))
+}
+
+/// Whether each parent of a task that waits has a mark.
+#[tactic(auto, using(crate::proofs::NumbersLemmas::all_tasks))]
+fn is_ready(plan: &Plan, standing: &Standing, marks: &[bool], task: TaskId) -> bool
+    ensures { result ≡ list_all (λ u. not (waits (phase_of standing.now u)) || is_marked marks.now u) (parents plan.now task.0) }
+{
+    none_missing(standing, marks, plan.parents(task))
+}
+
+/// Whether a task may come after those with a mark.
+fn may_come(plan: &Plan, standing: &Standing, marks: &[bool], task: TaskId) -> bool
+    ensures { result ≡ may_come plan.now (phase_of standing.now) marks.now task.0 }
+{
+    let inside = (task.0 as usize) < plan.tasks.as_slice().len();
+    let waiting = standing.waits(task);
+    let marked = is_marked(marks, task);
+    let ready = is_ready(plan, standing, marks, task);
+    inside && (waiting && (!marked && ready))
+}
+
+/// Whether the list is an order whose tasks' parents stand before them, run or have ended.
+pub fn follows(
+    alloc: Global,
+    plan: &Plan,
+    standing: &Standing,
+    order: &[TaskId],
+) -> Result<bool, Memory>
+    ensures { IfOk result (λ b. Decides b (Follows plan.now (phase_of standing.now) (task_numbers order.now))) }
+{
+    let mut marks = vec![in alloc; false; plan.tasks.as_slice().len()]?;
+    for task in order {
+        if !may_come(plan, standing, &marks, *task) {
+            return Ok(false);
+        }
+        marks[task.0 as usize] = true;
+    }
+    Ok(true)
+}

@@ -1,0 +1,15 @@
+//! What a plan's sites hold after a front of an order, and whether an order fits.
+//!
+//! To the layer above this is usage and fit as `specs/Usage.antt`, `Following.antt` and `Fitting.antt` define them, over
+//! the goods and places of `specs/Goods.antt`: a good is a pair or a delivery, a place is a site or the output. The
+//! plan is asked by number, in the words of `plan_core`.
+#![tactic(auto)]
+
+mod following;
+mod goods;
+mod usage;
+mod standing;
+
+pub use following::follows;
+pub use standing::{Held, Phase, Standing};
+pub use usage::usage_after;
