@@ -1,3 +1,4 @@
 pub mod NumbersLemmas
 pub mod UsageLemmas
 pub mod FollowingLemmas
+pub mod MarksLemmas

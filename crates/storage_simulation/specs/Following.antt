@@ -5,7 +5,7 @@ use Rattle.plan_core.specs.declared.plan.Plan.{Plan}
 use Rattle.plan_core.specs.Numbers.{has}
 use Rattle.plan_core.specs.Words.{count_tasks, parents}
 use Rattle.storage_simulation.specs.declared.standing.Phase.{Phase}
-use Rattle.storage_simulation.specs.Standings.{at_in, waits}
+use Rattle.storage_simulation.specs.Standings.{waits}
 
 -- each once
 abbrev pub once : List ℕ → Bool
@@ -36,7 +36,7 @@ may_follow p phase front t = nat_lt t (count_tasks p) && (waits (phase t) && (no
 
 -- the same where the tasks of the front have a mark
 abbrev pub is_marked : List Bool → ℕ → Bool
-is_marked marks t = at_in false marks t
+is_marked marks t = get_or marks t false
 
 abbrev pub AreMarked : List Bool → List ℕ → Type 0
 AreMarked marks front = (t : ℕ) → is_marked marks t ≡ has front t
