@@ -5,11 +5,16 @@
 //! plan is asked by number, in the words of `plan_core`.
 #![tactic(auto)]
 
+mod change;
+mod fitting;
 mod following;
 mod goods;
+mod law;
 mod usage;
 mod standing;
 
+pub use fitting::{Exceeds, fits};
 pub use following::follows;
+pub use law::{plain_policy_counts_pairs, proper_plans_keep_goods, sums_are_small};
 pub use standing::{Held, Phase, Standing};
 pub use usage::usage_after;

@@ -1,0 +1,34 @@
+//! What the definitions come to.
+
+ghost use Rattle.std.specs.Prelude.{◌≡◌, ◌<◌, ◌≤◌, ◌^◌, ℕ, List};
+ghost use Rattle.outside.specs.Policy.{plain};
+ghost use Rattle.plan_core.specs.declared.plan.Plan.{Plan};
+ghost use Rattle.plan_core.specs.Proper.{IsProper};
+ghost use Rattle.plan_core.specs.Words.{bound, count_pairs};
+ghost use Rattle.storage_simulation.specs.Goods.{IsWithinLimits, count_sites, goods, place_bound, places};
+ghost use Rattle.storage_simulation.specs.Law.{KeepsGoods, site_usage};
+ghost use Rattle.storage_simulation.specs.Usage.{usage};
+
+use plan_core::{files_are_listed_by_pair, numbers_are_in_range, parents_come_before};
+
+/// In a proper plan each good has one maker, and its Clean comes after it.
+pub fn proper_plans_keep_goods()
+    ensures { (p : Plan) → IsProper p → KeepsGoods p }
+{
+    parents_come_before();
+    files_are_listed_by_pair();
+    numbers_are_in_range();
+}
+
+/// Within the limits no sum of sizes reaches 2^62.
+pub fn sums_are_small()
+    ensures { (p : Plan) (size : ℕ → ℕ) (front : List ℕ) (s : ℕ) → IsWithinLimits p → ((g : ℕ) → size g ≤ 2 ^ 40) → usage p size front s < 2 ^ 62 }
+{}
+
+/// Under the plain policy the goods are the pairs, the places are the sites, and usage is the sum over a site's pairs.
+pub fn plain_policy_counts_pairs()
+    ensures goods { (p : Plan) → p.policy ≡ plain → goods p ≡ count_pairs p }
+    ensures places { (p : Plan) → p.policy ≡ plain → places p ≡ count_sites p }
+    ensures bounds { (p : Plan) (s : ℕ) → s < count_sites p → place_bound p s ≡ bound p s }
+    ensures usage { (p : Plan) (size : ℕ → ℕ) (front : List ℕ) (s : ℕ) → IsProper p → p.policy ≡ plain → usage p size front s ≡ site_usage p size front s }
+{}
