@@ -9,7 +9,7 @@ use std::test::Fail;
 
 /// What a task does, by the numbers of sites, files, jobs and pairs.
 #[derive(Clone, Copy)]
-enum Does<'a> {
+pub enum Does<'a> {
     /// Jobs at a site.
     Run(u32, &'a [u32]),
     /// A file from its pfn to a site.
@@ -23,18 +23,18 @@ enum Does<'a> {
 }
 
 /// What a task does, and the numbers of what it reads, writes and comes after.
-type TaskRow<'a> = (Does<'a>, &'a [u32], &'a [u32], &'a [u32]);
+pub type TaskRow<'a> = (Does<'a>, &'a [u32], &'a [u32], &'a [u32]);
 
 /// A plan by its names and numbers.
 #[derive(Clone, Copy)]
-struct Sketch<'a> {
-    workflow: &'a str,
-    sites: &'a [(&'a str, u64)],
-    files: &'a [(&'a str, Option<u64>)],
+pub struct Sketch<'a> {
+    pub workflow: &'a str,
+    pub sites: &'a [(&'a str, u64)],
+    pub files: &'a [(&'a str, Option<u64>)],
     /// A job's site, inputs and outputs.
-    jobs: &'a [(&'a str, Option<u32>, &'a [u32], &'a [u32])],
-    pairs: &'a [(u32, u32)],
-    tasks: &'a [TaskRow<'a>],
+    pub jobs: &'a [(&'a str, Option<u32>, &'a [u32], &'a [u32])],
+    pub pairs: &'a [(u32, u32)],
+    pub tasks: &'a [TaskRow<'a>],
 }
 
 fn sites(alloc: Global, rows: &[(&str, u64)]) -> Result<Items<PlanSite>, Memory> {
@@ -77,7 +77,7 @@ fn pair_ids(alloc: Global, numbers: &[u32]) -> Result<Items<PairId>, Memory> {
     Ok(Items::new(made))
 }
 
-fn task_ids(alloc: Global, numbers: &[u32]) -> Result<Vec<TaskId>, Memory> {
+pub fn task_ids(alloc: Global, numbers: &[u32]) -> Result<Vec<TaskId>, Memory> {
     let mut made = Vec::new(alloc);
     for number in numbers {
         made.push(TaskId(*number))?;
@@ -169,7 +169,7 @@ fn tasks(alloc: Global, rows: &[TaskRow<'_>]) -> Result<Items<Task>, Memory> {
     Ok(Items::new(made))
 }
 
-fn plan_of(alloc: Global, sketch: &Sketch<'_>, policy: Policy) -> Result<Plan, Memory> {
+pub fn plan_of(alloc: Global, sketch: &Sketch<'_>, policy: Policy) -> Result<Plan, Memory> {
     Ok(Plan {
         workflow: Text::copy_of(alloc, sketch.workflow)?,
         sites: sites(alloc, sketch.sites)?,
@@ -517,7 +517,7 @@ const COUNTS: [Case; 4] = [
 ];
 
 /// The diamond without its Cleans.
-const DIAMOND: Sketch<'static> = Sketch {
+pub const DIAMOND: Sketch<'static> = Sketch {
     workflow: "diamond",
     sites: &[("condorpool", 30)],
     files: &[
