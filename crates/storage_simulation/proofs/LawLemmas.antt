@@ -229,11 +229,11 @@ pair_good : (p : Plan) (q : ℕ) → q < count_pairs p → good_size p q ≡ pai
 unfolding good_size
 pair_good p q l = ap (λ (b : Bool). cond b (pair_size p (pair p q)) (delivered_size p (q - count_pairs p))) (lt-ltb q (count_pairs p) l)
 
-pair_place : (p : Plan) (q s : ℕ) → q < count_pairs p → lies_at p q s ≡ is_at p q s
+pub pair_place : (p : Plan) (q s : ℕ) → q < count_pairs p → lies_at p q s ≡ is_at p q s
 unfolding lies_at
 pair_place p q s l = ap (λ (b : Bool). cond b (is_at p q s) (is_delivery p (q - count_pairs p) && nat_eq s (count_sites p))) (lt-ltb q (count_pairs p) l)
 
-pair_part : (p : Plan) (size : ℕ → ℕ) (front : List ℕ) (s q : ℕ) → IsProper p → q < count_pairs p → part p size front s q ≡ cond (is_at p q s) (pair_weight p size front q) 0
+pub pair_part : (p : Plan) (size : ℕ → ℕ) (front : List ℕ) (s q : ℕ) → IsProper p → q < count_pairs p → part p size front s q ≡ cond (is_at p q s) (pair_weight p size front q) 0
 pair_part p size front s q proper l =
     ap (λ (b : Bool). cond b (weight p size front q) 0) (pair_place p q s l)
     ∙ ap (λ (b : Bool). cond (is_at p q s) (cond (cleaned p front q) 0 (cond b (good_size p q) (size q))) 0) (made_pair p proper front q l)

@@ -6,3 +6,5 @@ pub mod GoodsLemmas
 pub mod SumsLemmas
 pub mod ChangeLemmas
 pub mod LawLemmas
+pub mod FewLemmas
+pub mod ReadingLemmas

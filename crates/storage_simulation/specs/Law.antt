@@ -1,10 +1,10 @@
--- What storage rests on in a plan, and usage where the deliveries don't count.
-use Rattle.std.specs.Prelude.{◌≡◌, ℕ, ◌<◌, Bool, true, false, cond, List}
+-- What storage rests on in a plan, and usage as sums over pairs and over deliveries.
+use Rattle.std.specs.Prelude.{◌≡◌, ℕ, ◌+◌, ◌<◌, Bool, true, false, cond, List}
 use Rattle.std.specs.List.{list_any}
 use Rattle.plan_core.specs.declared.plan.Plan.{Plan}
 use Rattle.plan_core.specs.Numbers.{has}
-use Rattle.plan_core.specs.Words.{cleans, count_pairs, is_at, pair, parents, writes}
-use Rattle.storage_simulation.specs.Goods.{makes, pair_size}
+use Rattle.plan_core.specs.Words.{cleans, count_pairs, count_tasks, is_at, pair, parents, writes}
+use Rattle.storage_simulation.specs.Goods.{delivered_size, is_delivery, makes, pair_size}
 use Rattle.storage_simulation.specs.Usage.{total}
 use Rattle.storage_simulation.specs.Following.{AreOnce}
 
@@ -30,3 +30,7 @@ pair_weight p size front q = cond (swept p front q) 0 (cond (written p front q) 
 
 abbrev pub site_usage : Plan → (ℕ → ℕ) → List ℕ → ℕ → ℕ
 site_usage p size front s = total (count_pairs p) (λ q. cond (is_at p q s) (pair_weight p size front q) 0)
+
+-- the sum over the deliveries that are held or in the front
+abbrev pub output_usage : Plan → (ℕ → ℕ) → List ℕ → ℕ
+output_usage p size front = total (count_tasks p) (λ t. cond (is_delivery p t) (cond (has front t) (delivered_size p t) (size (count_pairs p + t))) 0)

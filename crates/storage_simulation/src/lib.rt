@@ -15,6 +15,9 @@ mod standing;
 
 pub use fitting::{Exceeds, fits};
 pub use following::follows;
-pub use law::{plain_policy_counts_pairs, proper_plans_keep_goods, sums_are_small};
+pub use law::{
+    pairs_are_few, plain_policy_counts_pairs, proper_plans_keep_goods, sums_are_small,
+    usage_is_a_sum,
+};
 pub use standing::{Held, Phase, Standing};
 pub use usage::usage_after;
