@@ -358,8 +358,7 @@ const TWO_SITES: Sketch<'static> = Sketch {
     ..DIAMOND
 };
 
-const CASES: [Case; 16] = [
-    FROM_START,
+const ORDERS: [Case; 4] = [
     Case {
         name: "a task twice",
         order: &[4, 0, 4],
@@ -388,6 +387,34 @@ const CASES: [Case; 16] = [
         usages: &[],
         ..FROM_START
     },
+];
+
+const STANDINGS: [Case; 3] = [
+    Case {
+        name: "under way",
+        standing: Some(UNDER_WAY),
+        order: &[6, 1, 7, 2, 8, 3, 9, 10, 5, 11],
+        usages: &[(0, &[24, 20, 30, 20, 30, 20, 30, 20, 10, 10, 0])],
+        ..FROM_START
+    },
+    Case {
+        name: "held again",
+        standing: Some(HELD_AGAIN),
+        usages: &[(0, &[7, 10, 30, 20, 30, 20, 30, 20, 30, 20, 10, 10, 0])],
+        ..FROM_START
+    },
+    Case {
+        name: "a task that runs",
+        standing: Some(UNDER_WAY),
+        order: &[0],
+        follows: false,
+        usages: &[],
+        ..FROM_START
+    },
+];
+
+const BOUNDS: [Case; 3] = [
+    FROM_START,
     Case {
         name: "the first front past the bound",
         sketch: Sketch {
@@ -404,35 +431,9 @@ const CASES: [Case; 16] = [
         exceeds: Some((0, 1, 40, 30)),
         ..FROM_START
     },
-    Case {
-        name: "under way",
-        standing: Some(UNDER_WAY),
-        order: &[6, 1, 7, 2, 8, 3, 9, 10, 5, 11],
-        usages: &[(0, &[24, 20, 30, 20, 30, 20, 30, 20, 10, 10, 0])],
-        ..FROM_START
-    },
-    Case {
-        name: "held again",
-        standing: Some(HELD_AGAIN),
-        usages: &[(0, &[7, 10, 30, 20, 30, 20, 30, 20, 30, 20, 10, 10, 0])],
-        ..FROM_START
-    },
-    Case {
-        name: "delivered",
-        output: Some(10),
-        standing: Some(DELIVERED),
-        order: &[11],
-        usages: &[(0, &[9, 0]), (1, &[8, 8])],
-        ..FROM_START
-    },
-    Case {
-        name: "a task that runs",
-        standing: Some(UNDER_WAY),
-        order: &[0],
-        follows: false,
-        usages: &[],
-        ..FROM_START
-    },
+];
+
+const SITES: [Case; 3] = [
     Case {
         name: "two sites",
         sketch: TWO_SITES,
@@ -457,6 +458,9 @@ const CASES: [Case; 16] = [
         exceeds: Some((0, 1, 6, 5)),
         ..FROM_START
     },
+];
+
+const OUTPUTS: [Case; 3] = [
     Case {
         name: "an output of 9",
         output: Some(9),
@@ -470,15 +474,52 @@ const CASES: [Case; 16] = [
         usages: &[(1, &[0, 0, 0, 0, 0, 0, 0, 0, 0, 0, 0, 10, 10])],
         ..FROM_START
     },
+    Case {
+        name: "delivered",
+        output: Some(10),
+        standing: Some(DELIVERED),
+        order: &[11],
+        usages: &[(0, &[9, 0]), (1, &[8, 8])],
+        ..FROM_START
+    },
 ];
 
-#[test]
-fn usages_and_fits_are_right(rt: HostRuntime) -> Result<(), Fail> {
-    let alloc = rt.alloc();
-    for case in &CASES {
+fn are_right(alloc: Global, cases: &[Case]) -> Result<(), Fail> {
+    for case in cases {
         if !is_right(alloc, case)? {
             return Err(Fail::new(case.name));
         }
     }
+    Ok(())
+}
+
+fn orders_are_right(alloc: Global) -> Result<(), Fail> {
+    are_right(alloc, &ORDERS)
+}
+
+fn standings_are_right(alloc: Global) -> Result<(), Fail> {
+    are_right(alloc, &STANDINGS)
+}
+
+fn bounds_are_right(alloc: Global) -> Result<(), Fail> {
+    are_right(alloc, &BOUNDS)
+}
+
+fn sites_are_right(alloc: Global) -> Result<(), Fail> {
+    are_right(alloc, &SITES)
+}
+
+fn outputs_are_right(alloc: Global) -> Result<(), Fail> {
+    are_right(alloc, &OUTPUTS)
+}
+
+#[test]
+fn usages_and_fits_are_right(rt: HostRuntime) -> Result<(), Fail> {
+    let alloc = rt.alloc();
+    orders_are_right(alloc)?;
+    standings_are_right(alloc)?;
+    bounds_are_right(alloc)?;
+    sites_are_right(alloc)?;
+    outputs_are_right(alloc)?;
     Ok(())
 }
