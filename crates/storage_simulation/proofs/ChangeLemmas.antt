@@ -10,7 +10,7 @@ use Rattle.plan_core.specs.Words.{cleans, count_pairs, count_tasks, output_bound
 use Rattle.storage_simulation.specs.declared.standing.Phase.{Phase}
 use Rattle.storage_simulation.specs.Goods.{IsWithinLimits, good_size, goods, lies_at, makes, places}
 use Rattle.storage_simulation.specs.Standings.{waits}
-use Rattle.storage_simulation.specs.Usage.{cleaned, made, part, total, usage, weight}
+use Rattle.storage_simulation.specs.Usage.{cleaned, made, part, usage, weight}
 use Rattle.storage_simulation.specs.Following.{Follows}
 use Rattle.storage_simulation.specs.Change.{cleaned_part, held_part, size_part, sum_of, waits_for_maker}
 use Rattle.storage_simulation.specs.Law.{KeepsGoods}

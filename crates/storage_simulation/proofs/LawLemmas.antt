@@ -1,7 +1,6 @@
 -- A proper plan keeps its goods; goods and places under the plain policy.
-use Rattle.std.proofs.Common.{◌≡◌, ℕ, zero, suc, ◌+◌, ◌-◌, ◌<◌, ◌≤◌, ◌||◌, ◌&&◌, ◌⊎◌, inl, inr, Bool, true, false, cond, nat_eq, nat_lt, List, [], ◌∷◌, ◌++◌, refl, sym, ap, subst, ◌∙◌, arith, eqb-true}
+use Rattle.std.proofs.Common.{◌≡◌, ℕ, zero, suc, ◌+◌, ◌-◌, ◌<◌, ◌≤◌, ◌||◌, ◌&&◌, Bool, true, false, cond, nat_eq, List, [], ◌∷◌, ◌++◌, refl, sym, ap, subst, ◌∙◌, arith, eqb-true}
 use Rattle.std.specs.Prelude.{Option, Some, None, is_some, slice_get}
-use Rattle.std.specs.List.{list_any}
 use Rattle.std.proofs.lemmas.Bool.{ltb-true, lt-ltb}
 use Rattle.std.proofs.lemmas.List.Folds.{list_any-append}
 use Rattle.outside.specs.Policy.{plain}
@@ -9,7 +8,6 @@ use Rattle.plan_core.specs.declared.plan.Plan.{Plan}
 use Rattle.plan_core.specs.declared.plan.TaskKind.{TaskKind}
 use Rattle.plan_core.specs.declared.plan.TaskKind.TheVariants.{Transfer, Run, Clean}
 use Rattle.plan_core.specs.declared.plan.Target.TheVariants.{Site, Delivery}
-use Rattle.plan_core.specs.declared.plan.Task.{Task}
 use Rattle.plan_core.specs.declared.plan.Pair.{Pair}
 use Rattle.plan_core.specs.Kinds.{kind_writes, on_pair}
 use Rattle.plan_core.specs.Numbers.{below, has}
@@ -19,7 +17,7 @@ use Rattle.storage_simulation.specs.Goods.{count_sites, delivered_size, good_siz
 use Rattle.storage_simulation.specs.Usage.{cleaned, made, part, total, usage, weight}
 use Rattle.storage_simulation.specs.Following.{AreOnce}
 use Rattle.storage_simulation.specs.Law.{KeepsGoods, pair_weight, site_usage, written}
-use Rattle.storage_simulation.proofs.FollowingLemmas.{by_bool, false_of, is_itself, once_more, once_parts, or_case, or_left}
+use Rattle.storage_simulation.proofs.FollowingLemmas.{false_of, is_itself, once_more, once_parts, or_case, or_left}
 use Rattle.storage_simulation.proofs.SumsLemmas.{total_same}
 
 or_nothing : (b : Bool) → (b || false) ≡ true → b ≡ true

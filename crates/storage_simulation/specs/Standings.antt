@@ -5,7 +5,7 @@ use Rattle.plan_core.specs.Words.{count_pairs, count_tasks}
 use Rattle.storage_simulation.specs.declared.standing.Held.{Held}
 use Rattle.storage_simulation.specs.declared.standing.Held.TheVariants.{Nothing, Stored, Reserved}
 use Rattle.storage_simulation.specs.declared.standing.Phase.{Phase}
-use Rattle.storage_simulation.specs.declared.standing.Phase.TheVariants.{Waits, Runs, Ended}
+use Rattle.storage_simulation.specs.declared.standing.Phase.TheVariants.{Waits}
 use Rattle.storage_simulation.specs.declared.standing.Standing.{Standing}
 
 -- a list by number, with d past its end

@@ -25,9 +25,7 @@ fn is_marked(marks: &[bool], task: TaskId) -> bool
 fn none_missing(standing: &Standing, marks: &[bool], parents: &[TaskId]) -> bool
     ensures { result ≡ list_all (λ (u : TaskId). not (waits (phase_of standing.now u.0)) || is_marked marks.now u.0) parents.now }
 {
-    parents
-        .iter()
-        .all(|parent| !standing.waits(*parent) || is_marked(marks, *parent))
+    parents.iter().all(|parent| !standing.waits(*parent) || is_marked(marks, *parent))
 }
 
 /// Whether each parent of a task that waits has a mark.

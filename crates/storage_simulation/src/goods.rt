@@ -16,10 +16,12 @@ pub(crate) fn is_delivery(plan: &Plan, task: TaskId) -> bool
     ensures { result ≡ is_delivery plan.now task.0 }
 {
     match plan.kind(task) {
-        Some(TaskKind::Transfer {
-            to: Target::Delivery,
-            ..
-        }) => true,
+        Some(
+            TaskKind::Transfer {
+                to: Target::Delivery,
+                ..
+            },
+        ) => true,
         _ => false,
     }
 }
@@ -40,11 +42,13 @@ fn delivered_size(plan: &Plan, task: TaskId) -> u64
     ensures { result ≡ delivered_size plan.now task.0 }
 {
     match plan.kind(task) {
-        Some(TaskKind::Transfer {
-            file,
-            to: Target::Delivery,
-            ..
-        }) => file_size(plan, *file),
+        Some(
+            TaskKind::Transfer {
+                file,
+                to: Target::Delivery,
+                ..
+            },
+        ) => file_size(plan, *file),
         _ => 0,
     }
 }

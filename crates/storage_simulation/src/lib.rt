@@ -10,8 +10,8 @@ mod fitting;
 mod following;
 mod goods;
 mod law;
-mod usage;
 mod standing;
+mod usage;
 
 pub use fitting::{Exceeds, fits};
 pub use following::follows;

@@ -1,4 +1,4 @@
-use Rattle.std.proofs.Common.{◌≡◌, ◌+◌, ℕ, take, arith}
+use Rattle.std.proofs.Common.{◌+◌, take, arith}
 use Rattle.outside.specs.declared.numbers.TaskId.{TaskId}
 use Rattle.plan_core.specs.Words.{task_numbers}
 use Rattle.storage_simulation.specs.Standings.{held_of, phase_of, sizes}
