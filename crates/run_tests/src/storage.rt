@@ -147,13 +147,7 @@ fn standing_of(alloc: Global, plan: &Plan, lists: &Option<Lists>) -> Result<Stan
 }
 
 /// Whether these are the usages of a site after each front.
-fn are_usages(
-    plan: &Plan,
-    standing: &Standing,
-    order: &[TaskId],
-    site: u32,
-    usages: &[u64],
-) -> bool
+fn are_usages(plan: &Plan, standing: &Standing, order: &[TaskId], site: u32, usages: &[u64]) -> bool
     requires limits { IsWithinLimits plan.now }
     requires standing { IsStanding plan.now standing.now }
 {
@@ -161,7 +155,13 @@ fn are_usages(
         return false;
     }
     for (k, usage) in usages.iter().enumerate() {
-        if usage_after(plan, standing, order.get(..k).unwrap_or(order), SiteId(site)) != *usage {
+        if usage_after(
+            plan,
+            standing,
+            order.get(..k).unwrap_or(order),
+            SiteId(site),
+        ) != *usage
+        {
             return false;
         }
     }
