@@ -17,6 +17,7 @@ use Rattle.storage_simulation.specs.Law.{KeepsGoods}
 use Rattle.storage_simulation.proofs.FollowingLemmas.{at_place, both, by_bool, false_of, front_more, is_itself, once_at, or_case, or_left, or_right}
 use Rattle.storage_simulation.proofs.GoodsLemmas.{lies_below}
 use Rattle.storage_simulation.proofs.NumbersLemmas.{count_tasks_in, task_at}
+use Rattle.storage_simulation.proofs.RisingLemmas.{rises_once}
 use Rattle.storage_simulation.proofs.SumsLemmas.{one_changed, sum_at_most, sum_same, total_bound, total_replaced}
 use Rattle.storage_simulation.proofs.UsageLemmas.{part_small}
 
@@ -175,11 +176,11 @@ making : (p : Plan) (phase : ℕ → Phase) (size : ℕ → ℕ) (order : List �
 making p phase size order k s keeps f l place off =
     let t : ℕ = get_or order k 0 in
     let front : List ℕ = take k order in
-    let all = total_replaced (part p size front s) (part p size (front ++ t ∷ []) s) (goods p) (makes p t) (keeps.once t) (λ q m. none_past p size front s q place m) (λ q m. none_past p size (front ++ t ∷ []) s q place m) (λ q m. other_part p size front t s q (off q) m) in
+    let all = total_replaced (part p size front s) (part p size (front ++ t ∷ []) s) (goods p) (makes p t) (rises_once 0 (makes p t) (keeps.rises t)) (λ q m. none_past p size front s q place m) (λ q m. none_past p size (front ++ t ∷ []) s q place m) (λ q m. other_part p size front t s q (off q) m) in
     let old = sum_same (part p size front s) (held_part p size s) (makes p t) (λ g m. old_part p size front s g (not_cleaned p phase order k g keeps f l m) (not_made p phase order k g keeps f l m)) in
     let new = sum_same (part p size (front ++ t ∷ []) s) (size_part p s) (makes p t) (λ g m. new_part p size front t s g (not_cleaned p phase order k g keeps f l m) (off g) (not_made p phase order k g keeps f l m) m) in
-    let low = sum_at_most (part p size front s) (goods p) (makes p t) (keeps.once t) (λ q m. none_past p size front s q place m) in
-    let high = sum_at_most (part p size (front ++ t ∷ []) s) (goods p) (makes p t) (keeps.once t) (λ q m. none_past p size (front ++ t ∷ []) s q place m) in
+    let low = sum_at_most (part p size front s) (goods p) (makes p t) (rises_once 0 (makes p t) (keeps.rises t)) (λ q m. none_past p size front s q place m) in
+    let high = sum_at_most (part p size (front ++ t ∷ []) s) (goods p) (makes p t) (rises_once 0 (makes p t) (keeps.rises t)) (λ q m. none_past p size (front ++ t ∷ []) s q place m) in
     let is = ap (λ (xs : List ℕ). usage p size xs s) (front_more order k l) in
     (omega (arith, all, old, new, is), omega (arith, low, old), omega (arith, high, new, is))
 

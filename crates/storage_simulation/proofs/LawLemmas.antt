@@ -1,7 +1,7 @@
 -- A proper plan keeps its goods; goods and places under the plain policy.
-use Rattle.std.proofs.Common.{◌≡◌, ℕ, zero, suc, ◌+◌, ◌-◌, ◌<◌, ◌≤◌, ◌||◌, ◌&&◌, Bool, true, false, cond, nat_eq, List, [], ◌∷◌, ◌++◌, refl, sym, ap, subst, ◌∙◌, arith, eqb-true}
+use Rattle.std.proofs.Common.{◌≡◌, ℕ, zero, suc, ◌+◌, ◌-◌, ◌<◌, ◌≤◌, ◌⊎◌, inl, inr, ◌||◌, ◌&&◌, Bool, true, false, cond, nat_eq, List, [], ◌∷◌, ◌++◌, refl, sym, ap, subst, ◌∙◌, arith, eqb-true}
 use Rattle.std.specs.Prelude.{Option, Some, None, is_some, slice_get}
-use Rattle.std.proofs.lemmas.Bool.{ltb-true, lt-ltb}
+use Rattle.std.proofs.lemmas.Bool.{cases_lt, ltb-true, lt-ltb}
 use Rattle.std.proofs.lemmas.List.Folds.{list_any-append}
 use Rattle.outside.specs.Policy.{plain}
 use Rattle.plan_core.specs.declared.plan.Plan.{Plan}
@@ -10,7 +10,7 @@ use Rattle.plan_core.specs.declared.plan.TaskKind.TheVariants.{Transfer, Run, Cl
 use Rattle.plan_core.specs.declared.plan.Target.TheVariants.{Site, Delivery}
 use Rattle.plan_core.specs.declared.plan.Pair.{Pair}
 use Rattle.plan_core.specs.Kinds.{kind_writes, on_pair}
-use Rattle.plan_core.specs.Numbers.{below, has}
+use Rattle.plan_core.specs.Numbers.{RisesFrom, below, has}
 use Rattle.plan_core.specs.Proper.{IsProper, is_kind_in_range, is_parent}
 use Rattle.plan_core.specs.Words.{bound, cleans, count_pairs, count_tasks, is_at, is_clean, kind, kind_cleans, kind_in, is_clean_kind, output_bound, pair, parents, reads, writes}
 use Rattle.storage_simulation.specs.Goods.{count_sites, delivered_size, good_size, goods, is_delivery, is_delivery_kind, lies_at, makes, or_zero, pair_size, place_bound, places}
@@ -18,6 +18,8 @@ use Rattle.storage_simulation.specs.Usage.{cleaned, made, part, total, usage, we
 use Rattle.storage_simulation.specs.Following.{AreOnce}
 use Rattle.storage_simulation.specs.Law.{KeepsGoods, pair_weight, site_usage, written}
 use Rattle.storage_simulation.proofs.FollowingLemmas.{false_of, is_itself, once_more, once_parts, or_case, or_left}
+use Rattle.std.proofs.lemmas.List.{append-nil}
+use Rattle.storage_simulation.proofs.RisingLemmas.{rises_end}
 use Rattle.storage_simulation.proofs.SumsLemmas.{total_same}
 
 or_nothing : (b : Bool) → (b || false) ≡ true → b ≡ true
@@ -57,7 +59,7 @@ clean_delivers p t h = by_kind (kind p t) h
     by_kind (Some (Run s js)) k = absurd cc
     by_kind (Some (Clean q)) k = refl
 
--- numbers below a bound are listed once
+-- numbers below a bound are listed rising
 below_low : (n : ℕ) (test : ℕ → Bool) (x : ℕ) → n ≤ x → has (below n test) x ≡ false
 unfolding below
 below_low zero test x l = refl
@@ -71,52 +73,33 @@ below_low (suc n) test x l = list_any-append (λ y. nat_eq y x) (below n test) (
     by false true h = ap (λ (c : Bool). c || false) off
     by false false h = refl
 
-once_end : (xs : List ℕ) (n : ℕ) → AreOnce xs → has xs n ≡ false → AreOnce (xs ++ n ∷ [])
-once_end [] n o h = refl
-once_end (x ∷ xs) n o h = once_more x (xs ++ n ∷ [])
-    (list_any-append (λ y. nat_eq y x) xs (n ∷ []) ∙ neither (has xs x) (nat_eq n x) (parts.0) (false_of (nat_eq n x) (λ e. let same = eqb-true n x e in let yes : nat_eq x n ≡ true = ap (nat_eq x) same ∙ is_itself x in let no = (first (nat_eq x n) (has xs n) h) in cc)))
-    (once_end xs n parts.1 (second (nat_eq x n) (has xs n) h))
+below_high : (n : ℕ) (test : ℕ → Bool) (x : ℕ) → has (below n test) x ≡ true → x < n
+below_high n test x h = by (cases_lt x n)
   where
-    parts : (has xs x ≡ false) × AreOnce xs
-    parts = once_parts x xs o
+    by : (x < n) ⊎ (n ≤ x) → x < n
+    by (inl l) = l
+    by (inr l) = absurd (let off = below_low n test x l in cc)
 
-    first : (a b : Bool) → (a || b) ≡ false → a ≡ false
-    first true b k = absurd cc
-    first false b k = refl
-
-    second : (a b : Bool) → (a || b) ≡ false → b ≡ false
-    second true b k = absurd cc
-    second false b k = k
-
-    neither : (a b : Bool) → a ≡ false → b ≡ false → (a || (b || false)) ≡ false
-    neither true b e f = absurd cc
-    neither false true e f = absurd cc
-    neither false false e f = refl
-
-below_once : (n : ℕ) (test : ℕ → Bool) → AreOnce (below n test)
+below_rises : (n : ℕ) (test : ℕ → Bool) → RisesFrom 0 (below n test)
 unfolding below
-below_once zero test = refl
-below_once (suc n) test = by (test n) (below_once n test) (below_low n test n (omega arith))
+below_rises zero test = tt
+below_rises (suc n) test = by (test n) (below_rises n test)
   where
-    by : (b : Bool) → AreOnce (below n test) → has (below n test) n ≡ false → AreOnce (below n test ++ cond b (n ∷ []) [])
-    by true o h = once_end (below n test) n o h
-    by false o h = subst AreOnce (sym (append_nothing (below n test))) o
-      where
-        append_nothing : (xs : List ℕ) → xs ++ [] ≡ xs
-        append_nothing [] = refl
-        append_nothing (x ∷ xs) = ap (λ (ys : List ℕ). x ∷ ys) (append_nothing xs)
+    by : (b : Bool) → RisesFrom 0 (below n test) → RisesFrom 0 (below n test ++ cond b (n ∷ []) [])
+    by true h = rises_end 0 n (below n test) h (omega arith) (below_high n test)
+    by false h = subst (RisesFrom 0) (sym (append-nil (below n test))) h
 
-writes_once : (p : Plan) → IsProper p → (t : ℕ) → AreOnce (writes p t)
+writes_rise : (p : Plan) → IsProper p → (t : ℕ) → RisesFrom 0 (writes p t)
 unfolding writes
-writes_once p proper t = subst AreOnce (sym (proper.tasks t).writes) (below_once (count_pairs p) (λ q. on_pair (kind_writes p.jobs (kind_in (slice_get p.tasks t))) (slice_get p.pairs q)))
+writes_rise p proper t = subst (RisesFrom 0) (sym (proper.tasks t).writes) (below_rises (count_pairs p) (λ q. on_pair (kind_writes p.jobs (kind_in (slice_get p.tasks t))) (slice_get p.pairs q)))
 
-makes_once : (p : Plan) → IsProper p → (t : ℕ) → AreOnce (makes p t)
+makes_rise : (p : Plan) → IsProper p → (t : ℕ) → RisesFrom 0 (makes p t)
 unfolding makes
-makes_once p proper t = by (is_delivery p t)
+makes_rise p proper t = by (is_delivery p t)
   where
-    by : (b : Bool) → AreOnce (cond b ((count_pairs p + t) ∷ []) (writes p t))
-    by true = refl
-    by false = writes_once p proper t
+    by : (b : Bool) → RisesFrom 0 (cond b ((count_pairs p + t) ∷ []) (writes p t))
+    by true = (omega arith, tt)
+    by false = writes_rise p proper t
 
 -- the laws of plans that goods rest on
 abbrev pub CleansAfter : Type 0
@@ -134,7 +117,7 @@ KindsInRange = (p : Plan) → IsProper p → (t : ℕ) (k : TaskKind) → kind p
 pub keeps_goods : CleansAfter → CleansNothing → ListsInRange → KindsInRange → (p : Plan) → IsProper p → KeepsGoods p
 keeps_goods after nothing lists kinds p proper = record {
   one_maker = λ t u g h k. one t u g (making p t g h) (making p u g k);
-  once = makes_once p proper;
+  rises = makes_rise p proper;
   one_clean = proper.flow.one_clean;
   cleans_after = λ t u g h k. after_maker t u g h (making p u g k);
   cleans_make = λ t g h k. false_of (has (makes p t) h) (λ m. none t h (clean_of p t g k) (making p t h m));

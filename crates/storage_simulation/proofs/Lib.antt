@@ -1,6 +1,7 @@
 pub mod NumbersLemmas
 pub mod UsageLemmas
 pub mod FollowingLemmas
+pub mod RisingLemmas
 pub mod MarksLemmas
 pub mod GoodsLemmas
 pub mod SumsLemmas

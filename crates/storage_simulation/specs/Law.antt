@@ -2,16 +2,15 @@
 use Rattle.std.specs.Prelude.{◌≡◌, ℕ, ◌+◌, ◌<◌, Bool, true, false, cond, List}
 use Rattle.std.specs.List.{list_any}
 use Rattle.plan_core.specs.declared.plan.Plan.{Plan}
-use Rattle.plan_core.specs.Numbers.{has}
+use Rattle.plan_core.specs.Numbers.{RisesFrom, has}
 use Rattle.plan_core.specs.Words.{cleans, count_pairs, count_tasks, is_at, pair, parents, writes}
 use Rattle.storage_simulation.specs.Goods.{delivered_size, is_delivery, makes, pair_size}
 use Rattle.storage_simulation.specs.Usage.{total}
-use Rattle.storage_simulation.specs.Following.{AreOnce}
 
--- Each good has one maker, which makes it once, and at most one Clean, which comes after the maker and makes nothing.
+-- Each good has one maker, and at most one Clean, which comes after the maker and makes nothing; goods are listed rising.
 pub record KeepsGoods (p : Plan) : Type 0 where
   pub one_maker : (t u g : ℕ) → has (makes p t) g ≡ true → has (makes p u) g ≡ true → t ≡ u
-  pub once : (t : ℕ) → AreOnce (makes p t)
+  pub rises : (t : ℕ) → RisesFrom 0 (makes p t)
   pub one_clean : (t u g : ℕ) → cleans p t g ≡ true → cleans p u g ≡ true → t ≡ u
   pub cleans_after : (t u g : ℕ) → cleans p t g ≡ true → has (makes p u) g ≡ true → has (parents p t) u ≡ true
   pub cleans_make : (t g h : ℕ) → cleans p t g ≡ true → has (makes p t) h ≡ false

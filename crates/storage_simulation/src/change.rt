@@ -7,9 +7,10 @@ ghost use Rattle.plan_core.specs.Numbers.{has};
 ghost use Rattle.plan_core.specs.Words.{count_pairs, pair_numbers};
 ghost use Rattle.storage_simulation.specs.Change.{cleaned_part, held_part, size_part, sum_of, waits_for_maker};
 ghost use Rattle.storage_simulation.specs.Goods.{IsWithinLimits, is_delivery, makes};
+ghost use Rattle.storage_simulation.specs.Law.{KeepsGoods};
 ghost use Rattle.storage_simulation.specs.Standings.{held_of, phase_of, sizes, waits};
 
-use crate::goods::{good_size, is_delivery, lies_at, makes};
+use crate::goods::{finds_made, good_size, is_delivery, lies_at};
 use crate::standing::Standing;
 use outside::{PairId, TaskId};
 use plan_core::Plan;
@@ -114,17 +115,19 @@ pub(crate) fn after_making(
 }
 
 fn any_waits(plan: &Plan, standing: &Standing, some: &[TaskId], good: u32) -> bool
-    requires { IsWithinLimits plan.now }
+    requires limits { IsWithinLimits plan.now }
+    requires goods { KeepsGoods plan.now }
     ensures { result ≡ list_any (λ (u : TaskId). waits (phase_of standing.now u.0) && has (makes plan.now u.0) good) some.now }
 {
     some.iter()
-        .any(|task| standing.waits(*task) && makes(plan, *task, good))
+        .any(|task| standing.waits(*task) && finds_made(plan, *task, good))
 }
 
 /// Whether a parent of a task waits that makes the good.
 #[tactic(auto, using(crate::proofs::NumbersLemmas::any_task))]
 fn waits_for_maker(plan: &Plan, standing: &Standing, task: TaskId, good: u32) -> bool
-    requires { IsWithinLimits plan.now }
+    requires limits { IsWithinLimits plan.now }
+    requires goods { KeepsGoods plan.now }
     ensures { result ≡ waits_for_maker plan.now (phase_of standing.now) task.0 good }
 {
     any_waits(plan, standing, plan.parents(task), good)
@@ -138,7 +141,8 @@ pub(crate) fn cleaned_at(
     task: TaskId,
     good: u32,
 ) -> u64
-    requires { IsWithinLimits plan.now }
+    requires limits { IsWithinLimits plan.now }
+    requires goods { KeepsGoods plan.now }
     ensures { result ≡ cleaned_part plan.now (phase_of standing.now) (sizes (held_of standing.now)) task.0 place good }
 {
     if !lies_at(plan, good, place) {

@@ -1,7 +1,7 @@
 //! Goods and places of a plan.
 
 ghost use Rattle.std.specs.Prelude.{◌≡◌, ◌≤◌, ◌+◌, ◌*◌, ◌==◌, ℕ, false, MatchOption};
-ghost use Rattle.plan_core.specs.Numbers.{has};
+ghost use Rattle.plan_core.specs.Numbers.{RisesFrom, has};
 ghost use Rattle.std.specs.List.{list_any};
 ghost use Rattle.outside.specs.declared.numbers.PairId.{PairId};
 ghost use Rattle.plan_core.specs.Words.{cleans, declared, pair, pair_numbers};
@@ -154,6 +154,27 @@ pub(crate) fn makes(plan: &Plan, task: TaskId, good: u32) -> bool
         return plan.pairs.as_slice().len() + task.0 as usize == good as usize;
     }
     is_among(plan.writes(task), good)
+}
+
+/// Whether a good is among some pairs in rising order.
+fn is_among_rising(pairs: &[PairId], good: u32) -> bool
+    requires { RisesFrom 0 (pair_numbers pairs.now) }
+    ensures { result ≡ has (pair_numbers pairs.now) good }
+{
+    pairs.binary_search_by_key(&good, |pair| pair.0).is_ok()
+}
+
+/// Whether a task of a plan that lists goods in rising order makes a good.
+#[tactic(auto, unfolding(crate::specs::Goods::makes))]
+pub(crate) fn finds_made(plan: &Plan, task: TaskId, good: u32) -> bool
+    requires limits { IsWithinLimits plan.now }
+    requires rises { RisesFrom 0 (makes plan.now task.0) }
+    ensures { result ≡ has (makes plan.now task.0) good }
+{
+    if is_delivery(plan, task) {
+        return plan.pairs.as_slice().len() + task.0 as usize == good as usize;
+    }
+    is_among_rising(plan.writes(task), good)
 }
 
 /// The good that a task cleans.
