@@ -15,9 +15,8 @@ use Rattle.plan_core.specs.Proper.{IsProper, is_kind_in_range, is_parent}
 use Rattle.plan_core.specs.Words.{bound, cleans, count_pairs, count_tasks, is_at, is_clean, kind, kind_cleans, kind_in, is_clean_kind, output_bound, pair, parents, reads, writes}
 use Rattle.storage_simulation.specs.Goods.{count_sites, delivered_size, good_size, goods, is_delivery, is_delivery_kind, lies_at, makes, or_zero, pair_size, place_bound, places}
 use Rattle.storage_simulation.specs.Usage.{cleaned, made, part, total, usage, weight}
-use Rattle.storage_simulation.specs.Following.{AreOnce}
 use Rattle.storage_simulation.specs.Law.{KeepsGoods, pair_weight, site_usage, written}
-use Rattle.storage_simulation.proofs.FollowingLemmas.{false_of, is_itself, once_more, once_parts, or_case, or_left}
+use Rattle.storage_simulation.proofs.FollowingLemmas.{false_of, or_case, or_left}
 use Rattle.std.proofs.lemmas.List.{append-nil}
 use Rattle.storage_simulation.proofs.RisingLemmas.{rises_end}
 use Rattle.storage_simulation.proofs.SumsLemmas.{total_same}

@@ -1,8 +1,7 @@
 -- Numbers in rising order, and a binary search among pairs.
-use Rattle.std.proofs.Common.{◌≡◌, ℕ, zero, suc, ◌+◌, ◌<◌, ◌≤◌, ◌||◌, ◌⊎◌, inl, inr, Bool, true, false, nat_cmp, nat_eq, List, [], ◌∷◌, ◌++◌, length, map, get_or, refl, sym, ap, subst, ◌∙◌, arith, eqb-true}
+use Rattle.std.proofs.Common.{◌≡◌, ℕ, zero, suc, ◌<◌, ◌≤◌, ◌||◌, ◌⊎◌, inl, inr, Bool, true, false, nat_cmp, nat_eq, List, [], ◌∷◌, ◌++◌, length, get_or, refl, sym, ap, subst, ◌∙◌, arith, eqb-true}
 use Rattle.std.specs.Prelude.{Result, Ok, Err, is_ok}
 use Rattle.std.specs.Ordering.{ordering_index}
-
 use Rattle.std.proofs.lemmas.Bool.{cases_lt}
 use Rattle.std.specs.List.Sorted.{IsBinarySearchResult}
 use Rattle.std.proofs.lemmas.List.Sorted.{searched}
@@ -52,9 +51,10 @@ pub numbers_searched : (xs : List PairId) (x : ℕ) (r : Result ℕ ℕ) → IsB
 numbers_searched xs x (Ok i) h = λ d. ap (λ (n : ℕ). nat_cmp n x) (number_at xs i (record { 0 = d })) ∙ h (record { 0 = d })
 numbers_searched xs x (Err i) h = λ up.
     let long = count_pairs_in xs in
-    let parts = h (λ a b d le lt. subst (λ (n : ℕ). ordering_index (nat_cmp (get_or xs a d).0 x) ≤ ordering_index (nat_cmp n x)) (number_at xs b d) (subst (λ (n : ℕ). ordering_index (nat_cmp n x) ≤ ordering_index (nat_cmp (get_or (pair_numbers xs) b d.0) x)) (number_at xs a d) (up a b d.0 le (omega (arith, lt, long))))) in
-    (λ k d a b. ap (λ (n : ℕ). nat_cmp n x) (number_at xs k (record { 0 = d })) ∙ parts.0 k (record { 0 = d }) a b,
-     λ k d a b. ap (λ (n : ℕ). nat_cmp n x) (number_at xs k (record { 0 = d })) ∙ parts.1 k (record { 0 = d }) a (omega (arith, b, long)))
+    let parts = h (λ a b d le lt. subst (λ (n : ℕ). ordering_index (nat_cmp (get_or xs a d).0 x) ≤ ordering_index (nat_cmp n x)) (number_at xs b d) (subst (λ (n : ℕ). ordering_index (nat_cmp n x) ≤ ordering_index (nat_cmp (get_or (pair_numbers xs) b d.0) x)) (number_at xs a d) (up a b d.0 le (omega (arith, lt, long))))) in (
+      λ k d a b. ap (λ (n : ℕ). nat_cmp n x) (number_at xs k (record { 0 = d })) ∙ parts.0 k (record { 0 = d }) a b,
+      λ k d a b. ap (λ (n : ℕ). nat_cmp n x) (number_at xs k (record { 0 = d })) ∙ parts.1 k (record { 0 = d }) a (omega (arith, b, long)),
+    )
 
 pub found_has : (xs : List PairId) (x : ℕ) (r : Result ℕ ℕ) → RisesFrom 0 (pair_numbers xs) → IsBinarySearchResult (λ (y : PairId). nat_cmp y.0 x) xs r → is_ok r ≡ has (pair_numbers xs) x
 found_has xs x (Ok i) rises found =

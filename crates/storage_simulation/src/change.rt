@@ -119,8 +119,7 @@ fn any_waits(plan: &Plan, standing: &Standing, some: &[TaskId], good: u32) -> bo
     requires goods { KeepsGoods plan.now }
     ensures { result ≡ list_any (λ (u : TaskId). waits (phase_of standing.now u.0) && has (makes plan.now u.0) good) some.now }
 {
-    some.iter()
-        .any(|task| standing.waits(*task) && finds_made(plan, *task, good))
+    some.iter().any(|task| standing.waits(*task) && finds_made(plan, *task, good))
 }
 
 /// Whether a parent of a task waits that makes the good.
