@@ -1,6 +1,6 @@
 //! Plans with their Cleans, against plans whose Cleans are written by hand.
 
-use crate::sketches::{CHAIN, DIAMOND, Does, Sketch, TWO_SITES, plan_of};
+use crate::sketches::{CHAIN, DIAMOND, DIAMOND_CLEANED, Does, Sketch, TWO_SITES, plan_of};
 use cleanup_refiner::{CleanRefused, add_cleans};
 use outside::{Memory, Policy};
 use plan_core::{Plan, check, print};
@@ -44,25 +44,6 @@ const TWO_READERS_CLEANED: Sketch<'static> = Sketch {
         (Does::Clean(3), &[], &[], &[2, 5]),
     ],
     ..TWO_READERS
-};
-
-/// The diamond with its Cleans.
-const DIAMOND_CLEANED: Sketch<'static> = Sketch {
-    tasks: &[
-        (Does::Run(0, &[0]), &[0], &[1, 2], &[4]),
-        (Does::Run(0, &[1]), &[1], &[3], &[0]),
-        (Does::Run(0, &[2]), &[2], &[4], &[0]),
-        (Does::Run(0, &[3]), &[3, 4], &[5], &[1, 2]),
-        (Does::Fetch(0, 0), &[], &[0], &[]),
-        (Does::Deliver(5, 0), &[5], &[], &[3]),
-        (Does::Clean(0), &[], &[], &[0, 4]),
-        (Does::Clean(1), &[], &[], &[0, 1]),
-        (Does::Clean(2), &[], &[], &[0, 2]),
-        (Does::Clean(3), &[], &[], &[1, 3]),
-        (Does::Clean(4), &[], &[], &[2, 3]),
-        (Does::Clean(5), &[], &[], &[3, 5]),
-    ],
-    ..DIAMOND
 };
 
 /// A job whose file nobody reads.

@@ -13,3 +13,5 @@ mod plans;
 mod records;
 #[cfg(test)]
 mod sketches;
+#[cfg(test)]
+mod storage;

@@ -235,3 +235,22 @@ pub const DIAMOND: Sketch<'static> = Sketch {
         (Does::Deliver(5, 0), &[5], &[], &[3]),
     ],
 };
+
+/// The diamond with its Cleans.
+pub const DIAMOND_CLEANED: Sketch<'static> = Sketch {
+    tasks: &[
+        (Does::Run(0, &[0]), &[0], &[1, 2], &[4]),
+        (Does::Run(0, &[1]), &[1], &[3], &[0]),
+        (Does::Run(0, &[2]), &[2], &[4], &[0]),
+        (Does::Run(0, &[3]), &[3, 4], &[5], &[1, 2]),
+        (Does::Fetch(0, 0), &[], &[0], &[]),
+        (Does::Deliver(5, 0), &[5], &[], &[3]),
+        (Does::Clean(0), &[], &[], &[0, 4]),
+        (Does::Clean(1), &[], &[], &[0, 1]),
+        (Does::Clean(2), &[], &[], &[0, 2]),
+        (Does::Clean(3), &[], &[], &[1, 3]),
+        (Does::Clean(4), &[], &[], &[2, 3]),
+        (Does::Clean(5), &[], &[], &[3, 5]),
+    ],
+    ..DIAMOND
+};

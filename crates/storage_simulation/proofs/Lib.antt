@@ -1,0 +1,11 @@
+pub mod NumbersLemmas
+pub mod UsageLemmas
+pub mod FollowingLemmas
+pub mod RisingLemmas
+pub mod MarksLemmas
+pub mod GoodsLemmas
+pub mod SumsLemmas
+pub mod ChangeLemmas
+pub mod LawLemmas
+pub mod FewLemmas
+pub mod ReadingLemmas

@@ -1,0 +1,7 @@
+use Rattle.std.proofs.Common.{◌≡◌, ◌+◌, drop}
+use Rattle.plan_core.specs.Words.{pair_numbers}
+use Rattle.storage_simulation.specs.Change.{size_part, sum_of}
+use Rattle.storage_simulation.proofs.change.size_of_pairs.Given as goal
+
+abbrev pub invariant-loop-pair : goal.invariant-loop-pair
+invariant-loop-pair l = l.sum + sum_of (size_part l.plan l.place) (pair_numbers (drop l.pair-index l.pairs)) ≡ sum_of (size_part l.plan l.place) (pair_numbers l.pairs)

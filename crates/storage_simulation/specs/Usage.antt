@@ -1,0 +1,33 @@
+-- Usage of a place after a front, where so much of each good is held.
+use Rattle.std.specs.Prelude.{ℕ, zero, suc, ◌+◌, ◌<◌, ◌≤◌, Bool, cond, List}
+use Rattle.std.specs.List.{list_any}
+use Rattle.plan_core.specs.declared.plan.Plan.{Plan}
+use Rattle.plan_core.specs.Numbers.{has}
+use Rattle.plan_core.specs.Words.{cleans}
+use Rattle.storage_simulation.specs.Goods.{goods, good_size, lies_at, makes, places, place_bound}
+
+-- the sum of w at the numbers below n
+unfoldable pub total : ℕ → (ℕ → ℕ) → ℕ
+total zero w = 0
+total (suc n) w = total n w + w n
+
+-- a task of the front makes, or cleans, the good
+abbrev pub made : Plan → List ℕ → ℕ → Bool
+made p front g = list_any (λ t. has (makes p t) g) front
+
+abbrev pub cleaned : Plan → List ℕ → ℕ → Bool
+cleaned p front g = list_any (λ t. cleans p t g) front
+
+-- What a good counts: nothing where the front cleans it, its declared size where the front makes it, else what is held.
+abbrev pub weight : Plan → (ℕ → ℕ) → List ℕ → ℕ → ℕ
+weight p size front g = cond (cleaned p front g) 0 (cond (made p front g) (good_size p g) (size g))
+
+abbrev pub part : Plan → (ℕ → ℕ) → List ℕ → ℕ → ℕ → ℕ
+part p size front s g = cond (lies_at p g s) (weight p size front g) 0
+
+abbrev pub usage : Plan → (ℕ → ℕ) → List ℕ → ℕ → ℕ
+usage p size front s = total (goods p) (part p size front s)
+
+-- no place holds more than its bound
+abbrev pub IsWithin : Plan → (ℕ → ℕ) → List ℕ → Type 0
+IsWithin p size front = (s : ℕ) → s < places p → usage p size front s ≤ place_bound p s

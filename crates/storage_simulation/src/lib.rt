@@ -1,0 +1,23 @@
+//! What a plan's sites hold after a front of an order, and whether an order fits.
+//!
+//! To the layer above this is usage and fit as `specs/Usage.antt`, `Following.antt` and `Fitting.antt` define them, over
+//! the goods and places of `specs/Goods.antt`: a good is a pair or a delivery, a place is a site or the output. The
+//! plan is asked by number, in the words of `plan_core`.
+#![tactic(auto)]
+
+mod change;
+mod fitting;
+mod following;
+mod goods;
+mod law;
+mod standing;
+mod usage;
+
+pub use fitting::{Exceeds, fits};
+pub use following::follows;
+pub use law::{
+    pairs_are_few, plain_policy_counts_pairs, proper_plans_keep_goods, sums_are_small,
+    usage_is_a_sum,
+};
+pub use standing::{Held, Phase, Standing};
+pub use usage::usage_after;
