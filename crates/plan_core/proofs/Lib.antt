@@ -1,0 +1,16 @@
+mod TestLemmas
+mod NumbersLemmas
+mod RisingLemmas
+mod GroundedLemmas
+mod SettlingLemmas
+mod PairLemmas
+mod CarriedLemmas
+mod LawLemmas
+mod SortingLemmas
+mod FilesLemmas
+mod ListingLemmas
+mod TablesLemmas
+mod OwnLemmas
+mod ListingGraphLemmas
+mod FlowLemmas
+mod CheckingLemmas

@@ -1,0 +1,7 @@
+use Rattle.std.proofs.Common.{◌≡◌, ◌<◌, ℕ, length}
+use Rattle.digraph.specs.Adjacency.{lists_of, neighbours}
+use Rattle.plan_core.specs.Listing.{listed}
+use Rattle.plan_core.proofs.listing.lists.Given as goal
+
+abbrev pub invariant-loop-t : goal.invariant-loop-t
+invariant-loop-t l = (length l.all.items ≡ l.t) × ((k : ℕ) → k < l.t → neighbours (lists_of l.all.items) k ≡ listed l.plan l.listing k)

@@ -1,0 +1,7 @@
+use Rattle.std.proofs.Common.{◌≡◌, ◌<◌, ℕ}
+use Rattle.std.specs.Prelude.{slice_get}
+use Rattle.plan_core.specs.Proper.{IsTask}
+use Rattle.plan_core.proofs.own.are_tasks.Given as goal
+
+abbrev pub invariant-loop-task : goal.invariant-loop-task
+invariant-loop-task l = (t : ℕ) → t < l.task-index → IsTask l.plan (slice_get l.plan.tasks t)

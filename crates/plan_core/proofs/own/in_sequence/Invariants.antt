@@ -1,0 +1,6 @@
+use Rattle.std.proofs.Common.{◌≡◌, [], drop}
+use Rattle.plan_core.specs.Checking.{in_sequence}
+use Rattle.plan_core.proofs.own.in_sequence.Given as goal
+
+abbrev pub invariant-loop-job : goal.invariant-loop-job
+invariant-loop-job l = in_sequence l.jobs l.known.keys (drop l.job-index l.some) ≡ in_sequence l.jobs [] l.some
