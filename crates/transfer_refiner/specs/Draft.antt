@@ -73,8 +73,12 @@ home d f = home_among d d.parts f
 abbrev pub name_of : Draft → ℕ → List ℕ
 name_of d f = slice_index_or d.workflow.files f []
 
-unfoldable pub entry_of : Draft → ℕ → Option Replica
-entry_of d f = find (is_of (name_of d f)) d.replicas
+abbrev pub entry_in : List Replica → Option (List ℕ) → Option Replica
+entry_in rs None = None
+entry_in rs (Some n) = find (is_of n) rs
+
+abbrev pub entry_of : Draft → ℕ → Option Replica
+entry_of d f = entry_in d.replicas (slice_get d.workflow.files f)
 
 abbrev pub pfns_in : Option Replica → List Pfn
 pfns_in None = []
@@ -99,7 +103,7 @@ name_in (Some e) = e.site
 abbrev pub chosen : Draft → ℕ → ℕ → List ℕ
 chosen d f s = first_on (name_in (slice_get d.request.execute s)) (pfns_of d f) (first_of (pfns_of d f))
 
-unfoldable pub sizes_of : Draft → List (Option ℕ)
+abbrev pub sizes_of : Draft → List (Option ℕ)
 sizes_of d = declared_sizes d.request d.workflow.files d.workflow.sizes
 
 abbrev pub declared_of : Draft → ℕ → Option ℕ

@@ -21,10 +21,10 @@ writer_edges ts zero = []
 writer_edges ts (suc n) = writer_edges ts n ++ fan n (writes_in (slice_get ts n))
 
 -- the same kind, reads and writes
-pub record IsSame (old new : Task) : Type 0 where
-  pub kind : new.kind ≡ old.kind
-  pub reads : new.reads ≡ old.reads
-  pub writes : new.writes ≡ old.writes
+pub record IsSame (old : Option Task) (new : Task) : Type 0 where
+  pub kind : Some new.kind ≡ kind_in old
+  pub reads : pair_numbers new.reads ≡ reads_in old
+  pub writes : pair_numbers new.writes ≡ writes_in old
 
 -- the first n tasks again, with their parents, where `after t u` tells that t comes after u besides
 pub record AreParented (after : ℕ → ℕ → Bool) (old new : List Task) (n : ℕ) : Type 0 where

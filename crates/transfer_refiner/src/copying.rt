@@ -8,6 +8,7 @@ ghost use Rattle.transfer_refiner.specs.Tables.{AreTables};
 ghost use Rattle.transfer_refiner.specs.Tasks.{count_files, files_of, is_registered, jobs_of, planned_file, planned_job, planned_site};
 ghost use Rattle.transfer_refiner.specs.View.{draft_of};
 
+use crate::copies::copied;
 use crate::marked::registered_files;
 use crate::rising::is_among;
 use crate::tables::{Tables, declared_of, entry_of, name_of};
@@ -53,12 +54,6 @@ fn texts_copied(alloc: Global, texts: &[Text]) -> Result<Items<Text>, Memory>
     Ok(Items::new(copies))
 }
 
-fn files_copied(alloc: Global, files: &[FileId]) -> Result<Items<FileId>, Memory>
-    ensures { IfOk result (λ copy. copy ≡ files.now) }
-{
-    Ok(Items::new(files.iter().copied().collect(alloc)?))
-}
-
 fn made_files(alloc: Global, outputs: &[Output]) -> Result<Items<FileId>, Memory>
     ensures { IfOk result (λ files. files ≡ map (λ (o : Output). o.file) outputs.now) }
 {
@@ -80,7 +75,7 @@ fn planned_job(
     let id = job.id.copied(alloc)?;
     let tool = tools.tool_of(&job.transformation.name).copied(alloc)?;
     let arguments = texts_copied(alloc, job.arguments.as_slice())?;
-    let inputs = files_copied(alloc, job.inputs.as_slice())?;
+    let inputs = copied(alloc, job.inputs.as_slice())?;
     let outputs = made_files(alloc, job.outputs.as_slice())?;
     Ok(PlanJob {
         id,
@@ -92,6 +87,7 @@ fn planned_job(
     })
 }
 
+#[tactic(auto, using(crate::proofs::CopyingLemmas::jobs_none, crate::proofs::CopyingLemmas::jobs_all))]
 fn planned_jobs(
     alloc: Global,
     tools: &Tools<'_>,

@@ -1,8 +1,9 @@
 //! Which part holds each job, at which sites each file stands, and which parts follow each other.
 
-ghost use Rattle.std.specs.Prelude.{◌≡◌, ◌<◌, ◌^◌, ◌++◌, ℕ, List, length, map, IfOk, OnOk};
-ghost use Rattle.std.specs.List.{flat_map};
+ghost use Rattle.std.specs.Prelude.{◌≡◌, ◌<◌, ◌^◌, ◌++◌, ◌&&◌, ◌||◌, ◌==◌, not, ℕ, length, map, IfOk, OnOk};
+ghost use Rattle.std.specs.List.{list_any};
 ghost use Rattle.workflow_core.specs.declared.workflow.Output.{Output};
+ghost use Rattle.workflow_core.specs.WellFormed.{before, after};
 ghost use Rattle.digraph.specs.Digraph.{count, edge};
 ghost use Rattle.plan_core.specs.Numbers.{has};
 ghost use Rattle.plan_core.specs.Words.{file_numbers, job_numbers};
@@ -13,7 +14,7 @@ ghost use Rattle.transfer_refiner.specs.Tasks.{part_of, comes_after};
 ghost use Rattle.transfer_refiner.specs.View.{draft_of};
 
 use crate::jobs::{inputs, outputs, part, site_of};
-use crate::rows::before;
+use crate::rows::{before, larger};
 use crate::view::View;
 use digraph::Digraph;
 use outside::{FileId, JobId, Memory};
@@ -69,6 +70,7 @@ fn push_part(edges: &mut Vec<(u32, u32)>, view: &View<'_>, jobs: &[JobId]) -> Re
     Ok(())
 }
 
+#[tactic(auto, using(crate::proofs::EdgesLemmas::held_none, crate::proofs::EdgesLemmas::held_more))]
 fn held_edges(alloc: Global, view: &View<'_>) -> Result<Vec<(u32, u32)>, Memory>
     requires few { length view.now.parts.now < 2 ^ 32 }
     ensures { IfOk result (λ v. v.items ≡ held_edges (draft_of view.now) (length view.now.parts.now)) }
@@ -106,12 +108,9 @@ pub fn stood(alloc: Global, view: &View<'_>) -> Result<Digraph, Memory>
     ensures { IfOk result (λ g. (s f : ℕ) → edge g s f ≡ stands (draft_of view.now) s f) }
 {
     let edges = stood_edges(alloc, view)?;
-    let nodes = view
-        .workflow
-        .files
-        .as_slice()
-        .len()
-        .max(view.request.execute.as_slice().len());
+    let files = view.workflow.files.as_slice().len();
+    let sites = view.request.execute.as_slice().len();
+    let nodes = larger(files, sites);
     let graph = Digraph::from_edges(alloc, nodes, &edges)?;
     Ok(graph)
 }
@@ -136,13 +135,30 @@ fn push_all_apart(edges: &mut Vec<(u32, u32)>, from: &[u32], to: &[u32]) -> Resu
     Ok(())
 }
 
+/// Adds the edges of one stated pair.
+fn push_stated(
+    edges: &mut Vec<(u32, u32)>,
+    view: &View<'_>,
+    held: &Digraph,
+    pair: &(JobId, JobId),
+) -> Result<(), Memory>
+    requires held { (c j : ℕ) → edge held.now c j ≡ has (part_of (draft_of view.now) c) j }
+    ensures { OnOk result ((u t : ℕ) → list_any (λ (p : ℕ × ℕ). p.0 == u && p.1 == t) edges.new.items ≡ (list_any (λ (p : ℕ × ℕ). p.0 == u && p.1 == t) edges.old.items
+        || (not (t == u) && (has (part_of (draft_of view.now) u) (before pair.now) && has (part_of (draft_of view.now) t) (after pair.now))))) }
+{
+    let firsts = before(held, pair.0.0);
+    let seconds = before(held, pair.1.0);
+    push_all_apart(edges, firsts, seconds)?;
+    Ok(())
+}
+
 fn stated_edges(alloc: Global, view: &View<'_>, held: &Digraph) -> Result<Vec<(u32, u32)>, Memory>
     requires held { (c j : ℕ) → edge held.now c j ≡ has (part_of (draft_of view.now) c) j }
     ensures { IfOk result (λ v. (u t : ℕ) → list_any (λ (p : ℕ × ℕ). p.0 == u && p.1 == t) v.items ≡ comes_after (draft_of view.now) t u) }
 {
     let mut edges = Vec::new(alloc);
     for pair in view.workflow.pairs.as_slice() {
-        push_all_apart(&mut edges, before(held, pair.0.0), before(held, pair.1.0))?;
+        push_stated(&mut edges, view, held, pair)?;
     }
     Ok(edges)
 }

@@ -1,6 +1,6 @@
 //! What jobs read and make, and the site of a part.
 
-ghost use Rattle.std.specs.Prelude.{◌≡◌, map, slice_index_or};
+ghost use Rattle.std.specs.Prelude.{◌≡◌, [], map, slice_index_or};
 ghost use Rattle.workflow_core.specs.declared.workflow.Output.{Output};
 ghost use Rattle.dependency_graph.specs.Edges.{read_by, written_by};
 ghost use Rattle.plan_core.specs.Words.{file_numbers, job_numbers};

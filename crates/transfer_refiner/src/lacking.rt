@@ -1,14 +1,15 @@
 //! The first fault of a draft.
 
-ghost use Rattle.std.specs.Prelude.{◌≡◌, ◌≤◌, ◌<◌, ◌^◌, length, IfOk, Some, None, option_map};
+ghost use Rattle.std.specs.Prelude.{◌≡◌, ◌<◌, ◌&&◌, ◌||◌, not, length, IfOk, option_map};
 ghost use Rattle.outside.specs.declared.numbers.FileId.{FileId};
 ghost use Rattle.dependency_graph.specs.Graph.{IsGraphOf};
+ghost use Rattle.workflow_core.specs.Requested.{is_requested};
 ghost use Rattle.plan_core.specs.Numbers.{least};
 ghost use Rattle.transfer_refiner.specs.declared.fault.RefineFault.TheVariants.{NoReplica, NoSize, TooMany};
 ghost use Rattle.transfer_refiner.specs.Conditions.{IsDraft};
 ghost use Rattle.transfer_refiner.specs.Draft.{is_empty, name_of};
 ghost use Rattle.transfer_refiner.specs.Tables.{AreTables};
-ghost use Rattle.transfer_refiner.specs.Tasks.{count_files, kinds_of, lacks_replica, lacks_size, too_many, first_fault};
+ghost use Rattle.transfer_refiner.specs.Tasks.{count_files, is_made, kinds_of, used, lacks_replica, lacks_size, too_many, first_fault};
 ghost use Rattle.transfer_refiner.specs.View.{draft_of};
 
 use crate::fault::RefineFault;
@@ -20,6 +21,48 @@ use crate::view::View;
 use outside::{FileId, Memory};
 use std::alloc::Global;
 
+fn is_empty<T>(list: &[T]) -> bool
+    ensures { result ≡ is_empty list.now }
+{
+    match list {
+        [] => true,
+        [_, ..] => false,
+    }
+}
+
+/// Whether a kept job reads or makes the file.
+fn is_there(view: &View<'_>, tables: &Tables, file: FileId) -> bool
+    requires draft { IsDraft (draft_of view.now) }
+    requires tables { AreTables (draft_of view.now) tables.now }
+    ensures { result ≡ (used (draft_of view.now) file.0 || is_made (draft_of view.now) file.0) }
+{
+    let sites = before(&tables.stood, file.0);
+    let none = is_empty(sites);
+    !none
+}
+
+/// Whether the file is to be delivered.
+fn is_asked(view: &View<'_>, tables: &Tables, file: FileId) -> bool
+    requires tables { AreTables (draft_of view.now) tables.now }
+    requires in_range { file.0 < length view.now.workflow.now.files }
+    ensures { result ≡ is_requested view.now.workflow.now file.0 }
+{
+    let asked = is_among(&tables.requested, file.0);
+    asked
+}
+
+fn lacks_pfn(there: bool, made: bool, without: bool) -> bool
+    ensures { result ≡ (there && (not made && without)) }
+{
+    there && !made && without
+}
+
+fn lacks_known(there: bool, asked: bool, known: bool) -> bool
+    ensures { result ≡ ((there || asked) && not known) }
+{
+    (there || asked) && !known
+}
+
 /// Whether a kept job reads the file, no kept job makes it, and it has no pfn.
 fn lacks_replica(view: &View<'_>, tables: &Tables, file: FileId) -> bool
     requires draft { IsDraft (draft_of view.now) }
@@ -28,10 +71,10 @@ fn lacks_replica(view: &View<'_>, tables: &Tables, file: FileId) -> bool
     requires in_range { file.0 < length view.now.workflow.now.files }
     ensures { result ≡ lacks_replica (draft_of view.now) file.0 }
 {
-    let stands = !before(&tables.stood, file.0).is_empty();
-    let made = home(view, tables, file).is_some();
-    let without = pfns_of(view, file).is_empty();
-    stands && !made && without
+    let there = is_there(view, tables, file);
+    let home = home(view, tables, file);
+    let without = is_empty(pfns_of(view, file));
+    lacks_pfn(there, home.is_some(), without)
 }
 
 /// Whether a task moves or writes the file, and it has no declared size.
@@ -41,10 +84,10 @@ fn lacks_size(view: &View<'_>, tables: &Tables, file: FileId) -> bool
     requires in_range { file.0 < length view.now.workflow.now.files }
     ensures { result ≡ lacks_size (draft_of view.now) file.0 }
 {
-    let stands = !before(&tables.stood, file.0).is_empty();
-    let asked = is_among(&tables.requested, file.0);
-    let known = declared_of(tables, file).is_some();
-    (stands || asked) && !known
+    let there = is_there(view, tables, file);
+    let asked = is_asked(view, tables, file);
+    let size = declared_of(tables, file);
+    lacks_known(there, asked, size.is_some())
 }
 
 /// The first file that lacks a pfn.

@@ -1,6 +1,7 @@
 //! The plan of a workflow whose jobs are clustered and placed: its tasks and their parents.
 #![tactic(auto)]
 
+mod copies;
 mod copying;
 mod edges;
 mod fault;

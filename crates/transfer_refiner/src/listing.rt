@@ -12,12 +12,13 @@ ghost use Rattle.transfer_refiner.specs.Tables.{AreTables};
 ghost use Rattle.transfer_refiner.specs.Tasks.{count_files, count_sites, delivery, grid, kinds_of, pair_of, pairs_of, run, transfer};
 ghost use Rattle.transfer_refiner.specs.View.{draft_of};
 
+use crate::copies::copied;
 use crate::jobs::site_of;
 use crate::rows::{after, before};
 use crate::sources::{delivery, transfer};
 use crate::tables::{Tables, home};
 use crate::view::View;
-use outside::{FileId, Items, JobId, Memory, SiteId};
+use outside::{FileId, Items, Memory, SiteId};
 use plan_core::{Pair, TaskKind};
 use std::alloc::Global;
 
@@ -95,7 +96,9 @@ fn push_moves(
     ensures { OnOk result (moved.new.items ≡ moved.old.items ++ map (λ (s : ℕ). (file, s)) (below (count_sites (draft_of view.now)) (moves (draft_of view.now) file))) }
 {
     let home = home(view, tables, FileId(file));
-    push_moved(moved, file, home, before(&tables.stood, file))
+    let sites = before(&tables.stood, file);
+    push_moved(moved, file, home, sites)?;
+    Ok(())
 }
 
 /// Each file and site to which it has to come.
@@ -111,12 +114,6 @@ pub fn moved(alloc: Global, view: &View<'_>, tables: &Tables) -> Result<Vec<(u32
         push_moves(&mut moved, view, tables, file as u32)?;
     }
     Ok(moved)
-}
-
-fn copied(alloc: Global, jobs: &[JobId]) -> Result<Items<JobId>, Memory>
-    ensures { IfOk result (λ copy. copy ≡ jobs.now) }
-{
-    Ok(Items::new(jobs.iter().copied().collect(alloc)?))
 }
 
 fn push_runs(alloc: Global, kinds: &mut Vec<TaskKind>, view: &View<'_>) -> Result<(), Memory>

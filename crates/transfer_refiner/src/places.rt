@@ -6,7 +6,7 @@ ghost use Rattle.plan_core.specs.Kinds.{on_pair};
 ghost use Rattle.plan_core.specs.Numbers.{below};
 ghost use Rattle.plan_core.specs.Words.{pair_numbers};
 ghost use Rattle.transfer_refiner.specs.Files.{AreFilesOf};
-ghost use Rattle.transfer_refiner.specs.Places.{is_place, is_pair_of, places_at, AreOnce};
+ghost use Rattle.transfer_refiner.specs.Places.{is_place, is_pair_of, place_of, places_at, AreOnce};
 
 use crate::rising::sorted;
 use crate::site_files::SiteFiles;
@@ -20,7 +20,7 @@ use std::marker::Model;
 #[derive(Drop)]
 pub struct Places<'a> {
     pairs: &'a [Pair],
-    numbers: IndexMap<(u32, u32), usize>,
+    numbers: IndexMap<(u32, u32), u32>,
     ghost exact: { (s f : ℕ) → get_by (is_place s f) numbers ≡ position (is_pair_of s f) pairs.now },
 }
 
@@ -33,15 +33,22 @@ impl<'a> Model for Places<'a> {
     ghost view = { λ p. p.pairs.now };
 }
 
+fn key_of(pair: &Pair) -> (u32, u32)
+    ensures { result ≡ (pair.now.site.0, pair.now.file.0) }
+{
+    (pair.site.0, pair.file.0)
+}
+
 /// The first number of each pair.
-fn numbers_of(alloc: Global, pairs: &[Pair]) -> Result<IndexMap<(u32, u32), usize>, Memory>
+fn numbers_of(alloc: Global, pairs: &[Pair]) -> Result<IndexMap<(u32, u32), u32>, Memory>
+    requires few { length pairs.now < 2 ^ 32 }
     ensures { IfOk result (λ numbers. (s f : ℕ) → get_by (is_place s f) numbers ≡ position (is_pair_of s f) pairs.now) }
 {
     let mut numbers = IndexMap::new(alloc);
-    for (number, pair) in pairs.iter().enumerate() {
-        let key = (pair.site.0, pair.file.0);
+    for (place, pair) in pairs.iter().enumerate() {
+        let key = key_of(pair);
         if !numbers.contains_key(&key) {
-            numbers.insert(key, number)?;
+            numbers.insert(key, place as u32)?;
         }
     }
     Ok(numbers)
@@ -49,6 +56,7 @@ fn numbers_of(alloc: Global, pairs: &[Pair]) -> Result<IndexMap<(u32, u32), usiz
 
 impl<'a> Places<'a> {
     pub fn new(alloc: Global, pairs: &'a [Pair]) -> Result<Places<'a>, Memory>
+        requires few { length pairs.now < 2 ^ 32 }
         ensures { IfOk result (λ p. p ≡ pairs.now) }
     {
         let numbers = numbers_of(alloc, pairs)?;
@@ -56,7 +64,7 @@ impl<'a> Places<'a> {
     }
 
     /// The number of a file at a site.
-    pub fn number(&self, site: u32, file: u32) -> Option<usize>
+    pub fn number(&self, site: u32, file: u32) -> Option<u32>
         ensures { result ≡ position (is_pair_of site file) self.now }
     {
         match self.numbers.get(&(site, file)) {
@@ -66,13 +74,25 @@ impl<'a> Places<'a> {
     }
 }
 
-fn push_number(list: &mut Vec<u32>, number: Option<usize>) -> Result<(), Memory>
+fn push_number(list: &mut Vec<u32>, number: Option<u32>) -> Result<(), Memory>
     ensures { OnOk result (list.new.items ≡ list.old.items ++ option_to_list number) }
 {
     if let Some(found) = number {
-        list.push(found as u32)?;
+        list.push(found)?;
     }
     Ok(())
+}
+
+fn push_place(
+    list: &mut Vec<u32>,
+    places: &Places<'_>,
+    site: u32,
+    file: u32,
+) -> Result<(), Memory>
+    ensures { OnOk result (list.new.items ≡ list.old.items ++ place_of places.now site file) }
+{
+    let number = places.number(site, file);
+    push_number(list, number)
 }
 
 fn places_at(
@@ -81,12 +101,11 @@ fn places_at(
     site: u32,
     files: &[u32],
 ) -> Result<Vec<u32>, Memory>
-    requires few { length places.now < 2 ^ 32 }
     ensures { IfOk result (λ v. v.items ≡ places_at places.now site files.now) }
 {
     let mut list = Vec::new(alloc);
-    for file in files {
-        push_number(&mut list, places.number(site, *file))?;
+    for i in 0..files.len() {
+        push_place(&mut list, places, site, files[i])?;
     }
     Ok(list)
 }
@@ -107,7 +126,6 @@ pub fn pairs_at(
     places: &Places<'_>,
     found: &SiteFiles,
 ) -> Result<Items<PairId>, Memory>
-    requires few { length places.now < 2 ^ 32 }
     requires once { AreOnce places.now }
     ensures { IfOk result (λ ids. (test : ℕ → ℕ → Bool) → AreFilesOf test found.now → pair_numbers ids ≡ below (length places.now) (λ q. on_pair test (slice_get places.now q))) }
 {

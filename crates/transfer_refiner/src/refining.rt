@@ -6,7 +6,8 @@ ghost use Rattle.transfer_refiner.specs.Conditions.{IsDraft};
 ghost use Rattle.transfer_refiner.specs.Refined.{IsRefined, Refines};
 ghost use Rattle.transfer_refiner.specs.Steps.{AreTasks};
 ghost use Rattle.transfer_refiner.specs.Tables.{AreTables};
-ghost use Rattle.transfer_refiner.specs.Tasks.{kinds_of, pairs_of};
+ghost use Rattle.transfer_refiner.specs.Draft.{moves};
+ghost use Rattle.transfer_refiner.specs.Tasks.{count_files, count_sites, grid, kinds_of, pairs_of};
 ghost use Rattle.transfer_refiner.specs.View.{draft_of};
 
 use crate::copying::{files_of, jobs_of, policy_copied, sites_of};
@@ -34,20 +35,20 @@ fn all_tasks(
     tables: &Tables,
     jobs: &[PlanJob],
     pairs: &[Pair],
-    kinds: Vec<TaskKind>,
+    kinds: &[TaskKind],
 ) -> Result<Items<Task>, Memory>
     requires draft { IsDraft (draft_of view.now) }
     requires tables { AreTables (draft_of view.now) tables.now }
     requires pairs { pairs.now ≡ pairs_of (draft_of view.now) }
-    requires kinds { kinds.items ≡ kinds_of (draft_of view.now) }
-    requires few { length kinds.items < 2 ^ 32 }
+    requires kinds { kinds.now ≡ kinds_of (draft_of view.now) }
+    requires few { length kinds.now < 2 ^ 32 }
     ensures { IfOk result (λ ts. AreTasks (draft_of view.now) jobs.now ts) }
 {
     let places = Places::new(alloc, pairs)?;
     let bare = tasks_of(alloc, jobs, &places, kinds)?;
     let writers = writers(alloc, &bare, pairs.len())?;
     let stated = stated(alloc, view, &tables.held)?;
-    let tasks = with_parents(alloc, &writers, &stated, bare)?;
+    let tasks = with_parents(alloc, &writers, &stated, &bare)?;
     Ok(tasks)
 }
 
@@ -55,12 +56,12 @@ fn plan_of(
     alloc: Global,
     view: &View<'_>,
     tables: &Tables,
-    kinds: Vec<TaskKind>,
+    kinds: &[TaskKind],
 ) -> Result<Plan, Memory>
     requires draft { IsDraft (draft_of view.now) }
     requires tables { AreTables (draft_of view.now) tables.now }
-    requires kinds { kinds.items ≡ kinds_of (draft_of view.now) }
-    requires few { length kinds.items < 2 ^ 32 }
+    requires kinds { kinds.now ≡ kinds_of (draft_of view.now) }
+    requires few { length kinds.now < 2 ^ 32 }
     ensures { IfOk result (λ p. IsRefined (draft_of view.now) p) }
 {
     let workflow = view.workflow.name.copied(alloc)?;
@@ -90,6 +91,24 @@ fn count_tasks(view: &View<'_>, moved: &[(u32, u32)], requested: &[u32]) -> u64
     view.parts.len() as u64 + (moved.len() as u64 + requested.len() as u64)
 }
 
+fn planned(
+    alloc: Global,
+    view: &View<'_>,
+    tables: &Tables,
+    moved: &[(u32, u32)],
+) -> Result<Plan, Memory>
+    requires draft { IsDraft (draft_of view.now) }
+    requires graph { IsGraphOf view.now.workflow.now view.now.graph.now }
+    requires tables { AreTables (draft_of view.now) tables.now }
+    requires moved { moved.now ≡ grid (count_files (draft_of view.now)) (count_sites (draft_of view.now)) (moves (draft_of view.now)) }
+    requires few { length (kinds_of (draft_of view.now)) < 2 ^ 32 }
+    ensures { IfOk result (λ p. IsRefined (draft_of view.now) p) }
+{
+    let kinds = kinds_of(alloc, view, tables, moved)?;
+    let plan = plan_of(alloc, view, tables, &kinds)?;
+    Ok(plan)
+}
+
 fn refined(alloc: Global, view: &View<'_>, limit: u64) -> Result<Plan, RefineFault>
     requires draft { IsDraft (draft_of view.now) }
     requires graph { IsGraphOf view.now.workflow.now view.now.graph.now }
@@ -99,11 +118,10 @@ fn refined(alloc: Global, view: &View<'_>, limit: u64) -> Result<Plan, RefineFau
     let tables = tables_of(alloc, view)?;
     let moved = moved(alloc, view, &tables)?;
     let count = count_tasks(view, &moved, &tables.requested);
-    if let Some(fault) = first_fault(alloc, view, &tables, count, limit)? {
-        return Err(fault);
+    match first_fault(alloc, view, &tables, count, limit)? {
+        Some(fault) => Err(fault),
+        None => Ok(planned(alloc, view, &tables, &moved)?),
     }
-    let kinds = kinds_of(alloc, view, &tables, &moved)?;
-    Ok(plan_of(alloc, view, &tables, kinds)?)
 }
 
 /// The plan, without Cleans, or its first fault. `limit` is that on tasks.

@@ -6,6 +6,7 @@ ghost use Rattle.outside.specs.declared.numbers.SiteId.{SiteId};
 ghost use Rattle.dependency_graph.specs.Graph.{IsGraphOf};
 ghost use Rattle.transfer_refiner.specs.Conditions.{IsDraft};
 ghost use Rattle.transfer_refiner.specs.Draft.{declared_of, entry_of, home, name_of};
+ghost use Rattle.transfer_refiner.specs.Listing.{first_site_of};
 ghost use Rattle.transfer_refiner.specs.Tables.{AreTables};
 ghost use Rattle.transfer_refiner.specs.View.{draft_of};
 
@@ -49,7 +50,9 @@ pub fn tables_of(alloc: Global, view: &View<'_>) -> Result<Tables, Memory>
     })
 }
 
-fn first_site(view: &View<'_>, parts: &[u32]) -> Option<SiteId> {
+fn first_site(view: &View<'_>, parts: &[u32]) -> Option<SiteId>
+    ensures { option_map (λ (s : SiteId). s.0) result ≡ first_site_of (draft_of view.now) parts.now }
+{
     match parts {
         [] => None,
         [first, ..] => Some(site_of(view, part(view, *first))),
@@ -71,7 +74,6 @@ pub fn home(view: &View<'_>, tables: &Tables, file: FileId) -> Option<SiteId>
 }
 
 /// The entry of a file in the replica catalogue.
-#[tactic(auto, unfolding(crate::specs::Draft::entry_of))]
 pub fn entry_of<'b>(view: &'b View<'_>, file: FileId) -> Option<&'b Replica>
     ensures { option_copied result ≡ entry_of (draft_of view.now) file.0 }
 {

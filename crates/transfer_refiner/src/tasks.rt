@@ -5,6 +5,7 @@ ghost use Rattle.plan_core.specs.declared.plan.Task.{Task as DeclaredTask};
 ghost use Rattle.transfer_refiner.specs.Places.{AreOnce};
 ghost use Rattle.transfer_refiner.specs.Steps.{IsListed};
 
+use crate::copies::kind_copied;
 use crate::places::{Places, pairs_at};
 use crate::site_files::{files_read, files_written};
 use outside::{Items, Memory};
@@ -16,17 +17,17 @@ fn task_of(
     alloc: Global,
     jobs: &[PlanJob],
     places: &Places<'_>,
-    kind: TaskKind,
+    kind: &TaskKind,
 ) -> Result<Task, Memory>
-    requires few { length places.now < 2 ^ 32 }
     requires once { AreOnce places.now }
-    ensures kind { IfOk result (λ t. t.kind ≡ kind) }
+    ensures kind { IfOk result (λ t. t.kind ≡ kind.now) }
     ensures listed { IfOk result (λ t. IsListed jobs.now places.now t) }
 {
-    let files = files_read(alloc, jobs, &kind)?;
-    let reads = pairs_at(alloc, places, &files)?;
-    let files = files_written(alloc, jobs, &kind)?;
-    let writes = pairs_at(alloc, places, &files)?;
+    let files_in = files_read(alloc, jobs, kind)?;
+    let reads = pairs_at(alloc, places, &files_in)?;
+    let files_out = files_written(alloc, jobs, kind)?;
+    let writes = pairs_at(alloc, places, &files_out)?;
+    let kind = kind_copied(alloc, kind)?;
     let parents = Items::new(Vec::new(alloc));
     Ok(Task {
         kind,
@@ -41,15 +42,14 @@ pub fn tasks_of(
     alloc: Global,
     jobs: &[PlanJob],
     places: &Places<'_>,
-    kinds: Vec<TaskKind>,
+    given: &[TaskKind],
 ) -> Result<Vec<Task>, Memory>
-    requires few { length places.now < 2 ^ 32 }
     requires once { AreOnce places.now }
-    ensures kinds { IfOk result (λ tasks. map (λ (t : DeclaredTask). t.kind) tasks.items ≡ kinds.items) }
+    ensures kinds { IfOk result (λ tasks. map (λ (t : DeclaredTask). t.kind) tasks.items ≡ given.now) }
     ensures listed { IfOk result (λ tasks. All (IsListed jobs.now places.now) tasks.items) }
 {
     let mut tasks = Vec::new(alloc);
-    for kind in kinds {
+    for kind in given {
         tasks.push(task_of(alloc, jobs, places, kind)?)?;
     }
     Ok(tasks)
