@@ -159,8 +159,7 @@ listed_are pairs test found list sorted once are is rises same = rising_is_below
         ∙ on (slice_get pairs q)
 
 -- one element more
-pub flat_more : {A B : Type 0} (g : A → List B) (xs : List A) (i : ℕ) (x : A) (old new total : List B) → i < length xs → x ≡ get_or xs i x → new ≡ old ++ g x → old ++ flat_map g (drop i xs) ≡ total → new ++ flat_map g (drop (i + 1) xs) ≡ total
-flat_more g xs i x old new total low at now so_far =
-    ap (λ ys. ys ++ flat_map g (drop (i + 1) xs)) now ∙ append_assoc old (g x) (flat_map g (drop (i + 1) xs))
-    ∙ ap (λ y. old ++ (g y ++ flat_map g (drop (i + 1) xs))) at
-    ∙ ap (λ ys. old ++ ys) (sym (at_drop_more (flat_map g) xs i x low)) ∙ so_far
+pub flat_more : {A B : Type 0} (g : A → List B) (xs : List A) (i : ℕ) (d : A) (old new total : List B) → i < length xs → new ≡ old ++ g (get_or xs i d) → old ++ flat_map g (drop i xs) ≡ total → new ++ flat_map g (drop (i + 1) xs) ≡ total
+flat_more g xs i d old new total low now so_far =
+    ap (λ ys. ys ++ flat_map g (drop (i + 1) xs)) now ∙ append_assoc old (g (get_or xs i d)) (flat_map g (drop (i + 1) xs))
+    ∙ ap (λ ys. old ++ ys) (sym (at_drop_more (flat_map g) xs i d low)) ∙ so_far

@@ -1,4 +1,5 @@
 use Rattle.std.proofs.Common.{◌≡◌, ◌∙◌, ◌&&◌, ◌||◌, ◌+◌, not, ap, sym, drop, nat_eq, ℕ, List, Bool}
+use Rattle.std.specs.Prelude.{slice_index_or}
 use Rattle.std.specs.List.{list_any}
 use Rattle.std.proofs.lemmas.List.{at_drop_more}
 use Rattle.outside.specs.declared.numbers.JobId.{JobId}
@@ -19,11 +20,11 @@ loop-pair-preserved c = λ u t.
     let d = draft_of c.args.view.now in
     let xs = c.as_slice-pair-items.result.now in
     let i = c.loop-pair.pair-index in
-    let p = c.pair-item.result in
+    let none : JobId × JobId = (record { 0 = 0 }, record { 0 = 0 }) in
+    let p = slice_index_or xs i none in
     let old = c.loop-pair.edges.items in
     let rest : Bool = list_any (λ (pair : JobId × JobId). has (part_of d u) (before pair) && has (part_of d t) (after pair)) (drop (i + 1) xs) in
     ap (λ (b : Bool). b || (not (nat_eq t u) && rest)) (c.in_ok-push_stated.ensures u t)
     ∙ stated_more (list_any (is_edge u t) old) (not (nat_eq t u)) (has (part_of d u) (before p) && has (part_of d t) (after p)) rest
-    ∙ ap (λ (z : JobId × JobId). list_any (is_edge u t) old || (not (nat_eq t u) && ((has (part_of d u) (before z) && has (part_of d t) (after z)) || rest))) c.pair-item.is
-    ∙ sym (at_drop_more (λ (ps : List (JobId × JobId)). list_any (is_edge u t) old || (not (nat_eq t u) && list_any (λ (pair : JobId × JobId). has (part_of d u) (before pair) && has (part_of d t) (after pair)) ps)) xs i p c.loop-pair-test.true)
+    ∙ sym (at_drop_more (λ (ps : List (JobId × JobId)). list_any (is_edge u t) old || (not (nat_eq t u) && list_any (λ (pair : JobId × JobId). has (part_of d u) (before pair) && has (part_of d t) (after pair)) ps)) xs i none c.loop-pair-test.true)
     ∙ c.loop-pair.invariant u t

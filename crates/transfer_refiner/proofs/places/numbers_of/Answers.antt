@@ -1,5 +1,5 @@
 use Rattle.std.proofs.Common.{◌≡◌, ℕ, ◌+◌, List, [], ◌∷◌, ◌++◌, drop, ap, sym, ◌∙◌, arith}
-use Rattle.std.specs.Prelude.{is_some, position}
+use Rattle.std.specs.Prelude.{is_some, position, slice_index_or}
 use Rattle.std.specs.Map.{lookup}
 use Rattle.std.proofs.lemmas.List.{drop_more}
 use Rattle.indexmap.proofs.CallerLemmas.{insert_entry-new}
@@ -15,11 +15,12 @@ loop-place-init c = λ s f. ap (λ (known : Known). place_in known 0 c.args.pair
 pub loop-place-preserved : goal.loop-place-preserved
 loop-place-preserved c =
     let items = c.args.pairs.now in
-    let e = c.index-pairs-place.result in
     let i = c.loop-place.place in
+    let none : Pair = record { site = record { 0 = 0 }; file = record { 0 = 0 } } in
+    let e = slice_index_or items i none in
     let known : Known = c.loop-place.numbers.entries in
     let later = drop (i + 1) items in
-    let cut : drop i items ≡ e ∷ later = drop_more items i e (omega arith) ∙ ap (λ (v : Pair). v ∷ later) (sym c.index-pairs-place.is) in
+    let cut : drop i items ≡ e ∷ later = drop_more items i none (omega arith) in
     let so_far : (s f : ℕ) → place_in known i (e ∷ later) s f ≡ position (is_pair_of s f) items = λ s f. sym (ap (λ (es : List Pair). place_in known i es s f) cut) ∙ c.loop-place.invariant s f in
     elim c.if-not-contains_key.branch [
       | then-not-contains_key+in_ok-insert w ↦
