@@ -1,1 +1,0 @@
-//! Plans of small workflows.
