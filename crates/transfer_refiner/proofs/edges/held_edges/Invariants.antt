@@ -1,0 +1,7 @@
+use Rattle.std.proofs.Common.{◌≡◌}
+use Rattle.transfer_refiner.specs.Edges.{held_edges}
+use Rattle.transfer_refiner.specs.View.{draft_of}
+use Rattle.transfer_refiner.proofs.edges.held_edges.Given as goal
+
+abbrev pub invariant-loop-number : goal.invariant-loop-number
+invariant-loop-number l = l.edges.items ≡ held_edges (draft_of l.view) l.number

@@ -1,0 +1,10 @@
+use Rattle.std.proofs.Common.{◌≡◌, ◌&&◌, ℕ, List, not, ap, ◌∙◌, sym, subst}
+use Rattle.plan_core.specs.Numbers.{has, RisesFrom}
+use Rattle.transfer_refiner.proofs.SortingLemmas.{without_rises, without_same}
+use Rattle.transfer_refiner.proofs.rising.difference.Goals as goal
+
+pub returns-clause-rises : goal.returns-clause-rises
+returns-clause-rises c = subst (RisesFrom 0) (sym c.in_ok-left.ensures) (without_rises c.args.numbers.now c.args.others.now c.requires.rises)
+
+pub returns-clause-same : goal.returns-clause-same
+returns-clause-same c = λ x. ap (λ (v : List ℕ). has v x) c.in_ok-left.ensures ∙ without_same c.args.numbers.now c.args.others.now x

@@ -1,0 +1,7 @@
+use Rattle.std.proofs.Common.{ℕ}
+use Rattle.digraph.specs.Digraph.{edge}
+use Rattle.transfer_refiner.specs.Steps.{AreParented}
+use Rattle.transfer_refiner.proofs.waiting.with_parents.Given as goal
+
+abbrev pub invariant-loop-t : goal.invariant-loop-t
+invariant-loop-t l = AreParented (λ (t u : ℕ). edge l.stated u t) l.tasks l.done.items l.t

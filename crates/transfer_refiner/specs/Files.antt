@@ -1,0 +1,20 @@
+-- The files that tasks read and write, listed.
+use Rattle.std.specs.Prelude.{◌≡◌, ℕ, ◌==◌, ◌&&◌, Bool, List}
+use Rattle.std.specs.List.{flat_map}
+use Rattle.outside.specs.declared.numbers.JobId.{JobId}
+use Rattle.transfer_refiner.specs.declared.site_files.SiteFiles.{SiteFiles}
+use Rattle.plan_core.specs.declared.plan.PlanJob.{PlanJob}
+use Rattle.plan_core.specs.Numbers.{has, RisesFrom}
+use Rattle.plan_core.specs.Words.{inputs, outputs}
+
+-- the inputs, and the outputs, of some jobs, one job after the other
+abbrev pub all_inputs : List PlanJob → List JobId → List ℕ
+all_inputs jobs js = flat_map (λ (j : JobId). inputs jobs j.0) js
+
+abbrev pub all_outputs : List PlanJob → List JobId → List ℕ
+all_outputs jobs js = flat_map (λ (j : JobId). outputs jobs j.0) js
+
+-- the files, in rising order, are exactly those that pass at the site, and none passes at another site
+pub record AreFilesOf (test : ℕ → ℕ → Bool) (found : SiteFiles) : Type 0 where
+  pub rises : RisesFrom 0 found.files.items
+  pub same : (s f : ℕ) → test s f ≡ ((found.site.0 == s) && has found.files.items f)

@@ -1,0 +1,15 @@
+-- What the public contracts say
+pub mod Draft
+pub mod Tasks
+pub mod Refined
+pub mod Conditions
+-- Steps
+pub mod View
+pub mod Rising
+pub mod Files
+pub mod Edges
+pub mod Marked
+pub mod Tables
+pub mod Listing
+pub mod Places
+pub mod Steps

@@ -1,0 +1,14 @@
+-- What is looked up of a draft.
+use Rattle.std.specs.Prelude.{◌≡◌, ℕ}
+use Rattle.digraph.specs.Digraph.{edge}
+use Rattle.workflow_core.specs.Requested.{is_requested}
+use Rattle.plan_core.specs.Numbers.{has, below}
+use Rattle.transfer_refiner.specs.declared.tables.Tables.{Tables}
+use Rattle.transfer_refiner.specs.Draft.{Draft, stands, sizes_of}
+use Rattle.transfer_refiner.specs.Tasks.{part_of, count_files}
+
+pub record AreTables (d : Draft) (t : Tables) : Type 0 where
+  pub held : (c j : ℕ) → edge t.held c j ≡ has (part_of d c) j
+  pub stood : (s f : ℕ) → edge t.stood s f ≡ stands d s f
+  pub requested : t.requested.items ≡ below (count_files d) (is_requested d.workflow)
+  pub sizes : t.sizes.items ≡ sizes_of d

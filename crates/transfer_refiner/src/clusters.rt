@@ -1,0 +1,9 @@
+//! Jobs put together into tasks.
+
+use outside::{Items, JobId};
+
+/// The clusters of kept jobs, each in the order in which its jobs run.
+#[derive(Debug, Drop)]
+pub struct Clusters {
+    pub parts: Items<Items<JobId>>,
+}

@@ -1,0 +1,26 @@
+//! The plan of a workflow whose jobs are clustered and placed: its tasks and their parents.
+#![tactic(auto)]
+
+mod clusters;
+mod copies;
+mod copying;
+mod edges;
+mod fault;
+mod jobs;
+mod lacking;
+mod listing;
+mod marked;
+mod places;
+mod refining;
+mod rising;
+mod rows;
+mod site_files;
+mod sources;
+mod tables;
+mod tasks;
+mod view;
+mod waiting;
+
+pub use clusters::Clusters;
+pub use fault::RefineFault;
+pub use refining::refine;

@@ -1,0 +1,17 @@
+//! What is planned, by reference.
+
+use dependency_graph::Graph;
+use outside::{Items, JobId, SiteId};
+use plan_request::PlanRequest;
+use replica_catalog::Replicas;
+use workflow_core::Workflow;
+
+#[derive(Drop)]
+pub struct View<'a> {
+    pub workflow: &'a Workflow,
+    pub graph: &'a Graph,
+    pub parts: &'a [Items<JobId>],
+    pub sites: &'a [Option<SiteId>],
+    pub replicas: Replicas<'a>,
+    pub request: &'a PlanRequest,
+}
