@@ -22,3 +22,4 @@ pub mod ListedLemmas
 pub mod ParentsLemmas
 pub mod CopyingLemmas
 pub mod TogetherLemmas
+pub mod SinglesLemmas

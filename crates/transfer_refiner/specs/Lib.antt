@@ -3,6 +3,7 @@ pub mod Draft
 pub mod Tasks
 pub mod Refined
 pub mod Conditions
+pub mod Singles
 -- Steps
 pub mod View
 pub mod Rising

@@ -1,0 +1,31 @@
+-- Kept jobs, each a part of its own.
+use Rattle.std.specs.Prelude.{◌≡◌, ℕ, ◌<◌, ◌≤◌, List, [], ◌∷◌, length, map, Option, Some, slice_get}
+use Rattle.std.specs.List.{IsDistinct}
+use Rattle.std.specs.Str.{bytes_eq}
+use Rattle.outside.specs.declared.numbers.JobId.{JobId}
+use Rattle.outside.specs.declared.numbers.SiteId.{SiteId}
+use Rattle.workflow_core.specs.declared.workflow.Workflow.{Workflow}
+use Rattle.workflow_core.specs.WellFormed.{IsWellFormed}
+use Rattle.dependency_graph.specs.Graph.{IsSound}
+use Rattle.plan_request.specs.declared.request.Execution.{Execution}
+use Rattle.plan_request.specs.declared.request.PlanRequest.{PlanRequest}
+
+abbrev pub single : JobId → List JobId
+single j = j ∷ []
+
+abbrev pub singles : List JobId → List (List JobId)
+singles js = map single js
+
+-- The workflow is well formed and sound. The execution sites are few and distinct, and each job has one or none. The kept jobs are
+-- jobs of the workflow, none stands twice, and each has a site.
+pub record ArePlaced (w : Workflow) (request : PlanRequest) (sites : List (Option SiteId)) (js : List JobId) : Type 0 where
+  pub formed : IsWellFormed w
+  pub sound : IsSound w
+  pub few_sites : length request.execute ≤ 64
+  pub site_names : IsDistinct bytes_eq (map (λ (e : Execution). e.site) request.execute)
+  pub jobs_placed : length sites ≡ length w.jobs
+  pub sites_below : (j : ℕ) (s : SiteId) → slice_get sites j ≡ Some (Some s) → s.0 < length request.execute
+  pub few : length js ≤ length w.jobs
+  pub below : (n : ℕ) (j : JobId) → slice_get js n ≡ Some j → j.0 < length w.jobs
+  pub once : (m n : ℕ) (i j : JobId) → slice_get js m ≡ Some i → slice_get js n ≡ Some j → i.0 ≡ j.0 → m ≡ n
+  pub placed : (n : ℕ) (j : JobId) → slice_get js n ≡ Some j → (s : SiteId) × (slice_get sites j.0 ≡ Some (Some s))
