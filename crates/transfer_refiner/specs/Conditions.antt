@@ -3,6 +3,7 @@ use Rattle.std.specs.Prelude.{◌≡◌, ℕ, ◌<◌, ◌≤◌, ◌==◌, ◌&
 use Rattle.std.specs.List.{list_any, IsDistinct}
 use Rattle.std.specs.Str.{bytes_eq}
 use Rattle.outside.specs.declared.numbers.JobId.{JobId}
+use Rattle.outside.specs.declared.numbers.SiteId.{SiteId}
 use Rattle.workflow_core.specs.WellFormed.{IsWellFormed}
 use Rattle.dependency_graph.specs.Edges.{read_by, written_by, edge}
 use Rattle.dependency_graph.specs.Graph.{IsSound}
@@ -25,7 +26,7 @@ IsOrdered d js = (done later : List JobId) (j : JobId) → js ≡ done ++ j ∷ 
 abbrev pub IsOnce : List JobId → Type 0
 IsOnce js = (done later : List JobId) (j : JobId) → js ≡ done ++ j ∷ later → has (job_numbers later) j.0 ≡ false
 
--- The workflow is well formed and sound, and has a site or none for each job. The execution sites are few and distinct. Each job
+-- The workflow is well formed and sound, and has for each job an execution site or none. The execution sites are few and distinct. Each job
 -- is in at most one part, once, after those of its part of whose files it reads; each part has a site; no parts lead round.
 pub record IsDraft (d : Draft) : Type 0 where
   pub formed : IsWellFormed d.workflow
@@ -33,6 +34,7 @@ pub record IsDraft (d : Draft) : Type 0 where
   pub few_sites : length d.request.execute ≤ 64
   pub site_names : IsDistinct bytes_eq (map (λ (e : Execution). e.site) d.request.execute)
   pub jobs_placed : length d.sites ≡ length d.workflow.jobs
+  pub sites_below : (j : ℕ) (s : SiteId) → slice_get d.sites j ≡ Some (Some s) → s.0 < length d.request.execute
   pub jobs_below : (c j : ℕ) → has (part_of d c) j ≡ true → j < length d.workflow.jobs
   pub one_part : (a b j : ℕ) → has (part_of d a) j ≡ true → has (part_of d b) j ≡ true → a ≡ b
   pub once : (c : ℕ) → IsOnce (slice_index_or d.parts c [])

@@ -7,6 +7,7 @@ mod edges;
 mod fault;
 mod jobs;
 mod lacking;
+mod law;
 mod listing;
 mod marked;
 mod places;
@@ -21,4 +22,5 @@ mod view;
 mod waiting;
 
 pub use fault::RefineFault;
+pub use law::refined_plan_is_proper;
 pub use refining::refine;
