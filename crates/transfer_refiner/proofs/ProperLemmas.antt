@@ -1,7 +1,7 @@
 -- The plan of a draft without a fault is proper.
 use Rattle.std.proofs.Common.{◌≡◌, ℕ, zero, suc, ◌+◌, ◌-◌, ◌<◌, ◌≤◌, ◌^◌, Bool, true, false, not, ◌||◌, ◌&&◌, List, [], ◌∷◌, length, map, refl, sym, ap, subst, ◌∙◌, ◌++◌, nat_eq, arith, ◌⊎◌, inl, inr}
 use Rattle.std.proofs.lemmas.Bool.{cases_lt}
-use Rattle.std.specs.Prelude.{Option, Some, None, is_some, slice_get, slice_index_or}
+use Rattle.std.specs.Prelude.{Option, Some, None, Result, Ok, Err, IfOk, is_some, slice_get, slice_index_or}
 use Rattle.std.specs.List.{list_any}
 use Rattle.outside.specs.declared.numbers.JobId.{JobId}
 use Rattle.workflow_core.specs.Requested.{is_requested}
@@ -18,7 +18,8 @@ use Rattle.plan_core.specs.Proper as proper
 use Rattle.transfer_refiner.specs.Draft.{Draft, makes, needs, uses, needed_at, moves, declared_of, sizes_of}
 use Rattle.transfer_refiner.specs.Tasks.{count_files, count_sites, grid, planned_file, files_of, used, is_made, first_fault}
 use Rattle.transfer_refiner.specs.Conditions.{IsDraft}
-use Rattle.transfer_refiner.specs.Refined.{IsRefined}
+use Rattle.transfer_refiner.specs.Refined.{IsRefined, Refines}
+use Rattle.transfer_refiner.specs.declared.fault.RefineFault.{RefineFault}
 use Rattle.transfer_refiner.proofs.TestLemmas.{same_number, is_itself, both, and_both, or_left, or_right}
 use Rattle.transfer_refiner.proofs.NumbersLemmas.{below_has, has_below}
 use Rattle.transfer_refiner.proofs.SliceLemmas.{any_at_place, place_left, place_right, slice_get_there}
@@ -172,3 +173,7 @@ is_proper d limit p draft few none refined = record {
     acyclic = λ t r. never_returns (is_parent p) t (task_grounded d p draft refined t) r;
   };
 }
+
+pub proper_of : (d : Draft) (limit : ℕ) (r : Result Plan RefineFault) → IsDraft d → limit < 2 ^ 32 → Refines d limit r → IfOk r (λ p. IsProper p)
+proper_of d limit (Ok p) draft few h = is_proper d limit p draft few h.0 h.1
+proper_of d limit (Err e) draft few h = tt
