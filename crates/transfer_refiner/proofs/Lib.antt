@@ -23,3 +23,14 @@ pub mod ParentsLemmas
 pub mod CopyingLemmas
 pub mod TogetherLemmas
 pub mod SinglesLemmas
+pub mod SortLemmas
+pub mod PlanJobsLemmas
+pub mod PlanPairsLemmas
+pub mod OneWriterLemmas
+pub mod WaitingLemmas
+pub mod GroundedLemmas
+pub mod GroundingLemmas
+pub mod GridRisesLemmas
+pub mod SequenceLemmas
+pub mod TableLemmas
+pub mod ProperLemmas

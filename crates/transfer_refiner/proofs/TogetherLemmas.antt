@@ -1,6 +1,6 @@
 -- The parts of a plan put together.
-use Rattle.std.proofs.Common.{◌≡◌, ℕ, zero, suc, ◌+◌, ◌*◌, ◌^◌, ◌<◌, ◌≤◌, ◌||◌, Bool, true, false, cond, List, [], ◌∷◌, ◌++◌, length, map, refl, sym, ap, ◌∙◌, subst, nat_eq, arith, length-append, All}
-use Rattle.std.specs.Prelude.{Err, None, Option, Some, nat_lt, option_map, slice_get}
+use Rattle.std.proofs.Common.{◌≡◌, ℕ, zero, suc, ◌+◌, ◌*◌, ◌^◌, ◌<◌, ◌≤◌, ◌||◌, Bool, true, false, cond, not, List, [], ◌∷◌, ◌++◌, length, map, refl, sym, ap, ◌∙◌, subst, nat_eq, arith, length-append, All}
+use Rattle.std.specs.Prelude.{Err, None, Option, Some, is_some, nat_lt, option_map, slice_get}
 use Rattle.std.specs.List.{list_any}
 use Rattle.std.proofs.Math.Nat.{mul-le-mul_left}
 use Rattle.std.proofs.lemmas.List.{length-map}
@@ -19,14 +19,14 @@ use Rattle.plan_core.specs.Numbers.{has, below, least, or_else}
 use Rattle.plan_core.specs.Words.{is_clean_kind, kind_in, reads_in, writes_in, parents_in, kind, reads, writes, parents, pair_at}
 use Rattle.transfer_refiner.specs.declared.fault.RefineFault.{RefineFault}
 use Rattle.transfer_refiner.specs.declared.fault.RefineFault.TheVariants.{NoReplica, NoSize, TooMany, Memory}
-use Rattle.transfer_refiner.specs.Draft.{Draft, moves, stands, name_of}
-use Rattle.transfer_refiner.specs.Tasks.{comes_after, count_files, count_sites, delivery, files_of, first_fault, grid, jobs_of, kinds_of, lacks_replica, lacks_size, pair_of, pairs_of, planned_site, run, too_many, transfer}
+use Rattle.transfer_refiner.specs.Draft.{Draft, moves, stands, name_of, declared_of}
+use Rattle.transfer_refiner.specs.Tasks.{comes_after, count_files, count_sites, delivery, files_of, first_fault, grid, jobs_of, is_made, kinds_of, lacks_replica, lacks_size, pair_of, pairs_of, planned_site, run, too_many, transfer, used}
 use Rattle.transfer_refiner.specs.Conditions.{IsDraft}
 use Rattle.transfer_refiner.specs.Refined.{IsRefined, Refines}
 use Rattle.transfer_refiner.specs.Places.{AreOnce}
 use Rattle.transfer_refiner.specs.Steps.{IsListed, AreParented, AreTasks}
-use Rattle.transfer_refiner.proofs.TestLemmas.{same_number, both, by_bool}
-use Rattle.transfer_refiner.proofs.NumbersLemmas.{below_has, same_below}
+use Rattle.transfer_refiner.proofs.TestLemmas.{same_number, and_both, both, by_bool}
+use Rattle.transfer_refiner.proofs.NumbersLemmas.{below_has, none_least, same_below}
 use Rattle.transfer_refiner.proofs.SliceLemmas.{any_at_place, map_place, place_map, slice_get_there}
 use Rattle.transfer_refiner.proofs.OnceLemmas.{grid_once}
 use Rattle.transfer_refiner.proofs.EdgesLemmas.{after_within}
@@ -240,3 +240,24 @@ count_small d limit e =
 
 pub range_of : (jobs : List PlanJob) (places pairs : List Pair) (bare ts : List Task) → All (IsListed jobs places) bare → ts ≡ bare → places ≡ pairs → (t q : ℕ) → has (writes_in (slice_get ts t)) q ≡ true → q < length pairs
 range_of jobs places pairs bare ts listed is same t q h = subst (λ (qs : List Pair). q < length qs) same (written_low jobs places ts (subst (All (IsListed jobs places)) (sym is) listed) t q h)
+
+fault_none : (o : Option ℕ) (g : ℕ → RefineFault) → option_map g o ≡ None → o ≡ None
+fault_none None g e = refl
+fault_none (Some x) g e = absurd cc
+
+or_first : {A : Type 0} (x y : Option A) → or_else x y ≡ None → x ≡ None
+or_first None y e = refl
+or_first (Some x) y e = absurd cc
+
+-- what a task moves or writes has a declared size where there is no fault
+pub no_size : (d : Draft) (limit : ℕ) → first_fault d limit ≡ None → (f : ℕ) → f < count_files d → (used d f || (is_made d f || is_requested d.workflow f)) ≡ true → is_some (declared_of d f) ≡ true
+unfolding first_fault lacks_size
+no_size d limit e f l h =
+    by (is_some (declared_of d f)) refl (none_least (count_files d) (lacks_size d)
+    (fault_none (least (count_files d) (lacks_size d)) (λ f. NoSize (name_of d f))
+    (or_first (option_map (λ f. NoSize (name_of d f)) (least (count_files d) (lacks_size d))) (too_many (length (kinds_of d)) limit)
+    (or_second (option_map (λ f. NoReplica (name_of d f)) (least (count_files d) (lacks_replica d))) (or_else (option_map (λ f. NoSize (name_of d f)) (least (count_files d) (lacks_size d))) (too_many (length (kinds_of d)) limit)) e))) f l)
+  where
+    by : (b : Bool) → is_some (declared_of d f) ≡ b → lacks_size d f ≡ false → is_some (declared_of d f) ≡ true
+    by true g none = g
+    by false g none = absurd (let x : true ≡ false = sym (and_both (used d f || (is_made d f || is_requested d.workflow f)) (not (is_some (declared_of d f))) h (ap not g)) ∙ none in cc)

@@ -4,10 +4,12 @@ use Rattle.std.specs.List.{list_any}
 use Rattle.std.specs.Str.{bytes_eq}
 use Rattle.outside.specs.declared.numbers.JobId.{JobId}
 use Rattle.outside.specs.declared.numbers.SiteId.{SiteId}
+use Rattle.workflow_core.specs.declared.clusters.Clusters.{Clusters}
 use Rattle.workflow_core.specs.declared.workflow.Workflow.{Workflow}
 use Rattle.dependency_graph.specs.Edges.{read_by, written_by}
 use Rattle.replica_catalog.specs.declared.catalog.Pfn.{Pfn}
 use Rattle.replica_catalog.specs.declared.catalog.Replica.{Replica}
+use Rattle.replica_catalog.specs.declared.catalog.ReplicaCatalog.{ReplicaCatalog}
 use Rattle.replica_catalog.specs.Lookup.{is_of}
 use Rattle.plan_request.specs.declared.request.Execution.{Execution}
 use Rattle.plan_request.specs.declared.request.PlanRequest.{PlanRequest}
@@ -21,6 +23,9 @@ pub record Draft : Type 0 where
   pub sites : List (Option SiteId)
   pub replicas : List Replica
   pub request : PlanRequest
+
+abbrev pub planned : Workflow → Clusters → List (Option SiteId) → ReplicaCatalog → PlanRequest → Draft
+planned w c sites replicas r = record { workflow = w; parts = c.parts; sites = sites; replicas = replicas.entries; request = r }
 
 -- ---- what a part's jobs read and make
 

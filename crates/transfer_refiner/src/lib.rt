@@ -8,6 +8,7 @@ mod edges;
 mod fault;
 mod jobs;
 mod lacking;
+mod law;
 mod listing;
 mod marked;
 mod places;
@@ -24,5 +25,6 @@ mod waiting;
 
 pub use clusters::Clusters;
 pub use fault::RefineFault;
+pub use law::refined_plan_is_proper;
 pub use refining::refine;
 pub use singles::{single_jobs, single_jobs_are_a_draft};

@@ -6,7 +6,8 @@ ghost use Rattle.transfer_refiner.specs.Conditions.{IsDraft};
 ghost use Rattle.transfer_refiner.specs.Refined.{IsRefined, Refines};
 ghost use Rattle.transfer_refiner.specs.Steps.{AreTasks};
 ghost use Rattle.transfer_refiner.specs.Tables.{AreTables};
-ghost use Rattle.transfer_refiner.specs.Draft.{moves};
+ghost use Rattle.plan_core.specs.Proper.{IsProper};
+ghost use Rattle.transfer_refiner.specs.Draft.{moves, planned};
 ghost use Rattle.transfer_refiner.specs.Tasks.{count_files, count_sites, grid, kinds_of, pairs_of};
 ghost use Rattle.transfer_refiner.specs.View.{draft_of};
 
@@ -92,7 +93,7 @@ fn count_tasks(view: &View<'_>, moved: &[(u32, u32)], requested: &[u32]) -> u64
     view.parts.len() as u64 + (moved.len() as u64 + requested.len() as u64)
 }
 
-fn planned(
+fn plan_without_fault(
     alloc: Global,
     view: &View<'_>,
     tables: &Tables,
@@ -121,7 +122,7 @@ fn refined(alloc: Global, view: &View<'_>, limit: u64) -> Result<Plan, RefineFau
     let count = count_tasks(view, &moved, &tables.requested);
     match first_fault(alloc, view, &tables, count, limit)? {
         Some(fault) => Err(fault),
-        None => Ok(planned(alloc, view, &tables, &moved)?),
+        None => Ok(plan_without_fault(alloc, view, &tables, &moved)?),
     }
 }
 
@@ -136,10 +137,11 @@ pub fn refine(
     request: &PlanRequest,
     limit: u64,
 ) -> Result<Plan, RefineFault>
-    requires draft { IsDraft (record { workflow = workflow.now; parts = clusters.now.parts; sites = sites.now; replicas = replicas.now.entries; request = request.now }) }
+    requires draft { IsDraft (planned workflow.now clusters.now sites.now replicas.now request.now) }
     requires graph { IsGraphOf workflow.now graph.now }
     requires few { limit < 2 ^ 32 }
-    ensures { Refines (record { workflow = workflow.now; parts = clusters.now.parts; sites = sites.now; replicas = replicas.now.entries; request = request.now }) limit result }
+    ensures plan { Refines (planned workflow.now clusters.now sites.now replicas.now request.now) limit result }
+    ensures proper { IfOk result (λ p. IsProper p) }
 {
     let view = View {
         workflow,

@@ -13,5 +13,5 @@ count_tasks-count-requires-clause-few_requested c = let few : length c.deref-2.r
 pub first_fault-requires-clause-count : goal.first_fault-requires-clause-count
 first_fault-requires-clause-count c = c.count_tasks-count.ensures ∙ kinds_long (draft_of c.args.view.now) c.deref.result.now c.deref-2.result.now (c.deref.ensures.value ∙ c.in_ok-moved.ensures) (c.deref-2.ensures.value ∙ c.in_ok-tables.ensures.requested)
 
-pub planned-requires-clause-few : goal.planned-requires-clause-few
-planned-requires-clause-few c = let small : length (kinds_of (draft_of c.args.view.now)) ≤ c.args.limit = count_small (draft_of c.args.view.now) c.args.limit (sym c.in_ok-fault.ensures ∙ c.in-None.is) in omega (arith, small, c.requires.few)
+pub plan_without_fault-requires-clause-few : goal.plan_without_fault-requires-clause-few
+plan_without_fault-requires-clause-few c = let small : length (kinds_of (draft_of c.args.view.now)) ≤ c.args.limit = count_small (draft_of c.args.view.now) c.args.limit (sym c.in_ok-fault.ensures ∙ c.in-None.is) in omega (arith, small, c.requires.few)
