@@ -13,7 +13,9 @@ use Rattle.plan_core.specs.Numbers.{has}
 use Rattle.plan_core.specs.Words.{job_numbers}
 use Rattle.plan_request.specs.declared.request.PlanRequest.{PlanRequest}
 use Rattle.replica_catalog.specs.declared.catalog.Replica.{Replica}
-use Rattle.transfer_refiner.specs.Draft.{Draft, site_in, site_of}
+use Rattle.replica_catalog.specs.declared.catalog.ReplicaCatalog.{ReplicaCatalog}
+use Rattle.transfer_refiner.specs.declared.clusters.Clusters.{Clusters}
+use Rattle.transfer_refiner.specs.Draft.{Draft, planned, site_in, site_of}
 use Rattle.transfer_refiner.specs.Conditions.{IsDraft, IsOnce, IsOrdered, leads}
 use Rattle.transfer_refiner.specs.Tasks.{part_of}
 use Rattle.transfer_refiner.specs.Singles.{ArePlaced, single, singles}
@@ -182,8 +184,8 @@ one_part_each w js sites r p a b j (Held i e k) (Held m f l) = p.once a b i m e 
 below_all : (w : Workflow) (js : List JobId) (sites : List (Option SiteId)) (r : PlanRequest) → ArePlaced w r sites js → (c j : ℕ) → Holds js c j → j < length w.jobs
 below_all w js sites r p c j (Held i e k) = subst (λ n. n < length w.jobs) k (p.below c i e)
 
-pub single_jobs : (w : Workflow) (js : List JobId) (sites : List (Option SiteId)) (rs : List Replica) (r : PlanRequest) → ArePlaced w r sites js → IsDraft (draft w js sites rs r)
-single_jobs w js sites rs r p = record {
+single_draft : (w : Workflow) (js : List JobId) (sites : List (Option SiteId)) (rs : List Replica) (r : PlanRequest) → ArePlaced w r sites js → IsDraft (draft w js sites rs r)
+single_draft w js sites rs r p = record {
   formed = p.formed;
   sound = p.sound;
   few_sites = p.few_sites;
@@ -207,3 +209,6 @@ single_jobs w js sites rs r p = record {
         by : PartIs js c → IsOrdered d (slice_index_or (singles js) c [])
         by (One i e k) = subst (IsOrdered d) (sym k) (single_ordered d i p.sound.no_return)
         by (Empty k) = subst (IsOrdered d) (sym k) (empty_ordered d)
+
+pub single_jobs : (w : Workflow) (js : List JobId) (c : Clusters) (sites : List (Option SiteId)) (rs : ReplicaCatalog) (r : PlanRequest) → ArePlaced w r sites js → c.parts ≡ singles js → IsDraft (planned w c sites rs r)
+single_jobs w js c sites rs r p e = subst (λ (parts : List (List JobId)). IsDraft (record { workflow = w; parts = parts; sites = sites; replicas = rs.entries; request = r })) (sym e) (single_draft w js sites rs.entries r p)

@@ -5,8 +5,10 @@ ghost use Rattle.outside.specs.declared.numbers.JobId.{JobId};
 ghost use Rattle.outside.specs.declared.numbers.SiteId.{SiteId};
 ghost use Rattle.workflow_core.specs.declared.workflow.Workflow.{Workflow};
 ghost use Rattle.plan_request.specs.declared.request.PlanRequest.{PlanRequest};
-ghost use Rattle.replica_catalog.specs.declared.catalog.Replica.{Replica};
+ghost use Rattle.replica_catalog.specs.declared.catalog.ReplicaCatalog.{ReplicaCatalog};
+ghost use Rattle.transfer_refiner.specs.declared.clusters.Clusters.{Clusters};
 ghost use Rattle.transfer_refiner.specs.Conditions.{IsDraft};
+ghost use Rattle.transfer_refiner.specs.Draft.{planned};
 ghost use Rattle.transfer_refiner.specs.Singles.{ArePlaced, singles};
 
 use crate::clusters::Clusters;
@@ -30,6 +32,5 @@ pub fn single_jobs(alloc: Global, jobs: &[JobId]) -> Result<Clusters, Memory>
 
 /// Kept jobs that are placed can be refined, each as a cluster of its own.
 pub fn single_jobs_are_a_draft()
-    ensures { (w : Workflow) (js : List JobId) (sites : List (Option SiteId)) (rs : List Replica) (r : PlanRequest) → ArePlaced w r sites js
-        → IsDraft (record { workflow = w; parts = singles js; sites = sites; replicas = rs; request = r }) }
+    ensures { (w : Workflow) (js : List JobId) (c : Clusters) (sites : List (Option SiteId)) (rs : ReplicaCatalog) (r : PlanRequest) → ArePlaced w r sites js → c.parts ≡ singles js → IsDraft (planned w c sites rs r) }
 {}
