@@ -1,6 +1,6 @@
 -- Which edges are listed.
-use Rattle.std.proofs.Common.{◌≡◌, ◌≢◌, ℕ, zero, suc, ◌<◌, ◌≤◌, ◌||◌, ◌&&◌, Bool, true, false, not, cond, List, [], ◌∷◌, ◌++◌, length, map, nat_eq, nat_lt, refl, sym, ap, ◌∙◌, arith, ◌+◌, add-one, All, ◌⊎◌, inl, inr}
-use Rattle.std.specs.Prelude.{slice_get, slice_index_or}
+use Rattle.std.proofs.Common.{◌≡◌, ◌≢◌, ℕ, zero, suc, ◌<◌, ◌≤◌, ◌||◌, ◌&&◌, Bool, true, false, not, cond, List, [], ◌∷◌, ◌++◌, length, nat_eq, nat_lt, refl, sym, ap, ◌∙◌, arith, ◌+◌, add-one, All, ◌⊎◌, inl, inr}
+use Rattle.std.specs.Prelude.{slice_index_or}
 use Rattle.std.specs.List.{list_any, flat_map}
 use Rattle.std.proofs.lemmas.Bool.{cases_lt}
 use Rattle.std.proofs.lemmas.List.Folds.{list_any-append}
@@ -11,7 +11,7 @@ use Rattle.workflow_core.specs.WellFormed.{before, after}
 use Rattle.dependency_graph.specs.Edges.{read_by, written_by}
 use Rattle.plan_core.specs.Numbers.{has}
 use Rattle.plan_core.specs.Words.{job_numbers}
-use Rattle.transfer_refiner.specs.Draft.{Draft, uses, makes, needs, site_of, made_at, needed_at, stands}
+use Rattle.transfer_refiner.specs.Draft.{Draft, uses, makes, needs, site_of, stands}
 use Rattle.transfer_refiner.specs.Tasks.{part_of, comes_after}
 use Rattle.transfer_refiner.specs.Edges.{fan, held_edges, job_edges, part_edges, stood_edges, fan_apart, all_apart}
 use Rattle.transfer_refiner.specs.Conditions.{IsDraft}

@@ -1,17 +1,14 @@
 -- The files of a task, listed.
-use Rattle.std.proofs.Common.{◌≡◌, ℕ, zero, suc, ◌<◌, ◌≤◌, Bool, true, false, not, ◌&&◌, ◌||◌, List, [], ◌∷◌, ◌++◌, length, drop, map, refl, sym, ap, ◌∙◌, nat_eq, arith, subst}
-use Rattle.std.specs.Prelude.{Option, Some, None, slice_get}
+use Rattle.std.proofs.Common.{◌≡◌, ℕ, Bool, not, ◌&&◌, ◌||◌, List, [], ◌∷◌, refl, sym, ap, ◌∙◌, nat_eq}
+use Rattle.std.specs.Prelude.{Some}
 use Rattle.std.specs.List.{list_any, flat_map}
 use Rattle.std.proofs.lemmas.List.Folds.{list_any-append}
 use Rattle.outside.specs.declared.numbers.JobId.{JobId}
-use Rattle.outside.specs.declared.numbers.PairId.{PairId}
-use Rattle.outside.specs.declared.numbers.SiteId.{SiteId}
 use Rattle.transfer_refiner.specs.declared.site_files.SiteFiles.{SiteFiles}
-use Rattle.plan_core.specs.declared.plan.Pair.{Pair}
 use Rattle.plan_core.specs.declared.plan.PlanJob.{PlanJob}
-use Rattle.plan_core.specs.declared.plan.TaskKind.TheVariants.{Transfer, Run, Clean}
+use Rattle.plan_core.specs.declared.plan.TaskKind.TheVariants.{Run}
 use Rattle.plan_core.specs.Numbers.{has, RisesFrom}
-use Rattle.plan_core.specs.Words.{inputs, outputs, pair_numbers}
+use Rattle.plan_core.specs.Words.{inputs, outputs}
 use Rattle.plan_core.specs.Kinds.{uses, makes, kind_reads, kind_writes}
 use Rattle.transfer_refiner.specs.Files.{AreFilesOf, all_inputs, all_outputs}
 

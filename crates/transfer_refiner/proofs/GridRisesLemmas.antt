@@ -1,13 +1,9 @@
 -- A grid rises, and names that are distinct have one number.
-use Rattle.std.proofs.Common.{◌≡◌, ℕ, zero, suc, ◌-◌, ◌<◌, ◌≤◌, Bool, true, false, cond, not, List, [], ◌∷◌, ◌++◌, length, map, take, refl, sym, ap, ◌∙◌, arith, ◌⊎◌, inl, inr}
+use Rattle.std.proofs.Common.{◌≡◌, ℕ, zero, suc, ◌-◌, ◌<◌, ◌≤◌, Bool, true, false, cond, List, [], ◌∷◌, length, map, refl, sym, ap, ◌∙◌, arith, ◌⊎◌, inl, inr}
 use Rattle.std.specs.Prelude.{Some, slice_get}
-use Rattle.std.specs.List.{list_any}
-use Rattle.std.proofs.lemmas.List.{append_assoc, append-nil}
 use Rattle.std.proofs.lemmas.Option.{slice_get_within}
-use Rattle.std.proofs.lemmas.Bool.{cases_lt}
 use Rattle.plan_core.specs.Numbers.{below}
 use Rattle.transfer_refiner.specs.Tasks.{grid}
-use Rattle.transfer_refiner.proofs.TestLemmas.{both, not_true, or_left, or_right}
 use Rattle.transfer_refiner.proofs.SliceLemmas.{place_in, place_map, below_place, grid_place}
 
 abbrev pub IsBefore : ℕ → ℕ → ℕ → ℕ → Type 0

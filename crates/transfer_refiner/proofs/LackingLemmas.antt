@@ -1,7 +1,6 @@
 -- What a file lacks.
-use Rattle.std.proofs.Common.{◌≡◌, ℕ, ◌<◌, Bool, true, false, not, ◌||◌, ◌&&◌, List, [], ◌∷◌, length, refl, sym, ap, ◌∙◌, nat_eq, ◌⊎◌, inl, inr}
-use Rattle.std.specs.Prelude.{Option, Some, None, is_some, option_map, slice_get}
-use Rattle.std.specs.List.{list_any}
+use Rattle.std.proofs.Common.{◌≡◌, ℕ, ◌<◌, Bool, true, false, not, ◌||◌, ◌&&◌, List, [], ◌∷◌, refl, sym, ap, ◌∙◌, nat_eq, ◌⊎◌, inl, inr}
+use Rattle.std.specs.Prelude.{Option, Some, None, is_some, option_map}
 use Rattle.outside.specs.declared.numbers.JobId.{JobId}
 use Rattle.outside.specs.declared.numbers.SiteId.{SiteId}
 use Rattle.plan_core.specs.Numbers.{has, below}

@@ -1,6 +1,6 @@
 -- The part that makes a file, and the site at which it is made.
-use Rattle.std.proofs.Common.{◌≡◌, ℕ, zero, suc, ◌+◌, ◌<◌, ◌≤◌, Bool, true, false, cond, ◌||◌, ◌&&◌, List, [], ◌∷◌, length, map, refl, sym, ap, ◌∙◌, nat_eq, arith}
-use Rattle.std.specs.Prelude.{Option, Some, None, MatchOption, is_some, slice_get, slice_index_or}
+use Rattle.std.proofs.Common.{◌≡◌, ℕ, zero, suc, ◌+◌, ◌<◌, ◌≤◌, Bool, true, false, cond, ◌||◌, List, [], ◌∷◌, length, map, refl, sym, ap, ◌∙◌, nat_eq, arith}
+use Rattle.std.specs.Prelude.{Option, Some, None, is_some, slice_get, slice_index_or}
 use Rattle.std.specs.List.{list_any}
 use Rattle.std.proofs.lemmas.Bool.{eq-eqb, ne_eqb}
 use Rattle.std.proofs.lemmas.Option.{get_or_from_slice_get}
@@ -9,10 +9,9 @@ use Rattle.workflow_core.specs.declared.workflow.Workflow.{Workflow}
 use Rattle.workflow_core.specs.declared.workflow.Job.{Job}
 use Rattle.workflow_core.specs.WellFormed.{outputs_of}
 use Rattle.dependency_graph.specs.Edges.{has_output, is_among, makers, makers_from, written_by}
-use Rattle.dependency_graph.specs.Graph.{Links, IsGraphOf, made_at as graph_maker}
 use Rattle.plan_core.specs.Numbers.{has}
 use Rattle.plan_core.specs.Words.{job_numbers}
-use Rattle.transfer_refiner.proofs.TestLemmas.{same_number, is_itself, not_true, or_left, or_right, by_bool}
+use Rattle.transfer_refiner.proofs.TestLemmas.{same_number, is_itself, or_left, or_right, by_bool}
 use Rattle.transfer_refiner.proofs.SliceLemmas.{any_at_place, place_of_any}
 use Rattle.transfer_refiner.proofs.JobsLemmas.{made_below}
 use Rattle.transfer_refiner.proofs.StandingLemmas.{part_at, home_made, home_none}
@@ -88,7 +87,6 @@ one_part d draft a b f js ks at bt h k =
     let two = job_of_any (λ j. has (written_by d.workflow j) f) ks k in
     let same : one.0 ≡ two.0 = one_maker d draft one.0 two.0 f (made_below d draft js f h) one.2 two.2 in
     draft.one_part a b one.0 (ap (λ (ns : List ℕ). has ns one.0) (in_part d a js at) ∙ one.1) (ap (has (part_of d b)) same ∙ ap (λ (ns : List ℕ). has ns two.0) (in_part d b ks bt) ∙ two.1)
-
 
 -- the site of a part that makes the file is where it is made
 pub home_from : (d : Draft) → IsDraft d → (c f : ℕ) (js : List JobId) → f < count_files d → slice_get d.parts c ≡ Some js → makes d js f ≡ true → home d f ≡ Some (site_of d js)

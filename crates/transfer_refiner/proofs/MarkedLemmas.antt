@@ -5,7 +5,7 @@ use Rattle.workflow_core.specs.declared.workflow.Job.{Job}
 use Rattle.workflow_core.specs.declared.workflow.Output.{Output}
 use Rattle.workflow_core.specs.declared.workflow.Workflow.{Workflow}
 use Rattle.workflow_core.specs.Requested.{requests, is_requested}
-use Rattle.workflow_core.specs.WellFormed.{IsJobOver, IsWellFormed, outputs_of}
+use Rattle.workflow_core.specs.WellFormed.{IsJobOver, IsWellFormed}
 use Rattle.plan_core.specs.Numbers.{has, below, RisesFrom}
 use Rattle.transfer_refiner.specs.Marked.{requested_by, registered_by, all_requested, all_registered}
 use Rattle.transfer_refiner.specs.Tasks.{registers, is_registered}

@@ -1,7 +1,6 @@
 -- What stands at a site, and what has to move.
-use Rattle.std.proofs.Common.{◌≡◌, ℕ, zero, suc, ◌<◌, ◌≤◌, Bool, true, false, not, cond, ◌||◌, ◌&&◌, List, [], ◌∷◌, ◌++◌, length, map, refl, sym, ap, ◌∙◌, nat_eq, arith, subst, All}
-use Rattle.std.specs.Prelude.{Option, Some, None, MatchOption, slice_get, option_map}
-use Rattle.std.specs.List.{list_any}
+use Rattle.std.proofs.Common.{◌≡◌, ℕ, suc, ◌<◌, ◌≤◌, Bool, true, false, not, cond, ◌||◌, ◌&&◌, List, [], ◌∷◌, ◌++◌, map, refl, sym, ap, ◌∙◌, nat_eq, arith, subst, All}
+use Rattle.std.specs.Prelude.{Option, Some, None, MatchOption, slice_get}
 use Rattle.std.proofs.lemmas.List.Elements.{All-nil, All-cons}
 use Rattle.std.proofs.lemmas.List.Folds.{list_any-append}
 use Rattle.outside.specs.declared.numbers.JobId.{JobId}
@@ -13,7 +12,7 @@ use Rattle.transfer_refiner.specs.Draft.{Draft, made_at, needed_at, stands, move
 use Rattle.transfer_refiner.specs.Tasks.{count_files, count_sites, grid, part_of}
 use Rattle.transfer_refiner.specs.Listing.{is_at, moved_from, first_site_of}
 use Rattle.transfer_refiner.specs.Conditions.{IsDraft}
-use Rattle.transfer_refiner.proofs.TestLemmas.{same_number, is_itself, both, and_both, by_bool}
+use Rattle.transfer_refiner.proofs.TestLemmas.{same_number, both}
 use Rattle.transfer_refiner.proofs.RisingLemmas.{rising_is_below, below_rises}
 use Rattle.transfer_refiner.proofs.SliceLemmas.{grid_place, below_place}
 use Rattle.transfer_refiner.proofs.StandingLemmas.{stands_within}

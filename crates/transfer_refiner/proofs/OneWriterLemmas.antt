@@ -1,20 +1,15 @@
 -- A file at a site has one writer.
-use Rattle.std.proofs.Common.{◌≡◌, ℕ, ◌<◌, ◌≤◌, Bool, true, false, ◌||◌, List, [], ◌∷◌, length, refl, sym, ap, ◌∙◌, nat_eq, arith}
+use Rattle.std.proofs.Common.{◌≡◌, ℕ, true, false, List, refl, sym, ap, ◌∙◌, nat_eq, arith}
 use Rattle.std.specs.Prelude.{Some, slice_get}
-use Rattle.std.specs.List.{list_any}
-use Rattle.std.proofs.lemmas.Option.{get_or_from_slice_get}
 use Rattle.outside.specs.declared.numbers.JobId.{JobId}
-use Rattle.dependency_graph.specs.Edges.{written_by, makers}
 use Rattle.plan_core.specs.declared.plan.Plan.{Plan}
 use Rattle.plan_core.specs.declared.plan.TaskKind.{TaskKind}
-use Rattle.plan_core.specs.Numbers.{has}
 use Rattle.transfer_refiner.specs.Tasks.{grid}
-use Rattle.plan_core.specs.Words.{job_numbers}
 use Rattle.plan_core.specs.Kinds as kinds
 use Rattle.plan_core.specs.Kinds.{kind_writes, writes_file}
-use Rattle.transfer_refiner.proofs.TestLemmas.{same_number, is_itself, both, or_left, or_right, by_bool}
+use Rattle.transfer_refiner.proofs.TestLemmas.{same_number, both}
 use Rattle.transfer_refiner.specs.Draft.{Draft, makes, site_of, made_at, moves}
-use Rattle.transfer_refiner.specs.Tasks.{count_files, count_sites, run, transfer, delivery, part_of}
+use Rattle.transfer_refiner.specs.Tasks.{count_files, count_sites, run, transfer, delivery}
 use Rattle.transfer_refiner.specs.Conditions.{IsDraft}
 use Rattle.transfer_refiner.specs.Refined.{IsRefined}
 use Rattle.transfer_refiner.proofs.SortLemmas.{Sort, a_run, a_transfer, a_delivery, sorted}

@@ -17,4 +17,3 @@ pub place_any : {A : Type 0} (test : A → Bool) (xs : List A) (i : ℕ) (x : A)
 place_any test [] i x e h = absurd cc
 place_any test (y ∷ xs) zero x e h = or_left (test y) (list_any test xs) (let s : y ≡ x = cc in ap test s ∙ h)
 place_any test (y ∷ xs) (suc i) x e h = or_right (test y) (list_any test xs) (place_any test xs i x e h)
-

@@ -1,5 +1,5 @@
 -- The plan's table of jobs says what the workflow says.
-use Rattle.std.proofs.Common.{◌≡◌, ℕ, zero, suc, ◌<◌, Bool, true, false, not, ◌||◌, ◌&&◌, List, [], ◌∷◌, length, map, refl, sym, ap, ◌∙◌, nat_eq, arith}
+use Rattle.std.proofs.Common.{◌≡◌, ℕ, zero, suc, Bool, not, ◌&&◌, List, [], ◌∷◌, length, map, refl, ap, ◌∙◌, arith}
 use Rattle.std.specs.Prelude.{Option, slice_get, slice_index_or}
 use Rattle.outside.specs.declared.numbers.JobId.{JobId}
 use Rattle.outside.specs.declared.numbers.SiteId.{SiteId}
@@ -51,4 +51,3 @@ makes_are d p draft refined js f = any_same (λ (j : JobId). has (outputs p.jobs
 
 pub needs_are : (d : Draft) (p : Plan) → IsDraft d → IsRefined d p → (js : List JobId) (f : ℕ) → (kinds.uses p.jobs js f && not (kinds.makes p.jobs js f)) ≡ needs d js f
 needs_are d p draft refined js f = ap (λ (b : Bool). b && not (kinds.makes p.jobs js f)) (uses_are d p draft refined js f) ∙ ap (λ (b : Bool). uses d js f && not b) (makes_are d p draft refined js f)
-

@@ -1,9 +1,6 @@
 -- What tasks read and write are the plan's pairs, and each pair has a writer.
-use Rattle.std.proofs.Common.{◌≡◌, ℕ, ◌<◌, Bool, true, false, cond, not, ◌||◌, ◌&&◌, List, [], ◌∷◌, length, refl, sym, ap, ◌∙◌, nat_eq, arith, ◌⊎◌, inl, inr}
-use Rattle.std.specs.Prelude.{Option, Some, None, slice_get, slice_index_or}
-use Rattle.std.specs.List.{list_any}
-use Rattle.std.proofs.lemmas.Option.{get_or_from_slice_get, slice_get_within}
-use Rattle.outside.specs.declared.numbers.JobId.{JobId}
+use Rattle.std.proofs.Common.{◌≡◌, ℕ, Bool, true, false, not, ◌||◌, ◌&&◌, List, refl, sym, ap, ◌∙◌, nat_eq}
+use Rattle.std.specs.Prelude.{Option, Some, None, slice_get}
 use Rattle.plan_core.specs.declared.plan.Plan.{Plan}
 use Rattle.plan_core.specs.declared.plan.Pair.{Pair}
 use Rattle.plan_core.specs.declared.plan.PlanJob.{PlanJob}
@@ -14,12 +11,12 @@ use Rattle.transfer_refiner.specs.Tasks.{grid}
 use Rattle.plan_core.specs.Words.{kind, is_pair, pair_at}
 use Rattle.plan_core.specs.Kinds as kinds
 use Rattle.plan_core.specs.Kinds.{kind_reads, kind_writes, reads_file, writes_file}
-use Rattle.transfer_refiner.proofs.TestLemmas.{same_number, is_itself, both, and_both, either, or_left, or_right, not_true, by_bool}
-use Rattle.transfer_refiner.specs.Draft.{Draft, uses, makes, needs, site_of, made_at, needed_at, moves, stands, home, home_among, pfns_of, chosen, first_of}
+use Rattle.transfer_refiner.proofs.TestLemmas.{same_number, is_itself, both, and_both, by_bool}
+use Rattle.transfer_refiner.specs.Draft.{Draft, makes, needs, site_of, made_at, needed_at, moves, stands, home, pfns_of, chosen, first_of}
 use Rattle.transfer_refiner.specs.Tasks.{count_files, count_sites, source, run, transfer, delivery, pair_of, pairs_of}
 use Rattle.transfer_refiner.specs.Conditions.{IsDraft}
 use Rattle.transfer_refiner.specs.Refined.{IsRefined}
-use Rattle.transfer_refiner.proofs.SliceLemmas.{place_map, map_place, grid_place, place_grid, place_of_any, any_at_place}
+use Rattle.transfer_refiner.proofs.SliceLemmas.{place_map, map_place, grid_place, place_grid}
 use Rattle.transfer_refiner.proofs.SortLemmas.{Sort, a_run, a_transfer, a_delivery, the_run, the_transfer}
 use Rattle.transfer_refiner.proofs.PlanJobsLemmas.{makes_are, needs_are}
 use Rattle.transfer_refiner.proofs.StandingLemmas.{part_at, at_part, made_stands, needed_stands, moved_needed, home_made, stands_within, needed_within}

@@ -1,8 +1,7 @@
 -- The plan of a draft without a fault is proper.
-use Rattle.std.proofs.Common.{◌≡◌, ℕ, zero, suc, ◌+◌, ◌-◌, ◌<◌, ◌≤◌, ◌^◌, Bool, true, false, not, ◌||◌, ◌&&◌, List, [], ◌∷◌, length, map, refl, sym, ap, subst, ◌∙◌, ◌++◌, nat_eq, arith, ◌⊎◌, inl, inr}
+use Rattle.std.proofs.Common.{◌≡◌, ℕ, zero, suc, ◌+◌, ◌-◌, ◌<◌, ◌≤◌, ◌^◌, true, false, not, ◌||◌, List, [], ◌∷◌, length, map, refl, sym, ap, subst, ◌∙◌, ◌++◌, nat_eq, arith, ◌⊎◌, inl, inr}
 use Rattle.std.proofs.lemmas.Bool.{cases_lt}
-use Rattle.std.specs.Prelude.{Option, Some, None, Result, Ok, Err, IfOk, is_some, slice_get, slice_index_or}
-use Rattle.std.specs.List.{list_any}
+use Rattle.std.specs.Prelude.{Option, Some, None, Result, Ok, Err, IfOk, is_some, slice_get}
 use Rattle.outside.specs.declared.numbers.JobId.{JobId}
 use Rattle.workflow_core.specs.Requested.{is_requested}
 use Rattle.plan_core.specs.declared.plan.Pair.{Pair}
@@ -11,12 +10,12 @@ use Rattle.plan_core.specs.declared.plan.PlanFile.{PlanFile}
 use Rattle.plan_core.specs.declared.plan.Task.{Task}
 use Rattle.plan_core.specs.declared.plan.TaskKind.{TaskKind}
 use Rattle.plan_core.specs.Numbers.{has, below}
-use Rattle.plan_core.specs.Words.{kind, kind_in, reads, writes, writes_in, pair_numbers, is_pair, pair_at, cleans, kind_cleans, delivers, kind_delivers, declared, declared_in, count_pairs}
+use Rattle.plan_core.specs.Words.{kind, reads, writes, writes_in, pair_numbers, is_pair, pair_at, kind_cleans, delivers, kind_delivers, declared, declared_in, count_pairs}
 use Rattle.plan_core.specs.Kinds.{kind_reads, kind_writes, kind_carries, on_pair, writes_file, writes_pair}
 use Rattle.plan_core.specs.Proper.{is_written, is_parent, is_sequence_kind, IsProper, IsTask, HasFlow}
 use Rattle.plan_core.specs.Proper as proper
-use Rattle.transfer_refiner.specs.Draft.{Draft, makes, needs, uses, needed_at, moves, declared_of, sizes_of}
-use Rattle.transfer_refiner.specs.Tasks.{count_files, count_sites, grid, planned_file, files_of, used, is_made, first_fault}
+use Rattle.transfer_refiner.specs.Draft.{Draft, makes, needs, uses, needed_at, moves, declared_of}
+use Rattle.transfer_refiner.specs.Tasks.{count_files, count_sites, grid, planned_file, used, is_made, first_fault}
 use Rattle.transfer_refiner.specs.Conditions.{IsDraft}
 use Rattle.transfer_refiner.specs.Refined.{IsRefined, Refines}
 use Rattle.transfer_refiner.specs.declared.fault.RefineFault.{RefineFault}

@@ -1,5 +1,5 @@
 -- Rows of a graph rise.
-use Rattle.std.proofs.Common.{◌≡◌, ℕ, suc, ◌<◌, ◌≤◌, Bool, List, [], ◌∷◌, sym, arith, subst}
+use Rattle.std.proofs.Common.{◌≡◌, ℕ, suc, ◌<◌, Bool, List, [], ◌∷◌, sym, arith, subst}
 use Rattle.std.proofs.lemmas.List.Elements.{All-head}
 use Rattle.digraph.specs.Adjacency.{neighbours, IsRising, AreNeighbours}
 use Rattle.plan_core.specs.Numbers.{RisesFrom}

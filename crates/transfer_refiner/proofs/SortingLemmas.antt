@@ -1,7 +1,7 @@
 -- Numbers that were sorted, searched and taken out.
 use Rattle.std.proofs.Common.{◌≡◌, ℕ, zero, suc, ◌+◌, ◌<◌, ◌≤◌, Bool, true, false, not, cond, ◌&&◌, ◌||◌, List, [], ◌∷◌, ◌++◌, length, refl, sym, ap, ◌∙◌, nat_eq, nat_lt, arith, subst, get_or, nat_cmp, ◌⊎◌, inl, inr}
-use Rattle.std.specs.Prelude.{Option, Some, None, Result, Ok, Err, slice_index, slice_get, is_ok}
-use Rattle.std.specs.List.{list_any, flat_map, dedup, Contains}
+use Rattle.std.specs.Prelude.{Result, Ok, Err, slice_index, is_ok}
+use Rattle.std.specs.List.{dedup, Contains}
 use Rattle.std.specs.List.Sorted.{IsPermutation, IsSorted, IsStrictlyIncreasing, IsBinarySearchResult}
 use Rattle.std.specs.List.Retain.{IsFiltered, DiffersFromLast}
 use Rattle.std.specs.Result.{MatchResult}
@@ -14,8 +14,8 @@ use Rattle.std.proofs.lemmas.Map.Keys.{IsStrictlyIncreasing-dedup}
 use Rattle.std.proofs.lemmas.List.Folds.{list_any-append, list_any_at}
 use Rattle.plan_core.specs.Numbers.{has, RisesFrom}
 use Rattle.transfer_refiner.specs.Rising.{rises_after, is_rising, without}
-use Rattle.transfer_refiner.proofs.TestLemmas.{same_number, is_itself, not_itself, by_bool, or_left, or_right, both, and_both}
-use Rattle.transfer_refiner.proofs.PlaceLemmas.{any_place, place_any}
+use Rattle.transfer_refiner.proofs.TestLemmas.{same_number, is_itself, by_bool, both, and_both}
+use Rattle.transfer_refiner.proofs.PlaceLemmas.{any_place}
 
 below_test : (a b : ℕ) → nat_lt a b ≡ true → suc a ≤ b
 below_test a b h = grind arith

@@ -1,6 +1,6 @@
 -- Where files stand, and where they are made.
-use Rattle.std.proofs.Common.{◌≡◌, ℕ, ◌<◌, Bool, true, false, cond, not, ◌||◌, ◌&&◌, List, [], ◌∷◌, length, refl, sym, ap, ◌∙◌, nat_eq, arith, ◌⊎◌, inl, inr}
-use Rattle.std.specs.Prelude.{Option, Some, None, slice_get, slice_index_or}
+use Rattle.std.proofs.Common.{◌≡◌, ℕ, ◌<◌, Bool, true, false, cond, not, ◌||◌, ◌&&◌, List, [], ◌∷◌, length, refl, ap, ◌∙◌, nat_eq, arith, ◌⊎◌, inl, inr}
+use Rattle.std.specs.Prelude.{Some, None, slice_get, slice_index_or}
 use Rattle.std.specs.List.{list_any}
 use Rattle.std.proofs.lemmas.Option.{get_or_from_slice_get, slice_get_within}
 use Rattle.outside.specs.declared.numbers.JobId.{JobId}
@@ -92,4 +92,3 @@ home_none_at d (js ∷ parts) f h = by (makes d js f) refl h (λ k. home_none_at
 pub home_none : (d : Draft) (f : ℕ) → home d f ≡ None → list_any (λ (js : List JobId). makes d js f) d.parts ≡ false
 unfolding home
 home_none d f h = home_none_at d d.parts f h
-

@@ -1,5 +1,5 @@
 -- The tables of a draft's plan.
-use Rattle.std.proofs.Common.{◌≡◌, ℕ, zero, suc, ◌+◌, ◌<◌, ◌≤◌, ◌^◌, Bool, true, false, not, cond, ◌||◌, ◌&&◌, List, [], ◌∷◌, ◌++◌, length, map, take, get_or, refl, sym, ap, ◌∙◌, nat_eq, nat_lt, arith, subst, length-append, ◌⊎◌, inl, inr}
+use Rattle.std.proofs.Common.{◌≡◌, ℕ, zero, suc, ◌+◌, ◌<◌, ◌≤◌, ◌^◌, Bool, true, false, not, ◌||◌, ◌&&◌, List, [], ◌∷◌, ◌++◌, length, map, take, refl, sym, ap, ◌∙◌, nat_eq, nat_lt, arith, subst, length-append, inl, inr}
 use Rattle.std.specs.Prelude.{Option, Some, None, slice_get, slice_index_or}
 use Rattle.std.specs.Str.{bytes_eq}
 use Rattle.std.specs.Cmp.Lexicographic.{nat_list_eq_equiv}
@@ -24,12 +24,11 @@ use Rattle.plan_core.specs.declared.plan.TaskKind.{TaskKind}
 use Rattle.plan_core.specs.Numbers.{has, below}
 use Rattle.plan_core.specs.Words.{kind, kind_in, inputs_in, outputs_in, inputs, outputs, file_numbers, job_numbers}
 use Rattle.plan_core.specs.Proper.{is_site_below, are_files_below, are_jobs_below, is_source_below, is_pair_in_range, is_job_in_range, is_kind_in_range, IsInRange, is_before, rise_after, are_rising, HasTables}
-use Rattle.transfer_refiner.specs.Draft.{Draft, site_of, moves, stands, home, pfns_of, chosen, first_of, name_of}
-use Rattle.transfer_refiner.specs.Tasks.{count_files, count_sites, grid, source, pair_of, pairs_of, jobs_of, planned_site, planned_file, files_of, kinds_of, first_fault}
+use Rattle.transfer_refiner.specs.Draft.{Draft, site_of, stands, home, pfns_of, chosen, first_of, name_of}
+use Rattle.transfer_refiner.specs.Tasks.{count_files, count_sites, grid, source, pair_of, pairs_of, jobs_of, planned_site, planned_file, kinds_of, first_fault}
 use Rattle.transfer_refiner.specs.Conditions.{IsDraft}
 use Rattle.transfer_refiner.specs.Refined.{IsRefined}
 use Rattle.transfer_refiner.proofs.TestLemmas.{is_itself, both, and_both, not_true, or_left, or_right}
-use Rattle.transfer_refiner.proofs.NumbersLemmas.{below_more}
 use Rattle.transfer_refiner.proofs.SliceLemmas.{place_map, map_place, grid_place, any_at_place}
 use Rattle.transfer_refiner.proofs.SortLemmas.{Sort, a_run, a_transfer, a_delivery, sorted}
 use Rattle.transfer_refiner.proofs.JobsLemmas.{used_below, made_below}
@@ -84,8 +83,8 @@ kind_in_range d p draft refined t k (a_run js at is) =
     ∙ and_both (nat_lt (site_of d js) (length p.sites)) (are_jobs_below (length p.jobs) js)
     (low_true (site_of d js) (length p.sites) (let l : site_of d js < count_sites d = site_in_range d draft t (site_of d js) js at refl in omega (arith, l, count_sites_is d p refined)))
     (all_listed (λ (j : JobId). nat_lt j.0 (length p.jobs)) js (λ i j e. low_true j.0 (length p.jobs) (
-        let there : has (job_numbers js) j.0 ≡ true = any_at_place (λ y. nat_eq y j.0) (job_numbers js) i j.0 (map_place (λ (x : JobId). x.0) js i j e) (is_itself j.0) in
-        let l : j.0 < length d.workflow.jobs = draft.jobs_below t j.0 (ap (λ (ns : List ℕ). has ns j.0) (in_part d t js at) ∙ there) in omega (arith, l, count_jobs_is d p draft refined))))
+    let there : has (job_numbers js) j.0 ≡ true = any_at_place (λ y. nat_eq y j.0) (job_numbers js) i j.0 (map_place (λ (x : JobId). x.0) js i j e) (is_itself j.0) in
+    let l : j.0 < length d.workflow.jobs = draft.jobs_below t j.0 (ap (λ (ns : List ℕ). has ns j.0) (in_part d t js at) ∙ there) in omega (arith, l, count_jobs_is d p draft refined))))
 kind_in_range d p draft refined t k (a_transfer g s i l m moved is there place) =
     ap (is_kind_in_range p) (sym is)
     ∙ and_both (nat_lt g (length p.files)) (is_source_below (length p.sites) (source (home d g) (chosen d g s)) && nat_lt s (length p.sites)) (low_true g (length p.files) (omega (arith, l, count_files_is d p refined)))
@@ -165,7 +164,6 @@ new_apart known (n ∷ ns) h =
     others : (ms : List (List ℕ)) → Apart (known ++ n ∷ []) ms → AllByRecursion (λ y. bytes_eq n y ≡ false) ms
     others [] k = tt
     others (m ∷ ms) k = (same_bytes n m ∙ (split m k.0).1, others ms k.1)
-
 
 site_names_are : (es : List Execution) → map (λ (s : PlanSite). s.name) (map planned_site es) ≡ map (λ (e : Execution). e.site) es
 site_names_are [] = refl

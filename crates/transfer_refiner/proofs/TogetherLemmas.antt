@@ -1,5 +1,5 @@
 -- The parts of a plan put together.
-use Rattle.std.proofs.Common.{◌≡◌, ℕ, zero, suc, ◌+◌, ◌*◌, ◌^◌, ◌<◌, ◌≤◌, ◌||◌, Bool, true, false, cond, not, List, [], ◌∷◌, ◌++◌, length, map, refl, sym, ap, ◌∙◌, subst, nat_eq, arith, length-append, All}
+use Rattle.std.proofs.Common.{◌≡◌, ℕ, zero, suc, ◌+◌, ◌*◌, ◌<◌, ◌≤◌, ◌||◌, Bool, true, false, cond, not, List, [], ◌∷◌, ◌++◌, length, map, refl, sym, ap, ◌∙◌, subst, nat_eq, arith, length-append, All}
 use Rattle.std.specs.Prelude.{Err, None, Option, Some, is_some, nat_lt, option_map, slice_get}
 use Rattle.std.specs.List.{list_any}
 use Rattle.std.proofs.Math.Nat.{mul-le-mul_left}
@@ -7,7 +7,6 @@ use Rattle.std.proofs.lemmas.List.{length-map}
 use Rattle.std.proofs.lemmas.List.Elements.{All-get_or}
 use Rattle.std.proofs.lemmas.List.Folds.{list_any-append}
 use Rattle.std.proofs.lemmas.Option.{get_or_from_slice_get}
-use Rattle.outside.specs.declared.numbers.JobId.{JobId}
 use Rattle.workflow_core.specs.Requested.{is_requested}
 use Rattle.plan_core.specs.declared.plan.Plan.{Plan}
 use Rattle.plan_core.specs.declared.plan.Pair.{Pair}
@@ -16,7 +15,7 @@ use Rattle.plan_core.specs.declared.plan.Task.{Task}
 use Rattle.plan_core.specs.declared.plan.TaskKind.{TaskKind}
 use Rattle.plan_core.specs.Kinds.{on_pair, kind_reads, kind_writes, sweeps, task_waits, waits_for}
 use Rattle.plan_core.specs.Numbers.{has, below, least, or_else}
-use Rattle.plan_core.specs.Words.{is_clean_kind, kind_in, reads_in, writes_in, parents_in, kind, reads, writes, parents, pair_at}
+use Rattle.plan_core.specs.Words.{is_clean_kind, kind_in, reads_in, writes_in, kind, reads, writes, parents, pair_at}
 use Rattle.transfer_refiner.specs.declared.fault.RefineFault.{RefineFault}
 use Rattle.transfer_refiner.specs.declared.fault.RefineFault.TheVariants.{NoReplica, NoSize, TooMany, Memory}
 use Rattle.transfer_refiner.specs.Draft.{Draft, moves, stands, name_of, declared_of}
@@ -173,7 +172,6 @@ pub written_low : (jobs : List PlanJob) (pairs : List Pair) (bare : List Task) �
 written_low jobs pairs bare listed t q h =
     (below_has (length pairs) (λ q. on_pair (kind_writes jobs (kind_in (slice_get bare t))) (slice_get pairs q)) q (ap (λ (ns : List ℕ). has ns q) (sym (bare_writes jobs pairs bare listed t (task_below bare t q h))) ∙ h)).0
 
-
 map_none : {A : Type 0} (g : A → TaskKind) → ((x : A) → is_clean_kind (Some (g x)) ≡ false) → (xs : List A) → list_any (λ (k : TaskKind). is_clean_kind (Some k)) (map g xs) ≡ false
 map_none g none [] = refl
 map_none g none (x ∷ xs) = ap (λ (b : Bool). b || list_any (λ (k : TaskKind). is_clean_kind (Some k)) (map g xs)) (none x) ∙ map_none g none xs
@@ -198,8 +196,8 @@ no_cleans d bare is u = by (slice_get bare u) refl
     by None e = refl
     by (Some x) e = by_bool (is_clean_kind (Some x.kind))
         (λ h. absurd (
-            let there : list_any (λ (k : TaskKind). is_clean_kind (Some k)) (map (λ (t : Task). t.kind) bare) ≡ true = any_at_place (λ (k : TaskKind). is_clean_kind (Some k)) (map (λ (t : Task). t.kind) bare) u x.kind (map_place (λ (t : Task). t.kind) bare u x e) h in
-            let z : false ≡ true = sym (none_cleans d) ∙ ap (list_any (λ (k : TaskKind). is_clean_kind (Some k))) (sym is) ∙ there in cc))
+        let there : list_any (λ (k : TaskKind). is_clean_kind (Some k)) (map (λ (t : Task). t.kind) bare) ≡ true = any_at_place (λ (k : TaskKind). is_clean_kind (Some k)) (map (λ (t : Task). t.kind) bare) u x.kind (map_place (λ (t : Task). t.kind) bare u x e) h in
+        let z : false ≡ true = sym (none_cleans d) ∙ ap (list_any (λ (k : TaskKind). is_clean_kind (Some k))) (sym is) ∙ there in cc))
         (λ h. h)
 
 pub stated_low : (d : Draft) (bare : List Task) (e : ℕ → ℕ → Bool) → map (λ (t : Task). t.kind) bare ≡ kinds_of d → ((u t : ℕ) → e u t ≡ comes_after d t u) → (u v : ℕ) → e u v ≡ true → u < length bare

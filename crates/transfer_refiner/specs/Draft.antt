@@ -1,5 +1,5 @@
 -- What is planned: a workflow whose jobs are clustered and placed. Which files its parts make and need, where, and where each comes from.
-use Rattle.std.specs.Prelude.{ℕ, ◌==◌, ◌&&◌, ◌||◌, Bool, true, false, not, List, [], ◌∷◌, if◌then◌else◌, find, Option, Some, None, option_and_then, slice_get, slice_index_or}
+use Rattle.std.specs.Prelude.{ℕ, ◌==◌, ◌&&◌, ◌||◌, Bool, true, false, not, List, [], ◌∷◌, if◌then◌else◌, find, Option, Some, None, slice_get, slice_index_or}
 use Rattle.std.specs.List.{list_any}
 use Rattle.std.specs.Str.{bytes_eq}
 use Rattle.outside.specs.declared.numbers.JobId.{JobId}

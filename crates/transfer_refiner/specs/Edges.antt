@@ -1,12 +1,8 @@
 -- Lists of edges: who holds a job, where files stand, which parts follow each other.
-use Rattle.std.specs.Prelude.{ℕ, zero, suc, ◌==◌, Bool, not, cond, max, List, [], ◌∷◌, ◌++◌, length, map, slice_index_or}
+use Rattle.std.specs.Prelude.{ℕ, zero, suc, ◌==◌, not, cond, List, [], ◌∷◌, ◌++◌, map}
 use Rattle.std.specs.List.{flat_map}
 use Rattle.outside.specs.declared.numbers.JobId.{JobId}
-use Rattle.outside.specs.declared.numbers.FileId.{FileId}
-use Rattle.workflow_core.specs.declared.workflow.Job.{Job}
-use Rattle.workflow_core.specs.declared.workflow.Output.{Output}
 use Rattle.workflow_core.specs.declared.workflow.Workflow.{Workflow}
-use Rattle.workflow_core.specs.WellFormed.{before, after}
 use Rattle.dependency_graph.specs.Edges.{read_by, written_by}
 use Rattle.transfer_refiner.specs.Draft.{Draft, site_of}
 use Rattle.transfer_refiner.specs.Tasks.{part_of}

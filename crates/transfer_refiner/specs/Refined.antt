@@ -1,11 +1,10 @@
 -- The plan of a draft.
-use Rattle.std.specs.Prelude.{◌≡◌, ℕ, ◌<◌, ◌||◌, map, Option, Some, None, Result, Ok, Err}
+use Rattle.std.specs.Prelude.{◌≡◌, ℕ, ◌<◌, ◌||◌, map, Some, None, Result, Ok, Err}
 use Rattle.plan_core.specs.declared.plan.Plan.{Plan}
 use Rattle.plan_core.specs.declared.plan.Task.{Task}
 use Rattle.plan_core.specs.Numbers.{below}
 use Rattle.plan_core.specs.Words.{reads, writes, parents, count_tasks, count_pairs}
 use Rattle.plan_core.specs.Kinds.{reads_pair, writes_pair, waits_for}
-use Rattle.plan_core.specs.Proper.{IsProper}
 use Rattle.transfer_refiner.specs.declared.fault.RefineFault.{RefineFault}
 use Rattle.transfer_refiner.specs.declared.fault.RefineFault.TheVariants.{NoReplica, NoSize, TooMany, Memory}
 use Rattle.transfer_refiner.specs.Draft.{Draft}

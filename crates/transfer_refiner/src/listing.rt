@@ -52,7 +52,11 @@ pub fn pairs_of(alloc: Global, view: &View<'_>, tables: &Tables) -> Result<Items
 {
     let mut pairs = Vec::new(alloc);
     for site in 0..view.request.execute.as_slice().len() {
-        push_pairs(&mut pairs, SiteId(site as u32), files_at(view, tables, site as u32))?;
+        push_pairs(
+            &mut pairs,
+            SiteId(site as u32),
+            files_at(view, tables, site as u32),
+        )?;
     }
     Ok(Items::new(pairs))
 }

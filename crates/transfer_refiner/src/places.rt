@@ -83,12 +83,7 @@ fn push_number(list: &mut Vec<u32>, number: Option<u32>) -> Result<(), Memory>
     Ok(())
 }
 
-fn push_place(
-    list: &mut Vec<u32>,
-    places: &Places<'_>,
-    site: u32,
-    file: u32,
-) -> Result<(), Memory>
+fn push_place(list: &mut Vec<u32>, places: &Places<'_>, site: u32, file: u32) -> Result<(), Memory>
     ensures { OnOk result (list.new.items ≡ list.old.items ++ place_of places.now site file) }
 {
     let number = places.number(site, file);

@@ -71,7 +71,14 @@ fn plan_of(
     let files = files_of(alloc, view, tables)?;
     let jobs = jobs_of(alloc, view)?;
     let pairs = pairs_of(alloc, view, tables)?;
-    let tasks = all_tasks(alloc, view, tables, jobs.as_slice(), pairs.as_slice(), kinds)?;
+    let tasks = all_tasks(
+        alloc,
+        view,
+        tables,
+        jobs.as_slice(),
+        pairs.as_slice(),
+        kinds,
+    )?;
     Ok(Plan {
         workflow,
         sites,

@@ -1,4 +1,4 @@
-use Rattle.std.proofs.Common.{◌≡◌, ℕ, true, map}
+use Rattle.std.proofs.Common.{◌≡◌, true, map}
 use Rattle.plan_core.specs.Numbers.{below}
 use Rattle.transfer_refiner.specs.Tasks.{planned_file}
 use Rattle.transfer_refiner.specs.View.{draft_of}

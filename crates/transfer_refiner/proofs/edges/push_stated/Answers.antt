@@ -1,4 +1,4 @@
-use Rattle.std.proofs.Common.{◌∙◌, ℕ}
+use Rattle.std.proofs.Common.{◌∙◌}
 use Rattle.workflow_core.specs.WellFormed.{before, after}
 use Rattle.transfer_refiner.specs.View.{draft_of}
 use Rattle.transfer_refiner.proofs.EdgesLemmas.{stated_pair}

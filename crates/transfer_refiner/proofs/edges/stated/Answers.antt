@@ -1,4 +1,4 @@
-use Rattle.std.proofs.Common.{ap, ◌∙◌, ◌≡◌, ℕ, List, refl, length}
+use Rattle.std.proofs.Common.{ap, ◌∙◌, refl}
 use Rattle.std.specs.List.{list_any}
 use Rattle.transfer_refiner.specs.View.{draft_of}
 use Rattle.transfer_refiner.proofs.EdgesLemmas.{is_edge, stated_within}

@@ -1,5 +1,4 @@
-use Rattle.std.proofs.Common.{◌∙◌, ◌≡◌, ap, subst, sym, List, ℕ}
-use Rattle.plan_core.specs.Numbers.{has, RisesFrom}
+use Rattle.std.proofs.Common.{◌∙◌}
 use Rattle.transfer_refiner.specs.View.{draft_of}
 use Rattle.transfer_refiner.proofs.LackingLemmas.{asked_is}
 use Rattle.transfer_refiner.proofs.MovingLemmas.{requested_rises}

@@ -1,5 +1,4 @@
 use Rattle.std.proofs.Common.{◌∙◌, ap}
-use Rattle.std.specs.Prelude.{is_some}
 use Rattle.transfer_refiner.specs.View.{draft_of}
 use Rattle.transfer_refiner.specs.Draft.{is_empty}
 use Rattle.transfer_refiner.proofs.LackingLemmas.{replica_lacks, is_some_map}

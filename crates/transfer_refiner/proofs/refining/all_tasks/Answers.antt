@@ -1,4 +1,4 @@
-use Rattle.std.proofs.Common.{◌≡◌, ◌≤◌, ◌∙◌, sym, ap, ℕ, List, length, map, arith, subst, All}
+use Rattle.std.proofs.Common.{◌≤◌, ◌∙◌, sym, ap, ℕ, length, map, arith, subst, All}
 use Rattle.digraph.specs.Digraph.{edge}
 use Rattle.plan_core.specs.declared.plan.Task.{Task}
 use Rattle.transfer_refiner.specs.View.{draft_of}

@@ -1,4 +1,4 @@
-use Rattle.std.proofs.Common.{◌≡◌, ◌≤◌, ◌∙◌, sym, length, arith}
+use Rattle.std.proofs.Common.{◌≤◌, ◌∙◌, sym, length, arith}
 use Rattle.transfer_refiner.specs.View.{draft_of}
 use Rattle.transfer_refiner.specs.Tasks.{kinds_of}
 use Rattle.transfer_refiner.proofs.TogetherLemmas.{few_moved, few_requested, kinds_long, count_small}

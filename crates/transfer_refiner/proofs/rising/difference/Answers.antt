@@ -1,4 +1,4 @@
-use Rattle.std.proofs.Common.{◌≡◌, ◌&&◌, ℕ, List, not, ap, ◌∙◌, sym, subst}
+use Rattle.std.proofs.Common.{ℕ, List, ap, ◌∙◌, sym, subst}
 use Rattle.plan_core.specs.Numbers.{has, RisesFrom}
 use Rattle.transfer_refiner.proofs.SortingLemmas.{without_rises, without_same}
 use Rattle.transfer_refiner.proofs.rising.difference.Goals as goal

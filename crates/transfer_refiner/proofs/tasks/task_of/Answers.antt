@@ -1,6 +1,4 @@
-use Rattle.std.proofs.Common.{◌∙◌, ap, ◌≡◌, sym, subst}
 use Rattle.std.specs.Prelude.{Some}
-use Rattle.plan_core.specs.declared.plan.TaskKind.{TaskKind}
 use Rattle.plan_core.specs.Kinds.{kind_reads, kind_writes}
 use Rattle.transfer_refiner.proofs.ListedLemmas.{listed_of}
 use Rattle.transfer_refiner.proofs.tasks.task_of.Goals as goal

@@ -1,4 +1,4 @@
-use Rattle.std.proofs.Common.{◌∙◌, arith}
+use Rattle.std.proofs.Common.{◌∙◌}
 use Rattle.transfer_refiner.proofs.WritersLemmas.{writers_are, writers_within}
 use Rattle.transfer_refiner.proofs.waiting.writers.Goals as goal
 
