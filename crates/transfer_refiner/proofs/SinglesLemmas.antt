@@ -1,5 +1,5 @@
 -- Single jobs that are placed make a draft.
-use Rattle.std.proofs.Common.{◌≡◌, ℕ, zero, suc, ◌<◌, ◌≤◌, ◌==◌, Bool, true, false, not, ◌&&◌, ◌||◌, nat_eq, List, [], ◌∷◌, ◌++◌, map, length, refl, sym, ap, subst, ◌∙◌, arith}
+use Rattle.std.proofs.Common.{◌≡◌, ℕ, zero, suc, ◌<◌, ◌≤◌, Bool, true, false, ◌||◌, nat_eq, List, [], ◌∷◌, ◌++◌, length, refl, sym, ap, subst, ◌∙◌, arith}
 use Rattle.std.specs.Prelude.{Option, Some, None, option_map, slice_get, slice_index_or}
 use Rattle.std.specs.List.{list_any}
 use Rattle.std.proofs.lemmas.Option.{slice_get-map}
@@ -36,6 +36,7 @@ part_is js c = by (slice_get js c) refl
   where
     at : slice_get (singles js) c ≡ option_map single (slice_get js c)
     at = slice_get-map single js c
+
     by : (o : Option JobId) → slice_get js c ≡ o → PartIs js c
     by None e = Empty (list_none (singles js) c [] (at ∙ ap (option_map single) e))
     by (Some j) e = One j e (list_at (singles js) c (single j) [] (at ∙ ap (option_map single) e))
@@ -109,10 +110,11 @@ single_ordered d i none done later j e f h k = by (only_split i j done later e)
     made : (b : Bool) → (b || false) ≡ true → b ≡ true
     made true l = refl
     made false l = absurd cc
+
     by : OnlySplit i j done later → list_any (λ (x : JobId). has (written_by d.workflow x.0) f) done ≡ true
     by (Only u l m) =
-      let written : has (written_by d.workflow j.0) f ≡ true = subst (λ (x : JobId). has (written_by d.workflow x.0) f ≡ true) m (made (has (written_by d.workflow i.0) f) k) in
-      absurd (none j.0 (zero, (j.0, passes_itself d.workflow j.0 f h written, refl)))
+        let written : has (written_by d.workflow j.0) f ≡ true = subst (λ (x : JobId). has (written_by d.workflow x.0) f ≡ true) m (made (has (written_by d.workflow i.0) f) k) in
+        absurd (none j.0 (zero, (j.0, passes_itself d.workflow j.0 f h written, refl)))
 
 empty_ordered : (d : Draft) → IsOrdered d []
 empty_ordered d done later j e f h k = absurd (no_split j done later e)
@@ -138,8 +140,10 @@ parts_lead w js a b = by (part_is js a) (part_is js b)
   where
     pa : List JobId
     pa = slice_index_or (singles js) a []
+
     pb : List JobId
     pb = slice_index_or (singles js) b []
+
     by : PartIs js a → PartIs js b → Leads w pa pb
     by (One i e k) (One j f l) = subst (λ (xs : List JobId). Leads w xs pb) (sym k) (subst (Leads w (single i)) (sym l) (one_leads w i j))
     by (One i e k) (Empty l) = subst (λ (xs : List JobId). Leads w xs pb) (sym k) (subst (Leads w (single i)) (sym l) (λ h. absurd cc))
@@ -170,13 +174,14 @@ has_site w js sites rs r p c l = by (part_is js c)
   where
     d : Draft
     d = draft w js sites rs r
+
     by : PartIs js c → site_of d (slice_index_or (singles js) c []) < length r.execute
     by (Empty k) = absurd omega (arith, l, length_map_ js, nowhere js c k)
     by (One j e k) =
-      let s = (p.placed c j e).0 in
-      let is : slice_get sites j.0 ≡ Some (Some s) = (p.placed c j e).1 in
-      let small : site_in (slice_get sites j.0) < length r.execute = subst (λ (o : Option (Option SiteId)). site_in o < length r.execute) (sym is) (p.sites_below j.0 s is) in
-      subst (λ (xs : List JobId). site_of d xs < length r.execute) (sym k) small
+        let s = (p.placed c j e).0 in
+        let is : slice_get sites j.0 ≡ Some (Some s) = (p.placed c j e).1 in
+        let small : site_in (slice_get sites j.0) < length r.execute = subst (λ (o : Option (Option SiteId)). site_in o < length r.execute) (sym is) (p.sites_below j.0 s is) in
+        subst (λ (xs : List JobId). site_of d xs < length r.execute) (sym k) small
 
 one_part_each : (w : Workflow) (js : List JobId) (sites : List (Option SiteId)) (r : PlanRequest) → ArePlaced w r sites js → (a b j : ℕ) → Holds js a j → Holds js b j → a ≡ b
 one_part_each w js sites r p a b j (Held i e k) (Held m f l) = p.once a b i m e f (k ∙ sym l)
@@ -203,6 +208,7 @@ single_draft w js sites rs r p = record {
   where
     d : Draft
     d = draft w js sites rs r
+
     ordered_ : (c : ℕ) → IsOrdered d (slice_index_or (singles js) c [])
     ordered_ c = by (part_is js c)
       where

@@ -15,11 +15,11 @@ use Rattle.plan_core.specs.declared.plan.Task.{Task}
 use Rattle.plan_core.specs.declared.plan.TaskKind.{TaskKind}
 use Rattle.plan_core.specs.Kinds.{on_pair, kind_reads, kind_writes, sweeps, task_waits, waits_for}
 use Rattle.plan_core.specs.Numbers.{has, below, least, or_else}
-use Rattle.plan_core.specs.Words.{is_clean_kind, kind_in, reads_in, writes_in, kind, reads, writes, parents, pair_at}
+use Rattle.plan_core.specs.Words.{count_pairs, count_tasks, is_clean_kind, kind_in, reads_in, writes_in, kind, reads, writes, parents, pair_at}
 use Rattle.transfer_refiner.specs.declared.fault.RefineFault.{RefineFault}
 use Rattle.transfer_refiner.specs.declared.fault.RefineFault.TheVariants.{NoReplica, NoSize, TooMany, Memory}
 use Rattle.transfer_refiner.specs.Draft.{Draft, moves, stands, name_of, declared_of}
-use Rattle.transfer_refiner.specs.Tasks.{comes_after, count_files, count_sites, delivery, files_of, first_fault, grid, jobs_of, is_made, kinds_of, lacks_replica, lacks_size, pair_of, pairs_of, planned_site, run, too_many, transfer, used}
+use Rattle.transfer_refiner.specs.Tasks.{comes_after, count_all, count_cleans, count_files, count_sites, delivery, files_of, first_fault, grid, jobs_of, is_made, kinds_of, lacks_replica, lacks_size, pair_of, pairs_of, planned_site, run, too_many, transfer, used}
 use Rattle.transfer_refiner.specs.Conditions.{IsDraft}
 use Rattle.transfer_refiner.specs.Refined.{IsRefined, Refines}
 use Rattle.transfer_refiner.specs.Places.{AreOnce}
@@ -229,12 +229,32 @@ not_many count limit e = by (nat_lt limit count) refl e
     by true h k = absurd cc
     by false h k = grind arith
 
-pub count_small : (d : Draft) (limit : ℕ) → first_fault d limit ≡ None → length (kinds_of d) ≤ limit
+all_small : (d : Draft) (limit : ℕ) → first_fault d limit ≡ None → count_all d ≤ limit
 unfolding first_fault
+all_small d limit e =
+    not_many (count_all d) limit
+    (or_second (option_map (λ f. NoSize (name_of d f)) (least (count_files d) (lacks_size d))) (too_many (count_all d) limit)
+    (or_second (option_map (λ f. NoReplica (name_of d f)) (least (count_files d) (lacks_replica d))) (or_else (option_map (λ f. NoSize (name_of d f)) (least (count_files d) (lacks_size d))) (too_many (count_all d) limit)) e))
+
+pub count_small : (d : Draft) (limit : ℕ) → first_fault d limit ≡ None → length (kinds_of d) ≤ limit
+unfolding count_all
 count_small d limit e =
-    not_many (length (kinds_of d)) limit
-    (or_second (option_map (λ f. NoSize (name_of d f)) (least (count_files d) (lacks_size d))) (too_many (length (kinds_of d)) limit)
-    (or_second (option_map (λ f. NoReplica (name_of d f)) (least (count_files d) (lacks_replica d))) (or_else (option_map (λ f. NoSize (name_of d f)) (least (count_files d) (lacks_size d))) (too_many (length (kinds_of d)) limit)) e))
+    let small : length (kinds_of d) + count_cleans d.request.cleanup (length (pairs_of d)) ≤ limit = all_small d limit e in
+    omega (arith, small)
+
+pub count_is : (d : Draft) (a b : ℕ) (pairs : List Pair) → a ≡ length (kinds_of d) → b ≡ count_cleans d.request.cleanup (length pairs) → pairs ≡ pairs_of d → a + b ≡ count_all d
+unfolding count_all
+count_is d a b pairs tasks cleans is =
+    let same : b ≡ count_cleans d.request.cleanup (length (pairs_of d)) = cleans ∙ ap (λ (ps : List Pair). count_cleans d.request.cleanup (length ps)) is in
+    omega (arith, tasks, same)
+
+pub cleans_counted : (d : Draft) (limit : ℕ) (p : Plan) → first_fault d limit ≡ None → IsRefined d p → count_tasks p + count_cleans d.request.cleanup (count_pairs p) ≤ limit
+unfolding count_all
+cleans_counted d limit p e is =
+    let small : length (kinds_of d) + count_cleans d.request.cleanup (length (pairs_of d)) ≤ limit = all_small d limit e in
+    let tasks : count_tasks p ≡ length (kinds_of d) = bare_long d p.tasks (kinds_of d) is.kinds in
+    let cleans : count_cleans d.request.cleanup (count_pairs p) ≡ count_cleans d.request.cleanup (length (pairs_of d)) = ap (λ (ps : List Pair). count_cleans d.request.cleanup (length ps)) is.pairs in
+    omega (arith, small, tasks, cleans)
 
 pub range_of : (jobs : List PlanJob) (places pairs : List Pair) (bare ts : List Task) → All (IsListed jobs places) bare → ts ≡ bare → places ≡ pairs → (t q : ℕ) → has (writes_in (slice_get ts t)) q ≡ true → q < length pairs
 range_of jobs places pairs bare ts listed is same t q h = subst (λ (qs : List Pair). q < length qs) same (written_low jobs places ts (subst (All (IsListed jobs places)) (sym is) listed) t q h)
@@ -253,8 +273,8 @@ unfolding first_fault lacks_size
 no_size d limit e f l h =
     by (is_some (declared_of d f)) refl (none_least (count_files d) (lacks_size d)
     (fault_none (least (count_files d) (lacks_size d)) (λ f. NoSize (name_of d f))
-    (or_first (option_map (λ f. NoSize (name_of d f)) (least (count_files d) (lacks_size d))) (too_many (length (kinds_of d)) limit)
-    (or_second (option_map (λ f. NoReplica (name_of d f)) (least (count_files d) (lacks_replica d))) (or_else (option_map (λ f. NoSize (name_of d f)) (least (count_files d) (lacks_size d))) (too_many (length (kinds_of d)) limit)) e))) f l)
+    (or_first (option_map (λ f. NoSize (name_of d f)) (least (count_files d) (lacks_size d))) (too_many (count_all d) limit)
+    (or_second (option_map (λ f. NoReplica (name_of d f)) (least (count_files d) (lacks_replica d))) (or_else (option_map (λ f. NoSize (name_of d f)) (least (count_files d) (lacks_size d))) (too_many (count_all d) limit)) e))) f l)
   where
     by : (b : Bool) → is_some (declared_of d f) ≡ b → lacks_size d f ≡ false → is_some (declared_of d f) ≡ true
     by true g none = g

@@ -1,5 +1,5 @@
 -- The tables of a draft's plan, its tasks in order, and the first fault.
-use Rattle.std.specs.Prelude.{ℕ, zero, suc, ◌==◌, ◌&&◌, ◌||◌, Bool, true, not, List, [], ◌∷◌, ◌++◌, length, map, if◌then◌else◌, Option, Some, None, is_some, option_and_then, option_map, slice_index_or, nat_lt}
+use Rattle.std.specs.Prelude.{ℕ, zero, suc, ◌+◌, ◌==◌, ◌&&◌, ◌||◌, Bool, true, not, List, [], ◌∷◌, ◌++◌, length, map, if◌then◌else◌, Option, Some, None, is_some, option_and_then, option_map, slice_index_or, nat_lt}
 use Rattle.std.specs.List.{list_any}
 use Rattle.outside.specs.declared.numbers.JobId.{JobId}
 use Rattle.outside.specs.declared.numbers.SiteId.{SiteId}
@@ -9,6 +9,8 @@ use Rattle.workflow_core.specs.declared.workflow.Workflow.{Workflow}
 use Rattle.workflow_core.specs.WellFormed.{before, after}
 use Rattle.workflow_core.specs.Requested.{is_requested}
 use Rattle.replica_catalog.specs.declared.catalog.Replica.{Replica}
+use Rattle.plan_request.specs.declared.request.Cleanup.{Cleanup}
+use Rattle.plan_request.specs.declared.request.Cleanup.TheVariants.{None as NoCleanup, Inplace, Constraint}
 use Rattle.plan_request.specs.declared.request.Execution.{Execution}
 use Rattle.plan_request.specs.declared.request.ToolOf.{ToolOf}
 use Rattle.plan_request.specs.JobTools.{tool_of}
@@ -117,6 +119,16 @@ lacks_replica d f = used d f && (not (is_made d f) && is_empty (pfns_of d f))
 unfoldable pub lacks_size : Draft → ℕ → Bool
 lacks_size d f = (used d f || (is_made d f || is_requested d.workflow f)) && not (is_some (declared_of d f))
 
+-- how many Cleans a strategy adds to so many pairs
+abbrev pub count_cleans : Cleanup → ℕ → ℕ
+count_cleans NoCleanup n = 0
+count_cleans Inplace n = n
+count_cleans Constraint n = n
+
+-- how many tasks there are with the Cleans that are added later
+unfoldable pub count_all : Draft → ℕ
+count_all d = length (kinds_of d) + count_cleans d.request.cleanup (length (pairs_of d))
+
 abbrev pub too_many : ℕ → ℕ → Option RefineFault
 too_many count limit = if nat_lt limit count then Some (TooMany count limit) else None
 
@@ -125,4 +137,4 @@ unfoldable pub first_fault : Draft → ℕ → Option RefineFault
 first_fault d limit =
     or_else (option_map (λ f. NoReplica (name_of d f)) (least (count_files d) (lacks_replica d)))
     (or_else (option_map (λ f. NoSize (name_of d f)) (least (count_files d) (lacks_size d)))
-    (too_many (length (kinds_of d)) limit))
+    (too_many (count_all d) limit))

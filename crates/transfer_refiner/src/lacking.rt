@@ -9,7 +9,7 @@ ghost use Rattle.transfer_refiner.specs.declared.fault.RefineFault.TheVariants.{
 ghost use Rattle.transfer_refiner.specs.Conditions.{IsDraft};
 ghost use Rattle.transfer_refiner.specs.Draft.{is_empty, name_of};
 ghost use Rattle.transfer_refiner.specs.Tables.{AreTables};
-ghost use Rattle.transfer_refiner.specs.Tasks.{count_files, is_made, kinds_of, used, lacks_replica, lacks_size, too_many, first_fault};
+ghost use Rattle.transfer_refiner.specs.Tasks.{count_all, count_files, is_made, used, lacks_replica, lacks_size, too_many, first_fault};
 ghost use Rattle.transfer_refiner.specs.View.{draft_of};
 
 use crate::fault::RefineFault;
@@ -174,7 +174,7 @@ pub fn first_fault(
     requires draft { IsDraft (draft_of view.now) }
     requires graph { IsGraphOf view.now.workflow.now view.now.graph.now }
     requires tables { AreTables (draft_of view.now) tables.now }
-    requires count { count ≡ length (kinds_of (draft_of view.now)) }
+    requires count { count ≡ count_all (draft_of view.now) }
     ensures { IfOk result (λ o. o ≡ first_fault (draft_of view.now) limit) }
 {
     if let Some(fault) = replica_fault(alloc, view, tables)? {

@@ -25,6 +25,6 @@ mod waiting;
 
 pub use clusters::Clusters;
 pub use fault::RefineFault;
-pub use law::refined_plan_is_proper;
+pub use law::{cleans_are_counted, refined_plan_is_proper};
 pub use refining::refine;
 pub use singles::{single_jobs, single_jobs_are_a_draft};

@@ -8,7 +8,7 @@ ghost use Rattle.transfer_refiner.specs.Steps.{AreTasks};
 ghost use Rattle.transfer_refiner.specs.Tables.{AreTables};
 ghost use Rattle.plan_core.specs.Proper.{IsProper};
 ghost use Rattle.transfer_refiner.specs.Draft.{moves, planned};
-ghost use Rattle.transfer_refiner.specs.Tasks.{count_files, count_sites, grid, kinds_of, pairs_of};
+ghost use Rattle.transfer_refiner.specs.Tasks.{count_all, count_cleans, count_files, count_sites, grid, kinds_of, pairs_of};
 ghost use Rattle.transfer_refiner.specs.View.{draft_of};
 
 use crate::clusters::Clusters;
@@ -25,7 +25,7 @@ use crate::waiting::{with_parents, writers};
 use dependency_graph::Graph;
 use outside::{Items, Memory, SiteId};
 use plan_core::{Pair, Plan, PlanJob, Task, TaskKind};
-use plan_request::PlanRequest;
+use plan_request::{Cleanup, PlanRequest};
 use replica_catalog::{ReplicaCatalog, Replicas};
 use std::alloc::Global;
 use workflow_core::Workflow;
@@ -58,10 +58,12 @@ fn plan_of(
     alloc: Global,
     view: &View<'_>,
     tables: &Tables,
+    pairs: Items<Pair>,
     kinds: &[TaskKind],
 ) -> Result<Plan, Memory>
     requires draft { IsDraft (draft_of view.now) }
     requires tables { AreTables (draft_of view.now) tables.now }
+    requires pairs { pairs ≡ pairs_of (draft_of view.now) }
     requires kinds { kinds.now ≡ kinds_of (draft_of view.now) }
     requires few { length kinds.now < 2 ^ 32 }
     ensures { IfOk result (λ p. IsRefined (draft_of view.now) p) }
@@ -70,7 +72,6 @@ fn plan_of(
     let sites = sites_of(alloc, view.request.execute.as_slice())?;
     let files = files_of(alloc, view, tables)?;
     let jobs = jobs_of(alloc, view)?;
-    let pairs = pairs_of(alloc, view, tables)?;
     let tasks = all_tasks(
         alloc,
         view,
@@ -100,21 +101,46 @@ fn count_tasks(view: &View<'_>, moved: &[(u32, u32)], requested: &[u32]) -> u64
     view.parts.len() as u64 + (moved.len() as u64 + requested.len() as u64)
 }
 
+/// How many Cleans are added later.
+fn count_cleans(cleanup: &Cleanup, pairs: &[Pair]) -> u64
+    ensures { result ≡ count_cleans cleanup.now (length pairs.now) }
+{
+    match cleanup {
+        Cleanup::None => 0,
+        Cleanup::Inplace | Cleanup::Constraint => pairs.len() as u64,
+    }
+}
+
+/// How many tasks there are with the Cleans that are added later.
+fn count_all(view: &View<'_>, tables: &Tables, moved: &[(u32, u32)], pairs: &[Pair]) -> u64
+    requires draft { IsDraft (draft_of view.now) }
+    requires tables { AreTables (draft_of view.now) tables.now }
+    requires moved { moved.now ≡ grid (count_files (draft_of view.now)) (count_sites (draft_of view.now)) (moves (draft_of view.now)) }
+    requires pairs { pairs.now ≡ pairs_of (draft_of view.now) }
+    ensures { result ≡ count_all (draft_of view.now) }
+{
+    let tasks = count_tasks(view, moved, &tables.requested);
+    let cleans = count_cleans(&view.request.cleanup, pairs);
+    tasks + cleans
+}
+
 fn plan_without_fault(
     alloc: Global,
     view: &View<'_>,
     tables: &Tables,
     moved: &[(u32, u32)],
+    pairs: Items<Pair>,
 ) -> Result<Plan, Memory>
     requires draft { IsDraft (draft_of view.now) }
     requires graph { IsGraphOf view.now.workflow.now view.now.graph.now }
     requires tables { AreTables (draft_of view.now) tables.now }
     requires moved { moved.now ≡ grid (count_files (draft_of view.now)) (count_sites (draft_of view.now)) (moves (draft_of view.now)) }
+    requires pairs { pairs ≡ pairs_of (draft_of view.now) }
     requires few { length (kinds_of (draft_of view.now)) < 2 ^ 32 }
     ensures { IfOk result (λ p. IsRefined (draft_of view.now) p) }
 {
     let kinds = kinds_of(alloc, view, tables, moved)?;
-    let plan = plan_of(alloc, view, tables, &kinds)?;
+    let plan = plan_of(alloc, view, tables, pairs, &kinds)?;
     Ok(plan)
 }
 
@@ -126,14 +152,15 @@ fn refined(alloc: Global, view: &View<'_>, limit: u64) -> Result<Plan, RefineFau
 {
     let tables = tables_of(alloc, view)?;
     let moved = moved(alloc, view, &tables)?;
-    let count = count_tasks(view, &moved, &tables.requested);
+    let pairs = pairs_of(alloc, view, &tables)?;
+    let count = count_all(view, &tables, &moved, pairs.as_slice());
     match first_fault(alloc, view, &tables, count, limit)? {
         Some(fault) => Err(fault),
-        None => Ok(plan_without_fault(alloc, view, &tables, &moved)?),
+        None => Ok(plan_without_fault(alloc, view, &tables, &moved, pairs)?),
     }
 }
 
-/// The plan, without Cleans, or its first fault. `limit` is that on tasks.
+/// The plan, without Cleans, or its first fault. `limit` is that on tasks, Cleans among them.
 pub fn refine(
     alloc: Global,
     workflow: &Workflow,
