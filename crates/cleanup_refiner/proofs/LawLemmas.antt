@@ -15,7 +15,7 @@ use Rattle.plan_core.specs.declared.plan.TaskKind.{TaskKind}
 use Rattle.plan_core.specs.declared.plan.TaskKind.TheVariants.{Transfer, Run, Clean}
 use Rattle.plan_core.specs.Carried.{Bytes, IsCarrying, carried, carried_by, read, stored, writer}
 use Rattle.plan_core.specs.Grounded.{Grounded, ground}
-use Rattle.plan_core.specs.Kinds.{kind_reads, kind_writes, on_pair, reads_file, writes_file, waits_for}
+use Rattle.plan_core.specs.Kinds.{carries, kind_carries, kind_reads, kind_writes, on_pair, reads_file, writes_file, waits_for}
 use Rattle.plan_core.specs.Numbers.{below, has}
 use Rattle.plan_core.specs.Proper.{AreParents, HasFlow, HasTables, IsInRange, IsProper, IsTask, is_kind_in_range, is_parent}
 use Rattle.plan_core.specs.Words.{cleans, count_pairs, count_tasks, declared, delivers, is_clean, is_clean_kind, is_run, is_run_kind, kind, kind_cleans, kind_delivers, kind_in, pair_numbers, parents}
@@ -291,3 +291,14 @@ pub cleaned_carries_the_same : WaysEnd → CarriedAlong → CarriedAlone → (ap
     → (t f : ℕ) → t < count_tasks p → carried apply told (with_cleans p) t f ≡ carried apply told p t f
 cleaned_carries_the_same ways along alone apply told p proper none few t f l =
     alone apply told p (carried apply told (with_cleans p)) proper (carries_same along apply told p (cleaned_is_proper ways p proper none few)) t f
+
+pub cleans_nothing : (p : Plan) (t f : ℕ) → count_tasks p ≤ t → carries (with_cleans p) t f ≡ false
+cleans_nothing p t f l = by (standing p t)
+  where
+    none : (o : Option TaskKind) → kind (with_cleans p) t ≡ o → kind_carries p.jobs o f ≡ false → carries (with_cleans p) t f ≡ false
+    none o e h = ap (λ (k : Option TaskKind). kind_carries p.jobs k f) e ∙ h
+
+    by : Standing p t → carries (with_cleans p) t f ≡ false
+    by (Old m e) = absurd (omega (arith, l, m))
+    by (New n m i e) = none (Some (clean_of p n).kind) (kind_is p t (Some (clean_of p n)) e) refl
+    by (Past m e) = none None (kind_is p t None e) refl

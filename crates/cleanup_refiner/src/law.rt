@@ -1,8 +1,9 @@
 //! What a plan with Cleans comes to.
 
-ghost use Rattle.std.specs.Prelude.{◌≡◌, ◌<◌, ◌+◌, ◌^◌, ℕ, Option};
+ghost use Rattle.std.specs.Prelude.{◌≡◌, ◌<◌, ◌≤◌, ◌+◌, ◌^◌, ℕ, Option, false};
 ghost use Rattle.outside.specs.Tool.{Apply};
 ghost use Rattle.plan_core.specs.declared.plan.Plan.{Plan};
+ghost use Rattle.plan_core.specs.Kinds.{carries};
 ghost use Rattle.plan_core.specs.Words.{count_pairs, count_tasks};
 ghost use Rattle.plan_core.specs.Proper.{IsProper};
 ghost use Rattle.plan_core.specs.Carried.{Bytes, carried};
@@ -25,3 +26,8 @@ pub fn cleaned_plan_carries_the_same()
     ways_back_end();
     carried_is_carried_along();
 }
+
+/// The Cleans carry nothing.
+pub fn cleans_carry_nothing()
+    ensures { (p : Plan) (t f : ℕ) → count_tasks p ≤ t → carries (with_cleans p) t f ≡ false }
+{}

@@ -8,4 +8,4 @@ mod law;
 mod touching;
 
 pub use cleans::{CleanRefused, add_cleans};
-pub use law::{cleaned_plan_carries_the_same, cleaned_plan_is_proper};
+pub use law::{cleaned_plan_carries_the_same, cleaned_plan_is_proper, cleans_carry_nothing};
