@@ -22,6 +22,7 @@ pub mod ListedLemmas
 pub mod ParentsLemmas
 pub mod CopyingLemmas
 pub mod TogetherLemmas
+pub mod SitesLemmas
 pub mod SinglesLemmas
 pub mod SortLemmas
 pub mod PlanJobsLemmas

@@ -19,6 +19,7 @@ use Rattle.transfer_refiner.specs.Draft.{Draft, planned, site_in, site_of}
 use Rattle.transfer_refiner.specs.Conditions.{IsDraft, IsOnce, IsOrdered, leads}
 use Rattle.transfer_refiner.specs.Tasks.{part_of}
 use Rattle.transfer_refiner.specs.Singles.{ArePlaced, single, singles}
+use Rattle.transfer_refiner.proofs.SitesLemmas.{few_sites, site_names}
 use Rattle.transfer_refiner.proofs.LookupLemmas.{list_at, list_none}
 use Rattle.transfer_refiner.proofs.TestLemmas.{both, or_left, or_right, same_number}
 
@@ -193,8 +194,8 @@ single_draft : (w : Workflow) (js : List JobId) (sites : List (Option SiteId)) (
 single_draft w js sites rs r p = record {
   formed = p.formed;
   sound = p.sound;
-  few_sites = p.few_sites;
-  site_names = p.site_names;
+  few_sites = few_sites r.execute p.checked;
+  site_names = site_names r.execute p.checked;
   jobs_placed = p.jobs_placed;
   sites_below = p.sites_below;
   jobs_below = λ c j h. below_all w js sites r p c j (holds js c j h);

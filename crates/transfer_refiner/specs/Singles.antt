@@ -1,14 +1,12 @@
 -- Kept jobs, each a part of its own.
-use Rattle.std.specs.Prelude.{◌≡◌, ℕ, ◌<◌, ◌≤◌, List, [], ◌∷◌, length, map, Option, Some, slice_get}
-use Rattle.std.specs.List.{IsDistinct}
-use Rattle.std.specs.Str.{bytes_eq}
+use Rattle.std.specs.Prelude.{◌≡◌, ℕ, ◌<◌, ◌≤◌, List, [], ◌∷◌, length, map, Option, Some, Ok, slice_get}
 use Rattle.outside.specs.declared.numbers.JobId.{JobId}
 use Rattle.outside.specs.declared.numbers.SiteId.{SiteId}
 use Rattle.workflow_core.specs.declared.workflow.Workflow.{Workflow}
 use Rattle.workflow_core.specs.WellFormed.{IsWellFormed}
 use Rattle.dependency_graph.specs.Graph.{IsSound}
-use Rattle.plan_request.specs.declared.request.Execution.{Execution}
 use Rattle.plan_request.specs.declared.request.PlanRequest.{PlanRequest}
+use Rattle.plan_request.specs.Reader.{execute_checked}
 
 abbrev pub single : JobId → List JobId
 single j = j ∷ []
@@ -16,13 +14,12 @@ single j = j ∷ []
 abbrev pub singles : List JobId → List (List JobId)
 singles js = map single js
 
--- The workflow is well formed and sound. The execution sites are few and distinct, and each job has one or none. The kept jobs are
+-- The workflow is well formed and sound. The execution sites passed the check of a request, and each job has one or none. The kept jobs are
 -- jobs of the workflow, none stands twice, and each has a site.
 pub record ArePlaced (w : Workflow) (request : PlanRequest) (sites : List (Option SiteId)) (js : List JobId) : Type 0 where
   pub formed : IsWellFormed w
   pub sound : IsSound w
-  pub few_sites : length request.execute ≤ 64
-  pub site_names : IsDistinct bytes_eq (map (λ (e : Execution). e.site) request.execute)
+  pub checked : execute_checked request.execute ≡ Ok tt
   pub jobs_placed : length sites ≡ length w.jobs
   pub sites_below : (j : ℕ) (s : SiteId) → slice_get sites j ≡ Some (Some s) → s.0 < length request.execute
   pub few : length js ≤ length w.jobs
