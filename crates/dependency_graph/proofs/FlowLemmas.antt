@@ -1,5 +1,5 @@
 -- Values flow along a graph's order.
-use Rattle.std.proofs.Common.{◌≡◌, ℕ, zero, suc, ◌<◌, ◌≤◌, Bool, true, false, ◌||◌, List, [], ◌∷◌, length, take, get_or, refl, sym, ap, ◌∙◌, nat_eq, arith, ◌+◌, ◌-◌, cond, map, subst}
+use Rattle.std.proofs.Common.{◌≡◌, ℕ, zero, suc, ◌<◌, ◌≤◌, Bool, true, false, ◌||◌, List, [], ◌∷◌, length, take, get_or, refl, sym, ap, ◌∙◌, nat_eq, arith, ◌+◌, ◌-◌, cond, map}
 use Rattle.std.specs.Prelude.{Option, Some, None, is_some, not, option_and_then, slice_index_or}
 use Rattle.std.proofs.lemmas.List.{get_or-map, get_or_default}
 use Rattle.std.proofs.lemmas.List.Elements.{All-get_or}

@@ -1,11 +1,10 @@
 -- A graph of jobs, and of their numbers.
-use Rattle.std.proofs.Common.{◌≡◌, ℕ, zero, suc, ◌<◌, Bool, true, false, ◌&&◌, List, [], ◌∷◌, length, map, take, refl, sym, ap, subst, ◌∙◌, arith}
+use Rattle.std.proofs.Common.{◌≡◌, ℕ, zero, suc, ◌<◌, Bool, true, List, [], ◌∷◌, length, map, take, refl, sym, ap, subst, ◌∙◌, arith}
 use Rattle.std.specs.Prelude.{Option, Some, None, MatchOption, is_some, slice_index_or}
-use Rattle.std.specs.List.{All, list_all}
+use Rattle.std.specs.List.{All}
 use Rattle.std.proofs.lemmas.List.{get_or-map, length-map}
 use Rattle.outside.specs.declared.numbers.JobId.{JobId}
 use Rattle.workflow_core.specs.declared.workflow.Workflow.{Workflow}
-use Rattle.std.proofs.lemmas.Bool.{and_parts}
 use Rattle.dependency_graph.proofs.BuiltLemmas.{one_producer}
 use Rattle.dependency_graph.proofs.EdgesLemmas.{first_producer, no_producer}
 use Rattle.dependency_graph.specs.Built.{AreProducers}

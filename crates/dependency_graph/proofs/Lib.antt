@@ -5,3 +5,5 @@ pub mod GraphLemmas
 pub mod ValueLemmas
 pub mod FlowLemmas
 pub mod LevelsLemmas
+pub mod TestLemmas
+pub mod RankingLemmas

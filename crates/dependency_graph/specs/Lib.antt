@@ -2,6 +2,7 @@
 pub mod Edges
 pub mod Graph
 pub mod Levels
+pub mod Ranking
 pub mod Built
 pub mod Value
 pub mod Flow

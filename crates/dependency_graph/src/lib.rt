@@ -5,7 +5,8 @@
 //! at most one producer and no job returns to itself; `specs/Built.antt` has the faults. What an order
 //! and the named cycle are stands in `digraph`, which searches.
 //!
-//! The level of a kept job is one more than the greatest of its kept parents: `specs/Levels.antt`.
+//! The level of a kept job is one more than the greatest of its kept parents: `specs/Levels.antt`. [`ranked`]
+//! lists the kept jobs in order of (level, number): `specs/Ranking.antt`.
 //!
 //! The value of a file is defined in `specs/Value.antt`. Laws in `value.rt` and `flow.rt` say that nothing
 //! else fits together so, and that values flow along the graph's order (`specs/Flow.antt`).
@@ -18,6 +19,7 @@ mod flow;
 mod graph;
 mod levels;
 mod makers;
+mod ranking;
 mod sources;
 mod value;
 
@@ -27,4 +29,5 @@ pub use fault::GraphFault;
 pub use flow::{makers_come_before, values_flow_in_order};
 pub use graph::Graph;
 pub use levels::levels_are_determined;
+pub use ranking::ranked;
 pub use value::{value_is_determined, value_is_made_of_values};

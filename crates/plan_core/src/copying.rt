@@ -1,4 +1,4 @@
-//! A copy of a plan.
+//! Copies of a plan and of its parts.
 
 ghost use Rattle.std.specs.Prelude.{◌≡◌, IfOk};
 
@@ -7,14 +7,14 @@ use outside::{Items, Memory, Policy, Text};
 use std::alloc::Global;
 
 /// A copy of a list of numbers.
-fn copied<T: Copy + Drop>(alloc: Global, items: &[T]) -> Result<Items<T>, Memory>
+pub fn copied<T: Copy + Drop>(alloc: Global, items: &[T]) -> Result<Items<T>, Memory>
     ensures { IfOk result (λ copy. copy ≡ items.now) }
 {
     Ok(Items::new(items.iter().copied().collect(alloc)?))
 }
 
 /// A copy of a list of texts.
-fn texts_copied(alloc: Global, texts: &[Text]) -> Result<Items<Text>, Memory>
+pub fn texts_copied(alloc: Global, texts: &[Text]) -> Result<Items<Text>, Memory>
     ensures { IfOk result (λ copy. copy ≡ texts.now) }
 {
     let mut copies = Vec::new(alloc);
@@ -34,7 +34,7 @@ fn source_copied(alloc: Global, source: &Source) -> Result<Source, Memory>
 }
 
 /// A copy of a kind of task.
-fn kind_copied(alloc: Global, kind: &TaskKind) -> Result<TaskKind, Memory>
+pub fn kind_copied(alloc: Global, kind: &TaskKind) -> Result<TaskKind, Memory>
     ensures { IfOk result (λ copy. copy ≡ kind.now) }
 {
     match kind {

@@ -21,6 +21,7 @@ mod tasks;
 mod words;
 
 pub use checking::check;
+pub use copying::{copied, kind_copied, texts_copied};
 pub use files::{SiteFiles, files_read, files_written};
 pub use law::{
     carried_is_carried_along, each_pair_has_one_writer, files_are_listed_by_pair,
@@ -29,3 +30,4 @@ pub use law::{
 };
 pub use plan::{Pair, Plan, PlanFile, PlanJob, PlanSite, Source, Target, Task, TaskKind};
 pub use printing::print;
+pub use rising::{is_among, sorted};

@@ -1,6 +1,4 @@
-pub mod TestLemmas
 pub mod TotalLemmas
-pub mod LeveledLemmas
 pub mod TurnLemmas
 pub mod OfferLemmas
 pub mod CandidateLemmas

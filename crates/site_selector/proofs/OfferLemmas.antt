@@ -20,7 +20,7 @@ use Rattle.transformation_catalog.specs.Lookup.{place_of}
 use Rattle.plan_request.specs.declared.request.Execution.{Execution}
 use Rattle.plan_request.specs.Reader.{execute_checked}
 use Rattle.site_selector.specs.Offers.{is_installed_at, is_stageable, sites_in, sites_at, names_of, installed_flags, offer_flags, marked, flags_in, offer_table, AreDistinct, Offered, IsFound}
-use Rattle.site_selector.proofs.TestLemmas.{any_more, or_right, or_left}
+use Rattle.dependency_graph.proofs.TestLemmas.{any_more, or_right, or_left}
 
 -- ---- distinct names
 

@@ -10,10 +10,13 @@ use Rattle.outside.specs.declared.numbers.SiteId.{SiteId}
 use Rattle.workflow_core.specs.declared.workflow.Job.{Job}
 use Rattle.outside.specs.declared.select_fault.SelectFault.{SelectFault}
 use Rattle.outside.specs.declared.select_fault.SelectFault.TheVariants.{NoSite, NoTransformation, Memory}
-use Rattle.site_selector.specs.Order.{has, is_kept, turn_of, IsInOrder}
+use Rattle.dependency_graph.specs.Levels.{is_kept}
+use Rattle.dependency_graph.specs.Ranking.{IsRanked}
+use Rattle.dependency_graph.proofs.TestLemmas.{has}
+use Rattle.site_selector.specs.Turns.{turn_of}
 use Rattle.site_selector.specs.Candidates.{site_of, IsAnswer}
 use Rattle.site_selector.specs.Selecting.{Selection, answer_of, Gets, IsSelected, IsFirstFault, Selects}
-use Rattle.site_selector.proofs.TestLemmas.{by_bool, has_at, has_more}
+use Rattle.dependency_graph.proofs.TestLemmas.{by_bool, has_at, has_more}
 use Rattle.site_selector.proofs.TurnLemmas.{turn_is, stands, stands_before}
 
 -- the answer at a turn to the job of a number, if there is one
@@ -41,13 +44,13 @@ pub record IsNext (c : Selection) (order : List ℕ) (k : ℕ) (j : Job) (r : Re
   pub answer : site_of c.execute c.entries k (get_or order k 0) j ≡ r
 
 -- a job of the order is one of the jobs
-pub number_below : (kept : List Bool) (levels order : List ℕ) (k n : ℕ) → IsInOrder kept levels order → length kept ≡ n → k < length order → get_or order k 0 < n
+pub number_below : (kept : List Bool) (levels order : List ℕ) (k n : ℕ) → IsRanked kept levels order → length kept ≡ n → k < length order → get_or order k 0 < n
 number_below kept levels order k n sorted one_each below = let l = sorted.below (get_or order k 0) (has_at order k below) in omega (arith, l, one_each)
 
 known_answer : (c : Selection) (b : ℕ) (j : Job) → slice_get c.jobs b ≡ Some j → answer_at c b ≡ answer_of c b j
 known_answer c b j at = ap (λ (o : Option Job). answer_in c (turn_of c.kept c.levels b) b o) at
 
-next_answer : (c : Selection) (order : List ℕ) (k : ℕ) (j : Job) (r : Result SiteId SelectFault) → IsInOrder c.kept c.levels order → IsNext c order k j r → answer_of c (get_or order k 0) j ≡ r
+next_answer : (c : Selection) (order : List ℕ) (k : ℕ) (j : Job) (r : Result SiteId SelectFault) → IsRanked c.kept c.levels order → IsNext c order k j r → answer_of c (get_or order k 0) j ≡ r
 next_answer c order k j r sorted next = ap (λ (n : ℕ). site_of c.execute c.entries n (get_or order k 0) j) (turn_is c.kept c.levels order k sorted next.below) ∙ next.answer
 
 abbrev no_site : Option SiteId
@@ -69,7 +72,7 @@ site_set xs i j a l = by_place (eqb i j) refl
     by_place true e = ap (λ (k : ℕ). get_or (set xs i a) k None) (sym (eqb-true i j e)) ∙ get_or-set_same xs i a None l
     by_place false e = get_or-set_other xs i j a None (λ k. eqb-false i j e (sym k))
 
-pub place_more : (c : Selection) (order : List ℕ) (sites : List (Option SiteId)) (k : ℕ) (j : Job) (s : SiteId) → length c.kept ≡ length c.jobs → IsInOrder c.kept c.levels order → ArePlaced c order sites k → IsNext c order k j (Ok s)
+pub place_more : (c : Selection) (order : List ℕ) (sites : List (Option SiteId)) (k : ℕ) (j : Job) (s : SiteId) → length c.kept ≡ length c.jobs → IsRanked c.kept c.levels order → ArePlaced c order sites k → IsNext c order k j (Ok s)
     → ArePlaced c order (set sites (get_or order k 0) (Some s)) (k + 1)
 place_more c order sites k j s one_each sorted placed next = record {
   long = length-set sites (get_or order k 0) (Some s) ∙ placed.long;
@@ -97,7 +100,7 @@ place_more c order sites k j s one_each sorted placed next = record {
     by_place a true e = sym (ap site_in answer) ∙ ap (λ (n : ℕ). site_in (answer_at c n)) (eqb-true (get_or order k 0) a e) ∙ now (has (take k order) a) (eqb (get_or order k 0) a) (site_in (answer_at c a)) None e
     by_place a false e = placed.each a ∙ still (has (take k order) a) (eqb (get_or order k 0) a) (site_in (answer_at c a)) None e
 
-first_fault : (c : Selection) (order : List ℕ) (sites : List (Option SiteId)) (k : ℕ) (j : Job) (e : SelectFault) → IsInOrder c.kept c.levels order → ArePlaced c order sites k → IsNext c order k j (Err e) → IsFirstFault c e
+first_fault : (c : Selection) (order : List ℕ) (sites : List (Option SiteId)) (k : ℕ) (j : Job) (e : SelectFault) → IsRanked c.kept c.levels order → ArePlaced c order sites k → IsNext c order k j (Err e) → IsFirstFault c e
 first_fault c order sites k j e sorted placed next = record {
   number = get_or order k 0;
   job = j;
@@ -109,7 +112,7 @@ first_fault c order sites k j e sorted placed next = record {
 }
 
 -- a fault that one job's answer is
-pub refused_is : (c : Selection) (order : List ℕ) (sites : List (Option SiteId)) (k : ℕ) (j : Job) (e : SelectFault) → IsInOrder c.kept c.levels order → ArePlaced c order sites k → k < length order → slice_get c.jobs (get_or order k 0) ≡ Some j
+pub refused_is : (c : Selection) (order : List ℕ) (sites : List (Option SiteId)) (k : ℕ) (j : Job) (e : SelectFault) → IsRanked c.kept c.levels order → ArePlaced c order sites k → k < length order → slice_get c.jobs (get_or order k 0) ≡ Some j
     → IsAnswer (site_of c.execute c.entries k (get_or order k 0) j) (Err e) → Selects c (Err e)
 refused_is c order sites k j Memory sorted placed below at is = tt
 refused_is c order sites k j (NoSite a name) sorted placed below at is = first_fault c order sites k j (NoSite a name) sorted placed (record { below = below; at = at; answer = is })
@@ -120,7 +123,7 @@ pub handed_on : (c : Selection) (r : Result (Vec (Option SiteId) Global) SelectF
 handed_on c (Ok v) e is selects = absurd is
 handed_on c (Err f) e is selects = subst (λ (x : SelectFault). Selects c (Err x)) (sym is) selects
 
-pub selected_is : (c : Selection) (order : List ℕ) (sites : List (Option SiteId)) → IsInOrder c.kept c.levels order → ArePlaced c order sites (length order) → IsSelected c sites
+pub selected_is : (c : Selection) (order : List ℕ) (sites : List (Option SiteId)) → IsRanked c.kept c.levels order → ArePlaced c order sites (length order) → IsSelected c sites
 selected_is c order sites sorted placed = record {
   long = placed.long;
   kept = λ a j k.

@@ -4,9 +4,12 @@ use Rattle.std.specs.Prelude.{sum_by}
 use Rattle.std.proofs.lemmas.Bool.{cases_order}
 use Rattle.std.proofs.lemmas.List.{take_all, take_more}
 use Rattle.std.proofs.lemmas.List.Sums.{sum_by-cons, sum_by_push}
-use Rattle.site_selector.specs.Order.{total, has, is_kept, AreOnce, comes_before, turn_of, IsInOrder}
+use Rattle.dependency_graph.specs.Levels.{is_kept}
+use Rattle.dependency_graph.specs.Ranking.{AreOnce, comes_before, IsRanked}
+use Rattle.dependency_graph.proofs.TestLemmas.{has}
+use Rattle.site_selector.specs.Turns.{total, turn_of}
 use Rattle.site_selector.proofs.TotalLemmas.{total_same, total_change}
-use Rattle.site_selector.proofs.TestLemmas.{or_left, or_right, or_case, by_bool}
+use Rattle.dependency_graph.proofs.TestLemmas.{or_left, or_right, or_case, by_bool}
 
 pub over_same : (v w : ℕ → ℕ) (xs : List ℕ) → ((q : ℕ) → has xs q ≡ true → v q ≡ w q) → sum_by v xs ≡ sum_by w xs
 over_same v w [] h = refl
@@ -77,7 +80,7 @@ not_both levels a b h = test (get_or levels a 0) (get_or levels b 0) a b h
     test l m a b h = grind arith
 
 -- of the first i jobs those come before the k-th that stand before it
-counted : (kept : List Bool) (levels order : List ℕ) → IsInOrder kept levels order → (k : ℕ) → k < length order → (i : ℕ) → i ≤ length order → sum_by (λ b. cond (comes_before levels b (get_or order k 0)) 1 0) (take i order) ≡ min i k
+counted : (kept : List Bool) (levels order : List ℕ) → IsRanked kept levels order → (k : ℕ) → k < length order → (i : ℕ) → i ≤ length order → sum_by (λ b. cond (comes_before levels b (get_or order k 0)) 1 0) (take i order) ≡ min i k
 counted kept levels order sorted k l zero m = omega arith
 counted kept levels order sorted k l (suc i) m =
     let less = counted kept levels order sorted k l i (omega arith) in
@@ -94,7 +97,7 @@ counted kept levels order sorted k l (suc i) m =
     by_order (inr (inr e)) less more = let none : cond (comes_before levels (get_or order i 0) (get_or order k 0)) 1 zero ≡ zero = ap (λ (b : Bool). cond b 1 zero) (not_both levels (get_or order k 0) (get_or order i 0) (sorted.rising k i e (omega arith))) in omega (arith, less, more, none, e)
 
 -- the turn of the k-th job in order is k
-pub turn_is : (kept : List Bool) (levels order : List ℕ) (k : ℕ) → IsInOrder kept levels order → k < length order → turn_of kept levels (get_or order k 0) ≡ k
+pub turn_is : (kept : List Bool) (levels order : List ℕ) (k : ℕ) → IsRanked kept levels order → k < length order → turn_of kept levels (get_or order k 0) ≡ k
 turn_is kept levels order k sorted l =
     let listed = total_listed (λ b. cond (comes_before levels b (get_or order k 0)) 1 0) (length kept) order sorted.once sorted.below in
     let split : turn_of kept levels (get_or order k 0) ≡ total (length kept) (λ b. cond (has order b) (cond (comes_before levels b (get_or order k 0)) 1 0) 0)
@@ -117,7 +120,7 @@ stands (x ∷ xs) b h = or_case (eqb x b) (has xs b) h
     (λ m. let rest = stands xs b m in (suc rest.0, omega (arith, rest.1), rest.2))
 
 -- a job that comes before the k-th stands before it
-pub stands_before : (kept : List Bool) (levels order : List ℕ) (k b i : ℕ) → IsInOrder kept levels order → k < length order → i < length order → get_or order i 0 ≡ b → comes_before levels b (get_or order k 0) ≡ true → i < k
+pub stands_before : (kept : List Bool) (levels order : List ℕ) (k b i : ℕ) → IsRanked kept levels order → k < length order → i < length order → get_or order i 0 ≡ b → comes_before levels b (get_or order k 0) ≡ true → i < k
 stands_before kept levels order k b i sorted l m at before = by_order (cases_order i k)
   where
     true_false : (b : Bool) → b ≡ true → b ≡ false → ⊥

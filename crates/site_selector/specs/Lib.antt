@@ -1,4 +1,4 @@
-pub mod Order
+pub mod Turns
 pub mod Offers
 pub mod Candidates
 pub mod Selecting

@@ -10,7 +10,9 @@ use Rattle.plan_request.specs.declared.request.PlanRequest.{PlanRequest}
 use Rattle.plan_request.specs.declared.request.Execution.{Execution}
 use Rattle.outside.specs.declared.select_fault.SelectFault.{SelectFault}
 use Rattle.outside.specs.declared.select_fault.SelectFault.TheVariants.{NoSite, NoTransformation, Memory}
-use Rattle.site_selector.specs.Order.{is_kept, comes_before, turn_of}
+use Rattle.dependency_graph.specs.Levels.{is_kept}
+use Rattle.dependency_graph.specs.Ranking.{comes_before}
+use Rattle.site_selector.specs.Turns.{turn_of}
 use Rattle.site_selector.specs.Candidates.{site_of}
 
 -- what sites are selected by

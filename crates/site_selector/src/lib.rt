@@ -1,13 +1,12 @@
 //! Sites of jobs: the kept jobs take turns in order of (level, number), and a job's turn chooses among the
 //! execution sites that have its transformation, `Selects` of `specs/Selecting.antt`.
 //!
-//! `order` sorts the kept jobs, `offers` finds which sites have each transformation, `candidates` gives one
+//! `offers` finds which sites have each transformation, `candidates` gives one
 //! job its site, and `selecting` all of them.
 #![tactic(auto)]
 
 mod candidates;
 mod offers;
-mod order;
 mod selecting;
 
 pub use selecting::select;

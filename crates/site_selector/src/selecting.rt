@@ -7,7 +7,7 @@ ghost use Rattle.site_selector.specs.Selecting.{selection, Selects};
 
 use crate::candidates::site_of;
 use crate::offers::Offers;
-use crate::order::in_order;
+use dependency_graph::ranked;
 use outside::{Memory, SelectFault, SiteId};
 use plan_request::PlanRequest;
 use std::alloc::Global;
@@ -38,7 +38,7 @@ pub fn select(
     ensures { Selects (selection workflow.now kept.now levels.now request.now transformations.now) result }
 {
     let jobs = workflow.jobs.as_slice();
-    let order = in_order(alloc, kept, levels)?;
+    let order = ranked(alloc, kept, levels)?;
     let offers = Offers::new(alloc, request.execute.as_slice(), transformations)?;
     let mut sites = no_sites(alloc, jobs.len())?;
     for (turn, number) in order.iter().enumerate() {

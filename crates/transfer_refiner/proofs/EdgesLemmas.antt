@@ -15,7 +15,7 @@ use Rattle.transfer_refiner.specs.Draft.{Draft, uses, makes, needs, site_of, sta
 use Rattle.transfer_refiner.specs.Tasks.{part_of, comes_after}
 use Rattle.transfer_refiner.specs.Edges.{fan, held_edges, job_edges, part_edges, stood_edges, fan_apart, all_apart}
 use Rattle.transfer_refiner.specs.Conditions.{IsDraft}
-use Rattle.transfer_refiner.proofs.TestLemmas.{same_number, other_number, is_itself, both, and_both, or_left, or_right, by_bool}
+use Rattle.plan_core.proofs.TestLemmas.{same_number, other_number, is_itself, both, and_both, or_left, or_right, by_bool}
 use Rattle.transfer_refiner.proofs.JobsLemmas.{any_same}
 use Rattle.transfer_refiner.proofs.StandingLemmas.{stands_within}
 

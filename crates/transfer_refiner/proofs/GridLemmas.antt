@@ -3,7 +3,7 @@ use Rattle.std.proofs.Common.{◌≡◌, ℕ, ◌+◌, Bool, true, false, cond, 
 use Rattle.std.proofs.lemmas.List.{append_assoc, append-nil}
 use Rattle.plan_core.specs.Numbers.{below}
 use Rattle.transfer_refiner.specs.Tasks.{grid}
-use Rattle.transfer_refiner.proofs.NumbersLemmas.{below_more, below_none}
+use Rattle.plan_core.proofs.NumbersLemmas.{below_more, below_none}
 
 pub grid_more : (m n : ℕ) (test : ℕ → ℕ → Bool) → grid (m + 1) n test ≡ grid m n test ++ map (λ b. (m, b)) (below n (test m))
 unfolding grid

@@ -4,7 +4,7 @@ use Rattle.plan_core.specs.Numbers.{has}
 use Rattle.plan_core.specs.Grounded.{Grounded, ground}
 use Rattle.digraph.specs.Distances.{Walk}
 use Rattle.digraph.specs.Cycle.{Returns}
-use Rattle.transfer_refiner.proofs.TestLemmas.{same_number, other_number, not_itself}
+use Rattle.plan_core.proofs.TestLemmas.{same_number, other_number, not_itself}
 
 -- how many numbers below n are new to a list
 pub fresh : ℕ → List ℕ → ℕ

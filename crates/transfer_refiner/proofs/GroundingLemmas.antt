@@ -15,8 +15,8 @@ use Rattle.plan_core.specs.Words.{kind_in, kind, count_tasks}
 use Rattle.plan_core.specs.Kinds as kinds
 use Rattle.plan_core.specs.Kinds.{kind_reads, kind_writes, reads_file, writes_file, waits_for}
 use Rattle.plan_core.specs.Proper.{is_parent}
-use Rattle.transfer_refiner.proofs.TestLemmas.{same_number, is_itself, both, and_both, either, or_left, or_right, not_true}
-use Rattle.transfer_refiner.proofs.NumbersLemmas.{any_has}
+use Rattle.plan_core.proofs.TestLemmas.{same_number, is_itself, both, and_both, either, or_left, or_right, not_true}
+use Rattle.plan_core.proofs.NumbersLemmas.{any_has}
 use Rattle.plan_core.specs.Grounded.{Grounded, ground}
 use Rattle.transfer_refiner.proofs.GroundedLemmas.{all_grounded}
 use Rattle.transfer_refiner.specs.Draft.{Draft, uses, makes, needs, site_of, made_at, moves, home, chosen, first_of, pfns_of}

@@ -7,7 +7,7 @@ use Rattle.workflow_core.specs.declared.workflow.Job.{Job}
 use Rattle.workflow_core.specs.WellFormed.{inputs_of, outputs_of, IsJobOver}
 use Rattle.dependency_graph.specs.Edges.{read_by, written_by}
 use Rattle.plan_core.specs.Numbers.{has}
-use Rattle.transfer_refiner.proofs.TestLemmas.{same_number, by_bool}
+use Rattle.plan_core.proofs.TestLemmas.{same_number, by_bool}
 use Rattle.transfer_refiner.specs.Draft.{Draft, uses, makes}
 use Rattle.transfer_refiner.specs.Conditions.{IsDraft}
 

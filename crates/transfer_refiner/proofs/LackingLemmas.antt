@@ -7,8 +7,8 @@ use Rattle.plan_core.specs.Numbers.{has, below}
 use Rattle.workflow_core.specs.Requested.{is_requested}
 use Rattle.transfer_refiner.specs.Draft.{Draft, uses, makes, needs, site_of, made_at, needed_at, stands, home, pfns_of, declared_of, is_empty}
 use Rattle.transfer_refiner.specs.Tasks.{used, is_made, lacks_replica, lacks_size, count_files}
-use Rattle.transfer_refiner.proofs.TestLemmas.{is_itself, both, and_both, either, or_left, or_right, by_bool}
-use Rattle.transfer_refiner.proofs.NumbersLemmas.{below_has, has_below}
+use Rattle.plan_core.proofs.TestLemmas.{is_itself, both, and_both, either, or_left, or_right, by_bool}
+use Rattle.plan_core.proofs.NumbersLemmas.{below_has, has_below}
 use Rattle.transfer_refiner.proofs.SliceLemmas.{any_at_place, place_of_any}
 use Rattle.transfer_refiner.proofs.StandingLemmas.{part_at, at_part, made_stands, needed_stands}
 use Rattle.transfer_refiner.proofs.MakersLemmas.{made_is_some}

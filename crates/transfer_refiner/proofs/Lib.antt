@@ -1,9 +1,4 @@
-pub mod TestLemmas
-pub mod NumbersLemmas
-pub mod RisingLemmas
 pub mod PlaceLemmas
-pub mod SortingLemmas
-pub mod FilesLemmas
 pub mod LookupLemmas
 pub mod SliceLemmas
 pub mod OnceLemmas

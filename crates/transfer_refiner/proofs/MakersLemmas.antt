@@ -11,7 +11,7 @@ use Rattle.workflow_core.specs.WellFormed.{outputs_of}
 use Rattle.dependency_graph.specs.Edges.{has_output, is_among, makers, makers_from, written_by}
 use Rattle.plan_core.specs.Numbers.{has}
 use Rattle.plan_core.specs.Words.{job_numbers}
-use Rattle.transfer_refiner.proofs.TestLemmas.{same_number, is_itself, or_left, or_right, by_bool}
+use Rattle.plan_core.proofs.TestLemmas.{same_number, is_itself, or_left, or_right, by_bool}
 use Rattle.transfer_refiner.proofs.SliceLemmas.{any_at_place, place_of_any}
 use Rattle.transfer_refiner.proofs.JobsLemmas.{made_below}
 use Rattle.transfer_refiner.proofs.StandingLemmas.{part_at, home_made, home_none}

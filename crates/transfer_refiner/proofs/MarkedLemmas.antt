@@ -9,8 +9,8 @@ use Rattle.workflow_core.specs.WellFormed.{IsJobOver, IsWellFormed}
 use Rattle.plan_core.specs.Numbers.{has, below, RisesFrom}
 use Rattle.transfer_refiner.specs.Marked.{requested_by, registered_by, all_requested, all_registered}
 use Rattle.transfer_refiner.specs.Tasks.{registers, is_registered}
-use Rattle.transfer_refiner.proofs.TestLemmas.{same_number, both, by_bool}
-use Rattle.transfer_refiner.proofs.RisingLemmas.{rising_is_below}
+use Rattle.plan_core.proofs.TestLemmas.{same_number, both, by_bool}
+use Rattle.plan_core.proofs.RisingLemmas.{rising_is_below}
 use Rattle.transfer_refiner.proofs.JobsLemmas.{any_same}
 use Rattle.transfer_refiner.proofs.EdgesLemmas.{any_flat}
 

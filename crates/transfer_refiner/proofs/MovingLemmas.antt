@@ -12,8 +12,8 @@ use Rattle.transfer_refiner.specs.Draft.{Draft, made_at, needed_at, stands, move
 use Rattle.transfer_refiner.specs.Tasks.{count_files, count_sites, grid, part_of}
 use Rattle.transfer_refiner.specs.Listing.{is_at, moved_from, first_site_of}
 use Rattle.transfer_refiner.specs.Conditions.{IsDraft}
-use Rattle.transfer_refiner.proofs.TestLemmas.{same_number, both}
-use Rattle.transfer_refiner.proofs.RisingLemmas.{rising_is_below, below_rises}
+use Rattle.plan_core.proofs.TestLemmas.{same_number, both}
+use Rattle.plan_core.proofs.RisingLemmas.{rising_is_below, below_rises}
 use Rattle.transfer_refiner.proofs.SliceLemmas.{grid_place, below_place}
 use Rattle.transfer_refiner.proofs.StandingLemmas.{stands_within}
 use Rattle.transfer_refiner.proofs.MakersLemmas.{made_home, home_of_parts, home_unmade}

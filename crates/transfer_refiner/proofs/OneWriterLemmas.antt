@@ -7,7 +7,7 @@ use Rattle.plan_core.specs.declared.plan.TaskKind.{TaskKind}
 use Rattle.transfer_refiner.specs.Tasks.{grid}
 use Rattle.plan_core.specs.Kinds as kinds
 use Rattle.plan_core.specs.Kinds.{kind_writes, writes_file}
-use Rattle.transfer_refiner.proofs.TestLemmas.{same_number, both}
+use Rattle.plan_core.proofs.TestLemmas.{same_number, both}
 use Rattle.transfer_refiner.specs.Draft.{Draft, makes, site_of, made_at, moves}
 use Rattle.transfer_refiner.specs.Tasks.{count_files, count_sites, run, transfer, delivery}
 use Rattle.transfer_refiner.specs.Conditions.{IsDraft}

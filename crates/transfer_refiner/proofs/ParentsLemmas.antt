@@ -8,9 +8,9 @@ use Rattle.plan_core.specs.declared.plan.TaskKind.TheVariants.{Transfer, Run, Cl
 use Rattle.plan_core.specs.Numbers.{below, has, RisesFrom}
 use Rattle.plan_core.specs.Words.{is_clean_kind, kind_in, reads_in, writes_in, parents_in, task_numbers}
 use Rattle.plan_core.specs.Kinds.{sweeps, task_waits}
-use Rattle.transfer_refiner.proofs.TestLemmas.{same_number, other_number, by_bool}
-use Rattle.transfer_refiner.proofs.NumbersLemmas.{same_below}
-use Rattle.transfer_refiner.proofs.RisingLemmas.{rising_is_below}
+use Rattle.plan_core.proofs.TestLemmas.{same_number, other_number, by_bool}
+use Rattle.plan_core.proofs.NumbersLemmas.{same_below}
+use Rattle.plan_core.proofs.RisingLemmas.{rising_is_below}
 use Rattle.transfer_refiner.proofs.JobsLemmas.{any_same}
 use Rattle.transfer_refiner.proofs.SliceLemmas.{place_of_any}
 use Rattle.transfer_refiner.proofs.WritersLemmas.{task_below}

@@ -12,10 +12,10 @@ use Rattle.plan_core.specs.Kinds.{on_pair}
 use Rattle.plan_core.specs.Numbers.{has, below, RisesFrom}
 use Rattle.plan_core.specs.Words.{pair_at}
 use Rattle.transfer_refiner.specs.declared.site_files.SiteFiles.{SiteFiles}
-use Rattle.transfer_refiner.specs.Files.{AreFilesOf}
+use Rattle.plan_core.specs.Files.{AreFilesOf}
 use Rattle.transfer_refiner.specs.Places.{is_place, is_pair_of, place_of, places_at, AreOnce}
-use Rattle.transfer_refiner.proofs.TestLemmas.{same_number, both, by_bool}
-use Rattle.transfer_refiner.proofs.RisingLemmas.{rising_is_below}
+use Rattle.plan_core.proofs.TestLemmas.{same_number, both, by_bool}
+use Rattle.plan_core.proofs.RisingLemmas.{rising_is_below}
 use Rattle.transfer_refiner.proofs.JobsLemmas.{any_same}
 use Rattle.transfer_refiner.proofs.EdgesLemmas.{any_flat, any_and}
 

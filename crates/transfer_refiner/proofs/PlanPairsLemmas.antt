@@ -11,7 +11,7 @@ use Rattle.transfer_refiner.specs.Tasks.{grid}
 use Rattle.plan_core.specs.Words.{kind, is_pair, pair_at}
 use Rattle.plan_core.specs.Kinds as kinds
 use Rattle.plan_core.specs.Kinds.{kind_reads, kind_writes, reads_file, writes_file}
-use Rattle.transfer_refiner.proofs.TestLemmas.{same_number, is_itself, both, and_both, by_bool}
+use Rattle.plan_core.proofs.TestLemmas.{same_number, is_itself, both, and_both, by_bool}
 use Rattle.transfer_refiner.specs.Draft.{Draft, makes, needs, site_of, made_at, needed_at, moves, stands, home, pfns_of, chosen, first_of}
 use Rattle.transfer_refiner.specs.Tasks.{count_files, count_sites, source, run, transfer, delivery, pair_of, pairs_of}
 use Rattle.transfer_refiner.specs.Conditions.{IsDraft}

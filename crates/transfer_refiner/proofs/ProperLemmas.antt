@@ -19,8 +19,8 @@ use Rattle.transfer_refiner.specs.Tasks.{count_files, count_sites, grid, planned
 use Rattle.transfer_refiner.specs.Conditions.{IsDraft}
 use Rattle.transfer_refiner.specs.Refined.{IsRefined, Refines}
 use Rattle.transfer_refiner.specs.declared.fault.RefineFault.{RefineFault}
-use Rattle.transfer_refiner.proofs.TestLemmas.{same_number, is_itself, both, and_both, or_left, or_right}
-use Rattle.transfer_refiner.proofs.NumbersLemmas.{below_has, has_below}
+use Rattle.plan_core.proofs.TestLemmas.{same_number, is_itself, both, and_both, or_left, or_right}
+use Rattle.plan_core.proofs.NumbersLemmas.{below_has, has_below}
 use Rattle.transfer_refiner.proofs.SliceLemmas.{any_at_place, place_left, place_right, slice_get_there}
 use Rattle.transfer_refiner.proofs.OnceLemmas.{below_once}
 use Rattle.transfer_refiner.proofs.SortLemmas.{Sort, a_run, a_transfer, a_delivery, DeliveredAt, sorted}

@@ -18,8 +18,8 @@ use Rattle.transfer_refiner.specs.Draft.{Draft, uses, makes}
 use Rattle.transfer_refiner.specs.Tasks.{count_files}
 use Rattle.transfer_refiner.specs.Conditions.{IsDraft, IsOrdered}
 use Rattle.transfer_refiner.specs.Refined.{IsRefined}
-use Rattle.transfer_refiner.proofs.TestLemmas.{both, and_both, either, not_true, or_left, or_right}
-use Rattle.transfer_refiner.proofs.NumbersLemmas.{any_one}
+use Rattle.plan_core.proofs.TestLemmas.{both, and_both, either, not_true, or_left, or_right}
+use Rattle.plan_core.proofs.NumbersLemmas.{any_one}
 use Rattle.transfer_refiner.proofs.JobsLemmas.{made_below}
 use Rattle.transfer_refiner.proofs.MakersLemmas.{job_of_any, one_maker}
 use Rattle.transfer_refiner.proofs.PlanJobsLemmas.{inputs_are, outputs_are}

@@ -14,14 +14,14 @@ use Rattle.plan_core.specs.Words.{job_numbers}
 use Rattle.plan_request.specs.declared.request.PlanRequest.{PlanRequest}
 use Rattle.replica_catalog.specs.declared.catalog.Replica.{Replica}
 use Rattle.replica_catalog.specs.declared.catalog.ReplicaCatalog.{ReplicaCatalog}
-use Rattle.transfer_refiner.specs.declared.clusters.Clusters.{Clusters}
+use Rattle.workflow_core.specs.declared.clusters.Clusters.{Clusters}
 use Rattle.transfer_refiner.specs.Draft.{Draft, planned, site_in, site_of}
 use Rattle.transfer_refiner.specs.Conditions.{IsDraft, IsOnce, IsOrdered, leads}
 use Rattle.transfer_refiner.specs.Tasks.{part_of}
 use Rattle.transfer_refiner.specs.Singles.{ArePlaced, single, singles}
 use Rattle.transfer_refiner.proofs.SitesLemmas.{few_sites, site_names}
 use Rattle.transfer_refiner.proofs.LookupLemmas.{list_at, list_none}
-use Rattle.transfer_refiner.proofs.TestLemmas.{both, or_left, or_right, same_number}
+use Rattle.plan_core.proofs.TestLemmas.{both, or_left, or_right, same_number}
 
 abbrev draft : Workflow → List JobId → List (Option SiteId) → List Replica → PlanRequest → Draft
 draft w js sites rs r = record { workflow = w; parts = singles js; sites = sites; replicas = rs; request = r }

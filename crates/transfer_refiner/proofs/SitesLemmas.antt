@@ -12,7 +12,7 @@ use Rattle.peg_json.specs.declared.read_fault.ReadFault.{ReadFault}
 use Rattle.peg_json.specs.declared.read_fault.ReadFault.TheVariants.{DuplicateSite, TooMany}
 use Rattle.plan_request.specs.declared.request.Execution.{Execution}
 use Rattle.plan_request.specs.Reader.{execute_checked}
-use Rattle.transfer_refiner.proofs.TestLemmas.{or_left, or_right}
+use Rattle.plan_core.proofs.TestLemmas.{or_left, or_right}
 
 any_more : {X : Type 0} (test : X → Bool) (xs : List X) (x : X) → list_any test (xs ++ x ∷ []) ≡ (list_any test xs || test x)
 any_more test xs x = list_any-append test xs (x ∷ []) ∙ ap (λ (b : Bool). list_any test xs || b) (or_false (test x))

@@ -4,8 +4,8 @@ use Rattle.std.specs.Prelude.{Some, None, option_map, slice_get}
 use Rattle.std.specs.List.{list_any}
 use Rattle.plan_core.specs.Numbers.{below}
 use Rattle.transfer_refiner.specs.Tasks.{grid}
-use Rattle.transfer_refiner.proofs.TestLemmas.{same_number, other_number, or_left, or_right}
-use Rattle.transfer_refiner.proofs.NumbersLemmas.{below_has, has_below}
+use Rattle.plan_core.proofs.TestLemmas.{same_number, other_number, or_left, or_right}
+use Rattle.plan_core.proofs.NumbersLemmas.{below_has, has_below}
 
 -- a place in two lists put together
 pub place_in : {A : Type 0} (xs ys : List A) (i : ℕ) (x : A) → slice_get (xs ++ ys) i ≡ Some x → (slice_get xs i ≡ Some x) ⊎ ((length xs ≤ i) × (slice_get ys (i - length xs) ≡ Some x))

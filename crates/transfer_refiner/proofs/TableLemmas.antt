@@ -28,7 +28,7 @@ use Rattle.transfer_refiner.specs.Draft.{Draft, site_of, stands, home, pfns_of, 
 use Rattle.transfer_refiner.specs.Tasks.{count_files, count_sites, grid, source, pair_of, pairs_of, jobs_of, planned_site, planned_file, kinds_of, first_fault}
 use Rattle.transfer_refiner.specs.Conditions.{IsDraft}
 use Rattle.transfer_refiner.specs.Refined.{IsRefined}
-use Rattle.transfer_refiner.proofs.TestLemmas.{is_itself, both, and_both, not_true, or_left, or_right}
+use Rattle.plan_core.proofs.TestLemmas.{is_itself, both, and_both, not_true, or_left, or_right}
 use Rattle.transfer_refiner.proofs.SliceLemmas.{place_map, map_place, grid_place, any_at_place}
 use Rattle.transfer_refiner.proofs.SortLemmas.{Sort, a_run, a_transfer, a_delivery, sorted}
 use Rattle.transfer_refiner.proofs.JobsLemmas.{used_below, made_below}

@@ -24,8 +24,8 @@ use Rattle.transfer_refiner.specs.Conditions.{IsDraft}
 use Rattle.transfer_refiner.specs.Refined.{IsRefined, Refines}
 use Rattle.transfer_refiner.specs.Places.{AreOnce}
 use Rattle.transfer_refiner.specs.Steps.{IsListed, AreParented, AreTasks}
-use Rattle.transfer_refiner.proofs.TestLemmas.{same_number, and_both, both, by_bool}
-use Rattle.transfer_refiner.proofs.NumbersLemmas.{below_has, none_least, same_below}
+use Rattle.plan_core.proofs.TestLemmas.{same_number, and_both, both, by_bool}
+use Rattle.plan_core.proofs.NumbersLemmas.{below_has, none_least, same_below}
 use Rattle.transfer_refiner.proofs.SliceLemmas.{any_at_place, map_place, place_map, slice_get_there}
 use Rattle.transfer_refiner.proofs.OnceLemmas.{grid_once}
 use Rattle.transfer_refiner.proofs.EdgesLemmas.{after_within}

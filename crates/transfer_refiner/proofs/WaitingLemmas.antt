@@ -16,8 +16,8 @@ use Rattle.plan_core.specs.Numbers.{has, below}
 use Rattle.plan_core.specs.Words.{reads, writes, parents, reads_in, writes_in, parents_in, kind_in, kind, job_numbers, is_run, is_run_kind, count_tasks, count_pairs}
 use Rattle.plan_core.specs.Kinds.{on_pair, kind_reads, kind_writes, reads_file, writes_file, reads_pair, writes_pair, sweeps, task_waits, waits_for}
 use Rattle.plan_core.specs.Proper.{AreParents, is_parent}
-use Rattle.transfer_refiner.proofs.TestLemmas.{is_itself, both, either, or_left, or_right}
-use Rattle.transfer_refiner.proofs.NumbersLemmas.{below_has, has_below, same_below}
+use Rattle.plan_core.proofs.TestLemmas.{is_itself, both, either, or_left, or_right}
+use Rattle.plan_core.proofs.NumbersLemmas.{below_has, has_below, same_below}
 use Rattle.transfer_refiner.specs.Draft.{Draft}
 use Rattle.transfer_refiner.specs.Tasks.{comes_after, part_of}
 use Rattle.transfer_refiner.specs.Refined.{IsRefined}

@@ -10,7 +10,7 @@ use Rattle.plan_core.specs.Numbers.{has}
 use Rattle.plan_core.specs.Words.{writes_in}
 use Rattle.transfer_refiner.specs.Edges.{fan}
 use Rattle.transfer_refiner.specs.Steps.{writer_edges}
-use Rattle.transfer_refiner.proofs.TestLemmas.{same_number, other_number, by_bool}
+use Rattle.plan_core.proofs.TestLemmas.{same_number, other_number, by_bool}
 use Rattle.transfer_refiner.proofs.EdgesLemmas.{is_edge, fan_any, all_edges}
 
 pub writer_none : (ts : List Task) → writer_edges ts 0 ≡ []

@@ -4,7 +4,7 @@ use Rattle.std.specs.List.{list_any}
 use Rattle.std.specs.Str.{bytes_eq}
 use Rattle.outside.specs.declared.numbers.JobId.{JobId}
 use Rattle.outside.specs.declared.numbers.SiteId.{SiteId}
-use Rattle.transfer_refiner.specs.declared.clusters.Clusters.{Clusters}
+use Rattle.workflow_core.specs.declared.clusters.Clusters.{Clusters}
 use Rattle.workflow_core.specs.declared.workflow.Workflow.{Workflow}
 use Rattle.dependency_graph.specs.Edges.{read_by, written_by}
 use Rattle.replica_catalog.specs.declared.catalog.Pfn.{Pfn}

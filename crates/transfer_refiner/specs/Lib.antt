@@ -6,8 +6,6 @@ pub mod Conditions
 pub mod Singles
 -- Steps
 pub mod View
-pub mod Rising
-pub mod Files
 pub mod Edges
 pub mod Marked
 pub mod Tables

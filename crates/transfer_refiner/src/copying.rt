@@ -8,13 +8,11 @@ ghost use Rattle.transfer_refiner.specs.Tables.{AreTables};
 ghost use Rattle.transfer_refiner.specs.Tasks.{count_files, files_of, is_registered, jobs_of, planned_file, planned_job, planned_site};
 ghost use Rattle.transfer_refiner.specs.View.{draft_of};
 
-use crate::copies::copied;
 use crate::marked::registered_files;
-use crate::rising::is_among;
 use crate::tables::{Tables, declared_of, entry_of, name_of};
 use crate::view::View;
 use outside::{FileId, Items, Memory, Policy, SiteId, Text};
-use plan_core::{PlanFile, PlanJob, PlanSite};
+use plan_core::{PlanFile, PlanJob, PlanSite, copied, is_among, texts_copied};
 use plan_request::{Execution, Tools};
 use std::alloc::Global;
 use workflow_core::{Job, Output};
@@ -42,16 +40,6 @@ pub fn sites_of(alloc: Global, execute: &[Execution]) -> Result<Items<PlanSite>,
         })?;
     }
     Ok(Items::new(sites))
-}
-
-fn texts_copied(alloc: Global, texts: &[Text]) -> Result<Items<Text>, Memory>
-    ensures { IfOk result (λ copy. copy ≡ texts.now) }
-{
-    let mut copies = Vec::new(alloc);
-    for text in texts {
-        copies.push(text.copied(alloc)?)?;
-    }
-    Ok(Items::new(copies))
 }
 
 fn made_files(alloc: Global, outputs: &[Output]) -> Result<Items<FileId>, Memory>

@@ -13,12 +13,12 @@ ghost use Rattle.transfer_refiner.specs.Tasks.{count_all, count_files, is_made, 
 ghost use Rattle.transfer_refiner.specs.View.{draft_of};
 
 use crate::fault::RefineFault;
-use crate::rising::is_among;
 use crate::rows::before;
 use crate::sources::pfns_of;
 use crate::tables::{Tables, declared_of, home, name_of};
 use crate::view::View;
 use outside::{FileId, Memory};
+use plan_core::is_among;
 use std::alloc::Global;
 
 fn is_empty<T>(list: &[T]) -> bool
@@ -91,7 +91,7 @@ fn lacks_size(view: &View<'_>, tables: &Tables, file: FileId) -> bool
 }
 
 /// The first file that lacks a pfn.
-#[tactic(auto, using(crate::proofs::NumbersLemmas::least_none, crate::proofs::NumbersLemmas::least_more, crate::proofs::NumbersLemmas::least_found))]
+#[tactic(auto, using(plan_core::proofs::NumbersLemmas::least_none, plan_core::proofs::NumbersLemmas::least_more, plan_core::proofs::NumbersLemmas::least_found))]
 fn without_replica(view: &View<'_>, tables: &Tables) -> Option<FileId>
     requires draft { IsDraft (draft_of view.now) }
     requires graph { IsGraphOf view.now.workflow.now view.now.graph.now }
@@ -107,7 +107,7 @@ fn without_replica(view: &View<'_>, tables: &Tables) -> Option<FileId>
 }
 
 /// The first file that lacks a size.
-#[tactic(auto, using(crate::proofs::NumbersLemmas::least_none, crate::proofs::NumbersLemmas::least_more, crate::proofs::NumbersLemmas::least_found))]
+#[tactic(auto, using(plan_core::proofs::NumbersLemmas::least_none, plan_core::proofs::NumbersLemmas::least_more, plan_core::proofs::NumbersLemmas::least_found))]
 fn without_size(view: &View<'_>, tables: &Tables) -> Option<FileId>
     requires draft { IsDraft (draft_of view.now) }
     requires tables { AreTables (draft_of view.now) tables.now }

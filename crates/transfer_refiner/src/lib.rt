@@ -10,8 +10,6 @@
 //! (`waiting`).
 #![tactic(auto)]
 
-mod clusters;
-mod copies;
 mod copying;
 mod edges;
 mod fault;
@@ -22,17 +20,14 @@ mod listing;
 mod marked;
 mod places;
 mod refining;
-mod rising;
 mod rows;
 mod singles;
-mod site_files;
 mod sources;
 mod tables;
 mod tasks;
 mod view;
 mod waiting;
 
-pub use clusters::Clusters;
 pub use fault::RefineFault;
 pub use law::{cleans_are_counted, refined_plan_is_proper};
 pub use refining::refine;

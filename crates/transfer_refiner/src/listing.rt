@@ -12,14 +12,13 @@ ghost use Rattle.transfer_refiner.specs.Tables.{AreTables};
 ghost use Rattle.transfer_refiner.specs.Tasks.{count_files, count_sites, delivery, grid, kinds_of, pair_of, pairs_of, run, transfer};
 ghost use Rattle.transfer_refiner.specs.View.{draft_of};
 
-use crate::copies::copied;
 use crate::jobs::site_of;
 use crate::rows::{after, before};
 use crate::sources::{delivery, transfer};
 use crate::tables::{Tables, home};
 use crate::view::View;
 use outside::{FileId, Items, Memory, SiteId};
-use plan_core::{Pair, TaskKind};
+use plan_core::{Pair, TaskKind, copied};
 use std::alloc::Global;
 
 fn push_pairs(pairs: &mut Vec<Pair>, site: SiteId, files: &[u32]) -> Result<(), Memory>

@@ -5,14 +5,12 @@ ghost use Rattle.indexmap.specs.IndexMap.{get_by};
 ghost use Rattle.plan_core.specs.Kinds.{on_pair};
 ghost use Rattle.plan_core.specs.Numbers.{below};
 ghost use Rattle.plan_core.specs.Words.{pair_numbers};
-ghost use Rattle.transfer_refiner.specs.Files.{AreFilesOf};
+ghost use Rattle.plan_core.specs.Files.{AreFilesOf};
 ghost use Rattle.transfer_refiner.specs.Places.{is_place, is_pair_of, place_of, places_at, AreOnce};
 
-use crate::rising::sorted;
-use crate::site_files::SiteFiles;
 use indexmap::IndexMap;
 use outside::{Items, Memory, PairId};
-use plan_core::Pair;
+use plan_core::{Pair, SiteFiles, sorted};
 use std::alloc::Global;
 use std::marker::Model;
 

@@ -11,7 +11,6 @@ ghost use Rattle.transfer_refiner.specs.Draft.{moves, planned};
 ghost use Rattle.transfer_refiner.specs.Tasks.{count_all, count_cleans, count_files, count_sites, grid, kinds_of, pairs_of};
 ghost use Rattle.transfer_refiner.specs.View.{draft_of};
 
-use crate::clusters::Clusters;
 use crate::copying::{files_of, jobs_of, policy_copied, sites_of};
 use crate::edges::stated;
 use crate::fault::RefineFault;
@@ -28,7 +27,7 @@ use plan_core::{Pair, Plan, PlanJob, Task, TaskKind};
 use plan_request::{Cleanup, PlanRequest};
 use replica_catalog::{ReplicaCatalog, Replicas};
 use std::alloc::Global;
-use workflow_core::Workflow;
+use workflow_core::{Clusters, Workflow};
 
 /// The tasks, with their parents.
 fn all_tasks(

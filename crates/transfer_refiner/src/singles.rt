@@ -6,14 +6,14 @@ ghost use Rattle.outside.specs.declared.numbers.SiteId.{SiteId};
 ghost use Rattle.workflow_core.specs.declared.workflow.Workflow.{Workflow};
 ghost use Rattle.plan_request.specs.declared.request.PlanRequest.{PlanRequest};
 ghost use Rattle.replica_catalog.specs.declared.catalog.ReplicaCatalog.{ReplicaCatalog};
-ghost use Rattle.transfer_refiner.specs.declared.clusters.Clusters.{Clusters};
+ghost use Rattle.workflow_core.specs.declared.clusters.Clusters.{Clusters};
 ghost use Rattle.transfer_refiner.specs.Conditions.{IsDraft};
 ghost use Rattle.transfer_refiner.specs.Draft.{planned};
 ghost use Rattle.transfer_refiner.specs.Singles.{ArePlaced, singles};
 
-use crate::clusters::Clusters;
 use outside::{Items, JobId, Memory};
 use std::alloc::Global;
+use workflow_core::Clusters;
 
 /// Each job as a cluster of its own, in this order.
 pub fn single_jobs(alloc: Global, jobs: &[JobId]) -> Result<Clusters, Memory>

@@ -5,11 +5,9 @@ ghost use Rattle.plan_core.specs.declared.plan.Task.{Task as DeclaredTask};
 ghost use Rattle.transfer_refiner.specs.Places.{AreOnce};
 ghost use Rattle.transfer_refiner.specs.Steps.{IsListed};
 
-use crate::copies::kind_copied;
 use crate::places::{Places, pairs_at};
-use crate::site_files::{files_read, files_written};
 use outside::{Items, Memory};
-use plan_core::{PlanJob, Task, TaskKind};
+use plan_core::{PlanJob, Task, TaskKind, files_read, files_written, kind_copied};
 use std::alloc::Global;
 
 /// A task of a kind, without parents.

@@ -10,12 +10,10 @@ ghost use Rattle.plan_core.specs.Words.{is_clean_kind};
 ghost use Rattle.transfer_refiner.specs.Edges.{fan};
 ghost use Rattle.transfer_refiner.specs.Steps.{AreParented, IsSame, writer_edges};
 
-use crate::copies::{copied, kind_copied};
-use crate::rising::sorted;
 use crate::rows::{before, larger};
 use digraph::Digraph;
 use outside::{Items, Memory, PairId, TaskId};
-use plan_core::Task;
+use plan_core::{Task, copied, kind_copied, sorted};
 use std::alloc::Global;
 
 /// The pairs that a task reads.

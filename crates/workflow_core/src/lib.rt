@@ -5,11 +5,13 @@
 #![tactic(auto)]
 
 mod checking;
+mod clusters;
 mod law;
 mod names;
 mod workflow;
 
 pub use checking::is_well_formed;
+pub use clusters::Clusters;
 pub use law::names_are_numbered;
 pub use names::Names;
 pub use workflow::{Inlined, Job, Output, Transformation, Workflow};

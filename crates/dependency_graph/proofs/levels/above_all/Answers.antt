@@ -1,4 +1,4 @@
-use Rattle.std.proofs.Common.{◌≡◌, ◌∙◌, ℕ, max, sym, ap, take, slice_index_or}
+use Rattle.std.proofs.Common.{◌∙◌, ℕ, max, sym, ap, take, slice_index_or}
 use Rattle.std.proofs.lemmas.List.{take_more}
 use Rattle.outside.specs.declared.numbers.JobId.{JobId}
 use Rattle.dependency_graph.specs.Levels.{above, above_all}

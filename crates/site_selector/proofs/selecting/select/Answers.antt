@@ -5,7 +5,7 @@ use Rattle.outside.specs.declared.numbers.SiteId.{SiteId}
 use Rattle.workflow_core.specs.declared.workflow.Job.{Job}
 use Rattle.plan_request.specs.declared.request.Execution.{Execution}
 use Rattle.outside.specs.declared.select_fault.SelectFault.{SelectFault}
-use Rattle.site_selector.specs.Order.{IsInOrder}
+use Rattle.dependency_graph.specs.Ranking.{IsRanked}
 use Rattle.site_selector.specs.Offers.{Offered}
 use Rattle.site_selector.specs.Candidates.{site_of, IsAnswer}
 use Rattle.site_selector.specs.Selecting.{selection}
@@ -16,7 +16,7 @@ use Rattle.site_selector.proofs.selecting.select.Goals as goal
 pub bounds-jobs-number : goal.bounds-jobs-number
 bounds-jobs-number c =
     let order = c.deref-number-items.result.now in
-    let sorted : IsInOrder c.args.kept.now c.args.levels.now order = subst (IsInOrder c.args.kept.now c.args.levels.now) (sym c.deref-number-items.ensures.value) c.in_ok-order.ensures in
+    let sorted : IsRanked c.args.kept.now c.args.levels.now order = subst (IsRanked c.args.kept.now c.args.levels.now) (sym c.deref-number-items.ensures.value) c.in_ok-order.ensures in
     let long = ap (λ (js : List Job). length js) c.as_slice-jobs.ensures in
     number_below c.args.kept.now c.args.levels.now order c.loop-turn.turn (length c.as_slice-jobs.result.now) sorted (c.requires.kept ∙ sym long) c.loop-turn-test.true
 
@@ -29,7 +29,7 @@ site_of-requires c =
 pub index_mut-requires : goal.index_mut-requires
 index_mut-requires c =
     let order = c.deref-number-items.result.now in
-    let sorted : IsInOrder c.args.kept.now c.args.levels.now order = subst (IsInOrder c.args.kept.now c.args.levels.now) (sym c.deref-number-items.ensures.value) c.in_ok-order.ensures in
+    let sorted : IsRanked c.args.kept.now c.args.levels.now order = subst (IsRanked c.args.kept.now c.args.levels.now) (sym c.deref-number-items.ensures.value) c.in_ok-order.ensures in
     let below = number_below c.args.kept.now c.args.levels.now order c.loop-turn.turn (length c.args.workflow.now.jobs) sorted c.requires.kept c.loop-turn-test.true in
     omega (arith, below, c.loop-turn.invariant.long, c.loop-turn.sites.ok)
 
@@ -38,7 +38,7 @@ loop-turn-preserved c =
     let order = c.deref-number-items.result.now in
     let job = c.index-jobs-number.result in
     let number : ℕ = get_or order c.loop-turn.turn 0 in
-    let sorted : IsInOrder c.args.kept.now c.args.levels.now order = subst (IsInOrder c.args.kept.now c.args.levels.now) (sym c.deref-number-items.ensures.value) c.in_ok-order.ensures in
+    let sorted : IsRanked c.args.kept.now c.args.levels.now order = subst (IsRanked c.args.kept.now c.args.levels.now) (sym c.deref-number-items.ensures.value) c.in_ok-order.ensures in
     let below = number_below c.args.kept.now c.args.levels.now order c.loop-turn.turn (length c.args.workflow.now.jobs) sorted c.requires.kept c.loop-turn-test.true in
     let at : slice_get c.args.workflow.now.jobs number ≡ Some job =
     slice_get-get_or c.args.workflow.now.jobs number job below ∙ ap (λ (j : Job). Some j) (ap (λ (js : List Job). get_or js number job) (sym c.as_slice-jobs.ensures) ∙ sym c.index-jobs-number.is) in
@@ -54,7 +54,7 @@ returns-in_err-site c =
     let now = selection c.args.workflow.now c.args.kept.now c.args.levels.now c.args.request.now c.args.transformations.now in
     let job = c.index-jobs-number.result in
     let number : ℕ = get_or order c.loop-turn.turn 0 in
-    let sorted : IsInOrder c.args.kept.now c.args.levels.now order = subst (IsInOrder c.args.kept.now c.args.levels.now) (sym c.deref-number-items.ensures.value) c.in_ok-order.ensures in
+    let sorted : IsRanked c.args.kept.now c.args.levels.now order = subst (IsRanked c.args.kept.now c.args.levels.now) (sym c.deref-number-items.ensures.value) c.in_ok-order.ensures in
     let below = number_below c.args.kept.now c.args.levels.now order c.loop-turn.turn (length c.args.workflow.now.jobs) sorted c.requires.kept c.loop-turn-test.true in
     let at : slice_get c.args.workflow.now.jobs number ≡ Some job =
     slice_get-get_or c.args.workflow.now.jobs number job below ∙ ap (λ (j : Job). Some j) (ap (λ (js : List Job). get_or js number job) (sym c.as_slice-jobs.ensures) ∙ sym c.index-jobs-number.is) in
@@ -69,6 +69,6 @@ pub returns : goal.returns
 returns c =
     let order = c.deref-number-items.result.now in
     let now = selection c.args.workflow.now c.args.kept.now c.args.levels.now c.args.request.now c.args.transformations.now in
-    let sorted : IsInOrder c.args.kept.now c.args.levels.now order = subst (IsInOrder c.args.kept.now c.args.levels.now) (sym c.deref-number-items.ensures.value) c.in_ok-order.ensures in
+    let sorted : IsRanked c.args.kept.now c.args.levels.now order = subst (IsRanked c.args.kept.now c.args.levels.now) (sym c.deref-number-items.ensures.value) c.in_ok-order.ensures in
     let end : c.loop-turn.turn ≡ length order = omega (arith, c.loop-turn-test.false, c.loop-turn.auto.turn-end) in
     selected_is now order c.loop-turn.sites.items sorted (subst (λ (n : ℕ). ArePlaced now order c.loop-turn.sites.items n) end c.loop-turn.invariant)

@@ -9,8 +9,9 @@ use Rattle.std.proofs.lemmas.Bool.{eqb-false}
 use Rattle.std.proofs.lemmas.List.{append-nil}
 use Rattle.std.specs.declared.cmp.Ordering.TheVariants.{Less, Equal, Greater}
 use Rattle.std.proofs.lemmas.List.Sums.{sum_by-cons, sum_by-append}
-use Rattle.site_selector.specs.Order.{has, is_kept, AreOnce, comes_before, IsInOrder, leveled, numbers_in}
-use Rattle.site_selector.proofs.TestLemmas.{or_left, or_right, by_bool, itself, fresh_at}
+use Rattle.dependency_graph.specs.Levels.{is_kept}
+use Rattle.dependency_graph.specs.Ranking.{AreOnce, comes_before, IsRanked, leveled, numbers_in}
+use Rattle.dependency_graph.proofs.TestLemmas.{has, or_left, or_right, by_bool, itself, fresh_at}
 
 pub leveled_kept : (kept : List Bool) (levels : List ℕ) (n : ℕ) → is_kept kept n ≡ true → leveled kept levels (n + 1) ≡ leveled kept levels n ++ (get_or levels n 0, n) ∷ []
 leveled_kept kept levels n e = rw add-one (ap (λ (b : Bool). leveled kept levels n ++ cond b ((get_or levels n 0, n) ∷ []) []) e)
@@ -115,8 +116,8 @@ comes a b c d h ne = by_first (ltb c a) refl (eqb c a) refl (ltb d b) refl (eqb 
     by_first false e true f false g false i h = grind (arith, e, f, g, i)
     by_first false e false f z g w i h = grind (arith, e, f)
 
-pub in_order_is : (kept : List Bool) (levels : List ℕ) (ps : List (ℕ × ℕ)) → IsPermutation (leveled kept levels (length kept)) ps → IsSorted (λ (x y : ℕ × ℕ). ordering_then (nat_cmp x.0 y.0) (nat_cmp x.1 y.1)) ps → IsInOrder kept levels (numbers_in ps)
-in_order_is kept levels ps perm up = record {
+pub ranked_is : (kept : List Bool) (levels : List ℕ) (ps : List (ℕ × ℕ)) → IsPermutation (leveled kept levels (length kept)) ps → IsSorted (λ (x y : ℕ × ℕ). ordering_then (nat_cmp x.0 y.0) (nat_cmp x.1 y.1)) ps → IsRanked kept levels (numbers_in ps)
+ranked_is kept levels ps perm up = record {
   once = once;
   kept_ones = has_kept;
   below = λ a h. flag_below kept a (sym (has_kept a) ∙ h);

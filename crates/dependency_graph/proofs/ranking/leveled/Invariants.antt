@@ -1,6 +1,6 @@
 use Rattle.std.proofs.Common.{◌≡◌}
-use Rattle.site_selector.specs.Order.{leveled}
-use Rattle.site_selector.proofs.order.leveled.Given as goal
+use Rattle.dependency_graph.specs.Ranking.{leveled}
+use Rattle.dependency_graph.proofs.ranking.leveled.Given as goal
 
 abbrev pub invariant-loop-job : goal.invariant-loop-job
 invariant-loop-job l = l.jobs.items ≡ leveled l.kept l.levels l.job

@@ -1,7 +1,8 @@
 //! The kept jobs in order of (level, number).
 
 ghost use Rattle.std.specs.Prelude.{◌≡◌, ◌≤◌, ℕ, length, IfOk};
-ghost use Rattle.site_selector.specs.Order.{is_kept, level_of, leveled, numbers_in, IsInOrder};
+ghost use Rattle.dependency_graph.specs.Levels.{is_kept, level};
+ghost use Rattle.dependency_graph.specs.Ranking.{leveled, numbers_in, IsRanked};
 
 use outside::Memory;
 use std::alloc::Global;
@@ -16,7 +17,7 @@ fn is_kept(kept: &[bool], job: u32) -> bool
 }
 
 fn level_of(levels: &[u32], job: u32) -> u32
-    ensures { result ≡ level_of levels.now job }
+    ensures { result ≡ level levels.now job }
 {
     match levels.get(job as usize) {
         Some(found) => *found,
@@ -25,7 +26,7 @@ fn level_of(levels: &[u32], job: u32) -> u32
 }
 
 /// The kept jobs by number, each under its level.
-#[tactic(auto, using(crate::proofs::LeveledLemmas::leveled_kept, crate::proofs::LeveledLemmas::leveled_dropped))]
+#[tactic(auto, using(crate::proofs::RankingLemmas::leveled_kept, crate::proofs::RankingLemmas::leveled_dropped))]
 fn leveled(alloc: Global, kept: &[bool], levels: &[u32]) -> Result<Vec<(u32, u32)>, Memory>
     requires few { length kept.now ≤ 10000 }
     ensures { IfOk result (λ v. v.items ≡ leveled kept.now levels.now (length kept.now)) }
@@ -46,10 +47,10 @@ fn numbers_in(alloc: Global, jobs: &[(u32, u32)]) -> Result<Vec<u32>, Memory>
     Ok(numbers)
 }
 
-/// The numbers of the kept jobs, in order of (level, number).
-pub fn in_order(alloc: Global, kept: &[bool], levels: &[u32]) -> Result<Vec<u32>, Memory>
+/// The numbers of the kept jobs, in order of (level, number). There is one value of `kept` and of `levels` for each job.
+pub fn ranked(alloc: Global, kept: &[bool], levels: &[u32]) -> Result<Vec<u32>, Memory>
     requires few { length kept.now ≤ 10000 }
-    ensures { IfOk result (λ v. IsInOrder kept.now levels.now v.items) }
+    ensures { IfOk result (λ v. IsRanked kept.now levels.now v.items) }
 {
     let mut jobs = leveled(alloc, kept, levels)?;
     jobs.sort()?;

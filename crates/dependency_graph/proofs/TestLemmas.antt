@@ -3,7 +3,12 @@ use Rattle.std.proofs.Common.{◌≡◌, ℕ, zero, suc, ◌+◌, ◌<◌, ◌||
 use Rattle.std.specs.List.{list_any}
 use Rattle.std.proofs.lemmas.List.{take_more}
 use Rattle.std.proofs.lemmas.List.Folds.{list_any-append}
-use Rattle.site_selector.specs.Order.{has, AreOnce}
+use Rattle.dependency_graph.specs.Edges.{is_among}
+use Rattle.dependency_graph.specs.Ranking.{AreOnce}
+
+-- the number stands in the list
+abbrev pub has : List ℕ → ℕ → Bool
+has xs a = is_among a xs
 
 or_false : (b : Bool) → (b || false) ≡ b
 or_false true = refl

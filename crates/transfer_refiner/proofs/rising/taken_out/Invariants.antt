@@ -1,6 +1,0 @@
-use Rattle.std.proofs.Common.{◌≡◌, ◌++◌, drop}
-use Rattle.transfer_refiner.specs.Rising.{without}
-use Rattle.transfer_refiner.proofs.rising.taken_out.Given as goal
-
-abbrev pub invariant-loop-number : goal.invariant-loop-number
-invariant-loop-number l = l.left.items ++ without (drop l.number-index l.numbers) l.others ≡ without l.numbers l.others
