@@ -1,6 +1,6 @@
-mod TestLemmas
-mod NumbersLemmas
-mod RisingLemmas
+pub mod TestLemmas
+pub mod NumbersLemmas
+pub mod RisingLemmas
 mod GroundedLemmas
 mod SettlingLemmas
 mod PairLemmas

@@ -3,3 +3,4 @@ pub mod TurnLemmas
 pub mod OfferLemmas
 pub mod CandidateLemmas
 pub mod SelectingLemmas
+pub mod PlacedLemmas

@@ -6,7 +6,9 @@
 #![tactic(auto)]
 
 mod candidates;
+mod law;
 mod offers;
 mod selecting;
 
+pub use law::selected_sites_are_placed;
 pub use selecting::select;

@@ -31,4 +31,4 @@ mod waiting;
 pub use fault::RefineFault;
 pub use law::{cleans_are_counted, refined_plan_is_proper};
 pub use refining::refine;
-pub use singles::{single_jobs, single_jobs_are_a_draft};
+pub use singles::single_jobs_are_a_draft;

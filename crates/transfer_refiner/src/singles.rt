@@ -1,6 +1,6 @@
 //! Kept jobs, each a cluster of its own.
 
-ghost use Rattle.std.specs.Prelude.{◌≡◌, IfOk, List, Option};
+ghost use Rattle.std.specs.Prelude.{◌≡◌, List, Option};
 ghost use Rattle.outside.specs.declared.numbers.JobId.{JobId};
 ghost use Rattle.outside.specs.declared.numbers.SiteId.{SiteId};
 ghost use Rattle.workflow_core.specs.declared.workflow.Workflow.{Workflow};
@@ -10,25 +10,6 @@ ghost use Rattle.workflow_core.specs.declared.clusters.Clusters.{Clusters};
 ghost use Rattle.transfer_refiner.specs.Conditions.{IsDraft};
 ghost use Rattle.transfer_refiner.specs.Draft.{planned};
 ghost use Rattle.transfer_refiner.specs.Singles.{ArePlaced, singles};
-
-use outside::{Items, JobId, Memory};
-use std::alloc::Global;
-use workflow_core::Clusters;
-
-/// Each job as a cluster of its own, in this order.
-pub fn single_jobs(alloc: Global, jobs: &[JobId]) -> Result<Clusters, Memory>
-    ensures { IfOk result (λ c. c.parts ≡ singles jobs.now) }
-{
-    let mut parts = Vec::new(alloc);
-    for job in jobs {
-        let mut part = Vec::new(alloc);
-        part.push(*job)?;
-        parts.push(Items::new(part))?;
-    }
-    Ok(Clusters {
-        parts: Items::new(parts),
-    })
-}
 
 /// Kept jobs that are placed can be refined, each as a cluster of its own.
 pub fn single_jobs_are_a_draft()
