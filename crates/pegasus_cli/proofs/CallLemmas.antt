@@ -38,6 +38,7 @@ use Rattle.pegasus_cli.specs.declared.survey.Surveyed.{Surveyed}
 use Rattle.pegasus_cli.specs.Words.{command as command_of}
 use Rattle.pegasus_cli.proofs.CourseLemmas.{result_again, told_gives}
 use Rattle.pegasus_cli.proofs.FinishLemmas.{alone_finishes, eval_finishes}
+use Rattle.pegasus_cli.proofs.PlanLemmas.{plan_finishes, plan_is_no_usage}
 
 pub ends_as : (o : Output) (text : List ℕ) (a : Outcome) → (a ≡ outcomes.Memory → ⊥) → IsAnswer a → Appends o.before.written o.after.written (text ++ line_of a) → Ends o text a a
 ends_as o text outcomes.Memory m i h = absurd (m refl)
@@ -151,6 +152,7 @@ check_finishes s text a h = absurd h
 
 finishes : (k : Command) (w : Work) (s : Surveyed) (text : List ℕ) (a : Outcome) → (spec_of k).Works w s text a → (spec_of k).CanFinish w s → (Rose w.before.counts.faults w.after.counts.faults → ⊥) → (Rose w.before.tool w.after.tool → ⊥) → IsDoneOrMemory a
 finishes commands.Check w s text a works can host tool = check_finishes s.survey text a works.says
+finishes commands.Plan w s text a works can host tool = plan_finishes s text a works.says can
 finishes commands.Eval w s text a works can host tool = eval_finishes w s text a works.says can host tool
 finishes commands.Alone w s text a works can host tool = alone_finishes w s works.first works.rest a works.tells can host tool
 
@@ -182,6 +184,7 @@ alone_is_no_usage w s first rest h = h.0
 
 work_is_no_usage : (k : Command) (w : Work) (s : Surveyed) (text : List ℕ) → (spec_of k).Works w s text outcomes.Usage → ⊥
 work_is_no_usage commands.Check w s text h = check_is_no_usage s.survey text h.says
+work_is_no_usage commands.Plan w s text h = plan_is_no_usage s text h.says
 work_is_no_usage commands.Eval w s text h = eval_is_no_usage w s text h.says
 work_is_no_usage commands.Alone w s text h = alone_is_no_usage w s h.first h.rest h.tells
 

@@ -4,6 +4,7 @@ pub mod PreparedLemmas
 pub mod BasesLemmas
 pub mod EvaluationLemmas
 pub mod FinishLemmas
+pub mod PlanLemmas
 pub mod CallLemmas
 pub mod DeliveryLemmas
 pub mod SurveyLemmas

@@ -7,7 +7,7 @@ use Rattle.std.specs.declared.vec.IntoIter.{IntoIter}
 use Rattle.std.specs.declared.io.Error.{Error}
 use Rattle.std.specs.declared.io.ErrorKind.TheVariants.{OutOfMemory}
 use Rattle.pegasus_cli.specs.declared.commands.Command.{Command}
-use Rattle.pegasus_cli.specs.declared.commands.Command.TheVariants.{Check, Eval, Alone}
+use Rattle.pegasus_cli.specs.declared.commands.Command.TheVariants.{Check, Plan, Eval, Alone}
 
 -- a word that names a document: it isn't empty and doesn't begin with a dash
 abbrev pub is_document_word : List ℕ → Bool
@@ -16,7 +16,7 @@ is_document_word (b ∷ bs) = not (b == 45)
 
 -- the command of a word
 abbrev pub command_named : List ℕ → Option Command
-command_named word = if bytes_eq word (codes "check") then Some Check else if bytes_eq word (codes "eval") then Some Eval else if bytes_eq word (codes "alone") then Some Alone else None
+command_named word = if bytes_eq word (codes "check") then Some Check else if bytes_eq word (codes "plan") then Some Plan else if bytes_eq word (codes "eval") then Some Eval else if bytes_eq word (codes "alone") then Some Alone else None
 
 -- a command and its document's name
 abbrev pub with_document : List ℕ → Option Command → Option (Command × List ℕ)

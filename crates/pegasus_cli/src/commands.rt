@@ -1,8 +1,9 @@
 //! The commands.
 
-ghost use Rattle.std.specs.Prelude.{◌≡◌, []};
+ghost use Rattle.std.specs.Prelude.{◌≡◌, [], Ok};
 ghost use Rattle.workflow_core.specs.WellFormed.{IsWellFormed};
 ghost use Rattle.dependency_graph.specs.Graph.{IsGraphOf};
+ghost use Rattle.plan_request.specs.Reader.{execute_checked};
 ghost use Rattle.pegasus_cli.specs.Call.{IsAnswer};
 ghost use Rattle.pegasus_cli.specs.Commands.{spec_of};
 ghost use Rattle.pegasus_cli.specs.Moments.{work_moment, working};
@@ -10,6 +11,7 @@ ghost use Rattle.pegasus_cli.specs.Moments.{work_moment, working};
 mod alone;
 mod check;
 mod eval;
+mod plan;
 
 use crate::outcome::Outcome;
 use crate::survey::Surveyed;
@@ -21,6 +23,8 @@ use std::alloc::Global;
 pub enum Command {
     /// Reads the workflow and lists what isn't acted on.
     Check,
+    /// Plans the workflow and prints the plan.
+    Plan,
     /// Evaluates the workflow and tells the requested files.
     Eval,
     /// Runs the workflow's jobs one after the other.
@@ -55,12 +59,14 @@ pub(crate) fn work<H: Host, T: Tool>(
 ) -> Worked
     requires well_formed { IsWellFormed surveyed.now.survey.workflow }
     requires graph { IsGraphOf surveyed.now.survey.workflow surveyed.now.survey.graph }
+    requires sites { execute_checked surveyed.now.request.execute ≡ Ok tt }
     ensures works { (spec_of command).Works (working T.apply T.known (work_moment H.Host host.old (T.faults tool.old)) (work_moment H.Host host.new (T.faults tool.new)))
         surveyed.now result.text.items result.answer }
     ensures answer { IsAnswer result.answer }
 {
     match command {
         Command::Check => check::work(alloc, surveyed, host, tool),
+        Command::Plan => plan::work(alloc, surveyed, host, tool),
         Command::Eval => eval::work(alloc, surveyed, host, tool),
         Command::Alone => alone::work(alloc, surveyed, host, tool),
     }

@@ -1,6 +1,7 @@
 //! The documents of a call, fetched one after the other.
 
-ghost use Rattle.std.specs.Prelude.{◌≡◌, Ok, Err};
+ghost use Rattle.std.specs.Prelude.{◌≡◌, IfOk, Ok, Err};
+ghost use Rattle.plan_request.specs.Reader.{execute_checked};
 ghost use Rattle.pegasus_cli.specs.Course.{ButMemory, IsStep, doc_answer, document, documents, if_named, named_documents, plan_answer, request_in_bytes};
 ghost use Rattle.pegasus_cli.specs.Moments.{docs_moment};
 
@@ -84,7 +85,8 @@ fn fetch_if_named<D: Docs>(
 
 /// The request that a document's bytes say.
 fn request_in(alloc: Global, bytes: &Blob) -> Result<PlanRequest, Early>
-    ensures { ButMemory result (result ≡ request_in_bytes bytes.now) }
+    ensures answer { ButMemory result (result ≡ request_in_bytes bytes.now) }
+    ensures sites { IfOk result (λ r. execute_checked r.execute ≡ Ok tt) }
 {
     match plan_request::read(alloc, bytes.as_slice()) {
         Ok(request) => Ok(request),
@@ -93,7 +95,8 @@ fn request_in(alloc: Global, bytes: &Blob) -> Result<PlanRequest, Early>
 }
 
 fn fetch_request<D: Docs>(alloc: Global, docs: &mut D, name: &str) -> Result<PlanRequest, Early>
-    ensures { IsStep (document name.now request_in_bytes) (docs_moment D.Docs docs.old) (docs_moment D.Docs docs.new) result }
+    ensures answer { IsStep (document name.now request_in_bytes) (docs_moment D.Docs docs.old) (docs_moment D.Docs docs.new) result }
+    ensures sites { IfOk result (λ r. execute_checked r.execute ≡ Ok tt) }
 {
     match fetch(alloc, docs, name) {
         Ok(bytes) => request_in(alloc, &bytes),
@@ -107,7 +110,8 @@ fn fetch_named<D: Docs>(
     docs: &mut D,
     request: PlanRequest,
 ) -> Result<Requested, Early>
-    ensures { IsStep (named_documents request) (docs_moment D.Docs docs.old) (docs_moment D.Docs docs.new) result }
+    ensures answer { IsStep (named_documents request) (docs_moment D.Docs docs.old) (docs_moment D.Docs docs.new) result }
+    ensures request { IfOk result (λ r. r.request ≡ request) }
 {
     let workflow = match fetch(alloc, docs, request.workflow.as_str()) {
         Ok(workflow) => workflow,
@@ -141,7 +145,8 @@ pub(crate) fn fetch_documents<D: Docs>(
     docs: &mut D,
     name: &str,
 ) -> Result<Requested, Early>
-    ensures { IsStep (documents name.now) (docs_moment D.Docs docs.old) (docs_moment D.Docs docs.new) result }
+    ensures answer { IsStep (documents name.now) (docs_moment D.Docs docs.old) (docs_moment D.Docs docs.new) result }
+    ensures sites { IfOk result (λ r. execute_checked r.request.execute ≡ Ok tt) }
 {
     match fetch_request(alloc, docs, name) {
         Ok(request) => fetch_named(alloc, docs, request),

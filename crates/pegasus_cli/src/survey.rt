@@ -1,7 +1,8 @@
 //! The documents of a call, surveyed.
 
-ghost use Rattle.std.specs.Prelude.{◌≡◌, IfOk};
+ghost use Rattle.std.specs.Prelude.{◌≡◌, IfOk, Ok};
 ghost use Rattle.workflow_core.specs.WellFormed.{IsWellFormed};
+ghost use Rattle.plan_request.specs.Reader.{execute_checked};
 ghost use Rattle.pegasus_cli.specs.Moments.{docs_moment};
 ghost use Rattle.pegasus_cli.specs.Survey.{Surveys};
 
@@ -27,6 +28,7 @@ pub(crate) fn read_survey<D: Docs>(
 ) -> Result<Surveyed, Early>
     ensures answer { Surveys name.now (docs_moment D.Docs docs.old) (docs_moment D.Docs docs.new) result }
     ensures well_formed { IfOk result (λ s. IsWellFormed s.survey.workflow) }
+    ensures sites { IfOk result (λ s. execute_checked s.request.execute ≡ Ok tt) }
 {
     let requested = match fetch_documents(alloc, docs, name) {
         Ok(requested) => requested,

@@ -23,6 +23,7 @@ fn command_named(word: &str) -> Option<Command>
 {
     match word {
         "check" => Some(Command::Check),
+        "plan" => Some(Command::Plan),
         "eval" => Some(Command::Eval),
         "alone" => Some(Command::Alone),
         _ => None,

@@ -1,2 +1,3 @@
 pub mod PlanFaultLemmas
 pub mod CourseLemmas
+pub mod PlanningLemmas

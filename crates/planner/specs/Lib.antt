@@ -3,3 +3,4 @@ pub mod PlanFault
 pub mod Refused
 pub mod Catalogue
 pub mod Course
+pub mod Planning

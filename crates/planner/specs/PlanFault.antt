@@ -1,11 +1,18 @@
 -- How the faults of documents and graphs are those of planning.
 use Rattle.std.specs.Prelude.{◌≡◌, Result, Ok, Err}
+use Rattle.outside.specs.declared.select_fault.SelectFault.{SelectFault}
+use Rattle.outside.specs.declared.select_fault.SelectFault.TheVariants as select
+use Rattle.workflow_core.specs.declared.workflow.Workflow.{Workflow}
+use Rattle.dependency_graph.specs.Built.{id_of}
 use Rattle.dependency_graph.specs.declared.fault.GraphFault.{GraphFault}
 use Rattle.dependency_graph.specs.declared.fault.GraphFault.TheVariants as graph
 use Rattle.peg_json.specs.declared.fault.TreeFault.{TreeFault}
 use Rattle.peg_json.specs.declared.fault.TreeFault.TheVariants as faults
+use Rattle.peg_json.specs.declared.read_fault.Counted.TheVariants.{Tasks}
 use Rattle.peg_json.specs.declared.read_fault.ReadFault.{ReadFault}
 use Rattle.peg_json.specs.declared.read_fault.ReadFault.TheVariants as reads
+use Rattle.transfer_refiner.specs.declared.fault.RefineFault.{RefineFault}
+use Rattle.transfer_refiner.specs.declared.fault.RefineFault.TheVariants as refine
 use Rattle.planner.specs.declared.document.Document.{Document}
 use Rattle.planner.specs.declared.plan_fault.PlanFault.{PlanFault}
 use Rattle.planner.specs.declared.plan_fault.PlanFault.TheVariants as plan
@@ -27,6 +34,18 @@ abbrev pub graph_fault : GraphFault → PlanFault
 graph_fault (graph.TwoProducers lfn one two) = plan.TwoProducers lfn one two
 graph_fault (graph.Cycle ids) = plan.Cycle ids
 graph_fault graph.Memory = plan.Memory
+
+-- a job is named by its id
+abbrev pub select_fault : Workflow → SelectFault → PlanFault
+select_fault w (select.NoSite a name) = plan.NoSite (id_of w a.0) name
+select_fault w (select.NoTransformation a) = plan.NoTransformation (id_of w a.0)
+select_fault w select.Memory = plan.Memory
+
+abbrev pub refine_fault : RefineFault → PlanFault
+refine_fault (refine.NoReplica lfn) = plan.NoReplica lfn
+refine_fault (refine.NoSize lfn) = plan.NoSize lfn
+refine_fault (refine.TooMany count limit) = plan.TooMany Tasks count limit
+refine_fault refine.Memory = plan.Memory
 
 -- what a document reads as, or its fault
 abbrev pub answered : {A : Type 0} → Document → Result A ReadFault → Result A PlanFault

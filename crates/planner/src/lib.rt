@@ -1,19 +1,23 @@
-//! From a request and its documents to what a plan is made of, or to the first fault.
+//! From a request and its documents to its plan, or to the first fault.
 //!
 //! `survey` reads the documents in their course, which `specs/Course.antt` states: the workflow, the
-//! catalogues that hold, the execution sites, the graph. `PlanFault` has every reason why planning
-//! ends, and `push_refused` its line.
+//! catalogues that hold, the execution sites, the graph. `plan` goes on from there, as `specs/Planning.antt` says: the
+//! kept jobs, their sites and clusters, the tasks, the Cleans. `PlanFault` has every reason why planning ends, and
+//! `push_refused` its line.
 #![tactic(auto)]
 
 mod catalogue;
 mod course;
 mod document;
 mod inputs;
+mod law;
 mod plan_fault;
+mod planning;
 mod refused;
 
 pub use course::survey;
 pub use document::Document;
 pub use inputs::Survey;
 pub use plan_fault::{PlanFault, of_read_fault};
+pub use planning::{plan, plan_survey};
 pub use refused::push_refused;

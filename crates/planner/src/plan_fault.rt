@@ -1,12 +1,13 @@
 //! Why no plan is made of a request and its documents.
 
 ghost use Rattle.std.specs.Prelude.{◌≡◌};
-ghost use Rattle.planner.specs.PlanFault.{graph_fault, read_fault, tree_fault};
+ghost use Rattle.planner.specs.PlanFault.{graph_fault, read_fault, refine_fault, tree_fault};
 
 use crate::document::Document;
 use dependency_graph::GraphFault;
 use outside::{Items, Memory, TaskId, Text};
 use peg_json::{Counted, ReadFault, TreeFault};
+use transfer_refiner::RefineFault;
 
 /// The first fault in the course of planning.
 #[derive(Debug, Drop)]
@@ -72,6 +73,19 @@ impl From<GraphFault> for PlanFault {
             GraphFault::TwoProducers(lfn, one, two) => PlanFault::TwoProducers(lfn, one, two),
             GraphFault::Cycle(ids) => PlanFault::Cycle(ids),
             GraphFault::Memory => PlanFault::Memory,
+        }
+    }
+}
+
+impl From<RefineFault> for PlanFault {
+    ghost from_gives = { λ x e. e ≡ refine_fault x };
+
+    fn from(fault: RefineFault) -> PlanFault {
+        match fault {
+            RefineFault::NoReplica(lfn) => PlanFault::NoReplica(lfn),
+            RefineFault::NoSize(lfn) => PlanFault::NoSize(lfn),
+            RefineFault::TooMany(count, limit) => PlanFault::TooMany(Counted::Tasks, count, limit),
+            RefineFault::Memory => PlanFault::Memory,
         }
     }
 }

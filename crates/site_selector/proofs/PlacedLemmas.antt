@@ -1,6 +1,6 @@
 -- Sites of jobs are execution sites.
-use Rattle.std.proofs.Common.{◌≡◌, ◌≢◌, ℕ, zero, suc, ◌+◌, ◌<◌, ◌%◌, Bool, true, false, List, [], ◌∷◌, length, get_or, refl, sym, ap, subst, ◌∙◌, arith}
-use Rattle.std.specs.Prelude.{slice_get, Option, Some, None, Result, Ok, Err}
+use Rattle.std.proofs.Common.{◌≡◌, ℕ, zero, suc, ◌+◌, ◌<◌, ◌%◌, Bool, true, false, List, [], ◌∷◌, length, get_or, refl, sym, ap, subst, ◌∙◌, arith}
+use Rattle.std.specs.Prelude.{if◌then◌else◌, slice_get, Option, Some, None, Result, Ok, Err}
 use Rattle.std.proofs.lemmas.Nat.{mod_below}
 use Rattle.std.proofs.lemmas.Option.{slice_get-get_or, slice_get_within, get_or_from_slice_get}
 use Rattle.outside.specs.declared.numbers.SiteId.{SiteId}
@@ -16,15 +16,15 @@ use Rattle.site_selector.specs.Selecting.{Selection, answer_of, Gets, IsSelected
 
 candidate_below : (test : Execution → Bool) (s : ℕ) (es : List Execution) (k : ℕ) → k < length (candidates_from test s es) → get_or (candidates_from test s es) k 0 < s + length es
 candidate_below test s [] k l = absurd (omega arith)
-candidate_below test s (e ∷ es) k l = by (test e) refl k l
+candidate_below test s (e ∷ es) k l = by (test e) (candidate_below test (suc s) es) k l
   where
-    rest : (k : ℕ) → k < length (candidates_from test (suc s) es) → get_or (candidates_from test (suc s) es) k 0 < s + suc (length es)
-    rest k l = let less = candidate_below test (suc s) es k l in omega (arith, less)
+    later : List ℕ
+    later = candidates_from test (suc s) es
 
-    by : (b : Bool) → test e ≡ b → (k : ℕ) → k < length (candidates_from test s (e ∷ es)) → get_or (candidates_from test s (e ∷ es)) k 0 < s + length (e ∷ es)
-    by true e zero l = rw e at l in rw e (omega arith)
-    by true e (suc k) l = rw e at l in rw e (rest k (omega (arith, l)))
-    by false e k l = rw e at l in rw e (rest k l)
+    by : (b : Bool) → ((k : ℕ) → k < length later → get_or later k 0 < suc s + length es) → (k : ℕ) → k < length (if b then s ∷ later else later) → get_or (if b then s ∷ later else later) k 0 < s + suc (length es)
+    by true less zero l = omega arith
+    by true less (suc k) l = let here = less k (omega (arith, l)) in omega (arith, here)
+    by false less k l = let here = less k l in omega (arith, here)
 
 chosen_below : (a turn n : ℕ) (cs : List ℕ) (s : SiteId) → ((k : ℕ) → k < length cs → get_or cs k 0 < n) → chosen a turn cs ≡ Ok s → s.0 < n
 chosen_below a turn n [] s below h = absurd cc
@@ -38,7 +38,7 @@ unless_below a turn n (Some name) cs s below h = absurd cc
 
 answer_below : (c : Selection) (a : ℕ) (j : Job) (s : SiteId) → answer_of c a j ≡ Ok s → s.0 < length c.execute
 answer_below c a j s h = unless_below a (turn_of c.kept c.levels a) (length c.execute) (unknown_site c.execute j.pinned) (candidates c.execute (sites_of c.entries j.transformation) j.pinned) s
-    (λ k l. candidate_below (is_candidate (sites_of c.entries j.transformation) j.pinned) 0 c.execute k l) h
+    (λ k l. let below = candidate_below (is_candidate (sites_of c.entries j.transformation) j.pinned) 0 c.execute k l in omega (arith, below)) h
 
 -- what a job got
 data Got (c : Selection) (a : ℕ) (j : Job) (found : Option SiteId) : Type 0 where
@@ -82,4 +82,4 @@ site_below c sites is a s h = by_bool (is_kept c.kept a) (λ kept. by (got_at c 
     at = get_or_from_slice_get sites a (Some s) None h
 
     by : {j : Job} → Got c a j (get_or sites a None) → s.0 < length c.execute
-    by {j} (Site t e found) = let same : t ≡ s = cc in answer_below c a j s (e ∙ ap (λ (u : SiteId). Ok u) same)
+    by {j} (Site t e found) = let both : Some t ≡ Some s = sym found ∙ at in let same : t ≡ s = cc in answer_below c a j s (e ∙ ap (λ (u : SiteId). Ok u) same)

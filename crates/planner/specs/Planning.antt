@@ -1,0 +1,118 @@
+-- From what the documents say to a plan, or the first fault on the way: the kept jobs with their levels, their sites, their clusters, the tasks, the Cleans.
+use Rattle.std.specs.Prelude.{◌≡◌, ◌⊎◌, ℕ, Bool, List, Option, Some, None, Result, Ok, Err}
+use Rattle.outside.specs.declared.documents.Documents.{Documents}
+use Rattle.outside.specs.declared.numbers.SiteId.{SiteId}
+use Rattle.outside.specs.declared.select_fault.SelectFault.{SelectFault}
+use Rattle.workflow_core.specs.declared.clusters.Clusters.{Clusters}
+use Rattle.plan_request.specs.declared.request.PlanRequest.{PlanRequest}
+use Rattle.dependency_graph.specs.Levels.{AreLevels}
+use Rattle.data_reuse.specs.Kept.{AreKept}
+use Rattle.data_reuse.specs.Registered.{absent_in}
+use Rattle.site_selector.specs.Selecting.{IsFirstFault, IsSelected, Selection, selection}
+use Rattle.clustering.specs.Singles.{AreSingles}
+use Rattle.plan_core.specs.declared.plan.Plan.{Plan}
+use Rattle.transfer_refiner.specs.declared.fault.RefineFault.{RefineFault}
+use Rattle.transfer_refiner.specs.Draft.{Draft, planned}
+use Rattle.transfer_refiner.specs.Tasks.{first_fault}
+use Rattle.transfer_refiner.specs.Refined.{IsRefined}
+use Rattle.cleanup_refiner.specs.Cleans.{cleaned}
+use Rattle.planner.specs.declared.inputs.Survey.{Survey}
+use Rattle.planner.specs.Course.{IsSurvey, Refuses}
+use Rattle.planner.specs.PlanFault.{refine_fault, select_fault}
+use Rattle.planner.specs.declared.plan_fault.PlanFault.{PlanFault}
+use Rattle.planner.specs.declared.plan_fault.PlanFault.TheVariants as plan
+
+-- ---- the way to a plan
+
+-- These jobs are kept, and these are their levels.
+pub record AreLeveled (r : PlanRequest) (s : Survey) (kept : List Bool) (levels : List ℕ) : Type 0 where
+  pub kept : AreKept (absent_in s.workflow s.replicas.entries r.force) s.workflow kept
+  pub levels : AreLevels s.graph kept levels
+
+abbrev pub selection_of : PlanRequest → Survey → List Bool → List ℕ → Selection
+selection_of r s kept levels = selection s.workflow kept levels r s.transformations
+
+-- These are the sites and the clusters of the kept jobs.
+pub record ArePlaced (r : PlanRequest) (s : Survey) (sites : List (Option SiteId)) (clusters : Clusters) : Type 0 where
+  pub kept : List Bool
+  pub levels : List ℕ
+  pub leveled : AreLeveled r s kept levels
+  pub selected : IsSelected (selection_of r s kept levels) sites
+  pub clustered : AreSingles kept levels clusters
+
+-- what is refined
+abbrev pub draft : PlanRequest → Survey → List (Option SiteId) → Clusters → Draft
+draft r s sites clusters = planned s.workflow clusters sites s.replicas r
+
+-- The draft has no fault, and this is its plan.
+pub record IsFineFor (d : Draft) (limit : ℕ) (p : Plan) : Type 0 where
+  pub fine : first_fault d limit ≡ None
+  pub refined : IsRefined d p
+
+-- A plan of what the documents say: that of its sites and clusters, with its Cleans.
+pub record IsPlanOf (r : PlanRequest) (s : Survey) (limit : ℕ) (p : Plan) : Type 0 where
+  pub sites : List (Option SiteId)
+  pub clusters : Clusters
+  pub placed : ArePlaced r s sites clusters
+  pub bare : Plan
+  pub fine : IsFineFor (draft r s sites clusters) limit bare
+  pub cleaned_is : p ≡ cleaned r.cleanup bare
+
+-- ---- its faults
+
+-- that of the first kept job without a site
+pub record IsUnplaced (r : PlanRequest) (s : Survey) (fault : PlanFault) : Type 0 where
+  pub kept : List Bool
+  pub levels : List ℕ
+  pub leveled : AreLeveled r s kept levels
+  pub select : SelectFault
+  pub first : IsFirstFault (selection_of r s kept levels) select
+  pub fault_is : fault ≡ select_fault s.workflow select
+
+-- that of the first file without a replica or a size, or of too many tasks
+pub record IsUnrefined (d : Draft) (limit : ℕ) (fault : PlanFault) : Type 0 where
+  pub refine : RefineFault
+  pub first : first_fault d limit ≡ Some refine
+  pub fault_is : fault ≡ refine_fault refine
+
+-- the sites and clusters have such a fault
+pub record IsUnplanned (r : PlanRequest) (s : Survey) (limit : ℕ) (fault : PlanFault) : Type 0 where
+  pub sites : List (Option SiteId)
+  pub clusters : Clusters
+  pub placed : ArePlaced r s sites clusters
+  pub unrefined : IsUnrefined (draft r s sites clusters) limit fault
+
+-- when each fault comes; want of memory is free
+abbrev pub CannotPlace : PlanRequest → Survey → PlanFault → Type 0
+CannotPlace r s plan.Memory = Unit {0}
+CannotPlace r s fault = IsUnplaced r s fault
+
+abbrev pub CannotRefine : Draft → ℕ → PlanFault → Type 0
+CannotRefine d limit plan.Memory = Unit {0}
+CannotRefine d limit fault = IsUnrefined d limit fault
+
+abbrev pub CannotPlan : PlanRequest → Survey → ℕ → PlanFault → Type 0
+CannotPlan r s limit plan.Memory = Unit {0}
+CannotPlan r s limit fault = IsUnplaced r s fault ⊎ IsUnplanned r s limit fault
+
+abbrev pub Plans : PlanRequest → Survey → ℕ → Result Plan PlanFault → Type 0
+Plans r s limit (Ok p) = IsPlanOf r s limit p
+Plans r s limit (Err fault) = CannotPlan r s limit fault
+
+-- ---- from the documents
+
+-- The documents are surveyed, and this holds of what they say.
+pub record OfSurvey (r : PlanRequest) (d : Documents) (P : Survey → Type 0) : Type 0 where
+  pub survey : Survey
+  pub says : IsSurvey r d survey
+  pub holds : P survey
+
+-- a fault of the documents, or of planning what they say
+abbrev pub Fails : PlanRequest → Documents → ℕ → PlanFault → Type 0
+Fails r d limit plan.Memory = Unit {0}
+Fails r d limit fault = Refuses r d fault ⊎ OfSurvey r d (λ s. CannotPlan r s limit fault)
+
+-- The plan of the documents, or their first fault.
+abbrev pub PlansDocuments : PlanRequest → Documents → ℕ → Result Plan PlanFault → Type 0
+PlansDocuments r d limit (Ok p) = OfSurvey r d (λ s. IsPlanOf r s limit p)
+PlansDocuments r d limit (Err fault) = Fails r d limit fault

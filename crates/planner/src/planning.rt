@@ -1,0 +1,214 @@
+//! From what the documents of a request say to its plan.
+
+ghost use Rattle.std.specs.Prelude.{◌≡◌, ◌<◌, ◌^◌, Ok, IfErr, IfOk, length};
+ghost use Rattle.workflow_core.specs.WellFormed.{IsWellFormed};
+ghost use Rattle.dependency_graph.specs.Built.{id_of};
+ghost use Rattle.dependency_graph.specs.Graph.{IsGraphOf};
+ghost use Rattle.site_selector.specs.Selecting.{IsSelected};
+ghost use Rattle.plan_request.specs.Reader.{execute_checked};
+ghost use Rattle.plan_core.specs.Proper.{IsProper};
+ghost use Rattle.transfer_refiner.specs.Conditions.{IsDraft};
+ghost use Rattle.cleanup_refiner.specs.Cleans.{cleaned};
+ghost use Rattle.planner.specs.declared.plan_fault.PlanFault.TheVariants.{Memory};
+ghost use Rattle.planner.specs.Planning.{AreLeveled, ArePlaced, CannotPlace, CannotRefine, IsFineFor, Plans, PlansDocuments, draft, select_fault, selection_of};
+
+use crate::course::survey;
+use crate::inputs::Survey;
+use crate::law::placed_jobs_are_a_draft;
+use crate::plan_fault::PlanFault;
+use cleanup_refiner::add_cleans;
+use clustering::cluster;
+use data_reuse::kept;
+use outside::{Documents, JobId, Memory, SelectFault, SiteId, Text};
+use plan_core::Plan;
+use plan_request::{Cleanup, PlanRequest};
+use site_selector::select;
+use std::alloc::Global;
+use transfer_refiner::refine;
+use workflow_core::{Clusters, Workflow};
+
+/// The sites of a survey's kept jobs, and their clusters.
+#[derive(Drop)]
+struct Placed {
+    sites: Vec<Option<SiteId>>,
+    clusters: Clusters,
+}
+
+fn id_of(alloc: Global, workflow: &Workflow, job: JobId) -> Result<Text, Memory>
+    ensures { IfOk result (λ id. id ≡ id_of workflow.now job.0) }
+{
+    match workflow.jobs.as_slice().get(job.0 as usize) {
+        Some(found) => found.id.copied(alloc),
+        None => Text::copy_of(alloc, ""),
+    }
+}
+
+/// The fault of planning for a job without a site.
+fn of_select_fault(
+    alloc: Global,
+    workflow: &Workflow,
+    fault: SelectFault,
+) -> Result<PlanFault, Memory>
+    ensures { IfOk result (λ f. f ≡ select_fault workflow.now fault) }
+{
+    match fault {
+        SelectFault::NoSite(job, name) => {
+            let id = id_of(alloc, workflow, job)?;
+            Ok(PlanFault::NoSite(id, name))
+        }
+        SelectFault::NoTransformation(job) => {
+            let id = id_of(alloc, workflow, job)?;
+            Ok(PlanFault::NoTransformation(id))
+        }
+        SelectFault::Memory => Ok(PlanFault::Memory),
+    }
+}
+
+/// The sites of the kept jobs.
+fn sites_of(
+    alloc: Global,
+    request: &PlanRequest,
+    survey: &Survey,
+    kept: &[bool],
+    levels: &[u32],
+) -> Result<Vec<Option<SiteId>>, PlanFault>
+    requires well_formed { IsWellFormed survey.now.workflow }
+    requires sites { execute_checked request.now.execute ≡ Ok tt }
+    requires kept { length kept.now ≡ length survey.now.workflow.jobs }
+    requires levels { length levels.now ≡ length survey.now.workflow.jobs }
+    requires leveled { AreLeveled request.now survey.now kept.now levels.now }
+    ensures sites { IfOk result (λ v. IsSelected (selection_of request.now survey.now kept.now levels.now) v.items) }
+    ensures fault { IfErr result (CannotPlace request.now survey.now) }
+{
+    let transformations = &survey.transformations;
+    match select(
+        alloc,
+        &survey.workflow,
+        kept,
+        levels,
+        request,
+        transformations,
+    ) {
+        Ok(sites) => Ok(sites),
+        Err(fault) => {
+            let fault = of_select_fault(alloc, &survey.workflow, fault)?;
+            Err(fault)
+        }
+    }
+}
+
+/// The sites and the clusters of the kept jobs.
+fn place_jobs(alloc: Global, request: &PlanRequest, survey: &Survey) -> Result<Placed, PlanFault>
+    requires well_formed { IsWellFormed survey.now.workflow }
+    requires graph { IsGraphOf survey.now.workflow survey.now.graph }
+    requires sites { execute_checked request.now.execute ≡ Ok tt }
+    ensures placed { IfOk result (λ p. ArePlaced request.now survey.now p.sites.items p.clusters) }
+    ensures fault { IfErr result (CannotPlace request.now survey.now) }
+{
+    let workflow = &survey.workflow;
+    let kept = kept(
+        alloc,
+        workflow,
+        &survey.graph,
+        &survey.replicas,
+        request.force,
+    )?;
+    let levels = survey.graph.levels(alloc, &kept)?;
+    let sites = match sites_of(alloc, request, survey, &kept, &levels) {
+        Ok(sites) => sites,
+        Err(fault) => return Err(fault),
+    };
+    let clusters = cluster(alloc, &kept, &levels)?;
+    Ok(Placed { sites, clusters })
+}
+
+/// The plan without its Cleans.
+fn refined(
+    alloc: Global,
+    request: &PlanRequest,
+    survey: &Survey,
+    placed: &Placed,
+    limit: u64,
+) -> Result<Plan, PlanFault>
+    requires draft { IsDraft (draft request.now survey.now placed.now.sites.items placed.now.clusters) }
+    requires graph { IsGraphOf survey.now.workflow survey.now.graph }
+    requires few { limit < 2 ^ 32 }
+    ensures plan { IfOk result (IsFineFor (draft request.now survey.now placed.now.sites.items placed.now.clusters) limit) }
+    ensures proper { IfOk result (λ p. IsProper p) }
+    ensures fault { IfErr result (CannotRefine (draft request.now survey.now placed.now.sites.items placed.now.clusters) limit) }
+{
+    match refine(
+        alloc,
+        &survey.workflow,
+        &survey.graph,
+        &placed.clusters,
+        &placed.sites,
+        &survey.replicas,
+        request,
+        limit,
+    ) {
+        Ok(plan) => Ok(plan),
+        Err(fault) => Err(PlanFault::from(fault)),
+    }
+}
+
+fn with_cleans(alloc: Global, plan: Plan, strategy: Cleanup) -> Result<Plan, PlanFault>
+    requires { IsProper plan }
+    ensures plan { IfOk result (λ p. p ≡ cleaned strategy plan) }
+    ensures fault { IfErr result (λ f. f ≡ Memory) }
+{
+    match add_cleans(alloc, plan, strategy) {
+        Ok(plan) => Ok(plan),
+        Err(_) => Err(PlanFault::Memory),
+    }
+}
+
+/// The plan of what the documents of a request say, or the first fault. `limit` is that on tasks.
+pub fn plan_survey(
+    alloc: Global,
+    request: &PlanRequest,
+    survey: &Survey,
+    limit: u64,
+) -> Result<Plan, PlanFault>
+    requires well_formed { IsWellFormed survey.now.workflow }
+    requires graph { IsGraphOf survey.now.workflow survey.now.graph }
+    requires sites { execute_checked request.now.execute ≡ Ok tt }
+    requires few { limit < 2 ^ 32 }
+    ensures { Plans request.now survey.now limit result }
+{
+    // A law for the proof: it does nothing.
+    placed_jobs_are_a_draft();
+    let placed = match place_jobs(alloc, request, survey) {
+        Ok(placed) => placed,
+        Err(fault) => return Err(fault),
+    };
+    let bare = match refined(alloc, request, survey, &placed, limit) {
+        Ok(bare) => bare,
+        Err(fault) => return Err(fault),
+    };
+    match with_cleans(alloc, bare, request.cleanup) {
+        Ok(plan) => Ok(plan),
+        Err(fault) => Err(fault),
+    }
+}
+
+/// The plan of a request and its documents, or the first fault. `limit` is that on tasks.
+pub fn plan(
+    alloc: Global,
+    request: &PlanRequest,
+    documents: &Documents,
+    limit: u64,
+) -> Result<Plan, PlanFault>
+    requires sites { execute_checked request.now.execute ≡ Ok tt }
+    requires few { limit < 2 ^ 32 }
+    ensures { PlansDocuments request.now documents.now limit result }
+{
+    let survey = match survey(alloc, request, documents) {
+        Ok(survey) => survey,
+        Err(fault) => return Err(fault),
+    };
+    match plan_survey(alloc, request, &survey, limit) {
+        Ok(plan) => Ok(plan),
+        Err(fault) => Err(fault),
+    }
+}
