@@ -29,4 +29,5 @@ pub mod GroundingLemmas
 pub mod GridRisesLemmas
 pub mod SequenceLemmas
 pub mod TableLemmas
+pub mod SmallLemmas
 pub mod ProperLemmas

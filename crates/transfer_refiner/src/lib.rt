@@ -29,6 +29,6 @@ mod view;
 mod waiting;
 
 pub use fault::RefineFault;
-pub use law::{cleans_are_counted, refined_plan_is_proper};
+pub use law::{cleans_are_counted, refined_plan_is_proper, refined_plan_is_small};
 pub use refining::refine;
 pub use singles::single_jobs_are_a_draft;
