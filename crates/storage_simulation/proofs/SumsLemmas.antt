@@ -2,8 +2,7 @@
 use Rattle.std.proofs.Common.{◌≡◌, ℕ, zero, suc, ◌+◌, ◌*◌, ◌<◌, ◌≤◌, ◌≢◌, ◌⊎◌, inl, inr, Bool, true, false, cond, nat_eq, refl, sym, ap, ◌∙◌, List, [], ◌∷◌, arith, eqb-true, ◌||◌}
 use Rattle.std.proofs.lemmas.Bool.{eqb-false, cases_lt}
 use Rattle.plan_core.specs.Numbers.{has}
-use Rattle.storage_simulation.specs.Usage.{total}
-use Rattle.storage_simulation.specs.Change.{sum_of}
+use Rattle.storage_simulation.specs.Usage.{sum_of, total}
 use Rattle.storage_simulation.specs.Following.{AreOnce}
 use Rattle.storage_simulation.proofs.FollowingLemmas.{by_bool, has_head, is_itself, once_parts, or_right}
 
@@ -17,7 +16,7 @@ unfolding total
 total_bound w b zero h = omega arith
 total_bound w b (suc n) h = grind (arith, total_bound w b n h, h n)
 
-total_change : (v w : ℕ → ℕ) (n a : ℕ) → a < n → ((q : ℕ) → q ≢ a → v q ≡ w q) → total n v + w a ≡ total n w + v a
+pub total_change : (v w : ℕ → ℕ) (n a : ℕ) → a < n → ((q : ℕ) → q ≢ a → v q ≡ w q) → total n v + w a ≡ total n w + v a
 unfolding total
 total_change v w zero a l h = absurd (omega arith)
 total_change v w (suc n) a l h = by_place (nat_eq a n) refl (λ m. total_change v w n a m h)
