@@ -1,3 +1,4 @@
 pub mod PlanFaultLemmas
 pub mod CourseLemmas
 pub mod PlanningLemmas
+pub mod LawLemmas

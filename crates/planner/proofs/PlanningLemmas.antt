@@ -9,6 +9,7 @@ use Rattle.workflow_core.specs.declared.clusters.Clusters.{Clusters}
 use Rattle.workflow_core.specs.declared.workflow.Job.{Job}
 use Rattle.plan_request.specs.declared.request.PlanRequest.{PlanRequest}
 use Rattle.site_selector.specs.Selecting.{Selects}
+use Rattle.plan_core.specs.declared.plan.Plan.{Plan}
 use Rattle.transfer_refiner.specs.declared.fault.RefineFault.{RefineFault}
 use Rattle.transfer_refiner.specs.declared.fault.RefineFault.TheVariants as refine
 use Rattle.transfer_refiner.specs.Draft.{Draft}
@@ -18,7 +19,8 @@ use Rattle.planner.specs.declared.plan_fault.PlanFault.{PlanFault}
 use Rattle.planner.specs.declared.plan_fault.PlanFault.TheVariants as plan
 use Rattle.planner.specs.Course.{IsSurvey, Refuses}
 use Rattle.planner.specs.PlanFault.{refine_fault, select_fault}
-use Rattle.planner.specs.Planning.{AreLeveled, ArePlaced, CannotPlace, CannotPlan, CannotRefine, Fails, draft, selection_of}
+use Rattle.planner.specs.Ordering.{CannotOrder}
+use Rattle.planner.specs.Planning.{AreLeveled, ArePlaced, CannotPlace, CannotPlan, CannotRefine, Fails, IsPlanOf, draft, selection_of}
 
 -- the id of the job at a place, and none where there is no job
 abbrev pub id_in : Option Job → List ℕ
@@ -47,7 +49,7 @@ cannot_place r s limit fault h = inl h
 
 pub cannot_refine : (r : PlanRequest) (s : Survey) (limit : ℕ) (sites : List (Option SiteId)) (clusters : Clusters) → ArePlaced r s sites clusters → (fault : PlanFault) → CannotRefine (draft r s sites clusters) limit fault → CannotPlan r s limit fault
 cannot_refine r s limit sites clusters placed plan.Memory h = tt
-cannot_refine r s limit sites clusters placed fault h = inr (record { sites = sites; clusters = clusters; placed = placed; unrefined = h })
+cannot_refine r s limit sites clusters placed fault h = inr (inl (record { sites = sites; clusters = clusters; placed = placed; unrefined = h }))
 
 pub fails_unread : (r : PlanRequest) (d : Documents) (limit : ℕ) (fault : PlanFault) → Refuses r d fault → Fails r d limit fault
 fails_unread r d limit plan.Memory h = tt
@@ -56,3 +58,7 @@ fails_unread r d limit fault h = inl h
 pub fails_unplanned : (r : PlanRequest) (d : Documents) (limit : ℕ) (s : Survey) (fault : PlanFault) → IsSurvey r d s → CannotPlan r s limit fault → Fails r d limit fault
 fails_unplanned r d limit s plan.Memory says h = tt
 fails_unplanned r d limit s fault says h = inr (record { survey = s; says = says; holds = h })
+
+pub cannot_order : (r : PlanRequest) (s : Survey) (limit : ℕ) (p : Plan) → IsPlanOf r s limit p → (fault : PlanFault) → CannotOrder p fault → CannotPlan r s limit fault
+cannot_order r s limit p planned plan.Memory h = tt
+cannot_order r s limit p planned fault h = inr (inr (record { plan = p; planned = planned; passes = h }))

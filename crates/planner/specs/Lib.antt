@@ -3,4 +3,5 @@ pub mod PlanFault
 pub mod Refused
 pub mod Catalogue
 pub mod Course
+pub mod Ordering
 pub mod Planning

@@ -1,5 +1,5 @@
 -- How the faults of documents and graphs are those of planning.
-use Rattle.std.specs.Prelude.{◌≡◌, Result, Ok, Err}
+use Rattle.std.specs.Prelude.{◌≡◌, ℕ, List, [], Option, Some, None, slice_get, Result, Ok, Err}
 use Rattle.outside.specs.declared.select_fault.SelectFault.{SelectFault}
 use Rattle.outside.specs.declared.select_fault.SelectFault.TheVariants as select
 use Rattle.workflow_core.specs.declared.workflow.Workflow.{Workflow}
@@ -13,6 +13,9 @@ use Rattle.peg_json.specs.declared.read_fault.ReadFault.{ReadFault}
 use Rattle.peg_json.specs.declared.read_fault.ReadFault.TheVariants as reads
 use Rattle.transfer_refiner.specs.declared.fault.RefineFault.{RefineFault}
 use Rattle.transfer_refiner.specs.declared.fault.RefineFault.TheVariants as refine
+use Rattle.plan_core.specs.declared.plan.Plan.{Plan}
+use Rattle.plan_core.specs.declared.plan.PlanSite.{PlanSite}
+use Rattle.storage_simulation.specs.declared.fitting.Exceeds.{Exceeds}
 use Rattle.planner.specs.declared.document.Document.{Document}
 use Rattle.planner.specs.declared.plan_fault.PlanFault.{PlanFault}
 use Rattle.planner.specs.declared.plan_fault.PlanFault.TheVariants as plan
@@ -46,6 +49,17 @@ refine_fault (refine.NoReplica lfn) = plan.NoReplica lfn
 refine_fault (refine.NoSize lfn) = plan.NoSize lfn
 refine_fault (refine.TooMany count limit) = plan.TooMany Tasks count limit
 refine_fault refine.Memory = plan.Memory
+
+-- the name of a site; the output, whose number follows the last site's, has none
+abbrev pub name_in : Option PlanSite → List ℕ
+name_in None = []
+name_in (Some s) = s.name
+
+abbrev pub place_name : Plan → ℕ → List ℕ
+place_name p s = name_in (slice_get p.sites s)
+
+abbrev pub exceeds_fault : Plan → Exceeds → PlanFault
+exceeds_fault p e = plan.Exceeds (place_name p e.site.0) e.task e.needed e.bound
 
 -- what a document reads as, or its fault
 abbrev pub answered : {A : Type 0} → Document → Result A ReadFault → Result A PlanFault

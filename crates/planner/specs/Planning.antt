@@ -1,4 +1,4 @@
--- From what the documents say to a plan, or the first fault on the way: the kept jobs with their levels, their sites, their clusters, the tasks, the Cleans.
+-- From what the documents say to a plan with its order, or the first fault on the way: the kept jobs with their levels, their sites, their clusters, the tasks, the Cleans, the order.
 use Rattle.std.specs.Prelude.{◌≡◌, ◌⊎◌, ℕ, Bool, List, Option, Some, None, Result, Ok, Err}
 use Rattle.outside.specs.declared.documents.Documents.{Documents}
 use Rattle.outside.specs.declared.numbers.SiteId.{SiteId}
@@ -11,6 +11,9 @@ use Rattle.data_reuse.specs.Registered.{absent_in}
 use Rattle.site_selector.specs.Selecting.{IsFirstFault, IsSelected, Selection, selection}
 use Rattle.clustering.specs.Singles.{AreSingles}
 use Rattle.plan_core.specs.declared.plan.Plan.{Plan}
+use Rattle.plan_core.specs.Words.{task_numbers}
+use Rattle.storage_simulation.specs.declared.ordered.Ordered.{Ordered}
+use Rattle.storage_simulation.specs.Ordering.{IsOrder, at_start}
 use Rattle.transfer_refiner.specs.declared.fault.RefineFault.{RefineFault}
 use Rattle.transfer_refiner.specs.Draft.{Draft, planned}
 use Rattle.transfer_refiner.specs.Tasks.{first_fault}
@@ -18,6 +21,7 @@ use Rattle.transfer_refiner.specs.Refined.{IsRefined}
 use Rattle.cleanup_refiner.specs.Cleans.{cleaned}
 use Rattle.planner.specs.declared.inputs.Survey.{Survey}
 use Rattle.planner.specs.Course.{IsSurvey, Refuses}
+use Rattle.planner.specs.Ordering.{Passes}
 use Rattle.planner.specs.PlanFault.{refine_fault, select_fault}
 use Rattle.planner.specs.declared.plan_fault.PlanFault.{PlanFault}
 use Rattle.planner.specs.declared.plan_fault.PlanFault.TheVariants as plan
@@ -58,6 +62,11 @@ pub record IsPlanOf (r : PlanRequest) (s : Survey) (limit : ℕ) (p : Plan) : Ty
   pub fine : IsFineFor (draft r s sites clusters) limit bare
   pub cleaned_is : p ≡ cleaned r.cleanup bare
 
+-- A plan of what the documents say, with its order.
+pub record IsPlanned (r : PlanRequest) (s : Survey) (limit : ℕ) (o : Ordered) : Type 0 where
+  pub planned : IsPlanOf r s limit o.plan
+  pub order : IsOrder o.plan at_start (task_numbers o.tasks.items)
+
 -- ---- its faults
 
 -- that of the first kept job without a site
@@ -82,6 +91,12 @@ pub record IsUnplanned (r : PlanRequest) (s : Survey) (limit : ℕ) (fault : Pla
   pub placed : ArePlaced r s sites clusters
   pub unrefined : IsUnrefined (draft r s sites clusters) limit fault
 
+-- the plan has no order: a task passes a bound
+pub record IsUnordered (r : PlanRequest) (s : Survey) (limit : ℕ) (fault : PlanFault) : Type 0 where
+  pub plan : Plan
+  pub planned : IsPlanOf r s limit plan
+  pub passes : Passes plan fault
+
 -- when each fault comes; want of memory is free
 abbrev pub CannotPlace : PlanRequest → Survey → PlanFault → Type 0
 CannotPlace r s plan.Memory = Unit {0}
@@ -93,10 +108,10 @@ CannotRefine d limit fault = IsUnrefined d limit fault
 
 abbrev pub CannotPlan : PlanRequest → Survey → ℕ → PlanFault → Type 0
 CannotPlan r s limit plan.Memory = Unit {0}
-CannotPlan r s limit fault = IsUnplaced r s fault ⊎ IsUnplanned r s limit fault
+CannotPlan r s limit fault = IsUnplaced r s fault ⊎ (IsUnplanned r s limit fault ⊎ IsUnordered r s limit fault)
 
-abbrev pub Plans : PlanRequest → Survey → ℕ → Result Plan PlanFault → Type 0
-Plans r s limit (Ok p) = IsPlanOf r s limit p
+abbrev pub Plans : PlanRequest → Survey → ℕ → Result Ordered PlanFault → Type 0
+Plans r s limit (Ok o) = IsPlanned r s limit o
 Plans r s limit (Err fault) = CannotPlan r s limit fault
 
 -- ---- from the documents
@@ -112,7 +127,7 @@ abbrev pub Fails : PlanRequest → Documents → ℕ → PlanFault → Type 0
 Fails r d limit plan.Memory = Unit {0}
 Fails r d limit fault = Refuses r d fault ⊎ OfSurvey r d (λ s. CannotPlan r s limit fault)
 
--- The plan of the documents, or their first fault.
-abbrev pub PlansDocuments : PlanRequest → Documents → ℕ → Result Plan PlanFault → Type 0
-PlansDocuments r d limit (Ok p) = OfSurvey r d (λ s. IsPlanOf r s limit p)
+-- The plan of the documents with its order, or their first fault.
+abbrev pub PlansDocuments : PlanRequest → Documents → ℕ → Result Ordered PlanFault → Type 0
+PlansDocuments r d limit (Ok o) = OfSurvey r d (λ s. IsPlanned r s limit o)
 PlansDocuments r d limit (Err fault) = Fails r d limit fault

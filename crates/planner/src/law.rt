@@ -1,19 +1,27 @@
-//! What the jobs that were placed come to.
+//! What the steps of planning hand on.
 
-ghost use Rattle.std.specs.Prelude.{◌≡◌, List, Ok, Option};
+ghost use Rattle.std.specs.Prelude.{◌≡◌, ◌≤◌, ℕ, List, Ok, Option};
 ghost use Rattle.outside.specs.declared.numbers.SiteId.{SiteId};
 ghost use Rattle.workflow_core.specs.declared.clusters.Clusters.{Clusters};
 ghost use Rattle.workflow_core.specs.WellFormed.{IsWellFormed};
 ghost use Rattle.dependency_graph.specs.Graph.{IsGraphOf};
 ghost use Rattle.plan_request.specs.declared.request.PlanRequest.{PlanRequest};
+ghost use Rattle.plan_request.specs.Limits.{IsWithinLimits as IsRequestWithinLimits};
 ghost use Rattle.plan_request.specs.Reader.{execute_checked};
+ghost use Rattle.plan_core.specs.declared.plan.Plan.{Plan};
+ghost use Rattle.plan_core.specs.Proper.{IsProper};
+ghost use Rattle.storage_simulation.specs.Goods.{IsWithinLimits};
 ghost use Rattle.transfer_refiner.specs.Conditions.{IsDraft};
 ghost use Rattle.planner.specs.declared.inputs.Survey.{Survey};
-ghost use Rattle.planner.specs.Planning.{ArePlaced, draft};
+ghost use Rattle.planner.specs.Planning.{ArePlaced, IsPlanOf, draft};
 
+use cleanup_refiner::cleaned_plan_is_proper;
 use clustering::ranked_jobs_are_distinct;
 use site_selector::selected_sites_are_placed;
-use transfer_refiner::single_jobs_are_a_draft;
+use storage_simulation::pairs_are_few;
+use transfer_refiner::{
+    cleans_are_counted, refined_plan_is_proper, refined_plan_is_small, single_jobs_are_a_draft,
+};
 
 /// Kept jobs with their sites and clusters can be refined.
 pub fn placed_jobs_are_a_draft()
@@ -22,4 +30,17 @@ pub fn placed_jobs_are_a_draft()
     ranked_jobs_are_distinct();
     selected_sites_are_placed();
     single_jobs_are_a_draft();
+}
+
+/// The plan of what the documents say is proper and within the limits of storage.
+pub fn plans_can_be_ordered()
+    ensures proper { (r : PlanRequest) (s : Survey) (limit : ℕ) (p : Plan) → IsWellFormed s.workflow → IsGraphOf s.workflow s.graph → execute_checked r.execute ≡ Ok tt → limit ≤ 120000 → IsPlanOf r s limit p → IsProper p }
+    ensures limits { (r : PlanRequest) (s : Survey) (limit : ℕ) (p : Plan) → IsWellFormed s.workflow → IsGraphOf s.workflow s.graph → execute_checked r.execute ≡ Ok tt → IsRequestWithinLimits r → limit ≤ 120000 → IsPlanOf r s limit p → IsWithinLimits p }
+{
+    placed_jobs_are_a_draft();
+    refined_plan_is_proper();
+    refined_plan_is_small();
+    cleans_are_counted();
+    cleaned_plan_is_proper();
+    pairs_are_few();
 }

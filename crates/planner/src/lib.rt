@@ -2,7 +2,7 @@
 //!
 //! `survey` reads the documents in their course, which `specs/Course.antt` states: the workflow, the
 //! catalogues that hold, the execution sites, the graph. `plan` goes on from there, as `specs/Planning.antt` says: the
-//! kept jobs, their sites and clusters, the tasks, the Cleans. `PlanFault` has every reason why planning ends, and
+//! kept jobs, their sites and clusters, the tasks, the Cleans, the order. `PlanFault` has every reason why planning ends, and
 //! `push_refused` its line.
 #![tactic(auto)]
 
@@ -11,6 +11,7 @@ mod course;
 mod document;
 mod inputs;
 mod law;
+mod ordering;
 mod plan_fault;
 mod planning;
 mod refused;

@@ -1,20 +1,23 @@
 //! From what the documents of a request say to its plan.
 
-ghost use Rattle.std.specs.Prelude.{◌≡◌, ◌<◌, ◌^◌, Ok, IfErr, IfOk, length};
+ghost use Rattle.std.specs.Prelude.{◌≡◌, ◌<◌, ◌≤◌, ◌^◌, Ok, IfErr, IfOk, length};
 ghost use Rattle.workflow_core.specs.WellFormed.{IsWellFormed};
 ghost use Rattle.dependency_graph.specs.Built.{id_of};
 ghost use Rattle.dependency_graph.specs.Graph.{IsGraphOf};
 ghost use Rattle.site_selector.specs.Selecting.{IsSelected};
+ghost use Rattle.plan_request.specs.Limits.{IsWithinLimits};
 ghost use Rattle.plan_request.specs.Reader.{execute_checked};
 ghost use Rattle.plan_core.specs.Proper.{IsProper};
 ghost use Rattle.transfer_refiner.specs.Conditions.{IsDraft};
 ghost use Rattle.cleanup_refiner.specs.Cleans.{cleaned};
 ghost use Rattle.planner.specs.declared.plan_fault.PlanFault.TheVariants.{Memory};
-ghost use Rattle.planner.specs.Planning.{AreLeveled, ArePlaced, CannotPlace, CannotRefine, IsFineFor, Plans, PlansDocuments, draft, select_fault, selection_of};
+ghost use Rattle.planner.specs.PlanFault.{select_fault};
+ghost use Rattle.planner.specs.Planning.{AreLeveled, ArePlaced, CannotPlace, CannotPlan, CannotRefine, IsFineFor, IsPlanOf, Plans, PlansDocuments, draft, selection_of};
 
 use crate::course::survey;
 use crate::inputs::Survey;
-use crate::law::placed_jobs_are_a_draft;
+use crate::law::{placed_jobs_are_a_draft, plans_can_be_ordered};
+use crate::ordering::with_order;
 use crate::plan_fault::PlanFault;
 use cleanup_refiner::add_cleans;
 use clustering::cluster;
@@ -24,6 +27,7 @@ use plan_core::Plan;
 use plan_request::{Cleanup, PlanRequest};
 use site_selector::select;
 use std::alloc::Global;
+use storage_simulation::Ordered;
 use transfer_refiner::refine;
 use workflow_core::{Clusters, Workflow};
 
@@ -163,8 +167,8 @@ fn with_cleans(alloc: Global, plan: Plan, strategy: Cleanup) -> Result<Plan, Pla
     }
 }
 
-/// The plan of what the documents of a request say, or the first fault. `limit` is that on tasks.
-pub fn plan_survey(
+/// The plan of what the documents of a request say, without an order.
+fn plan_of(
     alloc: Global,
     request: &PlanRequest,
     survey: &Survey,
@@ -173,8 +177,9 @@ pub fn plan_survey(
     requires well_formed { IsWellFormed survey.now.workflow }
     requires graph { IsGraphOf survey.now.workflow survey.now.graph }
     requires sites { execute_checked request.now.execute ≡ Ok tt }
-    requires few { limit < 2 ^ 32 }
-    ensures { Plans request.now survey.now limit result }
+    requires few { limit ≤ 120000 }
+    ensures plan { IfOk result (IsPlanOf request.now survey.now limit) }
+    ensures fault { IfErr result (CannotPlan request.now survey.now limit) }
 {
     // A law for the proof: it does nothing.
     placed_jobs_are_a_draft();
@@ -192,15 +197,42 @@ pub fn plan_survey(
     }
 }
 
-/// The plan of a request and its documents, or the first fault. `limit` is that on tasks.
+/// The plan of what the documents of a request say, with its order, or the first fault. `limit` is that on tasks.
+pub fn plan_survey(
+    alloc: Global,
+    request: &PlanRequest,
+    survey: &Survey,
+    limit: u64,
+) -> Result<Ordered, PlanFault>
+    requires well_formed { IsWellFormed survey.now.workflow }
+    requires graph { IsGraphOf survey.now.workflow survey.now.graph }
+    requires sites { execute_checked request.now.execute ≡ Ok tt }
+    requires sizes { IsWithinLimits request.now }
+    requires few { limit ≤ 120000 }
+    ensures { Plans request.now survey.now limit result }
+{
+    // A law for the proof: it does nothing.
+    plans_can_be_ordered();
+    let plan = match plan_of(alloc, request, survey, limit) {
+        Ok(plan) => plan,
+        Err(fault) => return Err(fault),
+    };
+    match with_order(alloc, plan) {
+        Ok(ordered) => Ok(ordered),
+        Err(fault) => Err(fault),
+    }
+}
+
+/// The plan of a request and its documents, with its order, or the first fault. `limit` is that on tasks.
 pub fn plan(
     alloc: Global,
     request: &PlanRequest,
     documents: &Documents,
     limit: u64,
-) -> Result<Plan, PlanFault>
+) -> Result<Ordered, PlanFault>
     requires sites { execute_checked request.now.execute ≡ Ok tt }
-    requires few { limit < 2 ^ 32 }
+    requires sizes { IsWithinLimits request.now }
+    requires few { limit ≤ 120000 }
     ensures { PlansDocuments request.now documents.now limit result }
 {
     let survey = match survey(alloc, request, documents) {
@@ -208,7 +240,7 @@ pub fn plan(
         Err(fault) => return Err(fault),
     };
     match plan_survey(alloc, request, &survey, limit) {
-        Ok(plan) => Ok(plan),
+        Ok(ordered) => Ok(ordered),
         Err(fault) => Err(fault),
     }
 }
