@@ -3,6 +3,7 @@
 ghost use Rattle.std.specs.Prelude.{◌≡◌, [], Ok};
 ghost use Rattle.workflow_core.specs.WellFormed.{IsWellFormed};
 ghost use Rattle.dependency_graph.specs.Graph.{IsGraphOf};
+ghost use Rattle.plan_request.specs.Limits.{IsWithinLimits};
 ghost use Rattle.plan_request.specs.Reader.{execute_checked};
 ghost use Rattle.pegasus_cli.specs.Call.{IsAnswer};
 ghost use Rattle.pegasus_cli.specs.Commands.{spec_of};
@@ -60,6 +61,7 @@ pub(crate) fn work<H: Host, T: Tool>(
     requires well_formed { IsWellFormed surveyed.now.survey.workflow }
     requires graph { IsGraphOf surveyed.now.survey.workflow surveyed.now.survey.graph }
     requires sites { execute_checked surveyed.now.request.execute ≡ Ok tt }
+    requires limits { IsWithinLimits surveyed.now.request }
     ensures works { (spec_of command).Works (working T.apply T.known (work_moment H.Host host.old (T.faults tool.old)) (work_moment H.Host host.new (T.faults tool.new)))
         surveyed.now result.text.items result.answer }
     ensures answer { IsAnswer result.answer }

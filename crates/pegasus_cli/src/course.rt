@@ -1,6 +1,7 @@
 //! The documents of a call, fetched one after the other.
 
 ghost use Rattle.std.specs.Prelude.{◌≡◌, IfOk, Ok, Err};
+ghost use Rattle.plan_request.specs.Limits.{IsWithinLimits};
 ghost use Rattle.plan_request.specs.Reader.{execute_checked};
 ghost use Rattle.pegasus_cli.specs.Course.{ButMemory, IsStep, doc_answer, document, documents, if_named, named_documents, plan_answer, request_in_bytes};
 ghost use Rattle.pegasus_cli.specs.Moments.{docs_moment};
@@ -87,6 +88,7 @@ fn fetch_if_named<D: Docs>(
 fn request_in(alloc: Global, bytes: &Blob) -> Result<PlanRequest, Early>
     ensures answer { ButMemory result (result ≡ request_in_bytes bytes.now) }
     ensures sites { IfOk result (λ r. execute_checked r.execute ≡ Ok tt) }
+    ensures limits { IfOk result (λ r. IsWithinLimits r) }
 {
     match plan_request::read(alloc, bytes.as_slice()) {
         Ok(request) => Ok(request),
@@ -97,6 +99,7 @@ fn request_in(alloc: Global, bytes: &Blob) -> Result<PlanRequest, Early>
 fn fetch_request<D: Docs>(alloc: Global, docs: &mut D, name: &str) -> Result<PlanRequest, Early>
     ensures answer { IsStep (document name.now request_in_bytes) (docs_moment D.Docs docs.old) (docs_moment D.Docs docs.new) result }
     ensures sites { IfOk result (λ r. execute_checked r.execute ≡ Ok tt) }
+    ensures limits { IfOk result (λ r. IsWithinLimits r) }
 {
     match fetch(alloc, docs, name) {
         Ok(bytes) => request_in(alloc, &bytes),
@@ -147,6 +150,7 @@ pub(crate) fn fetch_documents<D: Docs>(
 ) -> Result<Requested, Early>
     ensures answer { IsStep (documents name.now) (docs_moment D.Docs docs.old) (docs_moment D.Docs docs.new) result }
     ensures sites { IfOk result (λ r. execute_checked r.request.execute ≡ Ok tt) }
+    ensures limits { IfOk result (λ r. IsWithinLimits r.request) }
 {
     match fetch_request(alloc, docs, name) {
         Ok(request) => fetch_named(alloc, docs, request),

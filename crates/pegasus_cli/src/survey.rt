@@ -2,6 +2,7 @@
 
 ghost use Rattle.std.specs.Prelude.{◌≡◌, IfOk, Ok};
 ghost use Rattle.workflow_core.specs.WellFormed.{IsWellFormed};
+ghost use Rattle.plan_request.specs.Limits.{IsWithinLimits};
 ghost use Rattle.plan_request.specs.Reader.{execute_checked};
 ghost use Rattle.pegasus_cli.specs.Moments.{docs_moment};
 ghost use Rattle.pegasus_cli.specs.Survey.{Surveys};
@@ -29,6 +30,7 @@ pub(crate) fn read_survey<D: Docs>(
     ensures answer { Surveys name.now (docs_moment D.Docs docs.old) (docs_moment D.Docs docs.new) result }
     ensures well_formed { IfOk result (λ s. IsWellFormed s.survey.workflow) }
     ensures sites { IfOk result (λ s. execute_checked s.request.execute ≡ Ok tt) }
+    ensures limits { IfOk result (λ s. IsWithinLimits s.request) }
 {
     let requested = match fetch_documents(alloc, docs, name) {
         Ok(requested) => requested,

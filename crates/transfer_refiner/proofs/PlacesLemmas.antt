@@ -11,7 +11,7 @@ use Rattle.plan_core.specs.declared.plan.Pair.{Pair}
 use Rattle.plan_core.specs.Kinds.{on_pair}
 use Rattle.plan_core.specs.Numbers.{has, below, RisesFrom}
 use Rattle.plan_core.specs.Words.{pair_at}
-use Rattle.transfer_refiner.specs.declared.site_files.SiteFiles.{SiteFiles}
+use Rattle.plan_core.specs.declared.files.SiteFiles.{SiteFiles}
 use Rattle.plan_core.specs.Files.{AreFilesOf}
 use Rattle.transfer_refiner.specs.Places.{is_place, is_pair_of, place_of, places_at, AreOnce}
 use Rattle.plan_core.proofs.TestLemmas.{same_number, both, by_bool}

@@ -1,7 +1,10 @@
--- `plan`: prints the plan of the documents. It touches nothing.
-use Rattle.std.specs.Prelude.{◌≡◌, ℕ, List, [], length, replicate}
+-- `plan`: prints the plan of the documents with its order. It touches nothing.
+use Rattle.std.specs.Prelude.{◌≡◌, ◌<◌, ℕ, List, [], get_or, length}
+use Rattle.outside.specs.declared.numbers.TaskId.{TaskId}
 use Rattle.plan_core.specs.declared.plan.Plan.{Plan}
 use Rattle.plan_core.specs.Printing.{plan_text}
+use Rattle.plan_core.specs.Words.{task_numbers}
+use Rattle.storage_simulation.specs.Ordering.{IsOrder, IsPeak, at_start}
 use Rattle.planner.specs.Planning.{CannotPlan, IsPlanOf}
 use Rattle.planner.specs.declared.plan_fault.PlanFault.{PlanFault}
 use Rattle.planner.specs.declared.plan_fault.PlanFault.TheVariants as plan_faults
@@ -17,9 +20,24 @@ use Rattle.pegasus_cli.specs.Outcome.{outcome_of}
 abbrev pub task_limit : ℕ
 task_limit = 2000
 
--- the text of a plan without an order
-abbrev pub bare_text : Plan → List ℕ
-bare_text p = plan_text p [] (replicate (length p.sites) 0)
+-- the peak of each site along the order
+pub record ArePeaks (p : Plan) (order : List TaskId) (peaks : List ℕ) : Type 0 where
+  pub long : length peaks ≡ length p.sites
+  pub each : (s : ℕ) → s < length p.sites → ∥ IsPeak p at_start (task_numbers order) s (get_or peaks s 0) ∥₁
+
+-- the text of a plan with an order and its peaks
+pub record IsTextOf (p : Plan) (order : List TaskId) (text : List ℕ) : Type 0 where
+  pub peaks : List ℕ
+  pub peaks_are : ArePeaks p order peaks
+  pub text_is : text ≡ plan_text p order peaks
+
+-- a plan of the documents with its order, and their text
+pub record HasPlan (s : Surveyed) (text : List ℕ) : Type 0 where
+  pub plan : Plan
+  pub order : List TaskId
+  pub planned : IsPlanOf s.request s.survey task_limit plan
+  pub order_is : IsOrder plan at_start (task_numbers order)
+  pub text_is : IsTextOf plan order text
 
 -- this answer is that of planning's first fault
 pub record IsRefused (s : Surveyed) (answer : Outcome) : Type 0 where
@@ -29,7 +47,7 @@ pub record IsRefused (s : Surveyed) (answer : Outcome) : Type 0 where
 
 -- When each answer comes, and the text before its line.
 abbrev pub Says : Surveyed → List ℕ → Outcome → Type 0
-Says s text outcomes.Done = (p : Plan) × IsPlanOf s.request s.survey task_limit p × (text ≡ bare_text p)
+Says s text outcomes.Done = HasPlan s text
 Says s text outcomes.Memory = Unit {0}
 Says s text answer = IsRefused s answer × (text ≡ [])
 

@@ -3,29 +3,42 @@
 ghost use Rattle.std.specs.Prelude.{◌≡◌, Ok, IfOk};
 ghost use Rattle.workflow_core.specs.WellFormed.{IsWellFormed};
 ghost use Rattle.dependency_graph.specs.Graph.{IsGraphOf};
+ghost use Rattle.plan_request.specs.Limits.{IsWithinLimits};
 ghost use Rattle.plan_request.specs.Reader.{execute_checked};
 ghost use Rattle.pegasus_cli.specs.Call.{IsAnswer};
-ghost use Rattle.pegasus_cli.specs.Commands.Plan.{bare_text, plan};
+ghost use Rattle.pegasus_cli.specs.Commands.Plan.{ArePeaks, IsTextOf, plan};
 ghost use Rattle.pegasus_cli.specs.Moments.{work_moment, working};
 
 use crate::commands::{Worked, at_once};
 use crate::course::of_plan_fault;
 use crate::outcome::{Outcome, of_early};
 use crate::survey::Surveyed;
-use outside::{Host, Memory, Tool};
-use plan_core::{Plan, print};
+use outside::{Host, Memory, SiteId, Tool};
+use plan_core::print;
 use planner::plan_survey;
 use std::alloc::Global;
+use storage_simulation::Ordered;
 
 /// The most tasks that a plan may have.
 const TASK_LIMIT: u64 = 2000;
 
-/// The text of a plan without an order.
-fn text_of(alloc: Global, plan: &Plan) -> Result<Vec<u8>, Memory>
-    ensures { IfOk result (λ v. v.items ≡ bare_text plan.now) }
+/// The peak of each site.
+fn peaks_of(alloc: Global, ordered: &Ordered) -> Result<Vec<u64>, Memory>
+    ensures { IfOk result (λ v. ArePeaks ordered.now.plan ordered.now.tasks.items v.items) }
 {
-    let peaks = vec![in alloc; 0u64; plan.sites.as_slice().len()]?;
-    let text = print(alloc, plan, &[], &peaks)?;
+    let mut peaks = Vec::new(alloc);
+    for site in 0..ordered.plan().sites.as_slice().len() {
+        peaks.push(ordered.peak(SiteId(site as u32)))?;
+    }
+    Ok(peaks)
+}
+
+/// The text of a plan with its order.
+fn text_of(alloc: Global, ordered: &Ordered) -> Result<Vec<u8>, Memory>
+    ensures { IfOk result (λ v. IsTextOf ordered.now.plan ordered.now.tasks.items v.items) }
+{
+    let peaks = peaks_of(alloc, ordered)?;
+    let text = print(alloc, ordered.plan(), ordered.tasks(), &peaks)?;
     Ok(text.into_vec())
 }
 
@@ -38,15 +51,16 @@ pub(crate) fn work<H: Host, T: Tool>(
     requires well_formed { IsWellFormed surveyed.now.survey.workflow }
     requires graph { IsGraphOf surveyed.now.survey.workflow surveyed.now.survey.graph }
     requires sites { execute_checked surveyed.now.request.execute ≡ Ok tt }
+    requires limits { IsWithinLimits surveyed.now.request }
     ensures works { plan.Works (working T.apply T.known (work_moment H.Host _host.old (T.faults _tool.old)) (work_moment H.Host _host.new (T.faults _tool.new)))
         surveyed.now result.text.items result.answer }
     ensures answer { IsAnswer result.answer }
 {
-    let plan = match plan_survey(alloc, &surveyed.request, &surveyed.survey, TASK_LIMIT) {
-        Ok(plan) => plan,
+    let ordered = match plan_survey(alloc, &surveyed.request, &surveyed.survey, TASK_LIMIT) {
+        Ok(ordered) => ordered,
         Err(fault) => return at_once(alloc, of_early(of_plan_fault(fault))),
     };
-    match text_of(alloc, &plan) {
+    match text_of(alloc, &ordered) {
         Ok(text) => Worked {
             answer: Outcome::Done,
             text,
