@@ -80,7 +80,9 @@ fn is_as_stated(alloc: Global, workflow: &Workflow) -> Result<bool, Fail> {
         return Ok(false);
     };
     Ok(
-        is_linked(alloc, workflow, &graph)? && is_reused(alloc, workflow, &graph)? && is_placed(alloc, workflow)?,
+        is_linked(alloc, workflow, &graph)?
+            && is_reused(alloc, workflow, &graph)?
+            && is_placed(alloc, workflow)?,
     )
 }
 
