@@ -1,20 +1,15 @@
 //! Public calls at concrete types, each once, where no case shows it.
 //!
 //! The tests stand apart from the crates that they call: a crate with tests is proved twice, once with
-//! them, and here only they are proved, over the contracts of what they call.
+//! them, and here only they are proved, over the contracts of what they call. What they call is made by
+//! hand (`by_hand`), since a reader's contract makes a test long to prove.
 #![tactic(auto)]
 
 #[cfg(test)]
-mod directed_graphs;
+mod by_hand;
 #[cfg(test)]
-mod files_and_streams;
+mod files;
 #[cfg(test)]
-mod objects_in_memory;
+mod planning;
 #[cfg(test)]
-mod reuse;
-#[cfg(test)]
-mod site_selection;
-#[cfg(test)]
-mod transformations;
-#[cfg(test)]
-mod workflow_graphs;
+mod values;

@@ -1,7 +1,7 @@
-//! A file and a stream.
+//! Files as documents and as replicas.
 
 use host_files::*;
-use outside::{DocFault, Docs, Host, HostFault, Sink, SinkFault, write_all};
+use outside::{DocFault, Docs, Host, HostFault};
 use std::alloc::Global;
 use std::fs;
 use std::rt::Files;
@@ -39,8 +39,7 @@ fn documents_of_a_folder(rt: HostRuntime) -> Result<(), Fail> {
     fs::write(&rt, NAME, "hello")?;
     let mut docs = FolderDocs::new(rt);
     let cases = [
-        ("whole", NAME, 5, "hello"),
-        ("at the limit", NAME, 6, "hello"),
+        ("at the limit", NAME, 5, "hello"),
         ("too long", NAME, 4, "longer than 4"),
         ("absent", "host_files_nothing.txt", 5, "absent"),
         ("a folder", ".", 5, "failed"),
@@ -85,20 +84,5 @@ fn replicas_of_a_folder(rt: HostRuntime) -> Result<(), Fail> {
     assert_eq!(rt; host.misses(), 3);
     fs::remove_file(&rt, "host_files_replica")?;
     fs::remove_file(&rt, "host_files_long_replica")?;
-    Ok(())
-}
-
-#[test]
-fn a_stream(rt: HostRuntime) -> Result<(), Fail> {
-    let mut bytes = Vec::new(rt.alloc());
-    let mut sink = StreamSink::new(&mut bytes);
-    assert!(rt; write_all(&mut sink, b"hello") == Ok(()));
-    assert_eq!(rt; sink.faults(), 0);
-    assert_eq!(rt; bytes.as_slice(), b"hello".as_slice());
-    let mut room = [0u8; 3];
-    let mut full = StreamSink::new(&mut room[..]);
-    assert!(rt; write_all(&mut full, b"hello") == Err(SinkFault::Failed));
-    assert_eq!(rt; full.faults(), 1);
-    assert_eq!(rt; room.as_slice(), b"hel".as_slice());
     Ok(())
 }
