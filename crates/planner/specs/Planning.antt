@@ -30,8 +30,8 @@ use Rattle.planner.specs.declared.plan_fault.PlanFault.TheVariants as plan
 
 -- These jobs are kept, and these are their levels.
 pub record AreLeveled (r : PlanRequest) (s : Survey) (kept : List Bool) (levels : List ℕ) : Type 0 where
-  pub kept : AreKept (absent_in s.workflow s.replicas.entries r.force) s.workflow kept
-  pub levels : AreLevels s.graph kept levels
+  pub are_kept : AreKept (absent_in s.workflow s.replicas.entries r.force) s.workflow kept
+  pub are_levels : AreLevels s.graph kept levels
 
 abbrev pub selection_of : PlanRequest → Survey → List Bool → List ℕ → Selection
 selection_of r s kept levels = selection s.workflow kept levels r s.transformations

@@ -10,7 +10,7 @@ ghost use Rattle.plan_request.specs.Reader.{execute_checked};
 ghost use Rattle.plan_core.specs.Proper.{IsProper};
 ghost use Rattle.transfer_refiner.specs.Conditions.{IsDraft};
 ghost use Rattle.cleanup_refiner.specs.Cleans.{cleaned};
-ghost use Rattle.planner.specs.declared.plan_fault.PlanFault.TheVariants.{Memory};
+ghost use Rattle.planner.specs.declared.plan_fault.PlanFault.TheVariants as faults;
 ghost use Rattle.planner.specs.PlanFault.{select_fault};
 ghost use Rattle.planner.specs.Planning.{AreLeveled, ArePlaced, CannotPlace, CannotPlan, CannotRefine, IsFineFor, IsPlanOf, Plans, PlansDocuments, draft, selection_of};
 
@@ -159,7 +159,7 @@ fn refined(
 fn with_cleans(alloc: Global, plan: Plan, strategy: Cleanup) -> Result<Plan, PlanFault>
     requires { IsProper plan }
     ensures plan { IfOk result (λ p. p ≡ cleaned strategy plan) }
-    ensures fault { IfErr result (λ f. f ≡ Memory) }
+    ensures fault { IfErr result (λ f. f ≡ faults.Memory) }
 {
     match add_cleans(alloc, plan, strategy) {
         Ok(plan) => Ok(plan),
