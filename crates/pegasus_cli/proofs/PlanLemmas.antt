@@ -1,5 +1,12 @@
 -- The answers of `plan`.
-use Rattle.std.proofs.Common.{◌≡◌, ℕ, List, [], refl, sym, ap, subst, ◌∙◌}
+use Rattle.std.proofs.Common.{◌≡◌, ℕ, ◌+◌, ◌<◌, Bool, true, false, List, [], ◌∷◌, ◌++◌, length, get_or, refl, sym, ap, subst, ◌∙◌, nat_eq, arith}
+use Rattle.std.proofs.Math.Seq.{get_or-append_seam}
+use Rattle.std.proofs.lemmas.List.{get_or_append_left, length-append}
+use Rattle.outside.specs.declared.numbers.TaskId.{TaskId}
+use Rattle.plan_core.specs.declared.plan.Plan.{Plan}
+use Rattle.plan_core.specs.Words.{task_numbers}
+use Rattle.storage_simulation.specs.Goods.{places}
+use Rattle.storage_simulation.specs.Ordering.{IsPeak, at_start}
 use Rattle.planner.specs.Planning.{CannotPlan}
 use Rattle.planner.specs.declared.plan_fault.PlanFault.{PlanFault}
 use Rattle.planner.specs.declared.plan_fault.PlanFault.TheVariants as plan_faults
@@ -7,7 +14,7 @@ use Rattle.pegasus_cli.specs.declared.outcome.Outcome.{Outcome}
 use Rattle.pegasus_cli.specs.declared.outcome.Outcome.TheVariants as outcomes
 use Rattle.pegasus_cli.specs.declared.survey.Surveyed.{Surveyed}
 use Rattle.pegasus_cli.specs.Call.{IsAnswer, IsDoneOrMemory}
-use Rattle.pegasus_cli.specs.Commands.Plan.{HasNoFault, Says, task_limit}
+use Rattle.pegasus_cli.specs.Commands.Plan.{ArePeaksOf, HasNoFault, Says, task_limit}
 use Rattle.pegasus_cli.specs.Course.{plan_answer}
 use Rattle.pegasus_cli.specs.Outcome.{outcome_of}
 
@@ -35,3 +42,30 @@ no_usage fault e = cc
 
 pub plan_is_no_usage : (s : Surveyed) (text : List ℕ) → Says s text outcomes.Usage → ⊥
 plan_is_no_usage s text h = no_usage h.0.fault h.0.answers
+
+-- ---- peaks
+
+pub no_peaks : (p : Plan) (order : List TaskId) → ArePeaksOf p order 0 []
+no_peaks p order = record { long = refl; each = λ s l. absurd (omega arith) }
+
+pub peaks_more : (p : Plan) (order : List TaskId) (n : ℕ) (peaks : List ℕ) (x : ℕ) → ArePeaksOf p order n peaks → ∥ IsPeak p at_start (task_numbers order) n x ∥₁ → ArePeaksOf p order (n + 1) (peaks ++ x ∷ [])
+peaks_more p order n peaks x known peak = record {
+  long = let l = length-append peaks (x ∷ []) in let m = known.long in omega (arith, l, m);
+  each = λ s l. by s l (nat_eq s n) refl;
+}
+  where
+    last : get_or (peaks ++ x ∷ []) n 0 ≡ x
+    last = ap (λ (k : ℕ). get_or (peaks ++ x ∷ []) k 0) (sym known.long) ∙ get_or-append_seam peaks x [] 0
+
+    by : (s : ℕ) → s < n + 1 → (b : Bool) → nat_eq s n ≡ b → ∥ IsPeak p at_start (task_numbers order) s (get_or (peaks ++ x ∷ []) s 0) ∥₁
+    by s l true e =
+        let at : s ≡ n = grind (arith, e) in
+        subst (λ (k : ℕ). ∥ IsPeak p at_start (task_numbers order) k (get_or (peaks ++ x ∷ []) k 0) ∥₁) (sym at) (subst (λ (y : ℕ). ∥ IsPeak p at_start (task_numbers order) n y ∥₁) (sym last) peak)
+    by s l false e =
+        let below : s < n = grind (arith, e, l) in
+        let long : s < length peaks = let m = known.long in omega (arith, below, m) in
+        subst (λ (y : ℕ). ∥ IsPeak p at_start (task_numbers order) s y ∥₁) (sym (get_or_append_left peaks (x ∷ []) 0 s long)) (known.each s below)
+
+pub site_is_place : (p : Plan) (s : ℕ) → s < length p.sites → s < places p
+unfolding places
+site_is_place p s l = omega (arith, l)

@@ -8,6 +8,7 @@ ghost use Rattle.site_selector.specs.Selecting.{IsSelected};
 ghost use Rattle.plan_request.specs.Limits.{IsWithinLimits};
 ghost use Rattle.plan_request.specs.Reader.{execute_checked};
 ghost use Rattle.plan_core.specs.Proper.{IsProper};
+ghost use Rattle.storage_simulation.specs.Goods.{IsWithinLimits as IsPlanWithinLimits};
 ghost use Rattle.transfer_refiner.specs.Conditions.{IsDraft};
 ghost use Rattle.cleanup_refiner.specs.Cleans.{cleaned};
 ghost use Rattle.planner.specs.declared.plan_fault.PlanFault.TheVariants as faults;
@@ -209,7 +210,9 @@ pub fn plan_survey(
     requires sites { execute_checked request.now.execute ≡ Ok tt }
     requires sizes { IsWithinLimits request.now }
     requires few { limit ≤ 120000 }
-    ensures { Plans request.now survey.now limit result }
+    ensures plan { Plans request.now survey.now limit result }
+    ensures proper { IfOk result (λ o. IsProper o.plan) }
+    ensures limits { IfOk result (λ o. IsPlanWithinLimits o.plan) }
 {
     // A law for the proof: it does nothing.
     plans_can_be_ordered();
@@ -233,7 +236,9 @@ pub fn plan(
     requires sites { execute_checked request.now.execute ≡ Ok tt }
     requires sizes { IsWithinLimits request.now }
     requires few { limit ≤ 120000 }
-    ensures { PlansDocuments request.now documents.now limit result }
+    ensures plan { PlansDocuments request.now documents.now limit result }
+    ensures proper { IfOk result (λ o. IsProper o.plan) }
+    ensures limits { IfOk result (λ o. IsPlanWithinLimits o.plan) }
 {
     let survey = match survey(alloc, request, documents) {
         Ok(survey) => survey,

@@ -20,10 +20,13 @@ use Rattle.pegasus_cli.specs.Outcome.{outcome_of}
 abbrev pub task_limit : ℕ
 task_limit = 2000
 
--- the peak of each site along the order
-pub record ArePeaks (p : Plan) (order : List TaskId) (peaks : List ℕ) : Type 0 where
-  pub long : length peaks ≡ length p.sites
-  pub each : (s : ℕ) → s < length p.sites → ∥ IsPeak p at_start (task_numbers order) s (get_or peaks s 0) ∥₁
+-- the peaks of the first n sites along the order
+pub record ArePeaksOf (p : Plan) (order : List TaskId) (n : ℕ) (peaks : List ℕ) : Type 0 where
+  pub long : length peaks ≡ n
+  pub each : (s : ℕ) → s < n → ∥ IsPeak p at_start (task_numbers order) s (get_or peaks s 0) ∥₁
+
+abbrev pub ArePeaks : Plan → List TaskId → List ℕ → Type 0
+ArePeaks p order peaks = ArePeaksOf p order (length p.sites) peaks
 
 -- the text of a plan with an order and its peaks
 pub record IsTextOf (p : Plan) (order : List TaskId) (text : List ℕ) : Type 0 where

@@ -1,6 +1,6 @@
 //! `plan`.
 
-ghost use Rattle.std.specs.Prelude.{◌≡◌, Ok, IfOk};
+ghost use Rattle.std.specs.Prelude.{◌≡◌, ◌≤◌, Ok, IfOk, length};
 ghost use Rattle.workflow_core.specs.WellFormed.{IsWellFormed};
 ghost use Rattle.dependency_graph.specs.Graph.{IsGraphOf};
 ghost use Rattle.plan_request.specs.Limits.{IsWithinLimits};
@@ -24,6 +24,7 @@ const TASK_LIMIT: u64 = 2000;
 
 /// The peak of each site.
 fn peaks_of(alloc: Global, ordered: &Ordered) -> Result<Vec<u64>, Memory>
+    requires few { length ordered.now.plan.sites ≤ 64 }
     ensures { IfOk result (λ v. ArePeaks ordered.now.plan ordered.now.tasks.items v.items) }
 {
     let mut peaks = Vec::new(alloc);
@@ -35,6 +36,7 @@ fn peaks_of(alloc: Global, ordered: &Ordered) -> Result<Vec<u64>, Memory>
 
 /// The text of a plan with its order.
 fn text_of(alloc: Global, ordered: &Ordered) -> Result<Vec<u8>, Memory>
+    requires few { length ordered.now.plan.sites ≤ 64 }
     ensures { IfOk result (λ v. IsTextOf ordered.now.plan ordered.now.tasks.items v.items) }
 {
     let peaks = peaks_of(alloc, ordered)?;
