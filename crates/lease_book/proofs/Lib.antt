@@ -1,0 +1,11 @@
+pub mod GoodsLemmas
+pub mod FreshOrderLemmas
+pub mod ListLemmas
+pub mod TotalLemmas
+pub mod FitLemmas
+pub mod SoundLemmas
+pub mod OneLemmas
+pub mod RoomLemmas
+pub mod SizesRoomLemmas
+pub mod ReadingLemmas
+pub mod StartLemmas

@@ -1,0 +1,9 @@
+-- What the public contracts say
+pub mod State
+pub mod Choice
+pub mod Legal
+pub mod Law
+pub mod Reading
+pub mod Room
+-- A stand-in
+pub mod FreshOrder
