@@ -35,7 +35,7 @@ pub un_not : (a : Bool) → not a ≡ true → a ≡ false
 un_not true h = absurd cc
 un_not false h = refl
 
-not_of : (b : Bool) → b ≡ false → not b ≡ true
+pub not_of : (b : Bool) → b ≡ false → not b ≡ true
 not_of true h = absurd cc
 not_of false h = refl
 
@@ -43,7 +43,7 @@ pub false_of : (b : Bool) → (b ≡ true → ⊥) → b ≡ false
 false_of true f = absurd (f refl)
 false_of false f = refl
 
-or_false_right : (a b : Bool) → (a || b) ≡ false → b ≡ false
+pub or_false_right : (a b : Bool) → (a || b) ≡ false → b ≡ false
 or_false_right true b h = absurd cc
 or_false_right false b h = h
 
@@ -58,7 +58,7 @@ pub all_have : (test : ℕ → Bool) (xs : List ℕ) → list_all test xs ≡ tr
 all_have test [] h u k = absurd cc
 all_have test (x ∷ xs) h u k = let parts = both (test x) (list_all test xs) h in or_case (nat_eq x u) (has xs u) k (λ e. subst (λ (y : ℕ). test y ≡ true) (eqb-true x u e) parts.0) (all_have test xs parts.1 u)
 
-have_both : (a b : Bool) → a ≡ true → b ≡ true → (a && b) ≡ true
+pub have_both : (a b : Bool) → a ≡ true → b ≡ true → (a && b) ≡ true
 have_both true b m n = n
 have_both false b m n = absurd cc
 
@@ -87,7 +87,7 @@ at_place (x ∷ xs) zero l = has_head x xs
 at_place (x ∷ xs) (suc k) l = or_right (nat_eq x (get_or xs k 0)) (has xs (get_or xs k 0)) (at_place xs k (omega arith))
 
 -- each once, by places
-once_of : (xs : List ℕ) → ((k : ℕ) → k < length xs → has (take k xs) (get_or xs k 0) ≡ false) → AreOnce xs
+pub once_of : (xs : List ℕ) → ((k : ℕ) → k < length xs → has (take k xs) (get_or xs k 0) ≡ false) → AreOnce xs
 once_of [] h = refl
 once_of (x ∷ xs) h = once_more x xs (false_of (has xs x) absent) (once_of xs (λ k l. or_false_right (nat_eq x (get_or xs k 0)) (has (take k xs) (get_or xs k 0)) (h (suc k) (omega arith))))
   where
@@ -121,7 +121,7 @@ pub front_more : (xs : List ℕ) (k : ℕ) → k < length xs → take (k + 1) xs
 front_more xs k l = ap (λ (n : ℕ). take n xs) (let e : k + 1 ≡ suc k = omega arith in e) ∙ take_more xs k l
 
 -- parents, as a test
-ready_of : (p : Plan) (phase : ℕ → Phase) (front : List ℕ) (t : ℕ) → is_ready p phase front t ≡ true → IsReady p phase front t
+pub ready_of : (p : Plan) (phase : ℕ → Phase) (front : List ℕ) (t : ℕ) → is_ready p phase front t ≡ true → IsReady p phase front t
 ready_of p phase front t h u m w = by_waits (waits (phase u)) (has front u) w (all_have (λ v. not (waits (phase v)) || has front v) (parents p t) h u m)
   where
     by_waits : (a b : Bool) → a ≡ true → (not a || b) ≡ true → b ≡ true

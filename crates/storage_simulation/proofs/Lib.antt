@@ -9,3 +9,7 @@ pub mod ChangeLemmas
 pub mod LawLemmas
 pub mod FewLemmas
 pub mod ReadingLemmas
+pub mod DeterminedLemmas
+pub mod StepsLemmas
+pub mod CountingLemmas
+pub mod OrderLawLemmas

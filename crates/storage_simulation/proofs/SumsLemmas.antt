@@ -17,7 +17,7 @@ unfolding total
 total_bound w b zero h = omega arith
 total_bound w b (suc n) h = grind (arith, total_bound w b n h, h n)
 
-total_change : (v w : ℕ → ℕ) (n a : ℕ) → a < n → ((q : ℕ) → q ≢ a → v q ≡ w q) → total n v + w a ≡ total n w + v a
+pub total_change : (v w : ℕ → ℕ) (n a : ℕ) → a < n → ((q : ℕ) → q ≢ a → v q ≡ w q) → total n v + w a ≡ total n w + v a
 unfolding total
 total_change v w zero a l h = absurd (omega arith)
 total_change v w (suc n) a l h = by_place (nat_eq a n) refl (λ m. total_change v w n a m h)

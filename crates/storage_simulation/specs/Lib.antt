@@ -4,7 +4,9 @@ pub mod Standings
 pub mod Usage
 pub mod Following
 pub mod Fitting
+pub mod Ordering
 pub mod Law
+pub mod OrderLaw
 -- Steps of a fit
 pub mod Change
 pub mod Past

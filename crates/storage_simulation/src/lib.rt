@@ -10,6 +10,7 @@ mod fitting;
 mod following;
 mod goods;
 mod law;
+mod order_law;
 mod standing;
 mod usage;
 
@@ -18,6 +19,9 @@ pub use following::follows;
 pub use law::{
     pairs_are_few, plain_policy_counts_pairs, proper_plans_keep_goods, sums_are_small,
     usage_is_a_sum,
+};
+pub use order_law::{
+    order_fits, order_is_a_function, order_is_determined, some_task_is_next, steps_fit,
 };
 pub use standing::{Held, Phase, Standing};
 pub use usage::usage_after;
