@@ -7,7 +7,7 @@ use Rattle.plan_core.specs.Numbers.{has}
 use Rattle.plan_core.specs.Words.{count_tasks, parents}
 use Rattle.plan_core.specs.declared.plan.Plan.{Plan}
 use Rattle.storage_simulation.specs.Fitting.{Fits}
-use Rattle.storage_simulation.specs.Following.{IsReady, once}
+use Rattle.storage_simulation.specs.Following.{IsReady}
 use Rattle.storage_simulation.specs.Goods.{good_size, goods, lies_at, place_bound}
 use Rattle.storage_simulation.specs.Standings.{sizes, waits}
 use Rattle.storage_simulation.specs.Usage.{IsWithin, cleaned, made, usage, weight}

@@ -1,5 +1,4 @@
 pub mod GoodsLemmas
-pub mod FreshOrderLemmas
 pub mod ListLemmas
 pub mod TotalLemmas
 pub mod FitLemmas

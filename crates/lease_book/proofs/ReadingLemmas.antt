@@ -4,7 +4,7 @@ use Rattle.std.specs.Prelude.{not, filter, Option, Some, None, is_some}
 use Rattle.std.specs.List.{list_any}
 use Rattle.lease_book.proofs.ListLemmas.{by_bool, filter_without, or_left, or_right}
 use Rattle.lease_book.proofs.SoundLemmas.{choice_in, fresh_among, is_waiting, sound_more, sound_opened}
-use Rattle.lease_book.specs.Law.{FitsFromStart, IsSoundState, MakesOnce}
+use Rattle.lease_book.specs.Law.{FitsFromStart, HasStorageLaws, IsSoundState}
 use Rattle.lease_book.specs.Legal.{Allowed, Legal, LegalFrom, MayFail}
 use Rattle.lease_book.specs.Reading.{IsPlain, IsPlainlyRead, IsRead, again_of, begins, ends, fails, frees, grants, held_by, is_fail, is_grant_in, is_granted, last_of, reserves, size_among, stored, stores, worker_in}
 use Rattle.lease_book.specs.State.{State, after, ended, now, now_from, opened, runs, stored_among, without}
@@ -147,7 +147,7 @@ granted_none t r = by_last (last_of (λ x. grants t x || again_of t x) r)
     by_last None = refl
     by_last (Some e) = refl
 
-pub read_phase : (p : Plan) → MakesOnce p → (s : State) (r : List Event) (t : ℕ) (d b : Bool) → IsSoundState p s → LegalFrom p s r → ended (s.phase t) ≡ b → runs (s.phase t) ≡ (d && not b)
+pub read_phase : (p : Plan) → HasStorageLaws p → (s : State) (r : List Event) (t : ℕ) (d b : Bool) → IsSoundState p s → LegalFrom p s r → ended (s.phase t) ≡ b → runs (s.phase t) ≡ (d && not b)
     → (ended ((now_from p s r).phase t) ≡ (b || list_any (ends t) r)) × (runs ((now_from p s r).phase t) ≡ (granted_last t r d && not (b || list_any (ends t) r)))
 read_phase p proper s [] t d b sound legal h k = (h ∙ sym (or_false b), k ∙ ap (λ (c : Bool). d && not c) (sym (or_false b)))
   where
@@ -318,7 +318,7 @@ held_step p s e g f x v sound allowed h old = by_entry e allowed
     by_entry (Clean w t) a = free_held (cleans p t g) f x v (good_size p g) (s.held g) h
     by_entry (Fail w t c ns) a = same_held f x v (good_size p g) (s.held g) h
 
-spent_step : (p : Plan) (s : State) (e : Event) (g : ℕ) (f : Bool) (x : Option ℕ) → MakesOnce p → IsSoundState p s → Allowed p s e
+spent_step : (p : Plan) (s : State) (e : Event) (g : ℕ) (f : Bool) (x : Option ℕ) → HasStorageLaws p → IsSoundState p s → Allowed p s e
     → ((f || is_some x) ≡ true → (t : ℕ) → has (makes p t) g ≡ true → ended (s.phase t) ≡ true)
     → ((f || frees p g e) || is_some (or_else x (stores p g e))) ≡ true → (t : ℕ) → has (makes p t) g ≡ true → ended ((after p s e).phase t) ≡ true
 spent_step p s e g f x proper sound allowed old now t m = ended_step p s e t sound allowed ∙ parts f (frees p g e) x (stores p g e) now
@@ -375,7 +375,7 @@ or_else_none : (x : Option ℕ) → x ≡ or_else x None
 or_else_none None = refl
 or_else_none (Some n) = refl
 
-read_held : (p : Plan) → MakesOnce p → (s : State) (r : List Event) (g : ℕ) (f : Bool) (x : Option ℕ) (v : Bool) → IsSoundState p s → LegalFrom p s r → s.held g ≡ held_by f x v (good_size p g)
+read_held : (p : Plan) → HasStorageLaws p → (s : State) (r : List Event) (g : ℕ) (f : Bool) (x : Option ℕ) (v : Bool) → IsSoundState p s → LegalFrom p s r → s.held g ≡ held_by f x v (good_size p g)
     → ((f || is_some x) ≡ true → (t : ℕ) → has (makes p t) g ≡ true → ended (s.phase t) ≡ true)
     → (now_from p s r).held g ≡ held_by (f || list_any (frees p g) r) (or_else x (stored p r g)) (v || list_any (reserves p g) r) (good_size p g)
 read_held p proper s [] g f x v sound legal h old = same_held f x v (good_size p g) (s.held g) h
@@ -387,7 +387,7 @@ read_held p proper s (e ∷ r) g f x v sound legal h old =
     ∙ ap (λ (c : Bool). held_by (f || list_any (frees p g) (e ∷ r)) (or_else x (stored p (e ∷ r) g)) c (good_size p g)) (any_from (reserves p g) r e v)
 
 -- the state after a Legal record says what its list says
-pub record_reads : (p : Plan) (order : List ℕ) (r : List Event) → MakesOnce p → FitsFromStart p order → Legal p order r → IsRead p r (now p order r)
+pub record_reads : (p : Plan) (order : List ℕ) (r : List Event) → HasStorageLaws p → FitsFromStart p order → Legal p order r → IsRead p r (now p order r)
 record_reads p order r proper fit legal = record {
   held = λ g. read_held p proper (opened order) r g false None false sound legal refl (λ h. absurd cc);
   ended = λ t. (read_phase p proper (opened order) r t false false sound legal refl refl).0;
@@ -465,7 +465,7 @@ filter_all : (xs : List ℕ) → filter (λ u. true) xs ≡ xs
 filter_all [] = refl
 filter_all (x ∷ xs) = ap (λ (l : List ℕ). x ∷ l) (filter_all xs)
 
-pub plain_reads : (p : Plan) (order : List ℕ) (r : List Event) → MakesOnce p → IsPlain p → FitsFromStart p order → Legal p order r → IsPlainlyRead order r (now p order r)
+pub plain_reads : (p : Plan) (order : List ℕ) (r : List Event) → HasStorageLaws p → IsPlain p → FitsFromStart p order → Legal p order r → IsPlainlyRead order r (now p order r)
 plain_reads p order r proper is_plain fit legal = record {
   runs = λ t. (record_reads p order r proper fit legal).runs t ∙ ap (λ (b : Bool). b && not (list_any (ends t) r)) (sym (granted_none t r) ∙ plain_last p (opened order) r t false is_plain legal);
   rest = plain_rest p (opened order) r order (λ t. false) is_plain legal (sym (filter_all order));

@@ -1,10 +1,10 @@
 -- Room for entries: how many may still come of each task.
-use Rattle.std.proofs.Common.{cond, ◌≡◌, ℕ, ◌+◌, ◌≤◌, ◌<◌, ◌≢◌, Bool, true, false, eqb, eqb-true, inl, inr, length, refl, sym, ap, ◌∙◌, arith}
+use Rattle.std.proofs.Common.{cond, ◌≡◌, ℕ, ◌+◌, ◌≤◌, ◌<◌, ◌≢◌, Bool, true, false, eqb, eqb-true, inl, inr, refl, sym, ap, ◌∙◌, arith}
 use Rattle.std.specs.Prelude.{◌⊎◌}
 use Rattle.lease_book.proofs.SoundLemmas.{choice_in, false_of, fresh_among, is_waiting, put_at, put_off, sound_more}
 use Rattle.lease_book.proofs.TotalLemmas.{total_change}
 use Rattle.lease_book.specs.Choice.{IsChoice}
-use Rattle.lease_book.specs.Law.{IsConsistent, MakesOnce}
+use Rattle.lease_book.specs.Law.{HasStorageLaws, IsConsistent}
 use Rattle.lease_book.specs.Legal.{Allowed, IsOpen}
 use Rattle.lease_book.specs.Room.{entries_of, entries_room, task_room}
 use Rattle.lease_book.specs.State.{State, after, put}
@@ -122,7 +122,7 @@ room_falls p s e good allowed = by_entry e allowed
     by_entry (Fail w t c ns) a = let k = caught w t a.1 in fail t k.0 k.1 k.2 (after p s (Fail w t c ns)) refl refl refl
 
 -- what else is kept
-pub consistent_more : (p : Plan) (s : State) (e : Event) → MakesOnce p → IsConsistent p s → Allowed p s e → IsConsistent p (after p s e)
+pub consistent_more : (p : Plan) (s : State) (e : Event) → HasStorageLaws p → IsConsistent p s → Allowed p s e → IsConsistent p (after p s e)
 consistent_more p s e proper good allowed = record { sound = sound_more p s e proper good.sound allowed; failed_fails = by_entry e; few_agains = few e allowed }
   where
     by_entry : (d : Event) (t : ℕ) → (after p s d).failed t ≡ true → (after p s d).failing ≡ true

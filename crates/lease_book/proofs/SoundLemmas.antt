@@ -3,13 +3,12 @@ use Rattle.std.proofs.Common.{◌≡◌, ℕ, zero, suc, ◌+◌, ◌≤◌, ◌
 use Rattle.std.specs.Prelude.{Option, Some, None, ◌⊎◌, is_some}
 use Rattle.std.proofs.lemmas.List.Folds.{list_any-append}
 use Rattle.lease_book.proofs.FitLemmas.{fit_more, fit_stays, fit_tail}
-use Rattle.lease_book.proofs.FreshOrderLemmas.{order_law}
 use Rattle.lease_book.proofs.ListLemmas.{by_bool, has_head, has_take, has_without, or_case, or_left, or_right, without_absent, without_gone, without_head}
 use Rattle.lease_book.proofs.TotalLemmas.{total_add}
 use Rattle.lease_book.specs.Choice.{IsCandidate, IsChoice, IsFreshAmong, Safe, start}
-use Rattle.lease_book.specs.Law.{FitsFromStart, IsSafeState, IsSound, IsSoundState, MakesOnce, reserved_at, stored_at}
+use Rattle.lease_book.specs.Law.{FitsFromStart, HasStorageLaws, IsSafeState, IsSound, IsSoundState, reserved_at, stored_at}
 use Rattle.lease_book.specs.Legal.{Allowed, AreDeclared, IsComplete, IsOpen, Legal, LegalFrom}
-use Rattle.lease_book.specs.State.{State, after, ended, held_after, now, now_from, opened, order_or, order_with, put, reserved_for, reserved_size, rest_after, runs, stored_among, stored_size, without}
+use Rattle.lease_book.specs.State.{State, after, ended, held_after, now, now_from, opened, order_or, order_with, put, reserved_for, reserved_size, rest_after, runs, started, stored_among, stored_size, without}
 use Rattle.plan_core.specs.Numbers.{has}
 use Rattle.plan_core.specs.Words.{cleans, count_tasks, is_clean, kind, parents}
 use Rattle.plan_core.specs.declared.plan.Plan.{Plan}
@@ -91,7 +90,7 @@ begun_sound p phase held rest left t sound waiting kind task parents_ended fits 
 }
 
 -- a running task ends, and what it makes counts at most what was declared
-settled_sound : (p : Plan) (phase : ℕ → Phase) (held new : ℕ → Held) (rest : List ℕ) (t : ℕ) → MakesOnce p → IsSound p phase held rest → phase t ≡ Runs
+settled_sound : (p : Plan) (phase : ℕ → Phase) (held new : ℕ → Held) (rest : List ℕ) (t : ℕ) → HasStorageLaws p → IsSound p phase held rest → phase t ≡ Runs
     → ((g : ℕ) → has (makes p t) g ≡ false → new g ≡ held g) → ((g : ℕ) → has (makes p t) g ≡ true → sizes new g ≤ good_size p g)
     → IsSound p (put phase t Ended) new rest
 settled_sound p phase held new rest t proper sound runs others its = record {
@@ -121,7 +120,7 @@ settled_sound p phase held new rest t proper sound runs others its = record {
     not_its u g off m = by_bool (has (makes p t) g) (λ k. absurd (let at : t ≡ u = proper.one_maker t u g k m in let e : eqb t t ≡ false = ap (eqb t) at ∙ off in let f : eqb t t ≡ true = grind arith in cc)) (λ k. k)
 
 -- a Clean is swept
-swept_sound : (p : Plan) (phase : ℕ → Phase) (held : ℕ → Held) (rest : List ℕ) (t : ℕ) → MakesOnce p → IsSound p phase held rest
+swept_sound : (p : Plan) (phase : ℕ → Phase) (held : ℕ → Held) (rest : List ℕ) (t : ℕ) → HasStorageLaws p → IsSound p phase held rest
     → waits (phase t) ≡ true → ((u : ℕ) → has (parents p t) u ≡ true → ended (phase u) ≡ true)
     → Fits p (put phase t Ended) (cleaned_held p t held) (without t rest)
     → IsSound p (put phase t Ended) (cleaned_held p t held) (without t rest)
@@ -262,7 +261,7 @@ pub safe_clean : (p : Plan) (s : State) (w t : ℕ) → is_clean p t ≡ true �
 safe_clean p s w t kind safe = subst (λ (b : Bool). Safe p (after p s (cond b (Clean w t) (Grant w t)))) kind safe
 
 -- an Again puts its task at the front: of a running task
-again_open : (p : Plan) (s : State) (t : ℕ) → MakesOnce p → IsSoundState p s → s.phase t ≡ Runs → Fits p (put s.phase t Waits) s.held (t ∷ without t s.rest)
+again_open : (p : Plan) (s : State) (t : ℕ) → HasStorageLaws p → IsSoundState p s → s.phase t ≡ Runs → Fits p (put s.phase t Waits) s.held (t ∷ without t s.rest)
 again_open p s t proper sound runs =
     fit_more p s.phase (put s.phase t Waits) s.held s.held t (without t s.rest) (sound.running_kind t runs).1
     (λ u off. ap waits (put_off s.phase t Waits u off))
@@ -283,7 +282,7 @@ again_open p s t proper sound runs =
         (λ off. ap ended (put_off s.phase t Waits u off) ∙ e)
 
 -- and of a Clean that is the Choice
-again_clean : (p : Plan) (s : State) (t : ℕ) → MakesOnce p → IsSoundState p s → is_clean p t ≡ true → IsChoice p s t → Fits p (put s.phase t Waits) s.held (t ∷ without t s.rest)
+again_clean : (p : Plan) (s : State) (t : ℕ) → HasStorageLaws p → IsSoundState p s → is_clean p t ≡ true → IsChoice p s t → Fits p (put s.phase t Waits) s.held (t ∷ without t s.rest)
 again_clean p s t proper sound kind choice =
     fit_more p (put s.phase t Ended) (put s.phase t Waits) (cleaned_held p t s.held) s.held t (without t s.rest) (sound.safe.tasks t (choice_in p s t choice))
     (λ u off. ap waits (put_off s.phase t Waits u off) ∙ sym (ap waits (put_off s.phase t Ended u off)))
@@ -298,7 +297,7 @@ again_clean p s t proper sound kind choice =
     waiting = sound.safe.waiting t (choice_in p s t choice)
 
 -- every allowed entry keeps what is kept
-pub sound_more : (p : Plan) (s : State) (e : Event) → MakesOnce p → IsSoundState p s → Allowed p s e → IsSoundState p (after p s e)
+pub sound_more : (p : Plan) (s : State) (e : Event) → HasStorageLaws p → IsSoundState p s → Allowed p s e → IsSoundState p (after p s e)
 sound_more p s (Grant w t) proper sound allowed =
     begun_sound p s.phase s.held s.rest (without t s.rest) t sound (sound.safe.waiting t (choice_in p s t allowed.2)) allowed.1 (sound.safe.tasks t (choice_in p s t allowed.2)) allowed.2.can.parents_ended
     (safe_grant p s w t allowed.1 (allowed.2.can.leaves_safe w))
@@ -306,10 +305,9 @@ sound_more p s (Grant w t) proper sound allowed =
 sound_more p s (Regrant w t) proper sound allowed =
     let parts = fresh_among p s 4 s.rest t allowed.1.among in
     let order = some_is (order_with p s t) parts.1 in
-    let law = order_law p (put s.phase t Runs) (reserved_for p t s.held) order.0 order.1 parts.0.within in
     begun_sound p s.phase s.held s.rest (rest_after p s (Regrant w t)) t sound (sound.safe.waiting t parts.2) parts.0.no_clean (sound.safe.tasks t parts.2) parts.0.parents_ended
-    (subst (λ (o : Option (List ℕ)). Fits p (put s.phase t Runs) (reserved_for p t s.held) (order_or o s.rest)) (sym order.1) law.0)
-    (λ u l h. subst (λ (o : Option (List ℕ)). has (order_or o s.rest) u ≡ true) (sym order.1) (law.1 u l h))
+    (subst (λ (o : Option (List ℕ)). Fits p (put s.phase t Runs) (reserved_for p t s.held) (order_or o s.rest)) (sym order.1) (proper.order_fits (started p s t) order.0 parts.0.within order.1))
+    (λ u l h. subst (λ (o : Option (List ℕ)). has (order_or o s.rest) u ≡ true) (sym order.1) (proper.order_all (started p s t) order.0 order.1 u l (ap waits h)))
 sound_more p s (Arrive w t n) proper sound allowed =
     settled_sound p s.phase s.held (held_after p (Arrive w t n) s.held) s.rest t proper sound allowed.2.runs
     (λ g m. ap (λ (b : Bool). cond b (Stored n) (s.held g)) m)
@@ -339,7 +337,7 @@ sound_opened p order fit = record {
 }
 
 -- after every entry of a Legal record
-pub sound_after : (p : Plan) → MakesOnce p → (s : State) (r : List Event) → IsSoundState p s → LegalFrom p s r → (k : ℕ) → IsSoundState p (now_from p s (take k r))
+pub sound_after : (p : Plan) → HasStorageLaws p → (s : State) (r : List Event) → IsSoundState p s → LegalFrom p s r → (k : ℕ) → IsSoundState p (now_from p s (take k r))
 sound_after p proper s [] sound legal zero = sound
 sound_after p proper s [] sound legal (suc k) = sound
 sound_after p proper s (e ∷ r) sound legal zero = sound
@@ -352,7 +350,7 @@ maker_of p (t ∷ ts) g h = or_case (has (makes p t) g) (made p ts g) h
     (λ is. let rest = maker_of p ts g is in (rest.0, or_right (eqb t rest.0) (has ts rest.0) rest.1, rest.2))
 
 -- where nothing runs and no Fail stands, the first task of rest is the Choice
-pub choice_exists : (p : Plan) (s : State) (t : ℕ) (ts : List ℕ) → MakesOnce p → IsSoundState p s → s.failing ≡ false → ((u : ℕ) → s.phase u ≡ Runs → ⊥) → s.rest ≡ t ∷ ts → IsChoice p s t
+pub choice_exists : (p : Plan) (s : State) (t : ℕ) (ts : List ℕ) → HasStorageLaws p → IsSoundState p s → s.failing ≡ false → ((u : ℕ) → s.phase u ≡ Runs → ⊥) → s.rest ≡ t ∷ ts → IsChoice p s t
 choice_exists p s t ts proper sound unfailed idle is = record {
   no_fail = unfailed;
   before = [];
@@ -410,7 +408,7 @@ sums_are_usage p held q = total_add _ _ _ (goods p) (λ g. by_place (lies_at p g
     by_place false h = refl
 
 -- what holds of each sound state
-pub safe_state : (p : Plan) (s : State) → MakesOnce p → IsSoundState p s → IsSafeState p s
+pub safe_state : (p : Plan) (s : State) → HasStorageLaws p → IsSoundState p s → IsSafeState p s
 safe_state p s proper sound = record {
   within = λ q l. let had = sound.safe.within 0 (omega arith) q l in let same = sums_are_usage p s.held q in omega (arith, had, same);
   safe = sound.safe;
@@ -419,7 +417,7 @@ safe_state p s proper sound = record {
 }
 
 -- after every entry
-pub always_safe : (p : Plan) (order : List ℕ) (r : List Event) → MakesOnce p → FitsFromStart p order → Legal p order r → (k : ℕ) → IsSafeState p (now p order (take k r))
+pub always_safe : (p : Plan) (order : List ℕ) (r : List Event) → HasStorageLaws p → FitsFromStart p order → Legal p order r → (k : ℕ) → IsSafeState p (now p order (take k r))
 always_safe p order r proper fit legal k = safe_state p (now p order (take k r)) proper (sound_after p proper (opened order) r (sound_opened p order fit) legal k)
 
 pub declared_long : (p : Plan) (xs ns : List ℕ) → AreDeclared p xs ns → length ns ≡ length xs

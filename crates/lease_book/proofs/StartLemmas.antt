@@ -1,24 +1,22 @@
 -- The start of a task of rest, and the first task that can start.
-use Rattle.std.proofs.Common.{◌≡◌, ℕ, zero, suc, ◌+◌, ◌≤◌, ◌<◌, ◌||◌, ◌&&◌, Bool, true, false, cond, eqb, eqb-true, inl, inr, List, [], ◌∷◌, ◌++◌, length, take, drop, get_or, refl, sym, ap, subst, ◌∙◌, arith}
+use Rattle.std.proofs.Common.{◌≡◌, ℕ, zero, suc, ◌+◌, ◌≤◌, ◌<◌, ◌||◌, Bool, true, false, cond, eqb, eqb-true, List, [], ◌∷◌, ◌++◌, length, take, drop, get_or, refl, sym, ap, subst, ◌∙◌, arith}
 use Rattle.std.proofs.lemmas.List.{take_more}
-use Rattle.std.specs.Prelude.{Decides, ◌⊎◌}
-use Rattle.std.proofs.lemmas.Bool.{eqb-false}
-use Rattle.std.specs.List.{list_all}
 use Rattle.std.proofs.lemmas.List.Folds.{list_any-append}
 use Rattle.lease_book.proofs.FitLemmas.{usage_by_weight}
 use Rattle.lease_book.proofs.ListLemmas.{any_without, front_of_without, has_take, has_without, once_without, or_case, place_of_without, without_has}
 use Rattle.lease_book.proofs.SoundLemmas.{clean_weight, cleaned_held, false_of, has_split, maker_of, not_both, put_at, put_off}
 use Rattle.lease_book.proofs.TotalLemmas.{total_same}
 use Rattle.lease_book.specs.Choice.{CanStart, HasNoChoice, HaveParentsEnded, IsChoice, Safe}
-use Rattle.lease_book.specs.Law.{IsSoundState, MakesOnce}
-use Rattle.lease_book.specs.State.{State, after, now, put, without}
+use Rattle.lease_book.specs.Law.{HasStorageLaws, IsSoundState}
+use Rattle.lease_book.specs.State.{State, after, put, without}
 use Rattle.plan_core.specs.Numbers.{below, has}
 use Rattle.plan_core.specs.Words.{cleans, is_clean, kind}
 use Rattle.plan_core.specs.declared.plan.Plan.{Plan}
 use Rattle.run_record.specs.Events.{Clean, Grant}
 use Rattle.storage_simulation.specs.Fitting.{Fits}
-use Rattle.storage_simulation.specs.Following.{Follows, IsReady, once}
+use Rattle.storage_simulation.specs.Following.{Follows, IsReady}
 use Rattle.storage_simulation.specs.Goods.{good_size, goods, lies_at, makes, place_bound}
+use Rattle.storage_simulation.specs.Ordering.{size}
 use Rattle.storage_simulation.specs.Standings.{sizes, waits}
 use Rattle.storage_simulation.specs.Usage.{IsWithin, cleaned, made, usage}
 use Rattle.storage_simulation.specs.declared.standing.Held.{Held}
@@ -54,14 +52,14 @@ follows_without p old new t order same starts order_follows = record {
     not_it u w = false_of (eqb t u) (λ at. let now : waits (new t) ≡ true = ap (λ (n : ℕ). waits (new n)) (eqb-true t u at) ∙ w in absurd cc)
 
 -- what the ended parents of a Clean make isn't made by a front of rest
-unmade : (p : Plan) (s : State) (t : ℕ) → MakesOnce p → IsSoundState p s → HaveParentsEnded p s t → (front : List ℕ) → ((u : ℕ) → has front u ≡ true → has s.rest u ≡ true)
+unmade : (p : Plan) (s : State) (t : ℕ) → HasStorageLaws p → IsSoundState p s → HaveParentsEnded p s t → (front : List ℕ) → ((u : ℕ) → has front u ≡ true → has s.rest u ≡ true)
     → (g : ℕ) → cleans p t g ≡ true → made p front g ≡ false
 unmade p s t proper sound parents_ended front inside g c = false_of (made p front g) (λ m.
     let u = maker_of p front g m in
     not_both (s.phase u.0) (sound.safe.waiting u.0 (inside u.0 u.1)) (parents_ended u.0 (proper.cleans_after t u.0 g c u.2)))
 
 -- a Clean whose parents have ended can start
-pub clean_can_start : (p : Plan) (s : State) (t : ℕ) → MakesOnce p → IsSoundState p s → has s.rest t ≡ true → is_clean p t ≡ true → HaveParentsEnded p s t → CanStart p s t
+pub clean_can_start : (p : Plan) (s : State) (t : ℕ) → HasStorageLaws p → IsSoundState p s → has s.rest t ≡ true → is_clean p t ≡ true → HaveParentsEnded p s t → CanStart p s t
 clean_can_start p s t proper sound there kind parents_ended = record {
   parents_ended = parents_ended;
   leaves_safe = λ w. subst (λ (b : Bool). Safe p (after p s (cond b (Clean w t) (Grant w t)))) (sym kind)
@@ -138,6 +136,6 @@ none_starts p s unfailed none (suc k) l = subst (NoneStarts p s) (let e : k + 1 
     (let below = none_starts p s unfailed none k (omega arith) in none_more p s k (omega arith) below (λ can. none (get_or s.rest k 0) (choice_at p s k unfailed (omega arith) can below)))
 
 -- so no Clean of rest has all its parents ended then: a fresh order never begins with a Clean
-pub no_ready_clean : (p : Plan) (s : State) (t : ℕ) → MakesOnce p → IsSoundState p s → s.failing ≡ false → HasNoChoice p s → has s.rest t ≡ true → is_clean p t ≡ true → HaveParentsEnded p s t → ⊥
+pub no_ready_clean : (p : Plan) (s : State) (t : ℕ) → HasStorageLaws p → IsSoundState p s → s.failing ≡ false → HasNoChoice p s → has s.rest t ≡ true → is_clean p t ≡ true → HaveParentsEnded p s t → ⊥
 no_ready_clean p s t proper sound unfailed none there kind parents_ended =
     none_starts p s unfailed none (length s.rest) (omega arith) t (ap (λ (l : List ℕ). has l t) (take_all s.rest) ∙ there) (clean_can_start p s t proper sound there kind parents_ended)

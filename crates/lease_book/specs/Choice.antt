@@ -1,5 +1,5 @@
 -- Safe states, and the task that may begin next: the Choice, or the task of a fresh order.
-use Rattle.std.specs.Prelude.{◌≡◌, ℕ, zero, suc, ◌⊎◌, true, false, cond, List, [], ◌∷◌, ◌++◌, Some, None, is_some}
+use Rattle.std.specs.Prelude.{◌≡◌, ℕ, zero, suc, ◌⊎◌, true, false, cond, List, [], ◌∷◌, ◌++◌, None, is_some}
 use Rattle.plan_core.specs.declared.plan.Plan.{Plan}
 use Rattle.plan_core.specs.Numbers.{has}
 use Rattle.plan_core.specs.Words.{is_clean, is_fresh, parents}

@@ -1,5 +1,5 @@
 -- What holds of each Legal record, and what keeps it so.
-use Rattle.std.specs.Prelude.{◌≡◌, ℕ, ◌+◌, ◌≤◌, ◌<◌, true, false, cond, List, [], ◌∷◌}
+use Rattle.std.specs.Prelude.{◌≡◌, ℕ, ◌+◌, ◌≤◌, ◌<◌, true, false, cond, List, [], ◌∷◌, Some}
 use Rattle.plan_core.specs.declared.plan.Plan.{Plan}
 use Rattle.plan_core.specs.Numbers.{has}
 use Rattle.plan_core.specs.Words.{cleans, count_tasks, is_clean, parents, retries}
@@ -8,9 +8,11 @@ use Rattle.storage_simulation.specs.declared.standing.Held.TheVariants.{Nothing,
 use Rattle.storage_simulation.specs.declared.standing.Phase.{Phase}
 use Rattle.storage_simulation.specs.declared.standing.Phase.TheVariants.{Waits, Runs}
 use Rattle.storage_simulation.specs.Goods.{good_size, goods, lies_at, makes, place_bound, places}
-use Rattle.storage_simulation.specs.Usage.{total}
-use Rattle.storage_simulation.specs.Standings.{sizes}
+use Rattle.storage_simulation.specs.Usage.{IsWithin, total}
+use Rattle.storage_simulation.specs.Standings.{sizes, waits}
 use Rattle.storage_simulation.specs.Fitting.{Fits}
+use Rattle.storage_simulation.specs.Ordering.{Progress, size}
+use Rattle.storage_simulation.specs.OrderLaw.{stated_order}
 use Rattle.lease_book.specs.State.{State, ended, reserved_size, stored_size}
 use Rattle.lease_book.specs.Choice.{IsChoice, Safe}
 use Rattle.lease_book.specs.Legal.{IsComplete}
@@ -61,9 +63,12 @@ pub record IsConsistent (p : Plan) (s : State) : Type 0 where
   pub failed_fails : (t : ℕ) → s.failed t ≡ true → s.failing ≡ true
   pub few_agains : (t : ℕ) → s.agains t ≤ retries p
 
--- What the laws use of a plan: each good has one maker, and its Clean comes after the maker and makes nothing.
-pub record MakesOnce (p : Plan) : Type 0 where
+-- What storage promises of a proper plan: each good has one maker, and its Clean comes after the maker and makes nothing;
+-- an order from a standing within the bounds fits it, and has all tasks that wait.
+pub record HasStorageLaws (p : Plan) : Type 0 where
   pub one_maker : (t u g : ℕ) → has (makes p t) g ≡ true → has (makes p u) g ≡ true → t ≡ u
   pub cleans_after : (t u g : ℕ) → cleans p t g ≡ true → has (makes p u) g ≡ true → has (parents p t) u ≡ true
   pub cleans_only : (t g : ℕ) → is_clean p t ≡ false → cleans p t g ≡ false
   pub cleans_make : (t g : ℕ) → is_clean p t ≡ true → has (makes p t) g ≡ false
+  pub order_fits : (st : Progress) (ts : List ℕ) → IsWithin p (size st) [] → stated_order p st ≡ Some ts → Fits p st.phase st.held ts
+  pub order_all : (st : Progress) (ts : List ℕ) → stated_order p st ≡ Some ts → (t : ℕ) → t < count_tasks p → waits (st.phase t) ≡ true → has ts t ≡ true

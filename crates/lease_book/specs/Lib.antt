@@ -5,5 +5,3 @@ pub mod Legal
 pub mod Law
 pub mod Reading
 pub mod Room
--- A stand-in
-pub mod FreshOrder

@@ -8,8 +8,9 @@ use Rattle.storage_simulation.specs.declared.standing.Held.TheVariants.{Nothing,
 use Rattle.storage_simulation.specs.declared.standing.Phase.{Phase}
 use Rattle.storage_simulation.specs.declared.standing.Phase.TheVariants.{Waits, Runs, Ended}
 use Rattle.storage_simulation.specs.Goods.{good_size, makes}
+use Rattle.storage_simulation.specs.Ordering.{Progress}
+use Rattle.storage_simulation.specs.OrderLaw.{stated_order}
 use Rattle.run_record.specs.Events.{Event, Grant, Arrive, End, Clean, Fail, Again, Regrant}
-use Rattle.lease_book.specs.FreshOrder.{order_from}
 
 -- Of each task how far it is, whom its last grant names, how often it was tried again and whether it failed; of each
 -- good what is held; whether any Fail stands; and the tasks that are left, in the order that is kept.
@@ -84,9 +85,12 @@ held_after p (End w t ns) f = λ g. stored_among (makes p t) ns g (f g)
 held_after p (Clean w t) f = λ g. cond (cleans p t g) Nothing (f g)
 held_after p _ f = f
 
--- the order of the waiting tasks where t runs besides, and this order or else the one that is kept
+-- the standing in which t runs besides, and Order from it; this order or else the one that is kept
+abbrev pub started : Plan → State → ℕ → Progress
+started p s t = record { phase = put s.phase t Runs; held = reserved_for p t s.held }
+
 abbrev pub order_with : Plan → State → ℕ → Option (List ℕ)
-order_with p s t = order_from p (put s.phase t Runs) (reserved_for p t s.held)
+order_with p s t = stated_order p (started p s t)
 
 abbrev pub order_or : Option (List ℕ) → List ℕ → List ℕ
 order_or None ts = ts

@@ -14,18 +14,26 @@ ghost use Rattle.run_record.specs.Events.{Again, Event, Regrant};
 ghost use Rattle.lease_book.specs.State.{State, after, now, opened};
 ghost use Rattle.lease_book.specs.Choice.{HasNoChoice, HaveParentsEnded, IsChoice, IsFresh};
 ghost use Rattle.lease_book.specs.Legal.{Allowed, Legal};
-ghost use Rattle.lease_book.specs.Law.{FitsFromStart, IsConsistent, IsSafeState, IsSoundState, reserved_at, stored_at};
+ghost use Rattle.lease_book.specs.Law.{FitsFromStart, HasStorageLaws, IsConsistent, IsSafeState, IsSoundState, reserved_at, stored_at};
 ghost use Rattle.lease_book.specs.Reading.{IsPlain, IsPlainlyRead, IsRead};
 ghost use Rattle.lease_book.specs.Room.{entries_room, listed, sizes_room};
 
-use storage_simulation::{plain_policy_counts_pairs, proper_plans_keep_goods};
+use storage_simulation::{plain_policy_counts_pairs, proper_plans_keep_goods, steps_fit};
+
+/// What storage promises of a proper plan.
+fn storage_laws()
+    ensures { (p : Plan) → IsProper p → HasStorageLaws p }
+{
+    proper_plans_keep_goods();
+    steps_fit();
+}
 
 /// An order that fits from the start is Safe, and every allowed entry keeps it so.
 pub fn allowed_entries_keep_safe()
     ensures start { (p : Plan) (order : List ℕ) → FitsFromStart p order → IsSoundState p (opened order) }
     ensures entries { (p : Plan) (s : State) (e : Event) → IsProper p → IsSoundState p s → Allowed p s e → IsSoundState p (after p s e) }
 {
-    proper_plans_keep_goods();
+    storage_laws();
 }
 
 /// After every entry of a Legal record each place is within its bound, the state is Safe, and where no task runs and no
@@ -34,7 +42,7 @@ pub fn legal_records_are_safe()
     ensures always { (p : Plan) (order : List ℕ) (r : List Event) → IsProper p → FitsFromStart p order → Legal p order r → (k : ℕ) → IsSafeState p (now p order (take k r)) }
     ensures sums { (p : Plan) (held : ℕ → Held) (q : ℕ) → stored_at p held q + reserved_at p held q ≡ usage p (sizes held) [] q }
 {
-    proper_plans_keep_goods();
+    storage_laws();
 }
 
 /// There is at most one Choice, and at most one task of a fresh order.
@@ -48,7 +56,7 @@ pub fn choice_is_one()
 pub fn no_clean_begins_afresh()
     ensures { (p : Plan) (s : State) (t : ℕ) → IsProper p → IsSoundState p s → s.failing ≡ false → HasNoChoice p s → has s.rest t ≡ true → is_clean p t ≡ true → HaveParentsEnded p s t → ⊥ }
 {
-    proper_plans_keep_goods();
+    storage_laws();
 }
 
 /// Each allowed entry leaves room for one entry less, and for its sizes less.
@@ -57,14 +65,14 @@ pub fn entries_are_few()
     ensures sizes { (p : Plan) (s : State) (e : Event) → IsConsistent p s → Allowed p s e → sizes_room p (after p s e) + length (listed e) ≤ sizes_room p s }
     ensures consistent { (p : Plan) (s : State) (e : Event) → IsProper p → IsConsistent p s → Allowed p s e → IsConsistent p (after p s e) }
 {
-    proper_plans_keep_goods();
+    storage_laws();
 }
 
 /// The state of a Legal record says of each task, of each good and of failures what the list of its entries says.
 pub fn records_read()
     ensures { (p : Plan) (order : List ℕ) (r : List Event) → IsProper p → FitsFromStart p order → Legal p order r → IsRead p r (now p order r) }
 {
-    proper_plans_keep_goods();
+    storage_laws();
 }
 
 /// Under the plain policy no Again and no Regrant is allowed, the places are the sites, the goods are the pairs, and rest
@@ -75,6 +83,6 @@ pub fn plain_policy_tries_once()
     ensures places { (p : Plan) → IsPlain p → (places p ≡ count_sites p) × (goods p ≡ count_pairs p) }
     ensures reads { (p : Plan) (order : List ℕ) (r : List Event) → IsProper p → IsPlain p → FitsFromStart p order → Legal p order r → IsPlainlyRead order r (now p order r) }
 {
-    proper_plans_keep_goods();
+    storage_laws();
     plain_policy_counts_pairs();
 }

@@ -1,4 +1,3 @@
-use Rattle.lease_book.proofs.GoodsLemmas.{makes_once}
 use Rattle.lease_book.proofs.RoomLemmas.{consistent_more, room_falls}
 use Rattle.lease_book.proofs.SizesRoomLemmas.{sizes_fall}
 use Rattle.lease_book.proofs.law.entries_are_few.Goals as goal
@@ -10,4 +9,4 @@ pub returns-clause-sizes : goal.returns-clause-sizes
 returns-clause-sizes c = sizes_fall
 
 pub returns-clause-consistent : goal.returns-clause-consistent
-returns-clause-consistent c = λ p s e proper. consistent_more p s e (makes_once p (c.proper_plans_keep_goods.ensures p proper))
+returns-clause-consistent c = λ p s e proper. consistent_more p s e (c.storage_laws.ensures p proper)
