@@ -10,9 +10,9 @@ use Rattle.plan_core.specs.Words.{cleans, count_pairs, count_tasks, output_bound
 use Rattle.storage_simulation.specs.declared.standing.Phase.{Phase}
 use Rattle.storage_simulation.specs.Goods.{IsWithinLimits, good_size, goods, lies_at, makes, places}
 use Rattle.storage_simulation.specs.Standings.{waits}
-use Rattle.storage_simulation.specs.Usage.{cleaned, made, part, usage, weight}
+use Rattle.storage_simulation.specs.Usage.{cleaned, made, part, sum_of, usage, weight}
 use Rattle.storage_simulation.specs.Following.{Follows}
-use Rattle.storage_simulation.specs.Change.{cleaned_part, held_part, size_part, sum_of, waits_for_maker}
+use Rattle.storage_simulation.specs.Change.{cleaned_part, held_part, size_part, waits_for_maker}
 use Rattle.storage_simulation.specs.Law.{KeepsGoods}
 use Rattle.storage_simulation.proofs.FollowingLemmas.{at_place, both, by_bool, false_of, front_more, is_itself, once_at, or_case, or_left, or_right}
 use Rattle.storage_simulation.proofs.GoodsLemmas.{lies_below}
@@ -134,7 +134,7 @@ part_more p size front t s g =
     ap (λ (b : Bool). cond (lies_at p g s) (cond b 0 (cond (made p (front ++ t ∷ []) g) (good_size p g) (size g))) 0) (any_more (λ u. cleans p u g) front t)
     ∙ ap (λ (b : Bool). cond (lies_at p g s) (cond (cleaned p front g || cleans p t g) 0 (cond b (good_size p g) (size g))) 0) (any_more (λ u. has (makes p u) g) front t)
 
-other_part : (p : Plan) (size : ℕ → ℕ) (front : List ℕ) (t s g : ℕ) → cleans p t g ≡ false → has (makes p t) g ≡ false → part p size front s g ≡ part p size (front ++ t ∷ []) s g
+pub other_part : (p : Plan) (size : ℕ → ℕ) (front : List ℕ) (t s g : ℕ) → cleans p t g ≡ false → has (makes p t) g ≡ false → part p size front s g ≡ part p size (front ++ t ∷ []) s g
 unfolding more_part
 other_part p size front t s g c m = sym (part_more p size front t s g
     ∙ ap (λ (b : Bool). cond (lies_at p g s) (cond b 0 (cond (made p front g || has (makes p t) g) (good_size p g) (size g))) 0) (ap (λ (b : Bool). cleaned p front g || b) c ∙ or_none (cleaned p front g))
@@ -166,13 +166,13 @@ none_past p size front s g l m = by_bool (lies_at p g s)
     (λ e. ap (λ (b : Bool). cond b (weight p size front g) 0) e)
 
 -- a task that cleans nothing
-abbrev Making : Plan → (ℕ → ℕ) → List ℕ → ℕ → ℕ → ℕ → Type 0
+abbrev pub Making : Plan → (ℕ → ℕ) → List ℕ → ℕ → ℕ → ℕ → Type 0
 Making p size order k s t =
     (usage p size (take (k + 1) order) s + sum_of (held_part p size s) (makes p t) ≡ usage p size (take k order) s + sum_of (size_part p s) (makes p t))
     × (sum_of (held_part p size s) (makes p t) ≤ usage p size (take k order) s)
     × (sum_of (size_part p s) (makes p t) ≤ usage p size (take (k + 1) order) s)
 
-making : (p : Plan) (phase : ℕ → Phase) (size : ℕ → ℕ) (order : List ℕ) (k s : ℕ) → KeepsGoods p → Follows p phase order → k < length order → s < places p → ((g : ℕ) → cleans p (get_or order k 0) g ≡ false) → Making p size order k s (get_or order k 0)
+pub making : (p : Plan) (phase : ℕ → Phase) (size : ℕ → ℕ) (order : List ℕ) (k s : ℕ) → KeepsGoods p → Follows p phase order → k < length order → s < places p → ((g : ℕ) → cleans p (get_or order k 0) g ≡ false) → Making p size order k s (get_or order k 0)
 making p phase size order k s keeps f l place off =
     let t : ℕ = get_or order k 0 in
     let front : List ℕ = take k order in
@@ -191,7 +191,7 @@ making_at p phase size order k s d keeps f l place off =
     subst (Making p size (task_numbers order) k s) at (making p phase size (task_numbers order) k s keeps f (let n = count_tasks_in order in omega (arith, n, l)) place (λ g. ap (λ (n : ℕ). cleans p n g) at ∙ off g))
 
 -- a Clean of the good g
-cleaning : (p : Plan) (phase : ℕ → Phase) (size : ℕ → ℕ) (order : List ℕ) (k s g : ℕ) → KeepsGoods p → Follows p phase order → k < length order → s < places p → ((h : ℕ) → cleans p (get_or order k 0) h ≡ nat_eq g h)
+pub cleaning : (p : Plan) (phase : ℕ → Phase) (size : ℕ → ℕ) (order : List ℕ) (k s g : ℕ) → KeepsGoods p → Follows p phase order → k < length order → s < places p → ((h : ℕ) → cleans p (get_or order k 0) h ≡ nat_eq g h)
     → usage p size (take (k + 1) order) s + cleaned_part p phase size (get_or order k 0) s g ≡ usage p size (take k order) s
 unfolding more_part
 cleaning p phase size order k s g keeps f l place is_clean =

@@ -26,11 +26,11 @@ or_nothing true h = refl
 or_nothing false h = h
 
 -- what a task makes: its delivery, or a pair that it writes
-data Making (p : Plan) (t g : ℕ) : Type 0 where
+pub data Making (p : Plan) (t g : ℕ) : Type 0 where
   delivery : is_delivery p t ≡ true → g ≡ count_pairs p + t → Making p t g
   by_pair : is_delivery p t ≡ false → has (writes p t) g ≡ true → Making p t g
 
-making : (p : Plan) (t g : ℕ) → has (makes p t) g ≡ true → Making p t g
+pub making : (p : Plan) (t g : ℕ) → has (makes p t) g ≡ true → Making p t g
 unfolding makes
 making p t g h = by_kind (is_delivery p t) refl h
   where
@@ -79,7 +79,7 @@ below_high n test x h = by (cases_lt x n)
     by (inl l) = l
     by (inr l) = absurd (let off = below_low n test x l in cc)
 
-below_rises : (n : ℕ) (test : ℕ → Bool) → RisesFrom 0 (below n test)
+pub below_rises : (n : ℕ) (test : ℕ → Bool) → RisesFrom 0 (below n test)
 unfolding below
 below_rises zero test = tt
 below_rises (suc n) test = by (test n) (below_rises n test)
@@ -88,7 +88,7 @@ below_rises (suc n) test = by (test n) (below_rises n test)
     by true h = rises_end 0 n (below n test) h (omega arith) (below_high n test)
     by false h = subst (RisesFrom 0) (sym (append-nil (below n test))) h
 
-writes_rise : (p : Plan) → IsProper p → (t : ℕ) → RisesFrom 0 (writes p t)
+pub writes_rise : (p : Plan) → IsProper p → (t : ℕ) → RisesFrom 0 (writes p t)
 unfolding writes
 writes_rise p proper t = subst (RisesFrom 0) (sym (proper.tasks t).writes) (below_rises (count_pairs p) (λ q. on_pair (kind_writes p.jobs (kind_in (slice_get p.tasks t))) (slice_get p.pairs q)))
 
@@ -170,7 +170,7 @@ pub site_bound : (p : Plan) (s : ℕ) → s < count_sites p → place_bound p s 
 unfolding place_bound
 site_bound p s l = ap (λ (b : Bool). cond b (bound p s) (or_zero (output_bound p))) (lt-ltb s (count_sites p) l)
 
-below_test : (n : ℕ) (test : ℕ → Bool) (x : ℕ) → has (below n test) x ≡ true → test x ≡ true
+pub below_test : (n : ℕ) (test : ℕ → Bool) (x : ℕ) → has (below n test) x ≡ true → test x ≡ true
 unfolding below
 below_test zero test x h = absurd cc
 below_test (suc n) test x h = or_case (has (below n test) x) (has (cond (test n) (n ∷ []) []) x) (sym (list_any-append (λ y. nat_eq y x) (below n test) (cond (test n) (n ∷ []) [])) ∙ h) (below_test n test x) (last (test n) refl)

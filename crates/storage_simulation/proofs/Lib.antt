@@ -13,3 +13,11 @@ pub mod DeterminedLemmas
 pub mod StepsLemmas
 pub mod CountingLemmas
 pub mod OrderLawLemmas
+pub mod GraphLemmas
+pub mod ScoringLemmas
+pub mod RoomLemmas
+pub mod ChoosingLemmas
+pub mod PlacingLemmas
+pub mod ResettingLemmas
+pub mod OrderableLemmas
+pub mod StartLemmas

@@ -18,7 +18,7 @@ cond_small : (b : Bool) (x y n : ℕ) → x ≤ n → y ≤ n → cond b x y ≤
 cond_small true x y n h k = h
 cond_small false x y n h k = k
 
-pair_small : (p : Plan) (o : Option Pair) → IsWithinLimits p → pair_size p o ≤ 2 ^ 40
+pub pair_small : (p : Plan) (o : Option Pair) → IsWithinLimits p → pair_size p o ≤ 2 ^ 40
 pair_small p None limits = omega arith
 pair_small p (Some q) limits = limits.sizes q.file.0
 

@@ -1,5 +1,5 @@
 -- What one task more changes at a place.
-use Rattle.std.specs.Prelude.{ℕ, ◌+◌, ◌&&◌, Bool, cond, List, [], ◌∷◌}
+use Rattle.std.specs.Prelude.{ℕ, ◌&&◌, Bool, cond}
 use Rattle.std.specs.List.{list_any}
 use Rattle.plan_core.specs.declared.plan.Plan.{Plan}
 use Rattle.plan_core.specs.Numbers.{has}
@@ -7,10 +7,6 @@ use Rattle.plan_core.specs.Words.{parents}
 use Rattle.storage_simulation.specs.declared.standing.Phase.{Phase}
 use Rattle.storage_simulation.specs.Goods.{good_size, lies_at, makes}
 use Rattle.storage_simulation.specs.Standings.{waits}
-
-abbrev pub sum_of : (ℕ → ℕ) → List ℕ → ℕ
-sum_of w [] = 0
-sum_of w (g ∷ gs) = w g + sum_of w gs
 
 -- what is held of a good at the place; its declared size there
 abbrev pub held_part : Plan → (ℕ → ℕ) → ℕ → ℕ → ℕ

@@ -7,6 +7,11 @@ pub mod Fitting
 pub mod Ordering
 pub mod Law
 pub mod OrderLaw
+pub mod Ordered
 -- Steps of a fit
 pub mod Change
 pub mod Past
+-- Steps of an order
+pub mod Bench
+pub mod Choosing
+pub mod Placing

@@ -1,20 +1,19 @@
 -- Order: the waiting tasks placed step by step, from any standing.
-use Rattle.std.specs.Prelude.{◌≡◌, ℕ, ◌+◌, ◌≤◌, ◌<◌, ◌⊎◌, ◌||◌, ◌&&◌, Bool, true, false, cond, not, List, [], ◌∷◌, ◌++◌, length, take, get_or, sum_by, Option, Some, None, is_some}
+use Rattle.std.specs.Prelude.{◌≡◌, ℕ, ◌+◌, ◌≤◌, ◌<◌, ◌⊎◌, ◌||◌, ◌&&◌, Bool, true, false, cond, not, List, [], ◌∷◌, ◌++◌, length, take, get_or, Option, Some}
 use Rattle.plan_core.specs.declared.plan.Plan.{Plan}
 use Rattle.plan_core.specs.declared.plan.TaskKind.{TaskKind}
-use Rattle.plan_core.specs.declared.plan.TaskKind.TheVariants.{Transfer, Run, Clean}
-use Rattle.plan_core.specs.declared.plan.Target.TheVariants.{Site, Delivery}
+use Rattle.plan_core.specs.declared.plan.TaskKind.TheVariants.{Clean}
 use Rattle.plan_core.specs.Numbers.{has}
-use Rattle.plan_core.specs.Words.{count_tasks, is_clean, kind, output_bound, pair, writes}
+use Rattle.plan_core.specs.Words.{count_tasks, is_clean, kind, pair, writes}
 use Rattle.storage_simulation.specs.declared.standing.Held.{Held}
 use Rattle.storage_simulation.specs.declared.standing.Held.TheVariants.{Nothing, Stored, Reserved}
 use Rattle.storage_simulation.specs.declared.standing.Phase.{Phase}
 use Rattle.storage_simulation.specs.declared.standing.Phase.TheVariants.{Waits}
 use Rattle.storage_simulation.specs.declared.standing.Standing.{Standing}
 use Rattle.storage_simulation.specs.declared.fitting.Exceeds.{Exceeds}
-use Rattle.storage_simulation.specs.Goods.{count_sites, pair_size, place_bound}
+use Rattle.storage_simulation.specs.Goods.{pair_size, place, place_bound}
 use Rattle.storage_simulation.specs.Standings.{held_of, phase_of, sizes, waits}
-use Rattle.storage_simulation.specs.Usage.{total, usage, IsWithin}
+use Rattle.storage_simulation.specs.Usage.{sum_of, total, usage, IsWithin}
 use Rattle.storage_simulation.specs.Following.{is_ready}
 
 -- how far each task is, and what is held of each good
@@ -26,22 +25,17 @@ abbrev pub progress : Standing → Progress
 progress st = record { phase = phase_of st; held = held_of st }
 
 -- all tasks wait, and nothing is held
+abbrev pub all_wait : ℕ → Phase
+all_wait t = Waits
+
+abbrev pub nothing_held : ℕ → Held
+nothing_held g = Nothing
+
 abbrev pub at_start : Progress
-at_start = record { phase = λ t. Waits; held = λ g. Nothing }
+at_start = record { phase = all_wait; held = nothing_held }
 
 abbrev pub size : Progress → ℕ → ℕ
 size st g = sizes st.held g
-
--- the place at which what a task makes counts: the site of a Run or of a transfer to a site, and the output for a
--- delivery where the output has a bound
-abbrev pub kind_place : Plan → Option TaskKind → Option ℕ
-kind_place p (Some (Transfer f from (Site s))) = Some s.0
-kind_place p (Some (Transfer f from Delivery)) = cond (is_some (output_bound p)) (Some (count_sites p)) None
-kind_place p (Some (Run s js)) = Some s.0
-kind_place p _ = None
-
-unfoldable pub place : Plan → ℕ → Option ℕ
-place p t = kind_place p (kind p t)
 
 -- the task is placed, runs or has ended
 abbrev pub is_done : Progress → List ℕ → ℕ → Bool
@@ -63,17 +57,23 @@ abbrev pub is_held : Held → Bool
 is_held Nothing = false
 is_held _ = true
 
-abbrev pub comes : Plan → Progress → ℕ → ℕ
-comes p st t = sum_by (λ q. cond (is_held (st.held q)) 0 (pair_size p (pair p q))) (writes p t)
+abbrev pub coming : Plan → Progress → ℕ → ℕ
+coming p st q = cond (is_held (st.held q)) 0 (pair_size p (pair p q))
 
--- the bytes of the pair that a Clean cleans: its held size, or its declared size where none is held
+abbrev pub comes : Plan → Progress → ℕ → ℕ
+comes p st t = sum_of (coming p st) (writes p t)
+
+-- the bytes of a pair: its held size, or its declared size where none is held; those that a Clean frees
 abbrev pub held_or : Held → ℕ → ℕ
 held_or Nothing d = d
 held_or (Stored n) d = n
 held_or (Reserved n) d = n
 
+abbrev pub held_or_declared : Plan → Progress → ℕ → ℕ
+held_or_declared p st q = held_or (st.held q) (pair_size p (pair p q))
+
 abbrev pub kind_frees : Plan → Progress → Option TaskKind → ℕ
-kind_frees p st (Some (Clean q)) = held_or (st.held q.0) (pair_size p (pair p q.0))
+kind_frees p st (Some (Clean q)) = held_or_declared p st q.0
 kind_frees p st _ = 0
 
 unfoldable pub frees : Plan → Progress → ℕ → ℕ

@@ -1,5 +1,5 @@
 -- Usage of a place after a front, where so much of each good is held.
-use Rattle.std.specs.Prelude.{ℕ, zero, suc, ◌+◌, ◌<◌, ◌≤◌, Bool, cond, List}
+use Rattle.std.specs.Prelude.{ℕ, zero, suc, ◌+◌, ◌<◌, ◌≤◌, Bool, cond, List, [], ◌∷◌}
 use Rattle.std.specs.List.{list_any}
 use Rattle.plan_core.specs.declared.plan.Plan.{Plan}
 use Rattle.plan_core.specs.Numbers.{has}
@@ -10,6 +10,11 @@ use Rattle.storage_simulation.specs.Goods.{goods, good_size, lies_at, makes, pla
 unfoldable pub total : ℕ → (ℕ → ℕ) → ℕ
 total zero w = 0
 total (suc n) w = total n w + w n
+
+-- the sum of w over a list
+abbrev pub sum_of : (ℕ → ℕ) → List ℕ → ℕ
+sum_of w [] = 0
+sum_of w (g ∷ gs) = w g + sum_of w gs
 
 -- a task of the front makes, or cleans, the good
 abbrev pub made : Plan → List ℕ → ℕ → Bool

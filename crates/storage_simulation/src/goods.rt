@@ -1,11 +1,11 @@
 //! Goods and places of a plan.
 
-ghost use Rattle.std.specs.Prelude.{◌≡◌, ◌≤◌, ◌+◌, ◌*◌, ◌==◌, ℕ, false, MatchOption};
+ghost use Rattle.std.specs.Prelude.{◌≡◌, ◌≤◌, ◌+◌, ◌*◌, ◌==◌, ℕ, false, cond, is_some, MatchOption, None, Some};
 ghost use Rattle.plan_core.specs.Numbers.{RisesFrom, has};
 ghost use Rattle.std.specs.List.{list_any};
 ghost use Rattle.outside.specs.declared.numbers.PairId.{PairId};
-ghost use Rattle.plan_core.specs.Words.{cleans, declared, pair, pair_numbers};
-ghost use Rattle.storage_simulation.specs.Goods.{IsWithinLimits, delivered_size, good_size, goods, is_delivery, lies_at, makes, or_zero, pair_size, place_bound, places};
+ghost use Rattle.plan_core.specs.Words.{cleans, declared, output_bound, pair, pair_numbers};
+ghost use Rattle.storage_simulation.specs.Goods.{IsWithinLimits, count_sites, delivered_size, good_size, goods, is_delivery, lies_at, makes, or_zero, pair_site, pair_size, place, place_bound, places};
 
 use outside::{FileId, PairId, SiteId, TaskId};
 use plan_core::{Plan, Target, TaskKind};
@@ -95,8 +95,46 @@ pub(crate) fn place_bound(plan: &Plan, place: u32) -> u64
     }
 }
 
+/// The site of a pair.
+fn pair_site(plan: &Plan, number: PairId) -> Option<u32>
+    ensures { result ≡ pair_site (pair plan.now number.0) }
+{
+    match plan.pair(number) {
+        Some(found) => Some(found.site.0),
+        None => None,
+    }
+}
+
+/// The number of the output, where it has a bound.
+fn output_place(plan: &Plan) -> Option<u32>
+    requires { IsWithinLimits plan.now }
+    ensures { result ≡ cond (is_some (output_bound plan.now)) (Some (count_sites plan.now)) None }
+{
+    match plan.output_bound() {
+        Some(_) => Some(plan.sites.as_slice().len() as u32),
+        None => None,
+    }
+}
+
+/// The place at which a task changes usage.
+#[tactic(auto, unfolding(crate::specs::Goods::place))]
+pub(crate) fn place_of(plan: &Plan, task: TaskId) -> Option<u32>
+    requires { IsWithinLimits plan.now }
+    ensures { result ≡ place plan.now task.0 }
+{
+    match plan.kind(task) {
+        Some(TaskKind::Transfer { to, .. }) => match to {
+            Target::Site(site) => Some(site.0),
+            Target::Delivery => output_place(plan),
+        },
+        Some(TaskKind::Run { site, .. }) => Some(site.0),
+        Some(TaskKind::Clean { pair }) => pair_site(plan, *pair),
+        None => None,
+    }
+}
+
 /// The declared size of a pair's file.
-fn pair_size(plan: &Plan, number: PairId) -> u64
+pub(crate) fn pair_size(plan: &Plan, number: PairId) -> u64
     ensures { result ≡ pair_size plan.now (pair plan.now number.0) }
 {
     match plan.pair(number) {

@@ -5,15 +5,24 @@
 //! plan is asked by number, in the words of `plan_core`.
 #![tactic(auto)]
 
+mod bench;
 mod change;
+mod choosing;
 mod fitting;
 mod following;
 mod goods;
 mod law;
 mod order_law;
+mod ordered;
+mod ordering;
+mod placing;
+mod resetting;
+mod room;
+mod scoring;
 mod standing;
 mod usage;
 
+pub use bench::Bench;
 pub use fitting::{Exceeds, fits};
 pub use following::follows;
 pub use law::{
@@ -23,5 +32,7 @@ pub use law::{
 pub use order_law::{
     order_fits, order_is_a_function, order_is_determined, some_task_is_next, steps_fit,
 };
+pub use ordered::{OrderFault, OrderRefused, Ordered, order};
+pub use ordering::order_from;
 pub use standing::{Held, Phase, Standing};
 pub use usage::usage_after;

@@ -71,6 +71,22 @@ impl Standing {
         }
     }
 
+    /// What is held of a good.
+    pub(crate) fn held(&self, good: u32) -> Held
+        ensures { result ≡ held_of self.now good }
+    {
+        let pairs = self.held.as_slice().len();
+        let held = if (good as usize) < pairs {
+            self.held.as_slice().get(good as usize)
+        } else {
+            self.deliveries.as_slice().get(good as usize - pairs)
+        };
+        match held {
+            Some(held) => *held,
+            None => Held::Nothing,
+        }
+    }
+
     /// Whether a task waits.
     pub(crate) fn waits(&self, task: TaskId) -> bool
         ensures { result ≡ waits (phase_of self.now task.0) }

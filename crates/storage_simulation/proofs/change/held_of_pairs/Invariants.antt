@@ -1,6 +1,7 @@
 use Rattle.std.proofs.Common.{◌≡◌, ◌+◌, drop}
 use Rattle.plan_core.specs.Words.{pair_numbers}
-use Rattle.storage_simulation.specs.Change.{held_part, sum_of}
+use Rattle.storage_simulation.specs.Change.{held_part}
+use Rattle.storage_simulation.specs.Usage.{sum_of}
 use Rattle.storage_simulation.specs.Standings.{held_of, sizes}
 use Rattle.storage_simulation.proofs.change.held_of_pairs.Given as goal
 

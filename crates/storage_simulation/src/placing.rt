@@ -1,0 +1,89 @@
+//! What becomes of a bench once a task more is placed.
+
+ghost use Rattle.std.specs.Prelude.{◌≡◌, ◌≤◌, ◌<◌, ◌+◌, ◌++◌, ◌∷◌, [], ℕ, IfSome, cond, get_or, length, true};
+ghost use Rattle.plan_core.specs.Numbers.{RisesFrom, has};
+ghost use Rattle.storage_simulation.specs.Bench.{IsSet, front_of};
+ghost use Rattle.storage_simulation.specs.Ordering.{IsOpen, IsStep, progress};
+ghost use Rattle.storage_simulation.specs.Placing.{IsChange, changed, raised};
+
+use crate::bench::{Bench, children_of};
+use crate::goods::place_of;
+use crate::room::used_after;
+use crate::standing::Standing;
+use outside::TaskId;
+use plan_core::Plan;
+
+/// What a place holds once a task is placed.
+#[derive(Debug, Clone, Copy)]
+struct Change {
+    place: u32,
+    used: u64,
+}
+
+/// The usage that changes with a task.
+fn change_of(plan: &Plan, standing: &Standing, bench: &Bench, task: TaskId) -> Option<Change>
+    requires set { IsSet plan.now standing.now bench.now }
+    requires opens { IsOpen plan.now (progress standing.now) (front_of bench.now) task.0 }
+    ensures { IsChange plan.now (progress standing.now) (front_of bench.now) task.0 result }
+{
+    match place_of(plan, task) {
+        Some(place) => Some(Change {
+            place,
+            used: used_after(plan, standing, bench, task, place),
+        }),
+        None => None,
+    }
+}
+
+/// Writes the usage that changes.
+fn settle(used: &mut Vec<u64>, change: Option<Change>)
+    requires { IfSome change (λ c. c.place < length used.old.items) }
+    ensures long { length used.new.items ≡ length used.old.items }
+    ensures each { (s : ℕ) → get_or used.new.items s 0 ≡ changed change s (get_or used.old.items s 0) }
+{
+    if let Some(change) = change {
+        used[change.place as usize] = change.used;
+    }
+}
+
+/// Writes the peak that rises.
+fn raise(peaks: &mut Vec<u64>, change: Option<Change>)
+    requires { IfSome change (λ c. c.place < length peaks.old.items) }
+    ensures long { length peaks.new.items ≡ length peaks.old.items }
+    ensures each { (s : ℕ) → get_or peaks.new.items s 0 ≡ raised change s (get_or peaks.old.items s 0) }
+{
+    if let Some(change) = change {
+        let place = change.place as usize;
+        if peaks[place] < change.used {
+            peaks[place] = change.used;
+        }
+    }
+}
+
+/// One parent less for each of some tasks.
+fn count_down(counts: &mut Vec<u32>, tasks: &[u32])
+    requires rises { RisesFrom 0 tasks.now }
+    requires in_range { (c : ℕ) → has tasks.now c ≡ true → c < length counts.old.items }
+    requires enough { (c : ℕ) → has tasks.now c ≡ true → 0 < get_or counts.old.items c 0 }
+    ensures long { length counts.new.items ≡ length counts.old.items }
+    ensures each { (c : ℕ) → get_or counts.new.items c 0 + cond (has tasks.now c) 1 0 ≡ get_or counts.old.items c 0 }
+{
+    for task in tasks {
+        counts[*task as usize] -= 1;
+    }
+}
+
+/// Places a task. The bench has room for each task.
+pub(crate) fn place(plan: &Plan, standing: &Standing, bench: &mut Bench, task: TaskId)
+    requires set { IsSet plan.now standing.now bench.old }
+    requires step { IsStep plan.now (progress standing.now) (front_of bench.old) task.0 }
+    ensures set { IsSet plan.now standing.now bench.new }
+    ensures placed { front_of bench.new ≡ front_of bench.old ++ task.0 ∷ [] }
+{
+    let change = change_of(plan, standing, bench, task);
+    bench.placed.push_reserved(task);
+    bench.done[task.0 as usize] = true;
+    count_down(&mut bench.missing, children_of(&bench.graph, task));
+    settle(&mut bench.used, change);
+    raise(&mut bench.peaks, change);
+}
