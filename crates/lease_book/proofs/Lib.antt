@@ -8,3 +8,9 @@ pub mod RoomLemmas
 pub mod SizesRoomLemmas
 pub mod ReadingLemmas
 pub mod StartLemmas
+pub mod NumbersLemmas
+pub mod ArrayLemmas
+pub mod TrialLemmas
+pub mod FreshLemmas
+pub mod SumLemmas
+pub mod BookLemmas

@@ -1,8 +1,8 @@
 -- What holds of each Legal record, and what keeps it so.
-use Rattle.std.specs.Prelude.{◌≡◌, ℕ, ◌+◌, ◌≤◌, ◌<◌, true, false, cond, List, [], ◌∷◌, Some}
+use Rattle.std.specs.Prelude.{◌≡◌, ℕ, ◌+◌, ◌≤◌, ◌<◌, true, false, cond, List, [], ◌∷◌, length, Some}
 use Rattle.plan_core.specs.declared.plan.Plan.{Plan}
 use Rattle.plan_core.specs.Numbers.{has}
-use Rattle.plan_core.specs.Words.{cleans, count_tasks, is_clean, parents, retries}
+use Rattle.plan_core.specs.Words.{cleans, count_pairs, count_tasks, is_clean, parents, retries}
 use Rattle.storage_simulation.specs.declared.standing.Held.{Held}
 use Rattle.storage_simulation.specs.declared.standing.Held.TheVariants.{Nothing, Reserved}
 use Rattle.storage_simulation.specs.declared.standing.Phase.{Phase}
@@ -64,11 +64,14 @@ pub record IsConsistent (p : Plan) (s : State) : Type 0 where
   pub few_agains : (t : ℕ) → s.agains t ≤ retries p
 
 -- What storage promises of a proper plan: each good has one maker, and its Clean comes after the maker and makes nothing;
--- an order from a standing within the bounds fits it, and has all tasks that wait.
+-- numbers of goods are in range; an order from a standing within the bounds fits it, and has all tasks that wait.
 pub record HasStorageLaws (p : Plan) : Type 0 where
   pub one_maker : (t u g : ℕ) → has (makes p t) g ≡ true → has (makes p u) g ≡ true → t ≡ u
   pub cleans_after : (t u g : ℕ) → cleans p t g ≡ true → has (makes p u) g ≡ true → has (parents p t) u ≡ true
   pub cleans_only : (t g : ℕ) → is_clean p t ≡ false → cleans p t g ≡ false
   pub cleans_make : (t g : ℕ) → is_clean p t ≡ true → has (makes p t) g ≡ false
+  pub cleans_range : (t g : ℕ) → cleans p t g ≡ true → g < count_pairs p
+  pub makes_range : (t g : ℕ) → has (makes p t) g ≡ true → g < count_pairs p + count_tasks p
+  pub makes_few : (t : ℕ) → length (makes p t) ≤ count_pairs p + count_tasks p
   pub order_fits : (st : Progress) (ts : List ℕ) → IsWithin p (size st) [] → stated_order p st ≡ Some ts → Fits p st.phase st.held ts
   pub order_all : (st : Progress) (ts : List ℕ) → stated_order p st ≡ Some ts → (t : ℕ) → t < count_tasks p → waits (st.phase t) ≡ true → has ts t ≡ true

@@ -5,3 +5,8 @@ pub mod Legal
 pub mod Law
 pub mod Reading
 pub mod Room
+pub mod Book
+-- What arrays show
+pub mod RunState
+pub mod Trial
+pub mod Kept

@@ -18,13 +18,15 @@ ghost use Rattle.lease_book.specs.Law.{FitsFromStart, HasStorageLaws, IsConsiste
 ghost use Rattle.lease_book.specs.Reading.{IsPlain, IsPlainlyRead, IsRead};
 ghost use Rattle.lease_book.specs.Room.{entries_room, listed, sizes_room};
 
+use plan_core::files_are_listed_by_pair;
 use storage_simulation::{plain_policy_counts_pairs, proper_plans_keep_goods, steps_fit};
 
 /// What storage promises of a proper plan.
-fn storage_laws()
+pub(crate) fn storage_laws()
     ensures { (p : Plan) → IsProper p → HasStorageLaws p }
 {
     proper_plans_keep_goods();
+    files_are_listed_by_pair();
     steps_fit();
 }
 
