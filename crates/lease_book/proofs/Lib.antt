@@ -14,3 +14,4 @@ pub mod TrialLemmas
 pub mod FreshLemmas
 pub mod SumLemmas
 pub mod BookLemmas
+pub mod SizeLemmas

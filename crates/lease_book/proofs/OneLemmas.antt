@@ -1,8 +1,8 @@
 -- There is at most one Choice, and at most one task of Fresh.
-use Rattle.std.proofs.Common.{◌≡◌, ℕ, zero, suc, true, eqb, inl, inr, List, [], ◌∷◌, ◌++◌, sym, ap, ◌∙◌, arith}
-use Rattle.std.specs.Prelude.{◌⊎◌, is_some}
+use Rattle.std.proofs.Common.{◌≡◌, ℕ, zero, suc, true, false, eqb, eqb-true, subst, inl, inr, List, [], ◌∷◌, ◌++◌, sym, ap, ◌∙◌, arith}
+use Rattle.std.specs.Prelude.{◌⊎◌, Decides, is_some}
 use Rattle.lease_book.proofs.ListLemmas.{or_left, or_right}
-use Rattle.lease_book.specs.Choice.{IsChoice, IsFresh, IsFreshAmong}
+use Rattle.lease_book.specs.Choice.{HasNoChoice, IsChoice, IsFresh, IsFreshAmong}
 use Rattle.lease_book.specs.State.{State}
 use Rattle.plan_core.specs.Numbers.{has}
 use Rattle.plan_core.specs.declared.plan.Plan.{Plan}
@@ -44,3 +44,13 @@ one_among p s (suc n) (x ∷ xs) t u (inr (inr a)) (inr (inr b)) = one_among p s
 
 pub one_fresh : (p : Plan) (s : State) (t u : ℕ) → IsFresh p s t → IsFresh p s u → t ≡ u
 one_fresh p s t u a b = one_among p s 4 s.rest t u a.among b.among
+
+-- the test of a Choice that was found
+pub is_found : (p : Plan) (s : State) (found t : ℕ) → IsChoice p s found → Decides (eqb found t) (IsChoice p s t)
+is_found p s found t choice = (λ e. subst (λ (u : ℕ). IsChoice p s u) (eqb-true found t e) choice, λ other. eqb_of found t (one_choice p s found t choice other))
+
+pub is_none : (p : Plan) (s : State) (t : ℕ) → HasNoChoice p s → Decides false (IsChoice p s t)
+is_none p s t none = (λ h. absurd cc, λ choice. absurd (none t choice))
+
+pub is_stopped : (p : Plan) (s : State) (t : ℕ) → s.failing ≡ true → Decides false (IsChoice p s t)
+is_stopped p s t stopped = (λ h. absurd cc, λ choice. absurd (let unfailed = choice.no_fail in cc))

@@ -1,6 +1,7 @@
 //! The state of a run's record: which tasks may begin, and which records are legal.
 #![tactic(auto)]
 
+mod allowing;
 mod asking;
 mod book;
 mod choice;
@@ -12,6 +13,7 @@ mod items;
 mod law;
 mod leasing;
 mod rest;
+mod sizes;
 mod state;
 mod sums;
 mod trial;
