@@ -45,10 +45,6 @@ write_step xs what new now old k i v below at is one so_far g =
     ∙ ap (λ (j : ℕ). cond (has (take k xs) g || (nat_eq j g || false)) (what g) (old g)) at
     ∙ sym (ap (λ (b : Bool). cond b (what g) (old g)) (ap (λ (l : List ℕ). has l g) (take_more xs k 0 below) ∙ list_any-append (λ y. nat_eq y g) (take k xs) (get_or xs k 0 ∷ [])))
 
-pub write_first : {X : Type 0} (xs : List ℕ) (what : ℕ → X) (old : ℕ → X) (g : ℕ) → old g ≡ cond (has (take 0 xs) g) (what g) (old g)
-write_first [] what old g = refl
-write_first (x ∷ xs) what old g = refl
-
 pub write_end : {X : Type 0} (xs : List ℕ) (what : ℕ → X) (now old : ℕ → X) (k : ℕ) → k ≡ length xs
     → ((g : ℕ) → now g ≡ cond (has (take k xs) g) (what g) (old g))
     → (g : ℕ) → now g ≡ cond (has xs g) (what g) (old g)

@@ -7,14 +7,6 @@ use Rattle.lease_book.specs.State.{without}
 use Rattle.plan_core.specs.Numbers.{has}
 use Rattle.storage_simulation.specs.Following.{AreOnce, once}
 
-or_false : (b : Bool) → (b || false) ≡ b
-or_false true = refl
-or_false false = refl
-
--- one more element
-pub any_more : {X : Type 0} (test : X → Bool) (xs : List X) (x : X) → list_any test (xs ++ x ∷ []) ≡ (list_any test xs || test x)
-any_more test xs x = list_any-append test xs (x ∷ []) ∙ ap (λ (b : Bool). list_any test xs || b) (or_false (test x))
-
 cond_cons : (b c : Bool) (x : ℕ) (ys zs : List ℕ) (t : ℕ) → zs ≡ without t ys → eqb t x ≡ c → cond (b && not c) (x ∷ zs) zs ≡ without t (cond b (x ∷ ys) ys)
 cond_cons false c x ys zs t e h = e
 cond_cons true true x ys zs t e h = e ∙ sym (ap (λ (d : Bool). cond (not d) (x ∷ without t ys) (without t ys)) h)

@@ -371,10 +371,6 @@ or_else_assoc : (x y z : Option ℕ) → or_else (or_else x y) z ≡ or_else x (
 or_else_assoc None y z = refl
 or_else_assoc (Some n) y z = refl
 
-or_else_none : (x : Option ℕ) → x ≡ or_else x None
-or_else_none None = refl
-or_else_none (Some n) = refl
-
 read_held : (p : Plan) → HasStorageLaws p → (s : State) (r : List Event) (g : ℕ) (f : Bool) (x : Option ℕ) (v : Bool) → IsSoundState p s → LegalFrom p s r → s.held g ≡ held_by f x v (good_size p g)
     → ((f || is_some x) ≡ true → (t : ℕ) → has (makes p t) g ≡ true → ended (s.phase t) ≡ true)
     → (now_from p s r).held g ≡ held_by (f || list_any (frees p g) r) (or_else x (stored p r g)) (v || list_any (reserves p g) r) (good_size p g)

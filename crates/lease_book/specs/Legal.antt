@@ -96,7 +96,7 @@ Allowed p s (End w t ns) = (w < 16) × (is_run p t ≡ true) × IsOpen s w t × 
 Allowed p s (Again w t c ns) = (w < 16) × MayFail p s w t × CauseFits p t c ns × (may_retry c ≡ true) × (s.failing ≡ false) × (s.agains t < retries p)
 Allowed p s (Fail w t c ns) = (w < 16) × MayFail p s w t × CauseFits p t c ns × (may_retry c ≡ true → (s.agains t ≡ retries p) ⊎ (s.failing ≡ true))
 
--- A record is Legal where each entry is allowed after the entries before it.
+-- Legal: whatever came before it, no entry stands where it may not.
 abbrev pub LegalFrom : Plan → State → List Event → Type 0
 LegalFrom p s [] = Unit {0}
 LegalFrom p s (e ∷ r) = Allowed p s e × LegalFrom p (after p s e) r

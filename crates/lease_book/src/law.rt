@@ -77,7 +77,7 @@ pub fn records_read()
     storage_laws();
 }
 
-/// Under the plain policy no Again and no Regrant is allowed, the places are the sites, the goods are the pairs, and rest
+/// Under the plain policy no Again and no Regrant is allowed, places are sites, goods are pairs, and rest
 /// is the order without granted tasks and without swept Cleans.
 pub fn plain_policy_tries_once()
     ensures again { (p : Plan) (s : State) (w t : ℕ) (c : Cause) (ns : List ℕ) → IsPlain p → Allowed p s (Again w t c ns) → ⊥ }

@@ -1,4 +1,10 @@
-//! The state of a run's record: which tasks may begin, and which records are legal.
+//! Which tasks of a run may begin, and the book that says so.
+//!
+//! To the layer above a book is its record: a list of entries that is always legal. What a record says is a state, a fold
+//! over its entries (`specs/State.antt`); Safe and the Choice are in `specs/Choice.antt`, what may come next and which
+//! records are legal in `specs/Legal.antt`. [`legal_records_are_safe`] is the theorem on them: no bound is passed, and
+//! no run gets stuck. A book shows the state by arrays; whether a task can start it asks of `storage_simulation`, in a
+//! second standing in which the start is tried. After [`Book::open`] no call takes memory.
 #![tactic(auto)]
 
 mod allowing;
