@@ -6,6 +6,8 @@
 #[cfg(test)]
 mod cleans;
 #[cfg(test)]
+mod orders;
+#[cfg(test)]
 mod peaks;
 #[cfg(test)]
 mod plans;

@@ -92,7 +92,7 @@ fn are_sizes_small(plan: &Plan) -> bool
 }
 
 /// Whether a plan is within its limits.
-fn is_limited(plan: &Plan) -> bool
+pub fn is_limited(plan: &Plan) -> bool
     ensures { result ≡ true → IsWithinLimits plan.now }
 {
     if plan.sites.as_slice().len() > 64 || plan.pairs.as_slice().len() > 3_200_000 {
@@ -118,7 +118,7 @@ fn bound_of(plan: &Plan, place: u32) -> u64
 }
 
 /// Whether a standing is within each bound.
-fn is_within(plan: &Plan, standing: &Standing) -> bool
+pub fn is_within(plan: &Plan, standing: &Standing) -> bool
     requires limits { IsWithinLimits plan.now }
     requires standing { IsStanding plan.now standing.now }
     ensures { result ≡ true → IsWithin plan.now (sizes (held_of standing.now)) [] }
@@ -216,7 +216,7 @@ fn is_right(alloc: Global, case: &Case) -> Result<bool, Memory> {
     Ok(case.follows && is_as_said(&fits(&plan, &standing, &order), &case.exceeds))
 }
 
-const ORDER: &[u32] = &[4, 0, 6, 1, 7, 2, 8, 3, 9, 10, 5, 11];
+pub const ORDER: &[u32] = &[4, 0, 6, 1, 7, 2, 8, 3, 9, 10, 5, 11];
 
 /// The diamond's order from the start.
 const FROM_START: Case = Case {

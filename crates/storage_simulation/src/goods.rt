@@ -12,7 +12,7 @@ use plan_core::{Plan, Target, TaskKind};
 
 /// Whether a task is a delivery.
 #[tactic(auto, unfolding(crate::specs::Goods::is_delivery))]
-pub(crate) fn is_delivery(plan: &Plan, task: TaskId) -> bool
+pub fn is_delivery(plan: &Plan, task: TaskId) -> bool
     ensures { result ≡ is_delivery plan.now task.0 }
 {
     match plan.kind(task) {
@@ -69,7 +69,7 @@ pub(crate) fn goods(plan: &Plan) -> usize
 
 /// How many places have a bound.
 #[tactic(auto, unfolding(crate::specs::Goods::places))]
-pub(crate) fn places(plan: &Plan) -> usize
+pub fn places(plan: &Plan) -> usize
     requires { IsWithinLimits plan.now }
     ensures value { result ≡ places plan.now }
     ensures few { result ≤ 65 }
@@ -83,7 +83,7 @@ pub(crate) fn places(plan: &Plan) -> usize
 
 /// The bound of a place.
 #[tactic(auto, unfolding(crate::specs::Goods::place_bound))]
-pub(crate) fn place_bound(plan: &Plan, place: u32) -> u64
+pub fn place_bound(plan: &Plan, place: u32) -> u64
     ensures { result ≡ place_bound plan.now place }
 {
     if (place as usize) < plan.sites.as_slice().len() {
@@ -145,7 +145,7 @@ pub(crate) fn pair_size(plan: &Plan, number: PairId) -> u64
 
 /// The declared size of a good.
 #[tactic(auto, unfolding(crate::specs::Goods::good_size))]
-pub(crate) fn good_size(plan: &Plan, good: u32) -> u64
+pub fn good_size(plan: &Plan, good: u32) -> u64
     ensures { result ≡ good_size plan.now good }
 {
     let pairs = plan.pairs.as_slice().len();
@@ -157,7 +157,7 @@ pub(crate) fn good_size(plan: &Plan, good: u32) -> u64
 
 /// Whether a good lies at a place.
 #[tactic(auto, unfolding(crate::specs::Goods::lies_at))]
-pub(crate) fn lies_at(plan: &Plan, good: u32, place: u32) -> bool
+pub fn lies_at(plan: &Plan, good: u32, place: u32) -> bool
     ensures { result ≡ lies_at plan.now good place }
 {
     let pairs = plan.pairs.as_slice().len();
@@ -216,7 +216,7 @@ pub(crate) fn finds_made(plan: &Plan, task: TaskId, good: u32) -> bool
 }
 
 /// The good that a task cleans.
-pub(crate) fn cleaned_by(plan: &Plan, task: TaskId) -> Option<u32>
+pub fn cleaned_by(plan: &Plan, task: TaskId) -> Option<u32>
     ensures { MatchOption result ((g : ℕ) → cleans plan.now task.0 g ≡ false) (λ q. (g : ℕ) → cleans plan.now task.0 g ≡ (q == g)) }
 {
     match plan.kind(task) {

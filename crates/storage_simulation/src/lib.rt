@@ -25,6 +25,7 @@ mod usage;
 pub use bench::Bench;
 pub use fitting::{Exceeds, fits};
 pub use following::follows;
+pub use goods::{cleaned_by, good_size, is_delivery, lies_at, place_bound, places};
 pub use law::{
     pairs_are_few, plain_policy_counts_pairs, proper_plans_keep_goods, sums_are_small,
     usage_is_a_sum,

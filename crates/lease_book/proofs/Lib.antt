@@ -1,0 +1,17 @@
+pub mod GoodsLemmas
+pub mod ListLemmas
+pub mod TotalLemmas
+pub mod FitLemmas
+pub mod SoundLemmas
+pub mod OneLemmas
+pub mod RoomLemmas
+pub mod SizesRoomLemmas
+pub mod ReadingLemmas
+pub mod StartLemmas
+pub mod NumbersLemmas
+pub mod ArrayLemmas
+pub mod TrialLemmas
+pub mod FreshLemmas
+pub mod SumLemmas
+pub mod BookLemmas
+pub mod SizeLemmas

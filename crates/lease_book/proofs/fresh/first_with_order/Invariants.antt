@@ -1,0 +1,12 @@
+use Rattle.lease_book.specs.RunState.{state_of}
+use Rattle.storage_simulation.specs.Bench.{IsFor}
+use Rattle.lease_book.specs.Trial.{HasPlace}
+use Rattle.lease_book.proofs.FreshLemmas.{FreshLeft}
+use Rattle.lease_book.proofs.fresh.first_with_order.Given as goal
+
+abbrev pub invariant-loop-k : goal.invariant-loop-k
+invariant-loop-k l = record {
+  left : FreshLeft l.plan (state_of l.state) l.left l.k;
+  place : HasPlace l.plan l.trial;
+  bench : IsFor l.plan l.bench;
+}

@@ -1,0 +1,7 @@
+use Rattle.std.proofs.Common.{◌≡◌, length}
+use Rattle.storage_simulation.specs.Goods.{makes}
+use Rattle.storage_simulation.specs.Usage.{total}
+use Rattle.lease_book.proofs.goods.all_made.Given as goal
+
+abbrev pub invariant-loop-task : goal.invariant-loop-task
+invariant-loop-task l = l.sum ≡ total l.task (λ t. length (makes l.plan t))

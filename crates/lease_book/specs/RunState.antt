@@ -1,0 +1,42 @@
+-- The state that arrays show.
+use Rattle.std.specs.Prelude.{◌≡◌, ℕ, ◌≤◌, false, length, vec_capacity}
+use Rattle.plan_core.specs.declared.plan.Plan.{Plan}
+use Rattle.plan_core.specs.Words.{count_pairs, count_tasks, task_numbers}
+use Rattle.storage_simulation.specs.declared.standing.Standing.{Standing}
+use Rattle.storage_simulation.specs.Standings.{at_in, held_of, phase_of}
+use Rattle.lease_book.specs.declared.state.RunState.{RunState}
+use Rattle.lease_book.specs.State.{State}
+
+abbrev pub state_of : RunState → State
+state_of s = record {
+  phase = phase_of s.standing;
+  holder = at_in 0 s.holders.items;
+  agains = at_in 0 s.agains.items;
+  failed = at_in false s.failed.items;
+  held = held_of s.standing;
+  failing = s.failing;
+  rest = task_numbers s.rest.items;
+}
+
+-- one value for each pair and task, and room for an order of all tasks
+pub record HasLengths (p : Plan) (st : Standing) : Type 0 where
+  pub pairs : length st.held ≡ count_pairs p
+  pub tasks : length st.tasks ≡ count_tasks p
+  pub deliveries : length st.deliveries ≡ count_tasks p
+
+pub record HasRoom (p : Plan) (s : RunState) : Type 0 where
+  pub standing : HasLengths p s.standing
+  pub holders : length s.holders.items ≡ count_tasks p
+  pub agains : length s.agains.items ≡ count_tasks p
+  pub failed : length s.failed.items ≡ count_tasks p
+  pub rest : count_tasks p ≤ vec_capacity s.rest
+
+-- two states with the same parts
+pub record IsSame (a b : State) : Type 0 where
+  pub phase : (t : ℕ) → a.phase t ≡ b.phase t
+  pub holder : (t : ℕ) → a.holder t ≡ b.holder t
+  pub agains : (t : ℕ) → a.agains t ≡ b.agains t
+  pub failed : (t : ℕ) → a.failed t ≡ b.failed t
+  pub held : (g : ℕ) → a.held g ≡ b.held g
+  pub failing : a.failing ≡ b.failing
+  pub rest : a.rest ≡ b.rest

@@ -1,0 +1,53 @@
+//! What a book tells of its record.
+
+ghost use Rattle.std.specs.Prelude.{◌≡◌, slice_get, option_map, Decides};
+ghost use Rattle.outside.specs.declared.numbers.TaskId.{TaskId};
+ghost use Rattle.plan_core.specs.Words.{task_numbers};
+ghost use Rattle.lease_book.specs.Book.{state_at};
+ghost use Rattle.lease_book.specs.Law.{IsSafeState, reserved_at, stored_at};
+ghost use Rattle.lease_book.specs.Legal.{IsOpen, Legal};
+
+use crate::book::Book;
+use crate::sums;
+use outside::{SiteId, TaskId};
+use run_record::Record;
+
+impl Book {
+    /// Whether a task is open for a worker.
+    pub fn holds(&self, worker: u32, task: TaskId) -> bool
+        ensures { Decides result (IsOpen (state_at self.now) worker task.0) }
+    {
+        self.state.holds(worker, task.0)
+    }
+
+    /// The task at a position of rest.
+    #[tactic(auto, using(crate::proofs::NumbersLemmas::get_task))]
+    pub fn rest_task(&self, k: usize) -> Option<TaskId>
+        ensures { option_map (λ (t : TaskId). t.0) result ≡ slice_get (state_at self.now).rest k }
+    {
+        self.state.rest.get(k).copied()
+    }
+
+    /// The bytes that are stored at a site, or at the output, whose number follows the last site's.
+    pub fn stored(&self, site: SiteId) -> u64
+        ensures { result ≡ stored_at self.now.plan (state_at self.now).held site.0 }
+    {
+        sums::stored_at(&self.plan, &self.state.standing, site.0)
+    }
+
+    /// The bytes that are reserved at a site, or at the output.
+    pub fn reserved(&self, site: SiteId) -> u64
+        ensures { result ≡ reserved_at self.now.plan (state_at self.now).held site.0 }
+    {
+        sums::reserved_at(&self.plan, &self.state.standing, site.0)
+    }
+
+    /// The record, which is Legal.
+    pub fn record(&self) -> &Record
+        ensures value { result.now ≡ self.now.history }
+        ensures legal { ∥ Legal self.now.plan (task_numbers self.now.order.items) result.now.events ∥₁ }
+        ensures safe { IsSafeState self.now.plan (state_at self.now) }
+    {
+        &self.history
+    }
+}

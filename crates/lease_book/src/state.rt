@@ -1,0 +1,256 @@
+//! The state of a record, as arrays by number.
+
+ghost use Rattle.std.specs.Prelude.{◌≡◌, ◌≤◌, ◌<◌, ◌+◌, ℕ, true, false, cond, length, Some, vec_capacity, Decides, IfOk};
+ghost use Rattle.std.specs.List.{list_any};
+ghost use Rattle.plan_core.specs.Words.{count_tasks, task_numbers};
+ghost use Rattle.run_record.specs.Events.{Grant, Regrant, Arrive, End, Clean, Fail, Again};
+ghost use Rattle.storage_simulation.specs.Goods.{IsWithinLimits, makes};
+ghost use Rattle.storage_simulation.specs.Standings.{at_in};
+ghost use Rattle.lease_book.specs.Law.{HasStorageLaws};
+ghost use Rattle.lease_book.specs.Legal.{IsOpen};
+ghost use Rattle.lease_book.specs.RunState.{HasRoom, IsSame, state_of};
+ghost use Rattle.lease_book.specs.State.{after, opened, order_with, put, runs, without};
+
+use crate::holding;
+use crate::rest::{overwrite, put_front, take_out};
+use outside::{Memory, TaskId};
+use plan_core::Plan;
+use run_record::Cause;
+use std::alloc::Global;
+use storage_simulation::{Phase, Standing};
+
+/// A state; the allocator makes empty lists, which take no memory.
+#[derive(Debug, Drop)]
+pub struct RunState {
+    pub(crate) alloc: Global,
+    pub(crate) standing: Standing,
+    pub(crate) holders: Vec<u32>,
+    pub(crate) agains: Vec<u32>,
+    pub(crate) failed: Vec<bool>,
+    pub(crate) failing: bool,
+    pub(crate) rest: Vec<TaskId>,
+}
+
+#[tactic(auto, using(crate::proofs::ArrayLemmas::at_set))]
+fn set_number(numbers: &mut Vec<u32>, task: u32, number: u32)
+    requires { task < length numbers.old.items }
+    ensures value { (t : ℕ) → at_in 0 numbers.new.items t ≡ put (at_in 0 numbers.old.items) task number t }
+    ensures long { length numbers.new.items ≡ length numbers.old.items }
+{
+    numbers[task as usize] = number;
+}
+
+#[tactic(auto, using(crate::proofs::ArrayLemmas::at_set))]
+fn set_flag(flags: &mut Vec<bool>, task: u32)
+    requires { task < length flags.old.items }
+    ensures value { (t : ℕ) → at_in false flags.new.items t ≡ put (at_in false flags.old.items) task true t }
+    ensures long { length flags.new.items ≡ length flags.old.items }
+{
+    flags[task as usize] = true;
+}
+
+impl RunState {
+    /// The state before the first entry.
+    pub(crate) fn open(alloc: Global, plan: &Plan, order: &[TaskId]) -> Result<RunState, Memory>
+        requires few { length order.now ≤ count_tasks plan.now }
+        ensures state { IfOk result (λ s. IsSame (state_of s) (opened (task_numbers order.now))) }
+        ensures room { IfOk result (λ s. HasRoom plan.now s) }
+    {
+        let tasks = plan.tasks.as_slice().len();
+        let standing = Standing::start(alloc, plan)?;
+        let holders = vec![in alloc; 0; tasks]?;
+        let agains = vec![in alloc; 0; tasks]?;
+        let failed = vec![in alloc; false; tasks]?;
+        let mut rest = Vec::with_capacity(alloc, tasks)?;
+        overwrite(&mut rest, order);
+        Ok(RunState {
+            alloc,
+            standing,
+            holders,
+            agains,
+            failed,
+            failing: false,
+            rest,
+        })
+    }
+
+    /// How often a task was tried again.
+    pub(crate) fn agains(&self, task: u32) -> u32
+        ensures { result ≡ (state_of self.now).agains task }
+    {
+        match self.agains.get(task as usize) {
+            Some(count) => *count,
+            None => 0,
+        }
+    }
+
+    /// Whether a task runs.
+    fn runs(&self, task: u32) -> bool
+        ensures { result ≡ runs ((state_of self.now).phase task) }
+    {
+        match self.standing.tasks.as_slice().get(task as usize) {
+            Some(Phase::Runs) => true,
+            _ => false,
+        }
+    }
+
+    /// Whether any task runs.
+    pub(crate) fn any_runs(&self) -> bool
+        ensures { result ≡ list_any runs self.now.standing.tasks }
+    {
+        self.standing
+            .tasks
+            .as_slice()
+            .iter()
+            .any(|phase| matches!(phase, Phase::Runs))
+    }
+
+    /// Whether a Fail of the task stands.
+    fn has_failed(&self, task: u32) -> bool
+        ensures { result ≡ (state_of self.now).failed task }
+    {
+        match self.failed.get(task as usize) {
+            Some(failed) => *failed,
+            None => false,
+        }
+    }
+
+    /// Whom the last grant of a task names.
+    fn holder(&self, task: u32) -> u32
+        ensures { result ≡ (state_of self.now).holder task }
+    {
+        match self.holders.get(task as usize) {
+            Some(holder) => *holder,
+            None => 0,
+        }
+    }
+
+    /// Whether a task is open for a worker.
+    pub(crate) fn holds(&self, worker: u32, task: u32) -> bool
+        ensures { Decides result (IsOpen (state_of self.now) worker task) }
+    {
+        if !self.runs(task) {
+            return false;
+        }
+        if self.has_failed(task) {
+            return false;
+        }
+        self.holder(task) == worker
+    }
+
+    /// A task begins.
+    pub(crate) fn grant(&mut self, plan: &Plan, worker: u32, task: u32)
+        requires limits { IsWithinLimits plan.now }
+        requires laws { HasStorageLaws plan.now }
+        requires room { HasRoom plan.now self.old }
+        requires task { task < count_tasks plan.now }
+        ensures state { state_of self.new ≡ after plan.now (state_of self.old) (Grant worker task) }
+        ensures room { HasRoom plan.now self.new }
+    {
+        holding::start(self.alloc, plan, &mut self.standing, task);
+        set_number(&mut self.holders, task, worker);
+        take_out(&mut self.rest, task);
+    }
+
+    /// A task begins under a fresh order.
+    pub(crate) fn regrant(&mut self, plan: &Plan, worker: u32, task: u32, tasks: &[TaskId])
+        requires limits { IsWithinLimits plan.now }
+        requires laws { HasStorageLaws plan.now }
+        requires room { HasRoom plan.now self.old }
+        requires task { task < count_tasks plan.now }
+        requires order { order_with plan.now (state_of self.old) task ≡ Some (task_numbers tasks.now) }
+        requires few { length tasks.now ≤ count_tasks plan.now }
+        ensures state { state_of self.new ≡ after plan.now (state_of self.old) (Regrant worker task) }
+        ensures room { HasRoom plan.now self.new }
+    {
+        holding::start(self.alloc, plan, &mut self.standing, task);
+        set_number(&mut self.holders, task, worker);
+        overwrite(&mut self.rest, tasks);
+    }
+
+    /// A Transfer ends.
+    pub(crate) fn arrive(&mut self, plan: &Plan, worker: u32, task: u32, size: u64)
+        requires limits { IsWithinLimits plan.now }
+        requires laws { HasStorageLaws plan.now }
+        requires room { HasRoom plan.now self.old }
+        requires task { task < count_tasks plan.now }
+        ensures state { state_of self.new ≡ after plan.now (state_of self.old) (Arrive worker task size) }
+        ensures room { HasRoom plan.now self.new }
+    {
+        let _ = worker;
+        holding::arrive(self.alloc, plan, &mut self.standing, task, size);
+    }
+
+    /// A Run ends.
+    pub(crate) fn end(&mut self, plan: &Plan, worker: u32, task: u32, sizes: &[u64])
+        requires limits { IsWithinLimits plan.now }
+        requires laws { HasStorageLaws plan.now }
+        requires room { HasRoom plan.now self.old }
+        requires task { task < count_tasks plan.now }
+        requires sizes { length sizes.now ≡ length (makes plan.now task) }
+        ensures state { state_of self.new ≡ after plan.now (state_of self.old) (End worker task sizes.now) }
+        ensures room { HasRoom plan.now self.new }
+    {
+        let _ = worker;
+        holding::end(self.alloc, plan, &mut self.standing, task, sizes);
+    }
+
+    /// A Clean is done.
+    pub(crate) fn clean(&mut self, plan: &Plan, worker: u32, task: u32)
+        requires laws { HasStorageLaws plan.now }
+        requires room { HasRoom plan.now self.old }
+        requires task { task < count_tasks plan.now }
+        ensures state { state_of self.new ≡ after plan.now (state_of self.old) (Clean worker task) }
+        ensures room { HasRoom plan.now self.new }
+    {
+        let _ = worker;
+        holding::clean(self.alloc, plan, &mut self.standing, task);
+        take_out(&mut self.rest, task);
+    }
+
+    /// A task is tried again.
+    pub(crate) fn again(
+        &mut self,
+        plan: &Plan,
+        worker: u32,
+        task: u32,
+        cause: &Cause,
+        published: &[u64],
+    )
+        requires room { HasRoom plan.now self.old }
+        requires task { task < count_tasks plan.now }
+        requires few { (state_of self.old).agains task < 1000 }
+        requires rest { length (without task (state_of self.old).rest) < count_tasks plan.now }
+        ensures state { state_of self.new ≡ after plan.now (state_of self.old) (Again worker task cause.now published.now) }
+        ensures room { HasRoom plan.now self.new }
+    {
+        let _ = worker;
+        let _ = cause;
+        let _ = published;
+        let count = self.agains(task);
+        set_number(&mut self.agains, task, count + 1);
+        holding::wait_again(self.alloc, plan, &mut self.standing, task);
+        put_front(&mut self.rest, task);
+    }
+
+    /// A task has failed.
+    pub(crate) fn fail(
+        &mut self,
+        plan: &Plan,
+        worker: u32,
+        task: u32,
+        cause: &Cause,
+        published: &[u64],
+    )
+        requires room { HasRoom plan.now self.old }
+        requires task { task < count_tasks plan.now }
+        ensures state { state_of self.new ≡ after plan.now (state_of self.old) (Fail worker task cause.now published.now) }
+        ensures room { HasRoom plan.now self.new }
+    {
+        let _ = worker;
+        let _ = cause;
+        let _ = published;
+        set_flag(&mut self.failed, task);
+        self.failing = true;
+    }
+}
