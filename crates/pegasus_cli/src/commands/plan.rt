@@ -23,6 +23,7 @@ use storage_simulation::Ordered;
 const TASK_LIMIT: u64 = 2000;
 
 /// The peak of each site.
+#[tactic(auto, using(crate::proofs::PlanLemmas::no_peaks, crate::proofs::PlanLemmas::peaks_more))]
 fn peaks_of(alloc: Global, ordered: &Ordered) -> Result<Vec<u64>, Memory>
     requires few { length ordered.now.plan.sites ≤ 64 }
     ensures { IfOk result (λ v. ArePeaks ordered.now.plan ordered.now.tasks.items v.items) }
