@@ -21,3 +21,8 @@ pub mod PlacingLemmas
 pub mod ResettingLemmas
 pub mod OrderableLemmas
 pub mod StartLemmas
+pub mod SpotLemmas
+pub mod UpkeepLemmas
+pub mod KeyingLemmas
+pub mod RefreshingLemmas
+pub mod AdvancingLemmas

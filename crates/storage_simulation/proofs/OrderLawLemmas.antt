@@ -84,23 +84,23 @@ best_is (suc n) f less t l e after before = by_place (cases_lt t n) (λ m. best_
         ap (λ (b : Bool). first_of (best_below n f less) b n less) (ap f at ∙ e) ∙ over_all n f less n (λ u k g. ap (λ (i : ℕ). less i u) at ∙ before u (omega arith) g) ∙ ap (λ (i : ℕ). Some i) at
 
 -- the tests say what the rule says
-comes_open : (p : Plan) (st : Progress) (front : List ℕ) (t : ℕ) → IsOpen p st front t → is_open p st front t ≡ true
+pub comes_open : (p : Plan) (st : Progress) (front : List ℕ) (t : ℕ) → IsOpen p st front t → is_open p st front t ≡ true
 comes_open p st front t o = ap (λ (d : Bool). not d && is_ready p st.phase front t) o.waits ∙ o.ready
 
-opens_come : (p : Plan) (st : Progress) (front : List ℕ) (t : ℕ) → t < count_tasks p → is_open p st front t ≡ true → IsOpen p st front t
+pub opens_come : (p : Plan) (st : Progress) (front : List ℕ) (t : ℕ) → t < count_tasks p → is_open p st front t ≡ true → IsOpen p st front t
 opens_come p st front t l e = by_done (is_done st front t) refl e
   where
     by_done : (d : Bool) → is_done st front t ≡ d → (not d && is_ready p st.phase front t) ≡ true → IsOpen p st front t
     by_done true w e = absurd cc
     by_done false w e = record { in_range = l; waits = w; ready = e }
 
-fits_is : (p : Plan) (st : Progress) (front : List ℕ) (t : ℕ) → IsFitting p st front t → fits_after p st front t ≡ true
+pub fits_is : (p : Plan) (st : Progress) (front : List ℕ) (t : ℕ) → IsFitting p st front t → fits_after p st front t ≡ true
 fits_is p st front t fit = all_of_below (places p) (λ s. leb (usage p (size st) (front ++ t ∷ []) s) (place_bound p s)) (λ s l. leb_of (usage p (size st) (front ++ t ∷ []) s) (place_bound p s) (fit s l))
   where
     leb_of : (a b : ℕ) → a ≤ b → leb a b ≡ true
     leb_of a b l = grind (arith, l)
 
-is_fits : (p : Plan) (st : Progress) (front : List ℕ) (t : ℕ) → fits_after p st front t ≡ true → IsFitting p st front t
+pub is_fits : (p : Plan) (st : Progress) (front : List ℕ) (t : ℕ) → fits_after p st front t ≡ true → IsFitting p st front t
 is_fits p st front t e s l = leb-true (usage p (size st) (front ++ t ∷ []) s) (place_bound p s) (below_of (places p) (λ r. leb (usage p (size st) (front ++ t ∷ []) r) (place_bound p r)) e s l)
 
 both_no : (b : Bool) → b ≡ true → b ≡ false → ⊥

@@ -11,7 +11,7 @@ use Rattle.plan_core.specs.Kinds.{kind_writes, makes as job_makes, on_pair}
 use Rattle.plan_core.specs.Numbers.{RisesFrom, has}
 use Rattle.plan_core.specs.Proper.{IsProper, are_jobs_below, is_source_below, is_parent}
 use Rattle.plan_core.specs.Words.{cleans, count_pairs, count_tasks, is_at, is_pair, kind, kind_cleans, kind_in, output_bound, pair, pair_at, parents, reads, site_in, writes}
-use Rattle.storage_simulation.specs.Bench.{IsOrderable}
+use Rattle.storage_simulation.specs.Front.{IsOrderable}
 use Rattle.storage_simulation.specs.Goods.{count_sites, is_delivery, is_delivery_kind, kind_place, lies_at, pair_site, place, places}
 use Rattle.storage_simulation.specs.Law.{KeepsGoods}
 use Rattle.storage_simulation.proofs.FollowingLemmas.{both, is_itself}

@@ -1,4 +1,4 @@
--- The lists of a bench once a task more is placed.
+-- The lists of a front once a task more is placed.
 use Rattle.std.proofs.Common.{◌≡◌, ◌≢◌, ℕ, zero, ◌+◌, ◌<◌, ◌≤◌, ◌||◌, ◌⊎◌, inl, inr, Bool, true, false, cond, nat_eq, nat_lt, eqb-true, ltb-true, ltb-false, List, [], ◌∷◌, ◌++◌, length, length-append, take, get_or, refl, sym, ap, subst, ◌∙◌, arith}
 use Rattle.std.specs.Prelude.{set, Option, Some, None, vec_capacity}
 use Rattle.std.proofs.lemmas.Bool.{eqb-false, cases_lt}
@@ -9,10 +9,10 @@ use Rattle.digraph.specs.declared.digraph.Digraph.{Digraph}
 use Rattle.plan_core.specs.declared.plan.Plan.{Plan}
 use Rattle.plan_core.specs.Numbers.{has}
 use Rattle.plan_core.specs.Words.{count_tasks, parents, task_numbers}
-use Rattle.storage_simulation.specs.declared.bench.Bench.{Bench}
+use Rattle.storage_simulation.specs.declared.front.Front.{Front}
 use Rattle.storage_simulation.specs.declared.placing.Change.{Change}
 use Rattle.storage_simulation.specs.declared.standing.Standing.{Standing}
-use Rattle.storage_simulation.specs.Bench.{IsOrderable, IsSet, front_of, missing}
+use Rattle.storage_simulation.specs.Front.{IsOrderable, IsSet, front_of, missing}
 use Rattle.storage_simulation.specs.Following.{AreOnce}
 use Rattle.storage_simulation.specs.Goods.{place, places}
 use Rattle.storage_simulation.specs.Ordering.{Progress, progress, size, is_done, AreSteps, IsOpen, IsPeak, IsStep}
@@ -140,8 +140,8 @@ pub front_next : (xs : List TaskId) (t : TaskId) → task_numbers (xs ++ t ∷ [
 front_next [] t = refl
 front_next (x ∷ xs) t = ap (λ (ys : List ℕ). x.0 ∷ ys) (front_next xs t)
 
--- a bench with one task more
-pub record IsMore (p : Plan) (st : Standing) (b new : Bench) (t : TaskId) (change : Option Change) : Type 0 where
+-- a front with one task more
+pub record IsMore (p : Plan) (st : Standing) (b new : Front) (t : TaskId) (change : Option Change) : Type 0 where
   pub placed : new.placed.items ≡ b.placed.items ++ t ∷ []
   pub room : vec_capacity new.placed ≡ vec_capacity b.placed
   pub graph : new.graph ≡ b.graph
@@ -154,7 +154,7 @@ pub record IsMore (p : Plan) (st : Standing) (b new : Bench) (t : TaskId) (chang
   pub peaks_long : length new.peaks.items ≡ length b.peaks.items
   pub peaks_are : (s : ℕ) → get_or new.peaks.items s 0 ≡ raised change s (get_or b.peaks.items s 0)
 
-pub bench_more : (p : Plan) (st : Standing) (b new : Bench) (t : TaskId) (change : Option Change) → IsSet p st b → IsStep p (progress st) (front_of b) t.0 → IsMore p st b new t change → IsSet p st new
+pub bench_more : (p : Plan) (st : Standing) (b new : Front) (t : TaskId) (change : Option Change) → IsSet p st b → IsStep p (progress st) (front_of b) t.0 → IsMore p st b new t change → IsSet p st new
 bench_more p st b new t change is step more =
     let opens = step_opens p (progress st) (front_of b) t.0 step in
     let next : front_of new ≡ front_of b ++ t.0 ∷ [] = ap task_numbers more.placed ∙ front_next b.placed.items t in
@@ -171,16 +171,16 @@ bench_more p st b new t change is step more =
         nodes = ap count more.graph ∙ is.made_for.nodes;
         edges = λ u c. ap (λ (g : Digraph). edge g u c) more.graph ∙ is.made_for.edges u c;
       };
-      bench = record {
-        steps = subst (AreSteps p (progress st)) (sym next) (steps_more p (progress st) (front_of b) t.0 is.bench.steps step);
-        within = subst (IsWithin p (size (progress st))) (sym next) (admitted_within p (progress st) (front_of b) t.0 is.orderable.keeps is.bench.within (step_admitted p (progress st) (front_of b) t.0 step).kind);
+      front = record {
+        steps = subst (AreSteps p (progress st)) (sym next) (steps_more p (progress st) (front_of b) t.0 is.front.steps step);
+        within = subst (IsWithin p (size (progress st))) (sym next) (admitted_within p (progress st) (front_of b) t.0 is.orderable.keeps is.front.within (step_admitted p (progress st) (front_of b) t.0 step).kind);
         done_is = λ u l. ap (λ (xs : List Bool). get_or xs u true) more.done ∙ flag_set b.done.items t.0 u true (omega (arith, opens.in_range, is.made_for.done_long))
-            ∙ flag (nat_eq t.0 u) (get_or b.done.items u true) (is_done (progress st) (front_of b) u) (is.bench.done_is u l) ∙ sym (ap (λ (f : List ℕ). is_done (progress st) f u) next ∙ done_next (progress st) (front_of b) t.0 u);
-        missing_is = λ c l. missing_after p (progress st) (front_of b) t.0 c (get_or new.missing.items c 0) (get_or b.missing.items c 0) is.orderable opens.waits (is.bench.missing_is c l)
+            ∙ flag (nat_eq t.0 u) (get_or b.done.items u true) (is_done (progress st) (front_of b) u) (is.front.done_is u l) ∙ sym (ap (λ (f : List ℕ). is_done (progress st) f u) next ∙ done_next (progress st) (front_of b) t.0 u);
+        missing_is = λ c l. missing_after p (progress st) (front_of b) t.0 c (get_or new.missing.items c 0) (get_or b.missing.items c 0) is.orderable opens.waits (is.front.missing_is c l)
             (more.missing_is c) ∙ ap (λ (f : List ℕ). missing p (progress st) f c) (sym next);
-        used_is = λ s l. more.used_is s ∙ used_after p (progress st) (front_of b) t.0 s (get_or b.used.items s 0) change l more.change_is (is.bench.used_is s l) ∙ ap (λ (f : List ℕ). usage p (size (progress st)) f s) (sym next);
+        used_is = λ s l. more.used_is s ∙ used_after p (progress st) (front_of b) t.0 s (get_or b.used.items s 0) change l more.change_is (is.front.used_is s l) ∙ ap (λ (f : List ℕ). usage p (size (progress st)) f s) (sym next);
         peaks_are = λ s l. subst (λ (f : List ℕ). IsPeak p (progress st) f s (get_or new.peaks.items s 0)) (sym next) (subst (λ (n : ℕ). IsPeak p (progress st) (front_of b ++ t.0 ∷ []) s n) (sym (more.peaks_are s))
-            (peak_after p (progress st) (front_of b) t.0 s (get_or b.peaks.items s 0) change l more.change_is (is.bench.peaks_are s l)));
+            (peak_after p (progress st) (front_of b) t.0 s (get_or b.peaks.items s 0) change l more.change_is (is.front.peaks_are s l)));
       };
     }
   where
@@ -192,7 +192,7 @@ bench_more p st b new t change is step more =
     flag false false true e = absurd cc
     flag false false false e = refl
 
-pub enough_at : (p : Plan) (st : Standing) (b : Bench) (t c : ℕ) → IsSet p st b → IsOpen p (progress st) (front_of b) t → c < count_tasks p → has (parents p c) t ≡ true → 0 < get_or b.missing.items c 0
+pub enough_at : (p : Plan) (st : Standing) (b : Front) (t c : ℕ) → IsSet p st b → IsOpen p (progress st) (front_of b) t → c < count_tasks p → has (parents p c) t ≡ true → 0 < get_or b.missing.items c 0
 enough_at p st b t c is opens l h =
     let one = missing_less p (progress st) (front_of b) t c is.orderable opens.waits h in
-    omega (arith, one, is.bench.missing_is c l)
+    omega (arith, one, is.front.missing_is c l)

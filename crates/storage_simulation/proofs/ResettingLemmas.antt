@@ -1,4 +1,4 @@
--- A bench that is set to a standing.
+-- A front that is set to a standing.
 use Rattle.std.proofs.Common.{◌≡◌, ℕ, zero, suc, ◌+◌, ◌^◌, ◌<◌, ◌≤◌, ◌||◌, Bool, true, false, cond, nat_eq, List, [], length, take, get_or, refl, sym, ap, subst, ◌∙◌, arith}
 use Rattle.std.specs.Prelude.{not, set, vec_capacity}
 use Rattle.std.proofs.lemmas.Bool.{eqb-true, eqb-false}
@@ -6,9 +6,9 @@ use Rattle.digraph.specs.Digraph.{count, edge}
 use Rattle.digraph.specs.declared.digraph.Digraph.{Digraph}
 use Rattle.plan_core.specs.declared.plan.Plan.{Plan}
 use Rattle.plan_core.specs.Words.{count_tasks, parents, task_numbers}
-use Rattle.storage_simulation.specs.declared.bench.Bench.{Bench}
+use Rattle.storage_simulation.specs.declared.front.Front.{Front}
 use Rattle.storage_simulation.specs.declared.standing.Standing.{Standing}
-use Rattle.storage_simulation.specs.Bench.{IsFor, IsOrderable, IsSet, front_of, missing}
+use Rattle.storage_simulation.specs.Front.{IsFrontFor, IsOrderable, IsSet, front_of, missing}
 use Rattle.storage_simulation.specs.Goods.{IsWithinLimits, places}
 use Rattle.storage_simulation.specs.Ordering.{Progress, progress, size, is_done, AreSteps, IsPeak}
 use Rattle.storage_simulation.specs.Standings.{IsStanding, waits}
@@ -51,7 +51,7 @@ flags_set f xs i x so is l k m = flag_set xs i k x l ∙ by_place (nat_eq i k) r
     by_place false e = so k (let ne = eqb-false i k e in omega (arith, ne, m))
 
 -- nothing is placed
-pub record IsReset (p : Plan) (st : Standing) (b new : Bench) : Type 0 where
+pub record IsReset (p : Plan) (st : Standing) (b new : Front) : Type 0 where
   pub placed : new.placed.items ≡ []
   pub room : vec_capacity new.placed ≡ vec_capacity b.placed
   pub graph : new.graph ≡ b.graph
@@ -63,7 +63,7 @@ pub record IsReset (p : Plan) (st : Standing) (b new : Bench) : Type 0 where
   pub used_is : (s : ℕ) → s < places p → get_or new.used.items s 0 ≡ usage p (size (progress st)) [] s
   pub peaks : new.peaks.items ≡ new.used.items
 
-pub reset_is : (p : Plan) (st : Standing) (b new : Bench) → IsFor p b → IsOrderable p → IsWithinLimits p → IsStanding p st → IsWithin p (size (progress st)) [] → IsReset p st b new → IsSet p st new
+pub reset_is : (p : Plan) (st : Standing) (b new : Front) → IsFrontFor p b → IsOrderable p → IsWithinLimits p → IsStanding p st → IsWithin p (size (progress st)) [] → IsReset p st b new → IsSet p st new
 reset_is p st b new made_for able limits standing within is = record {
   orderable = able;
   limits = limits;
@@ -77,7 +77,7 @@ reset_is p st b new made_for able limits standing within is = record {
     nodes = ap count is.graph ∙ made_for.nodes;
     edges = λ u t. ap (λ (g : Digraph). edge g u t) is.graph ∙ made_for.edges u t;
   };
-  bench = record {
+  front = record {
     steps = subst (AreSteps p (progress st)) (sym none) (steps_none p (progress st));
     within = subst (IsWithin p (size (progress st))) (sym none) within;
     done_is = λ t l. is.done_is t l ∙ ap (λ (f : List ℕ). is_done (progress st) f t) (sym none);

@@ -6,7 +6,7 @@ use Rattle.std.proofs.Math.Seq.{get_or-append_seam, take-append_seam}
 use Rattle.plan_core.specs.declared.plan.Plan.{Plan}
 use Rattle.plan_core.specs.Numbers.{has}
 use Rattle.plan_core.specs.Words.{cleans, count_tasks}
-use Rattle.storage_simulation.specs.Bench.{IsOrderable}
+use Rattle.storage_simulation.specs.Front.{IsOrderable}
 use Rattle.storage_simulation.specs.Change.{cleaned_part, held_part, size_part}
 use Rattle.storage_simulation.specs.Following.{Follows}
 use Rattle.storage_simulation.specs.Goods.{goods, lies_at, makes, place, place_bound, places}

@@ -1,27 +1,25 @@
 -- How many parents aren't done, one task more, and what goes with a task.
-use Rattle.std.proofs.Common.{◌≡◌, ℕ, zero, suc, ◌+◌, ◌*◌, ◌^◌, ◌<◌, ◌≤◌, ◌||◌, ◌&&◌, Bool, true, false, cond, nat_eq, eqb-true, List, [], ◌∷◌, ◌++◌, length, get_or, refl, sym, ap, ◌∙◌, arith}
+use Rattle.std.proofs.Common.{◌≡◌, ℕ, zero, suc, ◌+◌, ◌*◌, ◌^◌, ◌<◌, ◌≤◌, ◌||◌, ◌&&◌, Bool, true, false, cond, nat_eq, eqb-true, List, [], ◌∷◌, ◌++◌, length, refl, sym, ap, ◌∙◌, arith}
 use Rattle.std.specs.Prelude.{not, Option, Some, None}
 use Rattle.std.specs.List.{list_all}
 use Rattle.plan_core.specs.declared.plan.Plan.{Plan}
 use Rattle.plan_core.specs.declared.plan.TaskKind.{TaskKind}
 use Rattle.plan_core.specs.declared.plan.TaskKind.TheVariants.{Transfer, Run, Clean}
 use Rattle.plan_core.specs.Numbers.{RisesFrom, has}
-use Rattle.plan_core.specs.Words.{count_pairs, count_tasks, kind, pair, parents, writes}
-use Rattle.storage_simulation.specs.declared.bench.Bench.{Bench}
+use Rattle.plan_core.specs.Words.{count_pairs, kind, pair, parents, writes}
 use Rattle.storage_simulation.specs.declared.standing.Held.{Held}
 use Rattle.storage_simulation.specs.declared.standing.Held.TheVariants.{Nothing, Stored, Reserved}
-use Rattle.storage_simulation.specs.declared.standing.Standing.{Standing}
-use Rattle.storage_simulation.specs.Bench.{IsOrderable, IsSet, freeing, front_of, missing}
+use Rattle.storage_simulation.specs.Front.{IsOrderable, missing}
 use Rattle.storage_simulation.specs.Following.{AreOnce, is_ready}
 use Rattle.storage_simulation.specs.Goods.{IsWithinLimits, pair_size}
-use Rattle.storage_simulation.specs.Ordering.{Progress, comes, coming, frees, goes, held_or, is_done, is_held, kind_frees, makes_ready, progress}
+use Rattle.storage_simulation.specs.Ordering.{Progress, comes, coming, frees, held_or, is_done, is_held, kind_frees, makes_ready}
 use Rattle.storage_simulation.specs.Standings.{held_size, sizes}
 use Rattle.storage_simulation.specs.Usage.{sum_of, total}
 use Rattle.storage_simulation.proofs.CountingLemmas.{done_next}
 use Rattle.storage_simulation.proofs.FollowingLemmas.{by_bool, is_itself, once_parts, or_false_right, or_left, or_right}
 use Rattle.storage_simulation.proofs.RisingLemmas.{rises_once}
 use Rattle.storage_simulation.proofs.StepsLemmas.{or_false_left}
-use Rattle.storage_simulation.proofs.SumsLemmas.{sum_same, total_replaced, total_same}
+use Rattle.storage_simulation.proofs.SumsLemmas.{sum_same, total_replaced}
 use Rattle.storage_simulation.proofs.UsageLemmas.{pair_small}
 
 -- 1 where a test fails, and how many of some numbers don't pass
@@ -127,24 +125,6 @@ total_listed w n xs once below =
     let here = sum_same (λ c. cond (has xs c) (w c) 0) w xs (λ c h. cond_true (has xs c) (w c) 0 h) in
     omega (arith, all, here, zero_total n, zero_sum xs)
 
--- what goes with a task, over its children
-goes_listed : (p : Plan) (st : Progress) (front : List ℕ) (t : ℕ) (xs : List ℕ) → IsOrderable p → is_done st front t ≡ false → ((c : ℕ) → has xs c ≡ has (parents p c) t) → AreOnce xs → ((c : ℕ) → has xs c ≡ true → c < count_tasks p)
-    → goes p st front t ≡ sum_of (λ c. cond (nat_eq (missing p st front c) 1) (frees p st c) 0) xs
-goes_listed p st front t xs able w same once below =
-    total_same (λ c. cond (makes_ready p st front t c) (frees p st c) 0) (λ c. cond (has xs c) (cond (nat_eq (missing p st front c) 1) (frees p st c) 0) 0) (count_tasks p)
-    (λ c l. ap (λ (b : Bool). cond b (frees p st c) 0) (makes_ready_is p st front t c able w ∙ ap (λ (b : Bool). b && nat_eq (missing p st front c) 1) (sym (same c))) ∙ nested (has xs c) (nat_eq (missing p st front c) 1) (frees p st c))
-    ∙ total_listed (λ c. cond (nat_eq (missing p st front c) 1) (frees p st c) 0) (count_tasks p) xs once below
-  where
-    nested : (a b : Bool) (x : ℕ) → cond (a && b) x 0 ≡ cond a (cond b x 0) 0
-    nested true b x = refl
-    nested false b x = refl
-
-pub goes_at : (p : Plan) (st : Standing) (b : Bench) (t : ℕ) (xs : List ℕ) → IsSet p st b → is_done (progress st) (front_of b) t ≡ false → ((c : ℕ) → has xs c ≡ has (parents p c) t) → RisesFrom 0 xs → ((c : ℕ) → has xs c ≡ true → c < count_tasks p)
-    → goes p (progress st) (front_of b) t ≡ sum_of (freeing p (progress st) b.missing.items) xs
-goes_at p st b t xs is waits same rises below =
-    goes_listed p (progress st) (front_of b) t xs is.orderable waits same (rises_once 0 xs rises) below
-    ∙ sum_same (λ c. cond (nat_eq (missing p (progress st) (front_of b) c) 1) (frees p (progress st) c) 0) (freeing p (progress st) b.missing.items) xs (λ c h. ap (λ (n : ℕ). cond (nat_eq n 1) (frees p (progress st) c) 0) (sym (is.bench.missing_is c (below c h))))
-
 -- scores are small
 pub rises_few : (b n : ℕ) (xs : List ℕ) → RisesFrom b xs → b ≤ n → ((x : ℕ) → has xs x ≡ true → x < n) → b + length xs ≤ n
 rises_few b n [] h l low = omega (arith, l)
@@ -180,13 +160,6 @@ frees_small p st t limits small = by_kind (kind p t)
     by_kind (Some (Run s js)) = omega arith
     by_kind (Some (Clean q)) = by_held (st.held q.0) q.0 (small q.0)
 
-freeing_small : (p : Plan) (st : Progress) (counts : List ℕ) (t : ℕ) → IsWithinLimits p → ((g : ℕ) → sizes st.held g ≤ 2 ^ 40) → freeing p st counts t ≤ 2 ^ 40
-freeing_small p st counts t limits small = by_count (nat_eq (get_or counts t 0) 1)
-  where
-    by_count : (b : Bool) → cond b (frees p st t) 0 ≤ 2 ^ 40
-    by_count true = frees_small p st t limits small
-    by_count false = omega arith
-
 pub comes_few : (p : Plan) (st : Progress) (t : ℕ) → IsOrderable p → IsWithinLimits p → comes p st t < 2 ^ 62
 comes_few p st t able limits =
     let sum = sum_small (coming p st) (2 ^ 40) (writes p t) (λ q. coming_small p st q limits) in
@@ -195,14 +168,4 @@ comes_few p st t able limits =
     product (length (writes p t)) (comes p st t) sum (omega (arith, few, most))
   where
     product : (n m : ℕ) → m ≤ n * 2 ^ 40 → n ≤ 64 * 50000 → m < 2 ^ 62
-    product n m h l = omega (arith, h, l)
-
-pub freeing_few : (p : Plan) (st : Progress) (counts xs : List ℕ) → IsWithinLimits p → ((g : ℕ) → sizes st.held g ≤ 2 ^ 40) → RisesFrom 0 xs → ((c : ℕ) → has xs c ≡ true → c < count_tasks p) → sum_of (freeing p st counts) xs < 2 ^ 62
-freeing_few p st counts xs limits small rises below =
-    let sum = sum_small (freeing p st counts) (2 ^ 40) xs (λ c. freeing_small p st counts c limits small) in
-    let few = rises_few 0 (count_tasks p) xs rises (omega arith) below in
-    let most = limits.tasks in
-    product (length xs) (sum_of (freeing p st counts) xs) sum (omega (arith, few, most))
-  where
-    product : (n m : ℕ) → m ≤ n * 2 ^ 40 → n ≤ 120000 → m < 2 ^ 62
     product n m h l = omega (arith, h, l)

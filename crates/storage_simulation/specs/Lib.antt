@@ -12,6 +12,8 @@ pub mod Ordered
 pub mod Change
 pub mod Past
 -- Steps of an order
+pub mod Front
+pub mod Index
 pub mod Bench
 pub mod Choosing
 pub mod Placing

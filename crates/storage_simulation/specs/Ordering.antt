@@ -52,7 +52,7 @@ abbrev pub IsFitting : Plan → Progress → List ℕ → ℕ → Type 0
 IsFitting p st front t = IsWithin p (size st) (front ++ t ∷ [])
 
 -- The score is what comes less what goes.
--- What comes: what the task writes, at the declared sizes, but for pairs of which something is held.
+-- What comes: of the pairs that the task writes, the declared bytes of those of which nothing is held.
 abbrev pub is_held : Held → Bool
 is_held Nothing = false
 is_held _ = true

@@ -62,7 +62,7 @@ fn size_of_pairs(plan: &Plan, place: u32, pairs: &[PairId]) -> u64
 
 /// What is held at a place of the goods that a task makes.
 #[tactic(auto, unfolding(crate::specs::Goods::makes))]
-fn held_of_made(plan: &Plan, standing: &Standing, place: u32, task: TaskId) -> u64
+pub(crate) fn held_of_made(plan: &Plan, standing: &Standing, place: u32, task: TaskId) -> u64
     requires limits { IsWithinLimits plan.now }
     requires few { sum_of (held_part plan.now (sizes (held_of standing.now)) place) (makes plan.now task.0) < 2 ^ 63 }
     ensures { result ≡ sum_of (held_part plan.now (sizes (held_of standing.now)) place) (makes plan.now task.0) }
@@ -75,7 +75,7 @@ fn held_of_made(plan: &Plan, standing: &Standing, place: u32, task: TaskId) -> u
 
 /// The declared sizes at a place of the goods that a task makes.
 #[tactic(auto, unfolding(crate::specs::Goods::makes))]
-fn size_of_made(plan: &Plan, place: u32, task: TaskId) -> u64
+pub(crate) fn size_of_made(plan: &Plan, place: u32, task: TaskId) -> u64
     requires limits { IsWithinLimits plan.now }
     requires few { sum_of (size_part plan.now place) (makes plan.now task.0) < 2 ^ 63 }
     ensures { result ≡ sum_of (size_part plan.now place) (makes plan.now task.0) }

@@ -1,25 +1,34 @@
-//! What a plan's sites hold after a front of an order, and whether an order fits.
+//! What a plan's sites hold after a front of an order, whether an order fits, and the stated order.
 //!
-//! To the layer above this is usage and fit as `specs/Usage.antt`, `Following.antt` and `Fitting.antt` define them, over
-//! the goods and places of `specs/Goods.antt`: a good is a pair or a delivery, a place is a site or the output. The
-//! plan is asked by number, in the words of `plan_core`.
+//! To the layer above this is usage and fit as `specs/Usage.antt`, `Following.antt` and `Fitting.antt` define them,
+//! over the goods and places of `specs/Goods.antt`: a good is a pair or a delivery, a place is a site or the output.
+//! The plan is asked by number, in the words of `plan_core`. The stated order is that of `specs/Ordering.antt`, from
+//! any standing; it is made on a [`Bench`], which takes its memory once. Inside a bench are the front of the order and
+//! an index of the tasks that may be placed next (`specs/Front.antt`, `Index.antt`).
 #![tactic(auto)]
 
+mod advancing;
 mod bench;
 mod change;
 mod choosing;
 mod fitting;
 mod following;
+mod front;
 mod goods;
+mod index;
+mod keying;
 mod law;
+mod laying;
 mod order_law;
 mod ordered;
 mod ordering;
 mod placing;
+mod refreshing;
 mod resetting;
 mod room;
 mod scoring;
 mod standing;
+mod upkeep;
 mod usage;
 
 pub use bench::Bench;

@@ -3,7 +3,7 @@
 ghost use Rattle.std.specs.Prelude.{◌≡◌, ◌<◌, ℕ, IfErr, IfOk, get_or, length};
 ghost use Rattle.plan_core.specs.Proper.{IsProper};
 ghost use Rattle.plan_core.specs.Words.{task_numbers};
-ghost use Rattle.storage_simulation.specs.Bench.{IsFor, front_of};
+ghost use Rattle.storage_simulation.specs.Front.{front_of};
 ghost use Rattle.storage_simulation.specs.Fitting.{Fits};
 ghost use Rattle.storage_simulation.specs.Goods.{IsWithinLimits, places};
 ghost use Rattle.storage_simulation.specs.Ordered.{IsFault};
@@ -91,8 +91,8 @@ impl Ordered {
 fn order_of(alloc: Global, plan: &Plan) -> Result<Bench, OrderFault>
     requires proper { IsProper plan.now }
     requires limits { IsWithinLimits plan.now }
-    ensures order { IfOk result (λ b. IsOrder plan.now at_start (front_of b)) }
-    ensures peaks { IfOk result (λ b. (s : ℕ) → s < places plan.now → IsPeak plan.now at_start (front_of b) s (get_or b.peaks.items s 0)) }
+    ensures order { IfOk result (λ b. IsOrder plan.now at_start (front_of b.front)) }
+    ensures peaks { IfOk result (λ b. (s : ℕ) → s < places plan.now → IsPeak plan.now at_start (front_of b.front) s (get_or b.front.peaks.items s 0)) }
     ensures fault { IfErr result (λ f. IsFault plan.now f) }
 {
     let standing = Standing::start(alloc, plan)?;
@@ -117,8 +117,8 @@ pub fn order(alloc: Global, plan: Plan) -> Result<Ordered, OrderRefused>
     match order_of(alloc, &plan) {
         Ok(bench) => Ok(Ordered {
             plan,
-            tasks: bench.placed,
-            peaks: bench.peaks,
+            tasks: bench.front.placed,
+            peaks: bench.front.peaks,
         }),
         Err(fault) => Err(OrderRefused { fault, plan }),
     }

@@ -3,18 +3,22 @@
 ghost use Rattle.std.specs.Prelude.{◌≡◌, ◌<◌, [], ℕ, IfErr, OnErr, OnOk, get_or};
 ghost use Rattle.plan_core.specs.declared.plan.Plan.{Plan};
 ghost use Rattle.plan_core.specs.Proper.{IsProper};
-ghost use Rattle.storage_simulation.specs.Bench.{IsFor, IsOrderable, IsSet, front_of};
+ghost use Rattle.storage_simulation.specs.Bench.{IsFor};
+ghost use Rattle.storage_simulation.specs.Front.{IsOrderable, IsSet, front_of};
+ghost use Rattle.storage_simulation.specs.Index.{IsIndex, IsIndexFor};
 ghost use Rattle.storage_simulation.specs.Goods.{IsWithinLimits, places};
 ghost use Rattle.storage_simulation.specs.Ordering.{IsExceeds, IsOrder, IsPeak, progress};
 ghost use Rattle.storage_simulation.specs.Standings.{IsStanding, held_of, sizes};
 ghost use Rattle.storage_simulation.specs.Usage.{IsWithin};
 
+use crate::advancing::{advance, index_front, next_by_index};
 use crate::bench::Bench;
-use crate::choosing::{Next, what_next};
+use crate::choosing::Next;
 use crate::fitting::Exceeds;
+use crate::front::Front;
+use crate::index::Index;
 use crate::law::proper_plans_keep_goods;
 use crate::order_law::some_task_is_next;
-use crate::placing::place;
 use crate::resetting::reset;
 use crate::standing::Standing;
 use plan_core::{Plan, files_are_listed_by_pair, numbers_are_in_range, parents_come_before};
@@ -29,18 +33,25 @@ fn proper_plans_are_orderable()
     numbers_are_in_range();
 }
 
-/// Places the waiting tasks on a bench on which none is placed.
-fn fill(plan: &Plan, standing: &Standing, bench: &mut Bench) -> Result<(), Exceeds>
+/// Places the waiting tasks at a front at which none is placed, by an index of it.
+fn fill(
+    plan: &Plan,
+    standing: &Standing,
+    front: &mut Front,
+    index: &mut Index,
+) -> Result<(), Exceeds>
     requires proper { IsProper plan.now }
-    requires set { IsSet plan.now standing.now bench.old }
-    ensures set { IsSet plan.now standing.now bench.new }
-    ensures order { OnOk result (IsOrder plan.now (progress standing.now) (front_of bench.new)) }
+    requires set { IsSet plan.now standing.now front.old }
+    requires index { IsIndex plan.now (progress standing.now) (front_of front.old) index.old }
+    ensures set { IsSet plan.now standing.now front.new }
+    ensures index { IsIndexFor plan.now index.new }
+    ensures order { OnOk result (IsOrder plan.now (progress standing.now) (front_of front.new)) }
     ensures exceeds { IfErr result (λ e. IsExceeds plan.now (progress standing.now) e) }
 {
     some_task_is_next();
     for step in 0..plan.tasks.as_slice().len() {
-        match what_next(plan, standing, bench) {
-            Next::Place(task) => place(plan, standing, bench, task),
+        match next_by_index(plan, standing, front, index) {
+            Next::Place(task) => advance(plan, standing, front, index, task),
             Next::Done => return Ok(()),
             Next::Stuck(exceeds) => return Err(exceeds),
         }
@@ -56,17 +67,18 @@ pub fn order_from(plan: &Plan, standing: &Standing, bench: &mut Bench) -> Result
     requires standing { IsStanding plan.now standing.now }
     requires start { IsWithin plan.now (sizes (held_of standing.now)) [] }
     requires bench { IsFor plan.now bench.old }
-    ensures order { OnOk result (IsOrder plan.now (progress standing.now) (front_of bench.new)) }
-    ensures peaks { OnOk result ((s : ℕ) → s < places plan.now → IsPeak plan.now (progress standing.now) (front_of bench.new) s (get_or bench.new.peaks.items s 0)) }
+    ensures order { OnOk result (IsOrder plan.now (progress standing.now) (front_of bench.new.front)) }
+    ensures peaks { OnOk result ((s : ℕ) → s < places plan.now → IsPeak plan.now (progress standing.now) (front_of bench.new.front) s (get_or bench.new.front.peaks.items s 0)) }
     ensures exceeds { IfErr result (λ e. IsExceeds plan.now (progress standing.now) e) }
-    ensures empty { OnErr result (bench.new.placed.items ≡ []) }
+    ensures empty { OnErr result (bench.new.front.placed.items ≡ []) }
     ensures bench { IsFor plan.now bench.new }
 {
     proper_plans_are_orderable();
-    reset(plan, standing, bench);
-    let filled = fill(plan, standing, bench);
+    reset(plan, standing, &mut bench.front);
+    index_front(plan, standing, &bench.front, &mut bench.index);
+    let filled = fill(plan, standing, &mut bench.front, &mut bench.index);
     if filled.is_err() {
-        bench.placed.clear();
+        bench.front.placed.clear();
     }
     filled
 }

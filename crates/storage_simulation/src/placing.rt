@@ -1,12 +1,12 @@
-//! What becomes of a bench once a task more is placed.
+//! What becomes of a front once a task more is placed.
 
 ghost use Rattle.std.specs.Prelude.{◌≡◌, ◌≤◌, ◌<◌, ◌+◌, ◌++◌, ◌∷◌, [], ℕ, IfSome, cond, get_or, length, true};
 ghost use Rattle.plan_core.specs.Numbers.{RisesFrom, has};
-ghost use Rattle.storage_simulation.specs.Bench.{IsSet, front_of};
+ghost use Rattle.storage_simulation.specs.Front.{IsSet, front_of};
 ghost use Rattle.storage_simulation.specs.Ordering.{IsOpen, IsStep, progress};
 ghost use Rattle.storage_simulation.specs.Placing.{IsChange, changed, raised};
 
-use crate::bench::{Bench, children_of};
+use crate::front::{Front, children_of};
 use crate::goods::place_of;
 use crate::room::used_after;
 use crate::standing::Standing;
@@ -21,15 +21,15 @@ struct Change {
 }
 
 /// The usage that changes with a task.
-fn change_of(plan: &Plan, standing: &Standing, bench: &Bench, task: TaskId) -> Option<Change>
-    requires set { IsSet plan.now standing.now bench.now }
-    requires opens { IsOpen plan.now (progress standing.now) (front_of bench.now) task.0 }
-    ensures { IsChange plan.now (progress standing.now) (front_of bench.now) task.0 result }
+fn change_of(plan: &Plan, standing: &Standing, front: &Front, task: TaskId) -> Option<Change>
+    requires set { IsSet plan.now standing.now front.now }
+    requires opens { IsOpen plan.now (progress standing.now) (front_of front.now) task.0 }
+    ensures { IsChange plan.now (progress standing.now) (front_of front.now) task.0 result }
 {
     match place_of(plan, task) {
         Some(place) => Some(Change {
             place,
-            used: used_after(plan, standing, bench, task, place),
+            used: used_after(plan, standing, front, task, place),
         }),
         None => None,
     }
@@ -73,17 +73,17 @@ fn count_down(counts: &mut Vec<u32>, tasks: &[u32])
     }
 }
 
-/// Places a task. The bench has room for each task.
-pub(crate) fn place(plan: &Plan, standing: &Standing, bench: &mut Bench, task: TaskId)
-    requires set { IsSet plan.now standing.now bench.old }
-    requires step { IsStep plan.now (progress standing.now) (front_of bench.old) task.0 }
-    ensures set { IsSet plan.now standing.now bench.new }
-    ensures placed { front_of bench.new ≡ front_of bench.old ++ task.0 ∷ [] }
+/// Places a task. The front has room for each task.
+pub(crate) fn place(plan: &Plan, standing: &Standing, front: &mut Front, task: TaskId)
+    requires set { IsSet plan.now standing.now front.old }
+    requires step { IsStep plan.now (progress standing.now) (front_of front.old) task.0 }
+    ensures set { IsSet plan.now standing.now front.new }
+    ensures placed { front_of front.new ≡ front_of front.old ++ task.0 ∷ [] }
 {
-    let change = change_of(plan, standing, bench, task);
-    bench.placed.push_reserved(task);
-    bench.done[task.0 as usize] = true;
-    count_down(&mut bench.missing, children_of(&bench.graph, task));
-    settle(&mut bench.used, change);
-    raise(&mut bench.peaks, change);
+    let change = change_of(plan, standing, front, task);
+    front.placed.push_reserved(task);
+    front.done[task.0 as usize] = true;
+    count_down(&mut front.missing, children_of(&front.graph, task));
+    settle(&mut front.used, change);
+    raise(&mut front.peaks, change);
 }

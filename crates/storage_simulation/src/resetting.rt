@@ -1,14 +1,14 @@
-//! A bench that is set to a standing.
+//! A front that is set to a standing.
 
 ghost use Rattle.std.specs.Prelude.{◌≡◌, ◌≤◌, ◌<◌, ◌^◌, [], ℕ, cond, get_or, length, true};
 ghost use Rattle.plan_core.specs.Words.{count_tasks, parents, task_numbers};
-ghost use Rattle.storage_simulation.specs.Bench.{IsFor, IsOrderable, IsSet, missing};
+ghost use Rattle.storage_simulation.specs.Front.{IsFrontFor, IsOrderable, IsSet, missing};
 ghost use Rattle.storage_simulation.specs.Goods.{IsWithinLimits, places};
 ghost use Rattle.storage_simulation.specs.Ordering.{is_done, progress, size};
 ghost use Rattle.storage_simulation.specs.Standings.{IsStanding};
 ghost use Rattle.storage_simulation.specs.Usage.{IsWithin, sum_of, usage};
 
-use crate::bench::Bench;
+use crate::front::Front;
 use crate::goods::places;
 use crate::standing::Standing;
 use crate::usage::usage_after;
@@ -89,18 +89,18 @@ fn copy_used(used: &[u64], peaks: &mut Vec<u64>)
     peaks.copy_from_slice(used);
 }
 
-/// Takes all tasks off a bench, and sets it to a standing.
-pub(crate) fn reset(plan: &Plan, standing: &Standing, bench: &mut Bench)
-    requires made_for { IsFor plan.now bench.old }
+/// Takes all tasks off a front, and sets it to a standing.
+pub(crate) fn reset(plan: &Plan, standing: &Standing, front: &mut Front)
+    requires made_for { IsFrontFor plan.now front.old }
     requires orderable { IsOrderable plan.now }
     requires limits { IsWithinLimits plan.now }
     requires standing { IsStanding plan.now standing.now }
     requires within { IsWithin plan.now (size (progress standing.now)) [] }
-    ensures { IsSet plan.now standing.now bench.new }
+    ensures { IsSet plan.now standing.now front.new }
 {
-    bench.placed.clear();
-    reset_done(plan, standing, &mut bench.done);
-    reset_missing(plan, standing, &mut bench.missing);
-    reset_used(plan, standing, &mut bench.used);
-    copy_used(&bench.used, &mut bench.peaks);
+    front.placed.clear();
+    reset_done(plan, standing, &mut front.done);
+    reset_missing(plan, standing, &mut front.missing);
+    reset_used(plan, standing, &mut front.used);
+    copy_used(&front.used, &mut front.peaks);
 }

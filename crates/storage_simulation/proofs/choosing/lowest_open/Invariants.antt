@@ -1,7 +1,7 @@
 use Rattle.std.proofs.Common.{ℕ, ◌<◌}
-use Rattle.storage_simulation.specs.Bench.{front_of}
+use Rattle.storage_simulation.specs.Front.{front_of}
 use Rattle.storage_simulation.specs.Ordering.{progress, IsOpen}
 use Rattle.storage_simulation.proofs.choosing.lowest_open.Given as goal
 
 abbrev pub invariant-loop-number : goal.invariant-loop-number
-invariant-loop-number l = (u : ℕ) → u < l.number → IsOpen l.plan (progress l.standing) (front_of l.bench) u → ⊥
+invariant-loop-number l = (u : ℕ) → u < l.number → IsOpen l.plan (progress l.standing) (front_of l.front) u → ⊥

@@ -1,5 +1,5 @@
 use Rattle.std.proofs.Common.{◌<◌, ℕ, [], get_or, sym, subst}
-use Rattle.storage_simulation.specs.Bench.{front_of}
+use Rattle.storage_simulation.specs.Front.{front_of}
 use Rattle.storage_simulation.specs.Goods.{places}
 use Rattle.storage_simulation.specs.Ordering.{IsExceeds, IsOrder, IsPeak, Progress, size}
 use Rattle.storage_simulation.specs.Usage.{IsWithin}
@@ -19,9 +19,9 @@ returns-clause-fault c =
 pub returns-in-Ok-clause-order : goal.returns-in-Ok-clause-order
 returns-in-Ok-clause-order c =
     let is = start_is c.in_ok-standing.standing c.in_ok-standing.ensures.held c.in_ok-standing.ensures.tasks in
-    subst (λ (st : Progress). IsOrder c.args.plan.now st (front_of c.order_from.new.bench)) is c.in-Ok.ensures.order
+    subst (λ (st : Progress). IsOrder c.args.plan.now st (front_of c.order_from.new.bench.front)) is c.in-Ok.ensures.order
 
 pub returns-in-Ok-clause-peaks : goal.returns-in-Ok-clause-peaks
 returns-in-Ok-clause-peaks c =
     let is = start_is c.in_ok-standing.standing c.in_ok-standing.ensures.held c.in_ok-standing.ensures.tasks in
-    subst (λ (st : Progress). (s : ℕ) → s < places c.args.plan.now → IsPeak c.args.plan.now st (front_of c.order_from.new.bench) s (get_or c.order_from.new.bench.peaks.items s 0)) is c.in-Ok.ensures.peaks
+    subst (λ (st : Progress). (s : ℕ) → s < places c.args.plan.now → IsPeak c.args.plan.now st (front_of c.order_from.new.bench.front) s (get_or c.order_from.new.bench.front.peaks.items s 0)) is c.in-Ok.ensures.peaks

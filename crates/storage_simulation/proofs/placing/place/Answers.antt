@@ -1,6 +1,6 @@
 use Rattle.std.proofs.Common.{◌<◌, ℕ, ◌+◌, arith, cond, get_or, refl, sym, ap, subst, ◌∙◌}
 use Rattle.plan_core.specs.Words.{task_numbers}
-use Rattle.storage_simulation.specs.Bench.{front_of}
+use Rattle.storage_simulation.specs.Front.{front_of}
 use Rattle.storage_simulation.specs.Ordering.{progress}
 use Rattle.storage_simulation.proofs.CountingLemmas.{room_at}
 use Rattle.storage_simulation.proofs.DeterminedLemmas.{step_opens}
@@ -10,20 +10,20 @@ use Rattle.storage_simulation.proofs.placing.place.Goals as goal
 
 pub push_reserved-requires : goal.push_reserved-requires
 push_reserved-requires c =
-    let opens = step_opens c.args.plan.now (progress c.args.standing.now) (front_of c.args.bench.now) c.args.task.0 c.requires.step in
-    let room = room_at c.args.plan.now (progress c.args.standing.now) (front_of c.args.bench.now) c.args.task.0 c.requires.set.bench.steps opens in
-    let long = count_tasks_in c.args.bench.now.placed.items in
-    omega (arith, room, long, c.requires.set.made_for.room, c.args.bench.now.placed.ok)
+    let opens = step_opens c.args.plan.now (progress c.args.standing.now) (front_of c.args.front.now) c.args.task.0 c.requires.step in
+    let room = room_at c.args.plan.now (progress c.args.standing.now) (front_of c.args.front.now) c.args.task.0 c.requires.set.front.steps opens in
+    let long = count_tasks_in c.args.front.now.placed.items in
+    omega (arith, room, long, c.requires.set.made_for.room, c.args.front.now.placed.ok)
 
 pub count_down-requires-clause-enough : goal.count_down-requires-clause-enough
 count_down-requires-clause-enough c =
-    let opens = step_opens c.args.plan.now (progress c.args.standing.now) (front_of c.args.bench.now) c.args.task.0 c.requires.step in
-    λ n h. enough_at c.args.plan.now c.args.standing.now c.args.bench.now c.args.task.0 n c.requires.set opens
+    let opens = step_opens c.args.plan.now (progress c.args.standing.now) (front_of c.args.front.now) c.args.task.0 c.requires.step in
+    λ n h. enough_at c.args.plan.now c.args.standing.now c.args.front.now c.args.task.0 n c.requires.set opens
     (subst (λ (m : ℕ). n < m) c.requires.set.made_for.nodes (c.children_of.ensures.in_range n h))
     (sym (c.requires.set.made_for.edges c.args.task.0 n) ∙ sym (c.children_of.ensures.same n) ∙ h)
 
 pub returns-clause-set : goal.returns-clause-set
-returns-clause-set c = bench_more c.args.plan.now c.args.standing.now c.args.bench.now _ c.args.task c.change_of-change.result c.requires.set c.requires.step (record {
+returns-clause-set c = bench_more c.args.plan.now c.args.standing.now c.args.front.now _ c.args.task c.change_of-change.result c.requires.set c.requires.step (record {
   placed = c.push_reserved.ensures.items;
   room = c.push_reserved.ensures.capacity;
   graph = refl;
@@ -38,4 +38,4 @@ returns-clause-set c = bench_more c.args.plan.now c.args.standing.now c.args.ben
 })
 
 pub returns-clause-placed : goal.returns-clause-placed
-returns-clause-placed c = ap task_numbers c.push_reserved.ensures.items ∙ front_next c.args.bench.now.placed.items c.args.task
+returns-clause-placed c = ap task_numbers c.push_reserved.ensures.items ∙ front_next c.args.front.now.placed.items c.args.task

@@ -7,7 +7,7 @@ pub reset_missing-requires-clause-few : goal.reset_missing-requires-clause-few
 reset_missing-requires-clause-few c = λ t. missing_few c.args.plan.now (progress c.args.standing.now) [] t c.requires.orderable c.requires.limits
 
 pub returns : goal.returns
-returns c = reset_is c.args.plan.now c.args.standing.now c.args.bench.now _ c.requires.made_for c.requires.orderable c.requires.limits c.requires.standing c.requires.within (record {
+returns c = reset_is c.args.plan.now c.args.standing.now c.args.front.now _ c.requires.made_for c.requires.orderable c.requires.limits c.requires.standing c.requires.within (record {
   placed = c.clear.ensures.items;
   room = c.clear.ensures.capacity;
   graph = refl;

@@ -1,6 +1,6 @@
 use Rattle.std.proofs.Common.{◌≡◌, ◌<◌, ℕ, [], length, get_or}
 use Rattle.plan_core.specs.Words.{count_tasks}
-use Rattle.storage_simulation.specs.Bench.{missing}
+use Rattle.storage_simulation.specs.Front.{missing}
 use Rattle.storage_simulation.specs.Ordering.{progress}
 use Rattle.storage_simulation.proofs.resetting.reset_missing.Given as goal
 

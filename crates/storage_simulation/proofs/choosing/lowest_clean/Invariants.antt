@@ -1,8 +1,0 @@
-use Rattle.std.proofs.Common.{◌≡◌, ℕ, ◌<◌, false}
-use Rattle.plan_core.specs.Words.{is_clean}
-use Rattle.storage_simulation.specs.Bench.{front_of}
-use Rattle.storage_simulation.specs.Ordering.{progress, IsOpen}
-use Rattle.storage_simulation.proofs.choosing.lowest_clean.Given as goal
-
-abbrev pub invariant-loop-number : goal.invariant-loop-number
-invariant-loop-number l = (u : ℕ) → u < l.number → IsOpen l.plan (progress l.standing) (front_of l.bench) u → is_clean l.plan u ≡ false
