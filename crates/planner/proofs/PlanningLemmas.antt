@@ -1,6 +1,6 @@
 -- How the faults of the layers are those of planning.
-use Rattle.std.proofs.Common.{◌≡◌, ℕ, zero, suc, Bool, List, [], ◌∷◌, map, refl, sym, ap, ◌∙◌, inl, inr}
-use Rattle.std.specs.Prelude.{Option, Some, None, Result, Ok, Err, slice_get, slice_index_or}
+use Rattle.std.proofs.Common.{◌≡◌, ℕ, zero, suc, Bool, List, [], ◌∷◌, map, refl, inl, inr}
+use Rattle.std.specs.Prelude.{Option, Some, None, Err, slice_get, slice_index_or}
 use Rattle.outside.specs.declared.documents.Documents.{Documents}
 use Rattle.outside.specs.declared.numbers.SiteId.{SiteId}
 use Rattle.outside.specs.declared.select_fault.SelectFault.{SelectFault}

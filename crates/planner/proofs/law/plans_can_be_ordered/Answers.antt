@@ -1,4 +1,4 @@
-use Rattle.std.proofs.Common.{◌≡◌, ◌+◌, ◌<◌, ◌≤◌, ◌^◌, ℕ, sym, subst, arith}
+use Rattle.std.proofs.Common.{◌+◌, ◌<◌, ◌≤◌, ◌^◌, sym, subst, arith}
 use Rattle.plan_core.specs.Proper.{IsProper}
 use Rattle.plan_core.specs.Words.{count_pairs, count_tasks}
 use Rattle.storage_simulation.specs.Goods.{IsWithinLimits}

@@ -1,4 +1,4 @@
-use Rattle.std.proofs.Common.{◌≡◌, ◌<◌, ℕ, length, ap, arith}
+use Rattle.std.proofs.Common.{length, ap, arith}
 use Rattle.plan_core.specs.declared.plan.Plan.{Plan}
 use Rattle.pegasus_cli.proofs.PlanLemmas.{site_is_place}
 use Rattle.pegasus_cli.proofs.commands.plan.peaks_of.Goals as goal
