@@ -1,8 +1,7 @@
 -- Lists of numbers, each once; tests of one more element.
-use Rattle.std.proofs.Common.{◌≡◌, ℕ, zero, suc, ◌||◌, ◌&&◌, Bool, true, false, cond, eqb, eqb-true, List, [], ◌∷◌, ◌++◌, ◌≤◌, ◌<◌, length, get_or, subst, take, refl, sym, ap, ◌∙◌, arith}
+use Rattle.std.proofs.Common.{◌≡◌, ℕ, zero, suc, ◌||◌, ◌&&◌, Bool, true, false, cond, eqb, eqb-true, List, [], ◌∷◌, ◌≤◌, ◌<◌, length, get_or, subst, take, refl, sym, ap, ◌∙◌, arith}
 use Rattle.std.specs.Prelude.{not, filter}
 use Rattle.std.specs.List.{list_any, list_all}
-use Rattle.std.proofs.lemmas.List.Folds.{list_any-append}
 use Rattle.lease_book.specs.State.{without}
 use Rattle.plan_core.specs.Numbers.{has}
 use Rattle.storage_simulation.specs.Following.{AreOnce, once}

@@ -6,6 +6,8 @@
 #[cfg(test)]
 mod cleans;
 #[cfg(test)]
+mod leases;
+#[cfg(test)]
 mod orders;
 #[cfg(test)]
 mod peaks;

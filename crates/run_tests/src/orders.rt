@@ -25,7 +25,7 @@ type Case = (&'static str, Sketch<'static>, Option<u64>, Said);
 
 /// Two jobs in a chain and a single one, at a site of bound 10. The first file is swept in the middle, deliveries have
 /// scores below 0, and the single job comes last.
-const CHAIN_BEFORE_SINGLE: Sketch<'static> = Sketch {
+pub const CHAIN_BEFORE_SINGLE: Sketch<'static> = Sketch {
     workflow: "w",
     sites: &[("pool", 10)],
     files: &[("a", Some(2)), ("p", Some(6)), ("t", Some(5))],

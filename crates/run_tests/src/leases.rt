@@ -1,0 +1,359 @@
+//! Runs of books, step by step.
+
+ghost use Rattle.std.specs.Prelude.{◌≡◌, ◌≤◌, true};
+ghost use Rattle.plan_core.specs.Proper.{IsProper};
+ghost use Rattle.plan_core.specs.Words.{retries};
+ghost use Rattle.storage_simulation.specs.Goods.{IsWithinLimits};
+
+use crate::orders::CHAIN_BEFORE_SINGLE;
+use crate::sketches::{DIAMOND_CLEANED, Does, Sketch, plan_of};
+use crate::storage::is_limited;
+use lease_book::{Book, Next};
+use outside::{Memory, Policy, SiteId, TaskId};
+use plan_core::{Plan, check};
+use run_record::{Cause, print};
+use std::alloc::Global;
+use std::test::Fail;
+use storage_simulation::order;
+
+/// One call, by worker, task and sizes.
+#[derive(Clone, Copy)]
+enum Step {
+    /// `next` answers this task.
+    Gets(u32, u32),
+    /// `next` answers that there is none yet.
+    Waits(u32),
+    /// `next` answers that the run has stopped.
+    Stops(u32),
+    Arrive(u32, u32, u64),
+    End(u32, u32, &'static [u64]),
+    Clean(u32, u32),
+    /// The host failed.
+    Fail(u32, u32, &'static [u64]),
+}
+
+/// A plan at a site with so many bytes, the steps of a run, and what the book tells in the end.
+#[derive(Clone, Copy)]
+struct Case {
+    name: &'static str,
+    sketch: Sketch<'static>,
+    retries: u32,
+    fresh: bool,
+    steps: &'static [Step],
+    record: &'static str,
+    rest: &'static [u32],
+    /// The bytes at the first site that are stored, and that are reserved.
+    used: (u64, u64),
+}
+
+fn gets(next: &Next, wanted: u32) -> bool {
+    match next {
+        Next::Task(task) => task.0 == wanted,
+        _ => false,
+    }
+}
+
+fn fails(book: &mut Book, worker: u32, task: TaskId, published: &[u64]) -> bool {
+    if worker >= 16 || !book.may_have_published(task, published) {
+        return false;
+    }
+    if !book.may_fail(worker, task) {
+        return false;
+    }
+    book.fail(worker, task, &Cause::HostFailed, published);
+    true
+}
+
+fn asks(book: &mut Book, worker: u32) -> Option<Next> {
+    if worker >= 16 {
+        return None;
+    }
+    Some(book.next(worker))
+}
+
+fn arrives(book: &mut Book, worker: u32, task: TaskId, size: u64) -> bool {
+    if !book.allows_arrive(worker, task, size) {
+        return false;
+    }
+    book.arrive(worker, task, size);
+    true
+}
+
+fn ends(book: &mut Book, worker: u32, task: TaskId, sizes: &[u64]) -> bool {
+    if !book.allows_end(worker, task, sizes) {
+        return false;
+    }
+    book.end(worker, task, sizes);
+    true
+}
+
+fn cleans(book: &mut Book, worker: u32, task: TaskId) -> bool {
+    if !book.allows_clean(worker, task) {
+        return false;
+    }
+    book.clean(worker, task);
+    true
+}
+
+/// Whether a step goes as it says.
+fn goes(book: &mut Book, step: &Step) -> bool {
+    match step {
+        Step::Gets(worker, task) => match asks(book, *worker) {
+            Some(next) => gets(&next, *task),
+            None => false,
+        },
+        Step::Waits(worker) => matches!(asks(book, *worker), Some(Next::NotYet)),
+        Step::Stops(worker) => matches!(asks(book, *worker), Some(Next::Stopped)),
+        Step::Arrive(worker, task, size) => arrives(book, *worker, TaskId(*task), *size),
+        Step::End(worker, task, sizes) => ends(book, *worker, TaskId(*task), sizes),
+        Step::Clean(worker, task) => cleans(book, *worker, TaskId(*task)),
+        Step::Fail(worker, task, published) => fails(book, *worker, TaskId(*task), published),
+    }
+}
+
+fn has_rest(book: &Book, rest: &[u32]) -> bool {
+    for (k, wanted) in rest.iter().enumerate() {
+        match book.rest_task(k) {
+            Some(task) => {
+                if task.0 != *wanted {
+                    return false;
+                }
+            }
+            None => return false,
+        }
+    }
+    book.rest_task(rest.len()).is_none()
+}
+
+fn goes_on(alloc: Global, book: &mut Book, case: &Case) -> Result<bool, Memory> {
+    for step in case.steps {
+        if !goes(book, step) {
+            return Ok(false);
+        }
+    }
+    let text = print(alloc, book.record())?;
+    if text.as_slice() != case.record.as_bytes() || !has_rest(book, case.rest) {
+        return Ok(false);
+    }
+    Ok(book.stored(SiteId(0)) == case.used.0 && book.reserved(SiteId(0)) == case.used.1)
+}
+
+/// A book of the plan's order.
+fn book_of(alloc: Global, plan: Plan) -> Result<Option<Book>, Memory>
+    requires proper { IsProper plan }
+    requires limits { IsWithinLimits plan }
+    requires retries { retries plan ≤ 10 }
+{
+    match order(alloc, plan) {
+        Ok(ordered) => Ok(Some(Book::open(alloc, &ordered)?)),
+        Err(_) => Ok(None),
+    }
+}
+
+fn is_right(alloc: Global, case: &Case) -> Result<bool, Memory> {
+    let policy = Policy {
+        retries: case.retries,
+        fresh: case.fresh,
+        output: None,
+    };
+    let plan = plan_of(alloc, &case.sketch, policy)?;
+    let proper = check(alloc, &plan)?;
+    if !proper || !is_limited(&plan) || plan.retries() > 10 {
+        return Ok(false);
+    }
+    match book_of(alloc, plan)? {
+        Some(mut book) => goes_on(alloc, &mut book, case),
+        None => Ok(false),
+    }
+}
+
+/// The diamond's first job has made its files, the transferred file is gone, and a second worker asks.
+const WAITS_AT_30: Case = Case {
+    name: "waits at 30",
+    sketch: DIAMOND_CLEANED,
+    retries: 0,
+    fresh: false,
+    steps: &[
+        Step::Gets(0, 4),
+        Step::Waits(1),
+        Step::Arrive(0, 4, 10),
+        Step::Gets(0, 0),
+        Step::End(0, 0, &[10, 10]),
+        Step::Gets(0, 6),
+        Step::Clean(0, 6),
+        Step::Gets(0, 1),
+        Step::Waits(1),
+    ],
+    record: "record 1\ngrant 0 4\narrive 0 4 10\ngrant 0 0\nend 0 0 10 10\nclean 0 6\ngrant 0 1\nclosed\n",
+    rest: &[7, 2, 8, 3, 9, 10, 5, 11],
+    used: (20, 10),
+};
+
+const LEASES_AT_40: Case = Case {
+    name: "leases at 40",
+    sketch: Sketch {
+        sites: &[("condorpool", 40)],
+        ..DIAMOND_CLEANED
+    },
+    steps: &[
+        Step::Gets(0, 4),
+        Step::Arrive(0, 4, 10),
+        Step::Gets(0, 0),
+        Step::End(0, 0, &[10, 10]),
+        Step::Gets(0, 6),
+        Step::Clean(0, 6),
+        Step::Gets(0, 1),
+        Step::Gets(1, 2),
+    ],
+    record: "record 1\ngrant 0 4\narrive 0 4 10\ngrant 0 0\nend 0 0 10 10\nclean 0 6\ngrant 0 1\ngrant 1 2\nclosed\n",
+    rest: &[7, 8, 3, 9, 10, 5, 11],
+    used: (20, 20),
+    ..WAITS_AT_30
+};
+
+/// One of the files is 4 bytes long.
+const SMALL_END: Case = Case {
+    name: "small end leaves room",
+    sketch: Sketch {
+        sites: &[("condorpool", 36)],
+        ..DIAMOND_CLEANED
+    },
+    steps: &[
+        Step::Gets(0, 4),
+        Step::Arrive(0, 4, 10),
+        Step::Gets(0, 0),
+        Step::End(0, 0, &[4, 10]),
+        Step::Gets(0, 6),
+        Step::Clean(0, 6),
+        Step::Gets(0, 1),
+        Step::Gets(1, 2),
+    ],
+    record: "record 1\ngrant 0 4\narrive 0 4 10\ngrant 0 0\nend 0 0 4 10\nclean 0 6\ngrant 0 1\ngrant 1 2\nclosed\n",
+    used: (14, 20),
+    ..LEASES_AT_40
+};
+
+const LARGE_END: Case = Case {
+    name: "large end leaves none",
+    sketch: Sketch {
+        sites: &[("condorpool", 36)],
+        ..DIAMOND_CLEANED
+    },
+    ..WAITS_AT_30
+};
+
+/// Two chains of two jobs each, with their deliveries and Cleans.
+const TWO_CHAINS: Case = Case {
+    name: "two chains in order",
+    sketch: Sketch {
+        workflow: "chains",
+        sites: &[("pool", 10)],
+        files: &[
+            ("f1", Some(4)),
+            ("f2", Some(5)),
+            ("g1", Some(4)),
+            ("g2", Some(5)),
+        ],
+        jobs: &[
+            ("A", Some(0), &[], &[0]),
+            ("B", Some(0), &[0], &[1]),
+            ("C", Some(0), &[], &[2]),
+            ("D", Some(0), &[2], &[3]),
+        ],
+        pairs: &[(0, 0), (0, 1), (0, 2), (0, 3)],
+        tasks: &[
+            (Does::Run(0, &[0]), &[], &[0], &[]),
+            (Does::Run(0, &[2]), &[], &[2], &[]),
+            (Does::Run(0, &[1]), &[0], &[1], &[0]),
+            (Does::Run(0, &[3]), &[2], &[3], &[1]),
+            (Does::Deliver(1, 0), &[1], &[], &[2]),
+            (Does::Deliver(3, 0), &[3], &[], &[3]),
+            (Does::Clean(0), &[], &[], &[0, 2]),
+            (Does::Clean(1), &[], &[], &[2, 4]),
+            (Does::Clean(2), &[], &[], &[1, 3]),
+            (Does::Clean(3), &[], &[], &[3, 5]),
+        ],
+    },
+    steps: &[Step::Gets(0, 0), Step::Waits(1)],
+    record: "record 1\ngrant 0 0\nclosed\n",
+    rest: &[2, 6, 4, 7, 1, 3, 8, 5, 9],
+    used: (0, 4),
+    ..WAITS_AT_30
+};
+
+const CLEAN_FAILS_TWICE: Case = Case {
+    name: "clean fails twice",
+    retries: 1,
+    steps: &[
+        Step::Gets(0, 4),
+        Step::Arrive(0, 4, 8),
+        Step::Gets(0, 0),
+        Step::End(0, 0, &[4, 4]),
+        Step::Gets(0, 6),
+        Step::Fail(0, 6, &[]),
+        Step::Gets(0, 6),
+        Step::Fail(0, 6, &[]),
+        Step::Stops(1),
+    ],
+    record: "record 2\ngrant 0 4\narrive 0 4 8\ngrant 0 0\nend 0 0 4 4\nagain 0 6 hostfailed\nfail 0 6 hostfailed\nclosed\n",
+    rest: &[6, 1, 7, 2, 8, 3, 9, 10, 5, 11],
+    used: (16, 0),
+    ..WAITS_AT_30
+};
+
+const PUBLISH_TRIED_AGAIN: Case = Case {
+    name: "publish tried again",
+    steps: &[
+        Step::Gets(0, 4),
+        Step::Arrive(0, 4, 8),
+        Step::Gets(0, 0),
+        Step::Fail(0, 0, &[4]),
+        Step::Gets(1, 0),
+        Step::End(1, 0, &[4, 4]),
+    ],
+    record: "record 2\ngrant 0 4\narrive 0 4 8\ngrant 0 0\nagain 0 0 hostfailed 4\ngrant 1 0\nend 1 0 4 4\nclosed\n",
+    ..CLEAN_FAILS_TWICE
+};
+
+/// The single job's file would fit now, but then not what the chain makes.
+const KEPT_ORDER: Case = Case {
+    name: "kept order waits",
+    sketch: CHAIN_BEFORE_SINGLE,
+    steps: &[Step::Gets(0, 0), Step::Waits(1)],
+    record: "record 1\ngrant 0 0\nclosed\n",
+    rest: &[2, 5, 3, 6, 1, 4, 7],
+    used: (0, 2),
+    ..WAITS_AT_30
+};
+
+const FRESH_ORDER: Case = Case {
+    name: "fresh order goes on",
+    fresh: true,
+    steps: &[Step::Gets(0, 0), Step::Gets(1, 1)],
+    record: "record 2\ngrant 0 0\nregrant 1 1\nclosed\n",
+    rest: &[4, 7, 2, 5, 3, 6],
+    used: (0, 7),
+    ..KEPT_ORDER
+};
+
+const CASES: [Case; 9] = [
+    WAITS_AT_30,
+    LEASES_AT_40,
+    SMALL_END,
+    LARGE_END,
+    TWO_CHAINS,
+    CLEAN_FAILS_TWICE,
+    PUBLISH_TRIED_AGAIN,
+    KEPT_ORDER,
+    FRESH_ORDER,
+];
+
+#[test]
+fn books_go_on(rt: HostRuntime) -> Result<(), Fail> {
+    let alloc = rt.alloc();
+    for case in &CASES {
+        let name = case.name;
+        assert!(rt; is_right(alloc, case)?, "{name}");
+    }
+    Ok(())
+}
