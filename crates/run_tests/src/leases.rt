@@ -169,7 +169,7 @@ fn is_right(alloc: Global, case: &Case) -> Result<bool, Memory> {
 
 /// The diamond's first job has made its files, the transferred file is gone, and a second worker asks.
 const WAITS_AT_30: Case = Case {
-    name: "waits at 30",
+    name: "book_waits_at_30",
     sketch: DIAMOND_CLEANED,
     retries: 0,
     fresh: false,
@@ -190,7 +190,7 @@ const WAITS_AT_30: Case = Case {
 };
 
 const LEASES_AT_40: Case = Case {
-    name: "leases at 40",
+    name: "book_leases_at_40",
     sketch: Sketch {
         sites: &[("condorpool", 40)],
         ..DIAMOND_CLEANED
@@ -213,7 +213,7 @@ const LEASES_AT_40: Case = Case {
 
 /// One of the files is 4 bytes long.
 const SMALL_END: Case = Case {
-    name: "small end leaves room",
+    name: "small_end_leaves_room",
     sketch: Sketch {
         sites: &[("condorpool", 36)],
         ..DIAMOND_CLEANED
@@ -234,7 +234,7 @@ const SMALL_END: Case = Case {
 };
 
 const LARGE_END: Case = Case {
-    name: "large end leaves none",
+    name: "small_end_leaves_room, the other size",
     sketch: Sketch {
         sites: &[("condorpool", 36)],
         ..DIAMOND_CLEANED
@@ -244,7 +244,7 @@ const LARGE_END: Case = Case {
 
 /// Two chains of two jobs each, with their deliveries and Cleans.
 const TWO_CHAINS: Case = Case {
-    name: "two chains in order",
+    name: "two_chains_in_order",
     sketch: Sketch {
         workflow: "chains",
         sites: &[("pool", 10)],
@@ -282,7 +282,7 @@ const TWO_CHAINS: Case = Case {
 };
 
 const CLEAN_FAILS_TWICE: Case = Case {
-    name: "clean fails twice",
+    name: "clean_fails_twice",
     retries: 1,
     steps: &[
         Step::Gets(0, 4),
@@ -302,7 +302,7 @@ const CLEAN_FAILS_TWICE: Case = Case {
 };
 
 const PUBLISH_TRIED_AGAIN: Case = Case {
-    name: "publish tried again",
+    name: "publish_tried_again",
     steps: &[
         Step::Gets(0, 4),
         Step::Arrive(0, 4, 8),
@@ -317,7 +317,7 @@ const PUBLISH_TRIED_AGAIN: Case = Case {
 
 /// The single job's file would fit now, but then not what the chain makes.
 const KEPT_ORDER: Case = Case {
-    name: "kept order waits",
+    name: "kept_order_waits",
     sketch: CHAIN_BEFORE_SINGLE,
     steps: &[Step::Gets(0, 0), Step::Waits(1)],
     record: "record 1\ngrant 0 0\nclosed\n",
@@ -327,7 +327,7 @@ const KEPT_ORDER: Case = Case {
 };
 
 const FRESH_ORDER: Case = Case {
-    name: "fresh order goes on",
+    name: "fresh_order_goes_on",
     fresh: true,
     steps: &[Step::Gets(0, 0), Step::Gets(1, 1)],
     record: "record 2\ngrant 0 0\nregrant 1 1\nclosed\n",
