@@ -1,5 +1,5 @@
 -- The search for the task of a fresh order.
-use Rattle.std.proofs.Common.{◌≡◌, ℕ, zero, suc, ◌+◌, ◌-◌, ◌<◌, inl, inr, List, [], ◌∷◌, length, drop, get_or, refl, ap, subst, ◌∙◌, arith, true}
+use Rattle.std.proofs.Common.{◌≡◌, ℕ, zero, suc, ◌+◌, ◌-◌, ◌<◌, inl, inr, List, [], ◌∷◌, length, drop, get_or, refl, sym, ap, subst, ◌∙◌, arith, true}
 use Rattle.std.specs.Prelude.{Some, None, is_some, ◌⊎◌}
 use Rattle.lease_book.specs.Choice.{IsCandidate, IsFreshAmong}
 use Rattle.lease_book.specs.State.{State, order_with}
@@ -81,3 +81,6 @@ skip_at p s n k t l m at none left = fresh_skip p s n k l m (subst (λ (u : ℕ)
 
 pub pass_at : (p : Plan) (s : State) (n k t : ℕ) → k < length s.rest → 0 < n → t ≡ get_or s.rest k 0 → IsCandidate p s t → order_with p s t ≡ None → FreshLeft p s n k → FreshLeft p s (n - 1) (k + 1)
 pass_at p s n k t l m at can none left = fresh_pass p s n k l m (subst (λ (u : ℕ). IsCandidate p s u) at can) (subst (λ (u : ℕ). order_with p s u ≡ None) at none) left
+
+pub found_at : (p : Plan) (s : State) (n k t : ℕ) (ts : List ℕ) → k < length s.rest → 0 < n → t ≡ get_or s.rest k 0 → IsCandidate p s t → order_with p s t ≡ Some ts → FreshLeft p s n k → IsFreshAmong p s 4 s.rest t
+found_at p s n k t ts l m at can some left = subst (λ (u : ℕ). IsFreshAmong p s 4 s.rest u) (sym at) (fresh_found p s n k ts l m (subst (λ (u : ℕ). IsCandidate p s u) at can) (subst (λ (u : ℕ). order_with p s u ≡ Some ts) at some) left)

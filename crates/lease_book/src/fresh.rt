@@ -3,7 +3,8 @@
 ghost use Rattle.std.specs.Prelude.{◌≡◌, [], ℕ, true, false, None, Some, MatchOption};
 ghost use Rattle.plan_core.specs.Proper.{IsProper};
 ghost use Rattle.storage_simulation.specs.Goods.{IsWithinLimits};
-ghost use Rattle.storage_simulation.specs.Bench.{IsFor, front_of};
+ghost use Rattle.storage_simulation.specs.Bench.{IsFor};
+ghost use Rattle.storage_simulation.specs.Front.{front_of};
 ghost use Rattle.lease_book.specs.Choice.{HasNoChoice, IsCandidate, IsFresh, IsFreshAmong};
 ghost use Rattle.lease_book.specs.Law.{HasStorageLaws, IsSoundState};
 ghost use Rattle.lease_book.specs.RunState.{HasRoom, state_of};
@@ -27,7 +28,7 @@ fn has_order(plan: &Plan, state: &RunState, trial: &Trial, bench: &mut Bench, ta
     requires candidate { IsCandidate plan.now (state_of state.now) task }
     requires tried { IsTrialWithin plan.now (state_of state.now) task trial.now }
     requires bench { IsFor plan.now bench.old }
-    ensures gives { result ≡ true → order_with plan.now (state_of state.now) task ≡ Some (front_of bench.new) }
+    ensures gives { result ≡ true → order_with plan.now (state_of state.now) task ≡ Some (front_of bench.new.front) }
     ensures none { result ≡ false → order_with plan.now (state_of state.now) task ≡ None }
     ensures bench { IsFor plan.now bench.new }
 {
@@ -55,7 +56,7 @@ fn first_with_order(
     requires place { HasPlace plan.now trial.old }
     requires bench { IsFor plan.now bench.old }
     ensures among { MatchOption result ((t : ℕ) → IsFreshAmong plan.now (state_of state.now) 4 (state_of state.now).rest t → ⊥) (λ t. IsFreshAmong plan.now (state_of state.now) 4 (state_of state.now).rest t) }
-    ensures order { MatchOption result (Unit {0}) (λ t. order_with plan.now (state_of state.now) t ≡ Some (front_of bench.new)) }
+    ensures order { MatchOption result (Unit {0}) (λ t. order_with plan.now (state_of state.now) t ≡ Some (front_of bench.new.front)) }
     ensures place { HasPlace plan.now trial.new }
     ensures bench { IsFor plan.now bench.new }
 {
@@ -93,7 +94,7 @@ pub(crate) fn fresh_task(
     requires unfailed { (state_of state.now).failing ≡ false }
     requires no_choice { HasNoChoice plan.now (state_of state.now) }
     ensures fresh { MatchOption result ((t : ℕ) → IsFresh plan.now (state_of state.now) t → ⊥) (λ t. IsFresh plan.now (state_of state.now) t) }
-    ensures order { MatchOption result (Unit {0}) (λ t. order_with plan.now (state_of state.now) t ≡ Some (front_of bench.new)) }
+    ensures order { MatchOption result (Unit {0}) (λ t. order_with plan.now (state_of state.now) t ≡ Some (front_of bench.new.front)) }
     ensures place { HasPlace plan.now trial.new }
     ensures bench { IsFor plan.now bench.new }
 {

@@ -3,7 +3,7 @@
 ghost use Rattle.std.specs.Prelude.{◌≡◌, ◌<◌, ◌++◌, [], ◌∷◌, false, Some};
 ghost use Rattle.plan_core.specs.Words.{task_numbers};
 ghost use Rattle.run_record.specs.Events.{Grant, Regrant};
-ghost use Rattle.storage_simulation.specs.Bench.{front_of};
+ghost use Rattle.storage_simulation.specs.Front.{front_of};
 ghost use Rattle.lease_book.specs.Book.{IsNext, state_at};
 ghost use Rattle.lease_book.specs.Choice.{HasNoChoice};
 ghost use Rattle.lease_book.specs.Legal.{Allowed};
@@ -41,7 +41,7 @@ impl Book {
 
     fn regrant(&mut self, worker: u32, task: u32)
         requires allowed { Allowed self.old.plan (state_of self.old.state) (Regrant worker task) }
-        requires order { order_with self.old.plan (state_of self.old.state) task ≡ Some (front_of self.old.bench) }
+        requires order { order_with self.old.plan (state_of self.old.state) task ≡ Some (front_of self.old.bench.front) }
         ensures history { self.new.history.events ≡ self.old.history.events ++ Regrant worker task ∷ [] }
         ensures plan { self.new.plan ≡ self.old.plan }
         ensures order { self.new.order ≡ self.old.order }

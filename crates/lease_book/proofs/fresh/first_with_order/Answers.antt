@@ -3,8 +3,9 @@ use Rattle.outside.specs.declared.numbers.TaskId.{TaskId}
 use Rattle.plan_core.specs.Words.{task_numbers}
 use Rattle.storage_simulation.specs.declared.bench.Bench.{Bench}
 use Rattle.storage_simulation.specs.Bench.{IsFor}
+use Rattle.storage_simulation.specs.Front.{front_of}
 use Rattle.lease_book.specs.RunState.{state_of}
-use Rattle.lease_book.proofs.FreshLemmas.{FreshLeft, fresh_spent, pass_at, skip_at}
+use Rattle.lease_book.proofs.FreshLemmas.{FreshLeft, found_at, fresh_spent, pass_at, skip_at}
 use Rattle.lease_book.proofs.fresh.first_with_order.Goals.{then-is_candidate+else-has_order, else-is_candidate}
 use Rattle.lease_book.proofs.fresh.first_with_order.Goals as goal
 
@@ -29,3 +30,14 @@ loop-k-preserved c =
         | else-is_candidate w ↦ subst (λ (b : Bench). IsFor c.args.plan.now b) (sym w.bench-is) c.loop-k.invariant.bench
       ];
     }
+
+pub returns-then-has_order-clause-among : goal.returns-then-has_order-clause-among
+returns-then-has_order-clause-among c =
+    let rest = c.as_slice-rest.ensures.value in
+    let at : c.task_at-task.result ≡ get_or (task_numbers c.args.state.now.rest.items) c.loop-k.k 0 = c.task_at-task.ensures ∙ ap (λ (xs : List TaskId). get_or (task_numbers xs) c.loop-k.k 0) rest in
+    let same = ap (λ (xs : List TaskId). length (task_numbers xs)) rest in
+    let test = c.loop-k-test.true in
+    let below : c.loop-k.k < length (task_numbers c.args.state.now.rest.items) = omega (arith, same, test, c.count_left-k-end.ensures.value) in
+    let some : 0 < c.loop-k.left = (let ne = c.if-left-eq0.false in omega (arith, ne)) in
+    found_at c.args.plan.now (state_of c.args.state.now) c.loop-k.left c.loop-k.k c.task_at-task.result (front_of c.has_order.new.bench.front) below some at
+    (c.if-is_candidate.ensures.value.0 refl) (c.if-has_order.ensures.gives refl) c.loop-k.invariant.left

@@ -25,6 +25,6 @@ regrant-requires-clause-task c = regrant_task c.args.self.now.plan (state_of c.a
 
 pub regrant-requires-clause-few : goal.regrant-requires-clause-few
 regrant-requires-clause-few c =
-    let short = regrant_short c.args.self.now.plan (state_of c.args.self.now.state) c.args.worker c.args.task (task_numbers c.args.self.now.bench.placed.items) c.args.self.now.kept.laws c.args.self.now.kept.consistent.sound c.requires.allowed c.requires.order in
-    let count = count_tasks_in c.args.self.now.bench.placed.items in
+    let short = regrant_short c.args.self.now.plan (state_of c.args.self.now.state) c.args.worker c.args.task (task_numbers c.args.self.now.bench.front.placed.items) c.args.self.now.kept.laws c.args.self.now.kept.consistent.sound c.requires.allowed c.requires.order in
+    let count = count_tasks_in c.args.self.now.bench.front.placed.items in
     rw c.tasks.ensures (omega (arith, short, count))
