@@ -15,7 +15,8 @@ use Rattle.dependency_graph.proofs.ValueLemmas.{Makes, among_below, any_in, edge
 use Rattle.dependency_graph.specs.Edges.{edge, has_output, is_among, is_paired, makers, makers_from, producer, read_by, written_by}
 use Rattle.dependency_graph.specs.Flow.{FlowsAlong, is_base, is_there, is_written}
 use Rattle.dependency_graph.specs.Graph.{IsGraphOf, IsSound, Links, numbers}
-use Rattle.dependency_graph.specs.Value.{Basis, all_of, base_at, made_by, part, run_of, tool_at, tool_for, value}
+use Rattle.dependency_graph.specs.Value.{Basis, base_at, made_by, run_of, tool_at, tool_for, value}
+use Rattle.outside.specs.Tool.{all_of, part}
 use Rattle.digraph.specs.Adjacency.{has, times}
 
 -- who makes an input comes before

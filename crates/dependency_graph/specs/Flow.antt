@@ -6,7 +6,8 @@ use Rattle.workflow_core.specs.declared.workflow.Workflow.{Workflow}
 use Rattle.workflow_core.specs.declared.workflow.Job.{Job}
 use Rattle.workflow_core.specs.WellFormed.{outputs_of}
 use Rattle.dependency_graph.specs.Edges.{is_among, has_output, producer, read_by, written_by}
-use Rattle.dependency_graph.specs.Value.{Basis, base_at, part, tool_at, value, made_by}
+use Rattle.dependency_graph.specs.Value.{Basis, base_at, tool_at, value, made_by}
+use Rattle.outside.specs.Tool.{part}
 
 -- one of these jobs makes the file
 abbrev pub is_written : Workflow → List JobId → ℕ → Bool

@@ -1,6 +1,6 @@
 -- The value of a file: its base where no job makes it, else what its producer makes of the values of the producer's inputs.
 use Rattle.std.specs.Prelude.{◌≡◌, ℕ, zero, suc, ◌<◌, ◌==◌, true, false, List, [], ◌∷◌, length, map, if◌then◌else◌, Option, Some, None, is_some, option_map, option_and_then, slice_index_or}
-use Rattle.outside.specs.Tool.{Apply}
+use Rattle.outside.specs.Tool.{Apply, all_of, part}
 use Rattle.workflow_core.specs.declared.workflow.Workflow.{Workflow}
 use Rattle.workflow_core.specs.declared.workflow.Job.{Job}
 use Rattle.workflow_core.specs.WellFormed.{inputs_of, outputs_of}
@@ -28,17 +28,6 @@ abbrev pub tool_for : List Job → List (List ℕ) → ℕ → List ℕ
 tool_for [] tools f = []
 tool_for (j ∷ js) [] f = []
 tool_for (j ∷ js) (t ∷ tools) f = if has_output f j then t else tool_for js tools f
-
--- the output that belongs to a file
-abbrev pub part : ℕ → List ℕ → List (List ℕ) → Option (List ℕ)
-part f [] vs = None
-part f (o ∷ os) [] = None
-part f (o ∷ os) (v ∷ vs) = if o == f then Some v else part f os vs
-
--- all of them, if each is there
-abbrev pub all_of : List (Option (List ℕ)) → Option (List (List ℕ))
-all_of [] = Some []
-all_of (x ∷ xs) = option_and_then (λ v. option_map (λ vs. v ∷ vs) (all_of xs)) x
 
 -- what a job makes of its inputs with a tool
 abbrev pub run_of : Apply → List ℕ → Job → Option (List (List ℕ)) → Option (List (List ℕ))

@@ -6,7 +6,8 @@ use Rattle.outside.specs.Counts.{Rose}
 use Rattle.outside.specs.declared.numbers.JobId.{JobId}
 use Rattle.workflow_core.specs.declared.workflow.Workflow.{Workflow}
 use Rattle.workflow_core.specs.declared.workflow.Job.{Job}
-use Rattle.dependency_graph.specs.Value.{Basis, all_of, made_by, tool_at, value}
+use Rattle.dependency_graph.specs.Value.{Basis, made_by, tool_at, value}
+use Rattle.outside.specs.Tool.{all_of}
 use Rattle.dependency_graph.specs.Flow.{FlowsAlong, is_there}
 use Rattle.workflow_eval.specs.declared.fault.EvalFault.{EvalFault}
 use Rattle.workflow_eval.specs.declared.fault.EvalFault.TheVariants.{Declined, ToolFailed, Memory}
