@@ -1,8 +1,8 @@
 -- A proper plan with Cleans is proper, and its tasks carry the same.
-use Rattle.std.proofs.Common.{◌≡◌, ℕ, zero, suc, ◌+◌, ◌<◌, ◌≤◌, ◌^◌, Bool, true, false, cond, ◌||◌, ◌&&◌, nat_eq, nat_lt, List, [], ◌∷◌, ◌++◌, map, refl, sym, ap, subst, ◌∙◌, arith}
+use Rattle.std.proofs.Common.{◌≡◌, ℕ, zero, suc, ◌+◌, ◌<◌, ◌≤◌, ◌^◌, Bool, true, false, cond, ◌||◌, ◌&&◌, nat_eq, nat_lt, List, [], ◌∷◌, ◌++◌, map, refl, sym, ap, subst, ◌∙◌, arith, ◌⊎◌, inl, inr}
 use Rattle.std.specs.Prelude.{Option, Some, None, slice_get, option_and_then}
 use Rattle.std.specs.List.{list_all, list_any}
-use Rattle.std.proofs.lemmas.Bool.{eqb-true}
+use Rattle.std.proofs.lemmas.Bool.{cases_lt, eqb-true}
 use Rattle.std.proofs.Math.Bool.{or-true}
 use Rattle.std.proofs.lemmas.Option.{slice_get_past}
 use Rattle.outside.specs.Tool.{Apply}
@@ -302,3 +302,14 @@ cleans_nothing p t f l = by (standing p t)
     by (Old m e) = absurd (omega (arith, l, m))
     by (New n m i e) = none (Some (clean_of p n).kind) (kind_is p t (Some (clean_of p n)) e) refl
     by (Past m e) = none None (kind_is p t None e) refl
+
+-- what holds of what a plan's tasks carry holds with Cleans
+pub cleaned_means : ((apply : Apply) (told : Bytes → Option Bytes) (p : Plan) → IsProper p → HasNoClean p → count_tasks p + count_pairs p < 2 ^ 32 → (t f : ℕ) → t < count_tasks p → carried apply told (with_cleans p) t f ≡ carried apply told p t f)
+    → ((p : Plan) (t f : ℕ) → count_tasks p ≤ t → carries (with_cleans p) t f ≡ false)
+    → (apply : Apply) (told : Bytes → Option Bytes) (value : ℕ → Option Bytes) (p : Plan) → IsProper p → HasNoClean p → count_tasks p + count_pairs p < 2 ^ 32
+    → ((t f : ℕ) → carries p t f ≡ true → carried apply told p t f ≡ value f) → (t f : ℕ) → carries (with_cleans p) t f ≡ true → carried apply told (with_cleans p) t f ≡ value f
+cleaned_means same nothing apply told value p proper none few means t f h = by (cases_lt t (count_tasks p))
+  where
+    by : (t < count_tasks p) ⊎ (count_tasks p ≤ t) → carried apply told (with_cleans p) t f ≡ value f
+    by (inl l) = same apply told p proper none few t f l ∙ means t f (ap (λ (o : Option TaskKind). kind_carries p.jobs o f) (sym (old_kind p t l)) ∙ h)
+    by (inr l) = absurd (let e : false ≡ true = sym (nothing p t f l) ∙ h in cc)

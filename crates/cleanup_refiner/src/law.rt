@@ -1,6 +1,6 @@
 //! What a plan with Cleans comes to.
 
-ghost use Rattle.std.specs.Prelude.{◌≡◌, ◌<◌, ◌≤◌, ◌+◌, ◌^◌, ℕ, Option, false};
+ghost use Rattle.std.specs.Prelude.{◌≡◌, ◌<◌, ◌≤◌, ◌+◌, ◌^◌, ℕ, Option, false, true};
 ghost use Rattle.outside.specs.Tool.{Apply};
 ghost use Rattle.plan_core.specs.declared.plan.Plan.{Plan};
 ghost use Rattle.plan_core.specs.Kinds.{carries};
@@ -31,3 +31,12 @@ pub fn cleaned_plan_carries_the_same()
 pub fn cleans_carry_nothing()
     ensures { (p : Plan) (t f : ℕ) → count_tasks p ≤ t → carries (with_cleans p) t f ≡ false }
 {}
+
+/// Where the tasks of a proper plan carry the values of their files, they do so with Cleans.
+pub fn cleaned_plan_means_the_same()
+    ensures { (apply : Apply) (told : Bytes → Option Bytes) (value : ℕ → Option Bytes) (p : Plan) → IsProper p → HasNoClean p → count_tasks p + count_pairs p < 2 ^ 32
+        → ((t f : ℕ) → carries p t f ≡ true → carried apply told p t f ≡ value f) → (t f : ℕ) → carries (with_cleans p) t f ≡ true → carried apply told (with_cleans p) t f ≡ value f }
+{
+    cleaned_plan_carries_the_same();
+    cleans_carry_nothing();
+}

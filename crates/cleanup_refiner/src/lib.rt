@@ -8,4 +8,7 @@ mod law;
 mod touching;
 
 pub use cleans::{CleanRefused, add_cleans};
-pub use law::{cleaned_plan_carries_the_same, cleaned_plan_is_proper, cleans_carry_nothing};
+pub use law::{
+    cleaned_plan_carries_the_same, cleaned_plan_is_proper, cleaned_plan_means_the_same,
+    cleans_carry_nothing,
+};

@@ -9,7 +9,8 @@ use Rattle.dependency_graph.specs.Edges.{is_among}
 use Rattle.dependency_graph.specs.Levels.{is_kept}
 use Rattle.dependency_graph.specs.Ranking.{AreOnce, IsRanked}
 use Rattle.dependency_graph.proofs.TestLemmas.{or_left, or_right, by_bool, itself}
-use Rattle.clustering.specs.Singles.{AreDistinctJobs, job_numbers}
+use Rattle.workflow_core.specs.declared.clusters.Clusters.{Clusters}
+use Rattle.clustering.specs.Singles.{AreDistinctJobs, AreSingles, job_numbers, single, singles}
 
 -- equality of numbers, either way round
 turned : (a b : ℕ) → eqb a b ≡ eqb b a
@@ -60,3 +61,15 @@ ranked_distinct kept levels js ranked = record {
 
 pub ranked_kept : (kept : List Bool) (levels : List ℕ) (js : List JobId) → IsRanked kept levels (job_numbers js) → (n : ℕ) (j : JobId) → slice_get js n ≡ Some j → is_kept kept j.0 ≡ true
 ranked_kept kept levels js ranked n j h = sym (ranked.kept_ones j.0) ∙ among_at js n j h
+
+-- who is among the jobs is in a cluster
+in_single : (a : ℕ) (js : List JobId) → is_among a (job_numbers js) ≡ true → list_any (λ (part : List JobId). is_among a (job_numbers part)) (singles js) ≡ true
+in_single a [] h = absurd cc
+in_single a (j ∷ js) h = by_bool (eqb j.0 a)
+    (λ e. or_left (is_among a (job_numbers (single j))) (list_any (λ (part : List JobId). is_among a (job_numbers part)) (singles js)) (or_left (eqb j.0 a) false e))
+    (λ e. or_right (is_among a (job_numbers (single j))) (list_any (λ (part : List JobId). is_among a (job_numbers part)) (singles js)) (in_single a js (ap (λ (b : Bool). b || is_among a (job_numbers js)) (sym e) ∙ h)))
+
+pub kept_clustered : (kept : List Bool) (levels : List ℕ) (c : Clusters) → AreSingles kept levels c → (a : ℕ) → is_kept kept a ≡ true → list_any (λ (js : List JobId). is_among a (job_numbers js)) c.parts ≡ true
+kept_clustered kept levels c are a h =
+    ap (list_any (λ (js : List JobId). is_among a (job_numbers js))) are.parts
+    ∙ in_single a are.jobs (are.ranked.kept_ones a ∙ h)

@@ -5,5 +5,5 @@
 mod law;
 mod singles;
 
-pub use law::ranked_jobs_are_distinct;
+pub use law::{kept_jobs_are_clustered, ranked_jobs_are_distinct};
 pub use singles::cluster;

@@ -36,7 +36,7 @@ written_below p t s f h = by (cases_lt t (count_tasks p))
     by (inr l) = absurd (let e : false ≡ true = sym (ap (λ (o : Option TaskKind). kind_writes p.jobs o s f) (no_kind p t l)) ∙ h in cc)
 
 -- who writes what a task reads is its parent
-pub read_from_parent : (p : Plan) → IsProper p → (t s f u : ℕ) → reads_file p t s f ≡ true → writer p s f ≡ Some u → is_parent p u t ≡ true
+read_from_parent : (p : Plan) → IsProper p → (t s f u : ℕ) → reads_file p t s f ≡ true → writer p s f ≡ Some u → is_parent p u t ≡ true
 unfolding writer waits_for reads writes kind
 read_from_parent p proper t s f u reads_it is_writer =
     let pair = read_stands p proper t s f reads_it in
@@ -45,13 +45,18 @@ read_from_parent p proper t s f u reads_it is_writer =
     (proper.flow.parents t).needed u (or_left (list_any (λ q. has (writes p u) q) (reads p t)) (sweeps (kind p t) (writes p u) || sweeps (kind p t) (reads p u)) waits)
 
 -- what a proper plan's tasks read has a writer
-pub is_written : (p : Plan) → IsProper p → (t s f : ℕ) → reads_file p t s f ≡ true → (u : ℕ) × (writer p s f ≡ Some u) × (writes_file p u s f ≡ true)
+is_written : (p : Plan) → IsProper p → (t s f : ℕ) → reads_file p t s f ≡ true → (u : ℕ) × (writer p s f ≡ Some u) × (writes_file p u s f ≡ true)
 unfolding writer
 is_written p proper t s f reads_it =
     let pair = read_stands p proper t s f reads_it in
     let has_one = has_file_writer p proper pair.0 s f pair.1 in
     let found = some_least (count_tasks p) (λ x. writes_file p x s f) has_one.0 (written_below p has_one.0 s f has_one.1) has_one.1 in
     (found.0, found.1, (least_passes (count_tasks p) (λ x. writes_file p x s f) found.0 found.1).1)
+
+pub parent_writes : (p : Plan) → IsProper p → (t s f : ℕ) → reads_file p t s f ≡ true → (u : ℕ) × (writer p s f ≡ Some u) × (writes_file p u s f ≡ true) × (is_parent p u t ≡ true)
+parent_writes p proper t s f reads_it =
+    let found = is_written p proper t s f reads_it in
+    (found.0, found.1, found.2, read_from_parent p proper t s f found.0 reads_it found.1)
 
 read_same : (p : Plan) → IsProper p → (c d : ℕ → ℕ → Option Bytes) (t : ℕ) → ((u : ℕ) → is_parent p u t ≡ true → (g : ℕ) → c u g ≡ d u g) → (s f : ℕ) → read p c t s f ≡ read p d t s f
 read_same p proper c d t same s f = by (reads_file p t s f) refl

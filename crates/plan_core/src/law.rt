@@ -4,7 +4,7 @@ ghost use Rattle.std.specs.Prelude.{◌≡◌, ◌<◌, ◌||◌, ℕ, Bool, tru
 ghost use Rattle.outside.specs.Tool.{Apply};
 ghost use Rattle.plan_core.specs.declared.plan.Plan.{Plan};
 ghost use Rattle.plan_core.specs.declared.plan.TaskKind.{TaskKind};
-ghost use Rattle.plan_core.specs.Carried.{Bytes, IsCarrying, carried};
+ghost use Rattle.plan_core.specs.Carried.{Bytes, IsCarrying, carried, writer};
 ghost use Rattle.plan_core.specs.Grounded.{Grounded};
 ghost use Rattle.plan_core.specs.Kinds.{reads_file, writes_file};
 ghost use Rattle.plan_core.specs.Numbers.{RisesFrom, below, has};
@@ -47,6 +47,11 @@ pub fn parents_come_before()
     ensures cleans { (p : Plan) → IsProper p → (t u q : ℕ) → cleans p t q ≡ true → (has (writes p u) q || has (reads p u) q) ≡ true → is_parent p u t ≡ true }
     ensures nothing { (p : Plan) → IsProper p → (t q : ℕ) → is_clean p t ≡ true → (has (writes p t) q || has (reads p t) q) ≡ false }
     ensures in_range { (p : Plan) → IsProper p → (t u : ℕ) → is_parent p u t ≡ true → u < count_tasks p }
+{}
+
+/// In a proper plan a parent of a task writes what the task reads.
+pub fn parents_write_what_is_read()
+    ensures { (p : Plan) → IsProper p → (t s f : ℕ) → reads_file p t s f ≡ true → (u : ℕ) × (writer p s f ≡ Some u) × (writes_file p u s f ≡ true) × (is_parent p u t ≡ true) }
 {}
 
 /// In a proper plan some task passes a test on which no parent of it passes, where any task passes.

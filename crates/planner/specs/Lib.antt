@@ -5,3 +5,4 @@ pub mod Catalogue
 pub mod Course
 pub mod Ordering
 pub mod Planning
+pub mod Meaning

@@ -29,7 +29,7 @@ read_below n [] all j f h = absurd cc
 read_below n (x ∷ js) all zero f h = among_below n f (inputs_of x) all.0.inputs h
 read_below n (x ∷ js) all (suc j) f h = read_below n js all.1 j f h
 
-written_below : (n : ℕ) (js : List Job) → AllByRecursion (IsJobOver n) js → (j f : ℕ) → has (slice_index_or (map outputs_of js) j []) f ≡ true → f < n
+pub written_below : (n : ℕ) (js : List Job) → AllByRecursion (IsJobOver n) js → (j f : ℕ) → has (slice_index_or (map outputs_of js) j []) f ≡ true → f < n
 written_below n [] all j f h = absurd cc
 written_below n (x ∷ js) all zero f h = among_below n f (outputs_of x) all.0.outputs h
 written_below n (x ∷ js) all (suc j) f h = written_below n js all.1 j f h

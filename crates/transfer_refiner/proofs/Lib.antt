@@ -31,3 +31,4 @@ pub mod SequenceLemmas
 pub mod TableLemmas
 pub mod SmallLemmas
 pub mod ProperLemmas
+pub mod MeaningLemmas

@@ -127,7 +127,7 @@ pub made_is_some : (d : Draft) (f : ℕ) → is_some (home d f) ≡ is_made d f
 unfolding home
 made_is_some d f = home_there d d.parts f
 
-any_number : (test : ℕ → Bool) (js : List JobId) (j : ℕ) → has (job_numbers js) j ≡ true → test j ≡ true → list_any (λ (x : JobId). test x.0) js ≡ true
+pub any_number : (test : ℕ → Bool) (js : List JobId) (j : ℕ) → has (job_numbers js) j ≡ true → test j ≡ true → list_any (λ (x : JobId). test x.0) js ≡ true
 any_number test [] j h e = absurd cc
 any_number test (x ∷ js) j h e = by (nat_eq x.0 j) refl h (λ k. any_number test js j k e)
   where

@@ -44,7 +44,7 @@ stands_of p q s f h = by (slice_get p.pairs q) refl h
     by None e k = absurd cc
     by (Some x) e k = any_at_place (λ (y : Pair). pair_at (Some y) s f) p.pairs q x e k
 
-needed_used : (d : Draft) (s f : ℕ) → needed_at d s f ≡ true → used d f ≡ true
+pub needed_used : (d : Draft) (s f : ℕ) → needed_at d s f ≡ true → used d f ≡ true
 needed_used d s f h = let part = part_at d s (λ js. needs d js f) h in any_at_place (λ (js : List JobId). uses d js f) d.parts part.c part.js part.at (both (uses d part.js f) (not (makes d part.js f)) part.passes).0
 
 -- the declared size of a file of the plan

@@ -259,11 +259,11 @@ cleans_counted d limit p e is =
 pub range_of : (jobs : List PlanJob) (places pairs : List Pair) (bare ts : List Task) → All (IsListed jobs places) bare → ts ≡ bare → places ≡ pairs → (t q : ℕ) → has (writes_in (slice_get ts t)) q ≡ true → q < length pairs
 range_of jobs places pairs bare ts listed is same t q h = subst (λ (qs : List Pair). q < length qs) same (written_low jobs places ts (subst (All (IsListed jobs places)) (sym is) listed) t q h)
 
-fault_none : (o : Option ℕ) (g : ℕ → RefineFault) → option_map g o ≡ None → o ≡ None
+pub fault_none : (o : Option ℕ) (g : ℕ → RefineFault) → option_map g o ≡ None → o ≡ None
 fault_none None g e = refl
 fault_none (Some x) g e = absurd cc
 
-or_first : {A : Type 0} (x y : Option A) → or_else x y ≡ None → x ≡ None
+pub or_first : {A : Type 0} (x y : Option A) → or_else x y ≡ None → x ≡ None
 or_first None y e = refl
 or_first (Some x) y e = absurd cc
 

@@ -4,6 +4,7 @@ pub mod Tasks
 pub mod Refined
 pub mod Conditions
 pub mod Singles
+pub mod Meaning
 -- Steps
 pub mod View
 pub mod Edges

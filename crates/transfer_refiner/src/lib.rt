@@ -18,6 +18,7 @@ mod lacking;
 mod law;
 mod listing;
 mod marked;
+mod meaning;
 mod places;
 mod refining;
 mod rows;
@@ -30,5 +31,6 @@ mod waiting;
 
 pub use fault::RefineFault;
 pub use law::{cleans_are_counted, refined_plan_is_proper, refined_plan_is_small};
+pub use meaning::refined_plan_means_the_workflow;
 pub use refining::refine;
 pub use singles::single_jobs_are_a_draft;

@@ -1,0 +1,37 @@
+//! What a plan means: its tasks carry what the workflow's files are worth.
+
+ghost use Rattle.std.specs.Prelude.{◌≡◌, ◌≤◌, ℕ, Ok};
+ghost use Rattle.outside.specs.declared.documents.Documents.{Documents};
+ghost use Rattle.workflow_core.specs.WellFormed.{IsWellFormed};
+ghost use Rattle.plan_request.specs.declared.request.PlanRequest.{PlanRequest};
+ghost use Rattle.plan_request.specs.Reader.{execute_checked};
+ghost use Rattle.plan_core.specs.declared.plan.Plan.{Plan};
+ghost use Rattle.planner.specs.Course.{IsSurvey};
+ghost use Rattle.planner.specs.declared.inputs.Survey.{Survey};
+ghost use Rattle.planner.specs.Meaning.{MeansWorkflow};
+ghost use Rattle.planner.specs.Planning.{IsPlanOf};
+
+use crate::law::placed_jobs_are_a_draft;
+use cleanup_refiner::cleaned_plan_means_the_same;
+use clustering::kept_jobs_are_clustered;
+use dependency_graph::values_flow_in_order;
+use storage_simulation::pairs_are_few;
+use transfer_refiner::{
+    cleans_are_counted, refined_plan_is_proper, refined_plan_is_small,
+    refined_plan_means_the_workflow,
+};
+
+/// The plan of what documents say means the workflow that they say.
+pub fn plans_mean_the_workflow()
+    ensures { (r : PlanRequest) (d : Documents) (s : Survey) (limit : ℕ) (p : Plan) → execute_checked r.execute ≡ Ok tt → limit ≤ 120000 → IsSurvey r d s → IsWellFormed s.workflow → IsPlanOf r s limit p → MeansWorkflow r s p }
+{
+    placed_jobs_are_a_draft();
+    kept_jobs_are_clustered();
+    values_flow_in_order();
+    refined_plan_is_proper();
+    refined_plan_is_small();
+    refined_plan_means_the_workflow();
+    cleans_are_counted();
+    cleaned_plan_means_the_same();
+    pairs_are_few();
+}
