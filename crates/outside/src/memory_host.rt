@@ -12,7 +12,6 @@ use crate::host::{Host, HostFault};
 use crate::memory::Memory;
 use crate::operation::Operation;
 use crate::store::Store;
-use crate::text::Text;
 use std::alloc::Global;
 
 /// A store that tells what it holds, of whose calls the listed ones fail.
@@ -181,7 +180,12 @@ impl Host for MemoryHost {
             self.counts.add_fault();
             return Err(HostFault::Failed);
         }
-        read_found(alloc, &mut self.counts, self.store.scratch.get(site, name), limit)
+        read_found(
+            alloc,
+            &mut self.counts,
+            self.store.scratch.get(site, name),
+            limit,
+        )
     }
 
     fn write_scratch(
@@ -202,22 +206,9 @@ impl Host for MemoryHost {
             self.counts.add_fault();
             return Err(HostFault::Failed);
         }
-        let operation = Operation::Publish(
-            Text::copy_of(alloc, site)?,
-            Text::copy_of(alloc, name)?,
-            bytes.len() as u64,
-        );
-        self.store.trace.push(operation)?;
-        match self.store.scratch.insert(alloc, site, name, bytes) {
-            Ok(()) => {
-                self.counts.add_done();
-                Ok(())
-            }
-            Err(_) => {
-                self.store.trace.pop();
-                Err(HostFault::Memory)
-            }
-        }
+        self.store.publish(alloc, site, name, bytes)?;
+        self.counts.add_done();
+        Ok(())
     }
 
     fn deliver(&mut self, alloc: Global, name: &str, bytes: &[u8]) -> Result<(), HostFault>
@@ -232,18 +223,9 @@ impl Host for MemoryHost {
             self.counts.add_fault();
             return Err(HostFault::Failed);
         }
-        let operation = Operation::Deliver(Text::copy_of(alloc, name)?, bytes.len() as u64);
-        self.store.trace.push(operation)?;
-        match self.store.delivered.insert(alloc, name, bytes) {
-            Ok(()) => {
-                self.counts.add_done();
-                Ok(())
-            }
-            Err(_) => {
-                self.store.trace.pop();
-                Err(HostFault::Memory)
-            }
-        }
+        self.store.deliver(alloc, name, bytes)?;
+        self.counts.add_done();
+        Ok(())
     }
 
     fn remove(&mut self, alloc: Global, site: &str, name: &str) -> Result<(), HostFault>
@@ -259,13 +241,10 @@ impl Host for MemoryHost {
             self.counts.add_fault();
             return Err(HostFault::Failed);
         }
-        let operation = Operation::Remove(Text::copy_of(alloc, site)?, Text::copy_of(alloc, name)?);
-        self.store.trace.push(operation)?;
-        if self.store.scratch.remove(site, name) {
+        if self.store.remove(alloc, site, name)? {
             self.counts.add_done();
             return Ok(());
         }
-        self.store.trace.pop();
         self.counts.add_miss();
         Err(HostFault::Absent)
     }

@@ -1,4 +1,4 @@
-use Rattle.std.proofs.Common.{◌≡◌, ap, sym, ◌∙◌}
+use Rattle.std.proofs.Common.{ap, ◌∙◌}
 use Rattle.outside.specs.SiteMap.{sites_of}
 use Rattle.outside.specs.SiteMap.{at_site, put_pair}
 use Rattle.outside.proofs.SiteMapLemmas.{put_through, same_through, at_none, on_ok, on_err, is_there}

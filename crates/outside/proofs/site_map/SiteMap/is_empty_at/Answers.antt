@@ -1,5 +1,3 @@
-use Rattle.std.specs.Prelude.{Decides}
-use Rattle.outside.specs.SiteMap.{IsEmptyAt}
 use Rattle.outside.proofs.SiteMapLemmas.{none_here, empty_here}
 use Rattle.outside.proofs.site_map.SiteMap.is_empty_at.Goals as goal
 
