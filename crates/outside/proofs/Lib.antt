@@ -1,2 +1,3 @@
 pub mod FileMapLemmas
 pub mod SinkLemmas
+pub mod SiteMapLemmas

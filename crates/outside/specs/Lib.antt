@@ -1,6 +1,8 @@
 -- What the traits and the plain values mean.
 pub mod Counts
 pub mod FileMap
+pub mod SiteMap
+pub mod Store
 pub mod Docs
 pub mod Sink
 pub mod Host

@@ -1,10 +1,10 @@
 //! Bytes under names.
 
-ghost use Rattle.std.specs.Prelude.{◌≡◌, Option, option_map, OnOk, OnErr};
+ghost use Rattle.std.specs.Prelude.{◌≡◌, ℕ, List, Option, None, option_map, OnOk, OnErr, Decides, is_some};
 ghost use Rattle.std.specs.FinMap as map;
 
 use crate::memory::Memory;
-use std::alloc::Global;
+use std::alloc::{AllocError, Global};
 use std::collections::BTreeMap;
 use std::marker::Model;
 
@@ -56,5 +56,36 @@ impl FileMap {
         let bytes = Vec::from_slice(alloc, bytes)?;
         self.files.insert(name, bytes)?;
         Ok(())
+    }
+
+    /// Takes a name out, and tells whether it was there.
+    pub fn remove(&mut self, name: &str) -> bool
+        ensures removed { self.new ≡ map.remove self.old name.now }
+        ensures was { result ≡ is_some (map.get self.old name.now) }
+    {
+        let was = self.get(name).is_some();
+        self.files.remove(name);
+        was
+    }
+
+    pub fn contains(&self, name: &str) -> bool
+        ensures { result ≡ is_some (map.get self.now name.now) }
+    {
+        self.get(name).is_some()
+    }
+
+    pub fn is_empty(&self) -> bool
+        ensures { Decides result ((name : List ℕ) → map.get self.now name ≡ None) }
+    {
+        self.files.is_empty()
+    }
+}
+
+impl Clone for FileMap {
+    ghost is_clone = { λ s t. t ≡ s };
+
+    fn clone(&self) -> Result<FileMap, AllocError> {
+        let files = self.files.clone()?;
+        Ok(FileMap { files })
     }
 }

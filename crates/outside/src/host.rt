@@ -1,6 +1,6 @@
 //! Where a run's files are kept.
 
-ghost use Rattle.std.specs.Prelude.{◌≡◌, Option};
+ghost use Rattle.std.specs.Prelude.{◌≡◌, None, Option};
 ghost use Rattle.outside.specs.declared.host.HostFault.TheVariants as host_faults;
 ghost use Rattle.outside.specs.Counts.{IsLater};
 ghost use Rattle.outside.specs.declared.counts.Counts.{Counts};
@@ -37,12 +37,19 @@ impl From<Memory> for HostFault {
 
 /// A store of files. It tells all that it holds, or nothing.
 pub trait Host: Drop {
-    ghost use Rattle.outside.specs.Host.{Delivered, Reads};
+    ghost use Rattle.std.specs.Prelude.{IfSome, OnErr, OnOk, option_map};
+    ghost use Rattle.std.specs.FinMap as map;
+    ghost use Rattle.outside.specs.Host.{Changes, Empties, Reads};
+    ghost use Rattle.outside.specs.SiteMap.{pair_at};
+    ghost use Rattle.outside.specs.Store.{Delivers, Publishes, Removes};
 
     /// What it holds, where it is told.
     ghost told: { Self → Option Store };
 
-    /// How many calls were done, how many failed, and how many found a file absent or too long.
+    /// What it told at its last mark; before the first one nothing at all.
+    ghost marked: { Self → Store };
+
+    /// How many calls were done, how many failed, and how many found a file absent or too long, or a site not empty.
     ghost counts: { Self → Counts };
 
     fn faults(&self) -> u64
@@ -53,12 +60,60 @@ pub trait Host: Drop {
 
     /// The bytes of a replica by its physical name, if they are within the limit.
     fn read_replica(&mut self, alloc: Global, pfn: &str, limit: u64) -> Result<Blob, HostFault>
-        ensures answer { Reads (told self.old) pfn.now limit (counts self.old) (counts self.new) result }
+        ensures answer { Reads (option_map (λ s. map.get s.replicas pfn.now) (told self.old)) limit (counts self.old) (counts self.new) result }
         ensures told { told self.new ≡ told self.old }
+        ensures marked { marked self.new ≡ marked self.old }
+        ensures later { IsLater (counts self.old) (counts self.new) };
+
+    /// The bytes of a site's file, if they are within the limit.
+    fn read_scratch(
+        &mut self,
+        alloc: Global,
+        site: &str,
+        name: &str,
+        limit: u64,
+    ) -> Result<Blob, HostFault>
+        ensures answer { Reads (option_map (λ s. pair_at s.scratch site.now name.now) (told self.old)) limit (counts self.old) (counts self.new) result }
+        ensures told { told self.new ≡ told self.old }
+        ensures marked { marked self.new ≡ marked self.old }
+        ensures later { IsLater (counts self.old) (counts self.new) };
+
+    /// Publishes a file at a site, in place of an earlier one. A refusal leaves all as it was.
+    fn write_scratch(
+        &mut self,
+        alloc: Global,
+        site: &str,
+        name: &str,
+        bytes: &[u8],
+    ) -> Result<(), HostFault>
+        ensures answer { Changes (told self.old) (told self.new) (counts self.old) (counts self.new) ⊥ (Publishes site.now name.now bytes.now) result }
+        ensures marked { marked self.new ≡ marked self.old }
         ensures later { IsLater (counts self.old) (counts self.new) };
 
     /// Delivers a file under its name, in place of an earlier one. A refusal leaves all as it was.
     fn deliver(&mut self, alloc: Global, name: &str, bytes: &[u8]) -> Result<(), HostFault>
-        ensures answer { Delivered (told self.old) (told self.new) (counts self.old) (counts self.new) name.now bytes.now result }
+        ensures answer { Changes (told self.old) (told self.new) (counts self.old) (counts self.new) ⊥ (Delivers name.now bytes.now) result }
+        ensures marked { marked self.new ≡ marked self.old }
         ensures later { IsLater (counts self.old) (counts self.new) };
+
+    /// Removes a file from a site. A refusal leaves all as it was.
+    fn remove(&mut self, alloc: Global, site: &str, name: &str) -> Result<(), HostFault>
+        ensures answer { Changes (told self.old) (told self.new) (counts self.old) (counts self.new)
+            (IfSome (told self.old) (λ s. pair_at s.scratch site.now name.now ≡ None)) (Removes site.now name.now) result }
+        ensures marked { marked self.new ≡ marked self.old }
+        ensures later { IsLater (counts self.old) (counts self.new) };
+
+    /// Whether a site has no file.
+    fn scratch_empty(&mut self, alloc: Global, site: &str) -> Result<bool, HostFault>
+        ensures answer { Empties (told self.old) site.now (counts self.old) (counts self.new) result }
+        ensures told { told self.new ≡ told self.old }
+        ensures marked { marked self.new ≡ marked self.old }
+        ensures later { IsLater (counts self.old) (counts self.new) };
+
+    /// Keeps what it tells now for later comparison.
+    fn mark(&mut self, alloc: Global) -> Result<(), Memory>
+        ensures ok { OnOk result (IfSome (told self.old) (λ s. marked self.new ≡ s)) }
+        ensures err { OnErr result (marked self.new ≡ marked self.old) }
+        ensures told { told self.new ≡ told self.old }
+        ensures counts { counts self.new ≡ counts self.old };
 }

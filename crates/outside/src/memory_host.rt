@@ -1,14 +1,16 @@
 //! A store in memory.
 
-ghost use Rattle.std.specs.Prelude.{◌≡◌, option_map, OnOk, OnErr};
+ghost use Rattle.std.specs.Prelude.{◌≡◌, Some, IsErrOf, OnOk, OnErr, option_map};
 ghost use Rattle.std.specs.FinMap as map;
+ghost use Rattle.outside.specs.Counts.{IsLater};
+ghost use Rattle.outside.specs.Host.{Reads};
 
 use crate::blob::Blob;
 use crate::counts::Counts;
 use crate::failing::Failing;
-use crate::file_map::FileMap;
 use crate::host::{Host, HostFault};
 use crate::memory::Memory;
+use crate::operation::Operation;
 use crate::store::Store;
 use std::alloc::Global;
 
@@ -16,6 +18,7 @@ use std::alloc::Global;
 #[derive(Drop)]
 pub struct MemoryHost {
     store: Store,
+    marked: Store,
     failing: Failing,
     counts: Counts,
 }
@@ -23,20 +26,21 @@ pub struct MemoryHost {
 impl MemoryHost {
     ghost use Rattle.outside.specs.Counts.{no_calls};
     ghost use Rattle.outside.specs.Failing.{calls_made, failing_calls};
-    ghost use Rattle.outside.specs.MemoryHost.{host_counts, host_failing, host_store, with_replica};
+    ghost use Rattle.outside.specs.MemoryHost.{host_counts, host_failing, host_marked, host_store, with_replica, with_scratch};
+    ghost use Rattle.outside.specs.SiteMap.{pair_at};
+    ghost use Rattle.outside.specs.Store.{blank};
 
     /// No file. `failing` lists the calls that are to fail, by number from 1.
     pub fn new(alloc: Global, failing: Vec<u64>) -> MemoryHost
-        ensures store { host_store result ≡ record { replicas = map.empty; delivered = map.empty } }
+        ensures store { host_store result ≡ blank }
+        ensures marked { host_marked result ≡ blank }
         ensures failing { failing_calls (host_failing result) ≡ failing.items }
         ensures calls { calls_made (host_failing result) ≡ 0 }
         ensures counts { host_counts result ≡ no_calls }
     {
         MemoryHost {
-            store: Store {
-                replicas: FileMap::new(alloc),
-                delivered: FileMap::new(alloc),
-            },
+            store: Store::new(alloc),
+            marked: Store::new(alloc),
             failing: Failing::new(failing),
             counts: Counts::zero(),
         }
@@ -46,10 +50,28 @@ impl MemoryHost {
     pub fn put_replica(&mut self, alloc: Global, pfn: &str, bytes: &[u8]) -> Result<(), Memory>
         ensures ok { OnOk result (host_store self.new ≡ with_replica pfn.now bytes.now (host_store self.old)) }
         ensures err { OnErr result (host_store self.new ≡ host_store self.old) }
+        ensures marked { host_marked self.new ≡ host_marked self.old }
         ensures failing { host_failing self.new ≡ host_failing self.old }
         ensures counts { host_counts self.new ≡ host_counts self.old }
     {
         self.store.replicas.insert(alloc, pfn, bytes)
+    }
+
+    /// Sets the bytes of a site's file, without a trace.
+    pub fn put_scratch(
+        &mut self,
+        alloc: Global,
+        site: &str,
+        name: &str,
+        bytes: &[u8],
+    ) -> Result<(), Memory>
+        ensures ok { OnOk result (host_store self.new ≡ with_scratch site.now name.now bytes.now (host_store self.old)) }
+        ensures err { OnErr result (host_store self.new ≡ host_store self.old) }
+        ensures marked { host_marked self.new ≡ host_marked self.old }
+        ensures failing { host_failing self.new ≡ host_failing self.old }
+        ensures counts { host_counts self.new ≡ host_counts self.old }
+    {
+        self.store.scratch.insert(alloc, site, name, bytes)
     }
 
     /// The bytes that were delivered under a name.
@@ -58,16 +80,60 @@ impl MemoryHost {
     {
         self.store.delivered.get(name)
     }
+
+    /// The bytes of a site's file.
+    pub fn scratch(&self, site: &str, name: &str) -> Option<&[u8]>
+        ensures { option_map (λ b. b.now) result ≡ pair_at (host_store self.now).scratch site.now name.now }
+    {
+        self.store.scratch.get(site, name)
+    }
+
+    /// The changes that were made, in order.
+    pub fn trace(&self) -> &[Operation]
+        ensures { result.now ≡ (host_store self.now).trace }
+    {
+        self.store.trace.as_slice()
+    }
+}
+
+/// A copy of what was found, if it is within the limit.
+fn read_found(
+    alloc: Global,
+    counts: &mut Counts,
+    found: Option<&[u8]>,
+    limit: u64,
+) -> Result<Blob, HostFault>
+    ensures answer { Reads (Some (option_map (λ b. b.now) found.entry)) limit counts.old counts.new result }
+    ensures never_fails { IsErrOf result HostFault.Failed → ⊥ }
+    ensures later { IsLater counts.old counts.new }
+{
+    let Some(bytes) = found else {
+        counts.add_miss();
+        return Err(HostFault::Absent);
+    };
+    let length = bytes.len() as u64;
+    if length > limit {
+        counts.add_miss();
+        return Err(HostFault::Over(limit, length));
+    }
+    let bytes = Blob::copy_of(alloc, bytes)?;
+    counts.add_done();
+    Ok(bytes)
 }
 
 impl Host for MemoryHost {
-    ghost use Rattle.std.specs.Prelude.{◌↔◌, IsErrOf, Some, true};
+    ghost use Rattle.std.specs.Prelude.{◌↔◌, IfSome, IsErrOf, None, OnErr, OnOk, Some, option_map, true};
+    ghost use Rattle.std.specs.FinMap as map;
     ghost use Rattle.outside.specs.Counts.{IsLater};
     ghost use Rattle.outside.specs.Failing.{IsNextCall, fails_next};
-    ghost use Rattle.outside.specs.Host.{Delivered, Reads};
-    ghost use Rattle.outside.specs.MemoryHost.{host_counts, host_failing, host_store};
+    ghost use Rattle.outside.specs.Host.{Changes, Empties, Reads};
+    ghost use Rattle.outside.specs.MemoryHost.{host_counts, host_failing, host_marked, host_store};
+    ghost use Rattle.outside.specs.SiteMap.{pair_at};
+    ghost use Rattle.outside.specs.Store.{Delivers, Publishes, Removes};
 
     ghost told = { λ h. Some h.store };
+
+    ghost marked = { λ h. h.marked };
 
     ghost counts = { λ h. h.counts };
 
@@ -80,8 +146,9 @@ impl Host for MemoryHost {
     }
 
     fn read_replica(&mut self, alloc: Global, pfn: &str, limit: u64) -> Result<Blob, HostFault>
-        ensures answer { Reads (Some (host_store self.old)) pfn.now limit (host_counts self.old) (host_counts self.new) result }
+        ensures answer { Reads (Some (map.get (host_store self.old).replicas pfn.now)) limit (host_counts self.old) (host_counts self.new) result }
         ensures told { Some (host_store self.new) ≡ Some (host_store self.old) }
+        ensures marked { host_marked self.new ≡ host_marked self.old }
         ensures later { IsLater (host_counts self.old) (host_counts self.new) }
         // A call fails exactly where its number is listed.
         ensures failed { IsErrOf result HostFault.Failed ↔ (fails_next (host_failing self.old) ≡ true) }
@@ -91,22 +158,62 @@ impl Host for MemoryHost {
             self.counts.add_fault();
             return Err(HostFault::Failed);
         }
-        let Some(bytes) = self.store.replicas.get(pfn) else {
-            self.counts.add_miss();
-            return Err(HostFault::Absent);
-        };
-        let length = bytes.len() as u64;
-        if length > limit {
-            self.counts.add_miss();
-            return Err(HostFault::Over(limit, length));
+        read_found(alloc, &mut self.counts, self.store.replicas.get(pfn), limit)
+    }
+
+    fn read_scratch(
+        &mut self,
+        alloc: Global,
+        site: &str,
+        name: &str,
+        limit: u64,
+    ) -> Result<Blob, HostFault>
+        ensures answer { Reads (Some (pair_at (host_store self.old).scratch site.now name.now)) limit (host_counts self.old) (host_counts self.new) result }
+        ensures told { Some (host_store self.new) ≡ Some (host_store self.old) }
+        ensures marked { host_marked self.new ≡ host_marked self.old }
+        ensures later { IsLater (host_counts self.old) (host_counts self.new) }
+        // A call fails exactly where its number is listed.
+        ensures failed { IsErrOf result HostFault.Failed ↔ (fails_next (host_failing self.old) ≡ true) }
+        ensures call { IsNextCall (host_failing self.old) (host_failing self.new) }
+    {
+        if self.failing.call() {
+            self.counts.add_fault();
+            return Err(HostFault::Failed);
         }
-        let bytes = Blob::copy_of(alloc, bytes)?;
+        read_found(
+            alloc,
+            &mut self.counts,
+            self.store.scratch.get(site, name),
+            limit,
+        )
+    }
+
+    fn write_scratch(
+        &mut self,
+        alloc: Global,
+        site: &str,
+        name: &str,
+        bytes: &[u8],
+    ) -> Result<(), HostFault>
+        ensures answer { Changes (Some (host_store self.old)) (Some (host_store self.new)) (host_counts self.old) (host_counts self.new) ⊥ (Publishes site.now name.now bytes.now) result }
+        ensures marked { host_marked self.new ≡ host_marked self.old }
+        ensures later { IsLater (host_counts self.old) (host_counts self.new) }
+        // A call fails exactly where its number is listed.
+        ensures failed { IsErrOf result HostFault.Failed ↔ (fails_next (host_failing self.old) ≡ true) }
+        ensures call { IsNextCall (host_failing self.old) (host_failing self.new) }
+    {
+        if self.failing.call() {
+            self.counts.add_fault();
+            return Err(HostFault::Failed);
+        }
+        self.store.publish(alloc, site, name, bytes)?;
         self.counts.add_done();
-        Ok(bytes)
+        Ok(())
     }
 
     fn deliver(&mut self, alloc: Global, name: &str, bytes: &[u8]) -> Result<(), HostFault>
-        ensures answer { Delivered (Some (host_store self.old)) (Some (host_store self.new)) (host_counts self.old) (host_counts self.new) name.now bytes.now result }
+        ensures answer { Changes (Some (host_store self.old)) (Some (host_store self.new)) (host_counts self.old) (host_counts self.new) ⊥ (Delivers name.now bytes.now) result }
+        ensures marked { host_marked self.new ≡ host_marked self.old }
         ensures later { IsLater (host_counts self.old) (host_counts self.new) }
         // A call fails exactly where its number is listed.
         ensures failed { IsErrOf result HostFault.Failed ↔ (fails_next (host_failing self.old) ≡ true) }
@@ -116,8 +223,61 @@ impl Host for MemoryHost {
             self.counts.add_fault();
             return Err(HostFault::Failed);
         }
-        self.store.delivered.insert(alloc, name, bytes)?;
+        self.store.deliver(alloc, name, bytes)?;
         self.counts.add_done();
+        Ok(())
+    }
+
+    fn remove(&mut self, alloc: Global, site: &str, name: &str) -> Result<(), HostFault>
+        ensures answer { Changes (Some (host_store self.old)) (Some (host_store self.new)) (host_counts self.old) (host_counts self.new)
+            (pair_at (host_store self.old).scratch site.now name.now ≡ None) (Removes site.now name.now) result }
+        ensures marked { host_marked self.new ≡ host_marked self.old }
+        ensures later { IsLater (host_counts self.old) (host_counts self.new) }
+        // A call fails exactly where its number is listed.
+        ensures failed { IsErrOf result HostFault.Failed ↔ (fails_next (host_failing self.old) ≡ true) }
+        ensures call { IsNextCall (host_failing self.old) (host_failing self.new) }
+    {
+        if self.failing.call() {
+            self.counts.add_fault();
+            return Err(HostFault::Failed);
+        }
+        if self.store.remove(alloc, site, name)? {
+            self.counts.add_done();
+            return Ok(());
+        }
+        self.counts.add_miss();
+        Err(HostFault::Absent)
+    }
+
+    fn scratch_empty(&mut self, _alloc: Global, site: &str) -> Result<bool, HostFault>
+        ensures answer { Empties (Some (host_store self.old)) site.now (host_counts self.old) (host_counts self.new) result }
+        ensures told { Some (host_store self.new) ≡ Some (host_store self.old) }
+        ensures marked { host_marked self.new ≡ host_marked self.old }
+        ensures later { IsLater (host_counts self.old) (host_counts self.new) }
+        // A call fails exactly where its number is listed.
+        ensures failed { IsErrOf result HostFault.Failed ↔ (fails_next (host_failing self.old) ≡ true) }
+        ensures call { IsNextCall (host_failing self.old) (host_failing self.new) }
+    {
+        if self.failing.call() {
+            self.counts.add_fault();
+            return Err(HostFault::Failed);
+        }
+        if self.store.scratch.is_empty_at(site) {
+            self.counts.add_done();
+            return Ok(true);
+        }
+        self.counts.add_miss();
+        Ok(false)
+    }
+
+    fn mark(&mut self, _alloc: Global) -> Result<(), Memory>
+        ensures ok { OnOk result (host_marked self.new ≡ host_store self.old) }
+        ensures err { OnErr result (host_marked self.new ≡ host_marked self.old) }
+        ensures told { Some (host_store self.new) ≡ Some (host_store self.old) }
+        ensures counts { host_counts self.new ≡ host_counts self.old }
+        ensures failing { host_failing self.new ≡ host_failing self.old }
+    {
+        self.marked = self.store.clone()?;
         Ok(())
     }
 }
