@@ -12,12 +12,14 @@ ghost use Rattle.storage_simulation.specs.Goods.{IsWithinLimits as IsPlanWithinL
 ghost use Rattle.transfer_refiner.specs.Conditions.{IsDraft};
 ghost use Rattle.cleanup_refiner.specs.Cleans.{cleaned};
 ghost use Rattle.planner.specs.declared.plan_fault.PlanFault.TheVariants as faults;
+ghost use Rattle.planner.specs.Meaning.{MeansWorkflow};
 ghost use Rattle.planner.specs.PlanFault.{select_fault};
-ghost use Rattle.planner.specs.Planning.{AreLeveled, ArePlaced, CannotPlace, CannotPlan, CannotRefine, IsFineFor, IsPlanOf, Plans, PlansDocuments, draft, selection_of};
+ghost use Rattle.planner.specs.Planning.{AreLeveled, ArePlaced, CannotPlace, CannotPlan, CannotRefine, IsFineFor, IsPlanOf, OfSurvey, Plans, PlansDocuments, draft, selection_of};
 
 use crate::course::survey;
 use crate::inputs::Survey;
 use crate::law::{placed_jobs_are_a_draft, plans_can_be_ordered};
+use crate::meaning::plans_mean_the_workflow;
 use crate::ordering::with_order;
 use crate::plan_fault::PlanFault;
 use cleanup_refiner::add_cleans;
@@ -239,7 +241,10 @@ pub fn plan(
     ensures plan { PlansDocuments request.now documents.now limit result }
     ensures proper { IfOk result (λ o. IsProper o.plan) }
     ensures limits { IfOk result (λ o. IsPlanWithinLimits o.plan) }
+    ensures means { IfOk result (λ o. OfSurvey request.now documents.now (λ s. MeansWorkflow request.now s o.plan)) }
 {
+    // A law for the proof: it does nothing.
+    plans_mean_the_workflow();
     let survey = match survey(alloc, request, documents) {
         Ok(survey) => survey,
         Err(fault) => return Err(fault),

@@ -24,7 +24,7 @@ use Rattle.plan_core.specs.declared.plan.Target.{Target}
 use Rattle.plan_core.specs.declared.plan.Target.TheVariants.{Site as Into, Delivery}
 use Rattle.plan_core.specs.declared.plan.TaskKind.{TaskKind}
 use Rattle.plan_core.specs.declared.plan.TaskKind.TheVariants.{Transfer, Run, Clean}
-use Rattle.plan_core.specs.Carried.{IsCarrying, after_job, after_jobs, carried, carried_by, read, stored, writer}
+use Rattle.plan_core.specs.Carried.{Bytes, IsCarrying, after_job, after_jobs, carried, carried_by, read, stored, writer}
 use Rattle.plan_core.specs.Grounded.{Grounded, ground}
 use Rattle.plan_core.specs.Kinds as kinds
 use Rattle.plan_core.specs.Kinds.{kind_carries, kind_reads, kind_writes, reads_file, writes_file}
@@ -46,9 +46,6 @@ use Rattle.transfer_refiner.proofs.ProperLemmas.{is_proper, needed_used}
 use Rattle.transfer_refiner.proofs.SortLemmas.{Sort, a_delivery, a_run, a_transfer, sorted}
 use Rattle.transfer_refiner.proofs.StandingLemmas.{home_none, moved_needed}
 use Rattle.transfer_refiner.proofs.TogetherLemmas.{fault_none, or_first}
-
-Bytes : Type 0
-Bytes = List ℕ
 
 -- registered copies
 first_held : (told : Bytes → Option Bytes) (v : Option Bytes) (xs : List Pfn) → is_empty xs ≡ false → AllByRecursion (λ (x : Pfn). told x.pfn ≡ v) xs → told (first_of xs) ≡ v
@@ -186,10 +183,10 @@ pfns_there d f enough l used_it none = by (is_empty (pfns_of d f)) refl
     by false e = e
 
 chosen_held : (told : Bytes → Option Bytes) (v : ℕ → Option Bytes) (d : Draft) (f s : ℕ) → AreHeld d told v → is_empty (pfns_of d f) ≡ false → told (chosen d f s) ≡ v f
-chosen_held told v d f s held some = on_held told (v f) (name_in (slice_get d.execute s)) (first_of (pfns_of d f)) (pfns_of d f) (first_held told (v f) (pfns_of d f) some (held f)) (held f)
+chosen_held told v d f s held some = on_held told (v f) (name_in (slice_get d.request.execute s)) (first_of (pfns_of d f)) (pfns_of d f) (first_held told (v f) (pfns_of d f) some (held f)) (held f)
 
 -- what plan_core says of a proper plan
-AreWritten : Plan → Type 0
+abbrev pub AreWritten : Plan → Type 0
 AreWritten p = (t s f : ℕ) → reads_file p t s f ≡ true → (u : ℕ) × (writer p s f ≡ Some u) × (writes_file p u s f ≡ true) × (is_parent p u t ≡ true)
 
 carries_value : (apply : Apply) (told : Bytes → Option Bytes) (v : ℕ → Option Bytes) (d : Draft) (p : Plan) → IsDraft d → IsRefined d p → IsCarrying apply told p (carried apply told p) → AreWritten p → ((f : ℕ) → f < count_files d → lacks_replica d f ≡ false)
