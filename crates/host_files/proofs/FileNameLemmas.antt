@@ -1,12 +1,11 @@
 -- Names as parts of a path.
 use Rattle.std.proofs.Common.{◌≡◌, ◌≢◌, ℕ, Bool, true, false, List, [], ◌∷◌, ◌++◌, ◌==◌, length, refl, sym, ap, ◌∙◌, append_assoc, encode_utf8, encode_utf8_all}
 use Rattle.std.specs.Prelude.{if◌then◌else◌, codes}
-use Rattle.std.specs.List.{flat_map}
 use Rattle.std.specs.Str.{IsUtf8, chars}
 use Rattle.std.proofs.lemmas.Bool.{eqb-true}
 use Rattle.std.proofs.lemmas.List.{append-nil, nil_from_length}
 use Rattle.std.proofs.lemmas.Str.{chars_from_encodes}
-use Rattle.host_files.specs.FileName.{escaped, escaped_char, escaped_text}
+use Rattle.host_files.specs.FileName.{escaped, escaped_text}
 
 one_more : (xs : List ℕ) (c : ℕ) (rest : List ℕ) → encode_utf8_all (xs ++ c ∷ []) ++ rest ≡ encode_utf8_all xs ++ (encode_utf8 c ++ rest)
 one_more [] c rest = ap (λ (l : List ℕ). l ++ rest) (append-nil (encode_utf8 c))

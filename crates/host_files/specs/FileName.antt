@@ -1,5 +1,5 @@
 -- Names of files as parts of a path.
-use Rattle.std.specs.Prelude.{ℕ, ◌==◌, ◌++◌, List, [], ◌∷◌, if◌then◌else◌, codes}
+use Rattle.std.specs.Prelude.{◌≡◌, ℕ, ◌==◌, ◌++◌, List, [], ◌∷◌, if◌then◌else◌, codes}
 use Rattle.std.specs.List.{flat_map}
 use Rattle.std.specs.Str.{chars}
 use Rattle.std.specs.Char.{encode_utf8}
@@ -20,3 +20,7 @@ escaped (b ∷ bs) = if b == 46 then codes "%2E" ++ escaped_text bs else escaped
 -- the path of a name in a folder
 abbrev pub path_in : List ℕ → List ℕ → List ℕ
 path_in folder name = folder ++ 47 ∷ escaped name
+
+abbrev pub HasNoSlash : List ℕ → Type 0
+HasNoSlash [] = Unit {0}
+HasNoSlash (b ∷ bs) = (b ≡ 47 → ⊥) × HasNoSlash bs

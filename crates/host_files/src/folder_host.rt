@@ -12,10 +12,9 @@ use crate::standing::{
 };
 use outside::{Blob, Counts, Host, HostFault, Memory};
 use std::alloc::Global;
-use std::fs;
-use std::io;
 use std::io::ErrorKind;
 use std::rt::Files;
+use std::{fs, io};
 
 /// Replicas are files of the machine, a site's file is `sites/SITE/NAME` in the working folder and a delivered one
 /// `output/NAME`, with names escaped. What it holds isn't told. One run at a time has the working folder.

@@ -9,10 +9,12 @@
 mod file_name;
 mod folder_docs;
 mod folder_host;
+mod law;
 mod reading;
 mod standing;
 mod stream_sink;
 
 pub use folder_docs::FolderDocs;
 pub use folder_host::FolderHost;
+pub use law::escaped_names_stay_apart;
 pub use stream_sink::StreamSink;

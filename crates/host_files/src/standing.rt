@@ -1,10 +1,9 @@
 //! What stands at a path of the working folder. A symbolic link is never followed.
 
 use std::alloc::Global;
-use std::fs;
-use std::io;
 use std::io::{ErrorKind, Write};
 use std::rt::Files;
+use std::{fs, io};
 
 /// The folder of the sites' folders.
 pub const SITES: &str = "sites";

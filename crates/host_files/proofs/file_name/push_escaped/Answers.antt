@@ -1,7 +1,6 @@
 use Rattle.std.proofs.Common.{◌≡◌, ◌++◌, List, ℕ, string_bytes, subst}
 use Rattle.std.specs.Prelude.{OnOk}
 use Rattle.std.specs.Char.{encode_utf8}
-use Rattle.host_files.specs.FileName.{escaped}
 use Rattle.host_files.proofs.FileNameLemmas.{without_dot}
 use Rattle.host_files.proofs.file_name.push_escaped.Goals as goal
 
