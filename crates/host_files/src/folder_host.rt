@@ -1,30 +1,35 @@
-//! Replicas as files.
+//! A store of files.
 
-ghost use Rattle.std.specs.Prelude.{◌≡◌};
-ghost use Rattle.outside.specs.Counts.{no_calls};
+ghost use Rattle.std.specs.Prelude.{◌≡◌, None};
+ghost use Rattle.outside.specs.Counts.{IsLater, no_calls};
+ghost use Rattle.outside.specs.Host.{Changes, Empties, Reads};
+ghost use Rattle.outside.specs.Store.{Change};
 
+use crate::file_name::path_in;
 use crate::reading::{Reading, read_within};
-use outside::{Blob, Counts, FileMap, Host, HostFault};
+use crate::standing::{
+    OUTPUT, SITES, Standing, is_empty, make_folder, standing_at_site, write_file,
+};
+use outside::{Blob, Counts, Host, HostFault, Memory};
 use std::alloc::Global;
-use std::fs;
 use std::io::ErrorKind;
 use std::rt::Files;
+use std::{fs, io};
 
-/// A store whose replicas are files of the machine, and whose deliveries are held in memory. What it holds isn't told.
+/// Replicas are files of the machine, a site's file is `sites/SITE/NAME` in the working folder and a delivered one
+/// `output/NAME`, with names escaped. What it holds isn't told. One run at a time has the working folder.
 #[derive(Drop)]
 pub struct FolderHost<R> {
     rt: R,
-    delivered: FileMap,
     counts: Counts,
 }
 
 impl<R: Files + Drop> FolderHost<R> {
-    pub fn new(alloc: Global, rt: R) -> FolderHost<R>
+    pub fn new(rt: R) -> FolderHost<R>
         ensures { ⟦<FolderHost<R> as Host>⟧.counts result ≡ no_calls }
     {
         FolderHost {
             rt,
-            delivered: FileMap::new(alloc),
             counts: Counts::zero(),
         }
     }
@@ -49,10 +54,95 @@ fn path_of(pfn: &str) -> Option<&str> {
     }
 }
 
+/// Reads a file of the machine, and counts the call.
+fn read_file<R: Files>(
+    alloc: Global,
+    rt: &R,
+    counts: &mut Counts,
+    path: &str,
+    limit: u64,
+) -> Result<Blob, HostFault>
+    ensures answer { Reads None limit counts.old counts.new result }
+    ensures later { IsLater counts.old counts.new }
+{
+    let mut file = match fs::open(rt, path) {
+        Ok(file) => file,
+        Err(e) if e.kind() == ErrorKind::NotFound => {
+            counts.add_miss();
+            return Err(HostFault::Absent);
+        }
+        Err(_) => {
+            counts.add_fault();
+            return Err(HostFault::Failed);
+        }
+    };
+    let mut bytes = Vec::new(alloc);
+    match read_within(&mut file, limit, &mut bytes) {
+        Reading::Whole => {
+            counts.add_done();
+            Ok(Blob::new(bytes))
+        }
+        Reading::Longer(length) => {
+            counts.add_miss();
+            Err(HostFault::Over(limit, length))
+        }
+        Reading::Failed => {
+            counts.add_fault();
+            Err(HostFault::Failed)
+        }
+        Reading::Memory => Err(HostFault::Memory),
+    }
+}
+
+/// Counts a change that was made or failed.
+fn count_change(counts: &mut Counts, made: io::Result<()>) -> Result<(), HostFault>
+    ensures answer { (c : Change) → Changes None None counts.old counts.new ⊥ c result }
+    ensures later { IsLater counts.old counts.new }
+{
+    match made {
+        Ok(()) => {
+            counts.add_done();
+            Ok(())
+        }
+        Err(_) => {
+            counts.add_fault();
+            Err(HostFault::Failed)
+        }
+    }
+}
+
+/// Writes a site's file.
+fn publish<R: Files>(rt: &R, folder: &str, path: &str, bytes: &[u8]) -> io::Result<()> {
+    make_folder(rt, SITES)?;
+    make_folder(rt, folder)?;
+    write_file(rt, path, bytes)
+}
+
+/// Writes a delivered file.
+fn deliver<R: Files>(rt: &R, path: &str, bytes: &[u8]) -> io::Result<()> {
+    make_folder(rt, OUTPUT)?;
+    write_file(rt, path, bytes)
+}
+
+/// Takes a file out of a site's folder, and tells whether it was there.
+fn remove_at_site<R: Files>(rt: &R, folder: &str, path: &str) -> io::Result<bool> {
+    match standing_at_site(rt, folder, path)? {
+        Standing::Nothing => Ok(false),
+        Standing::File => {
+            fs::remove_file(rt, path)?;
+            Ok(true)
+        }
+        Standing::Folder | Standing::Other => Err(io::Error::from(ErrorKind::InvalidInput)),
+    }
+}
+
 impl<R: Files + Drop> Host for FolderHost<R> {
     ghost use Rattle.std.specs.Prelude.{None};
+    ghost use Rattle.outside.specs.Store.{blank};
 
     ghost told = { λ _. None };
+
+    ghost marked = { λ _. blank };
 
     ghost counts = { λ h. h.counts };
 
@@ -69,38 +159,90 @@ impl<R: Files + Drop> Host for FolderHost<R> {
             self.counts.add_miss();
             return Err(HostFault::Absent);
         };
-        let mut file = match fs::open(&self.rt, path) {
-            Ok(file) => file,
-            Err(e) if e.kind() == ErrorKind::NotFound => {
+        read_file(alloc, &self.rt, &mut self.counts, path, limit)
+    }
+
+    fn read_scratch(
+        &mut self,
+        alloc: Global,
+        site: &str,
+        name: &str,
+        limit: u64,
+    ) -> Result<Blob, HostFault> {
+        let folder = path_in(alloc, SITES, site)?;
+        let path = path_in(alloc, folder.as_str(), name)?;
+        match standing_at_site(&self.rt, folder.as_str(), path.as_str()) {
+            Ok(Standing::File) => {
+                read_file(alloc, &self.rt, &mut self.counts, path.as_str(), limit)
+            }
+            Ok(Standing::Nothing) => {
                 self.counts.add_miss();
-                return Err(HostFault::Absent);
+                Err(HostFault::Absent)
             }
-            Err(_) => {
-                self.counts.add_fault();
-                return Err(HostFault::Failed);
-            }
-        };
-        let mut bytes = Vec::new(alloc);
-        match read_within(&mut file, limit, &mut bytes) {
-            Reading::Whole => {
-                self.counts.add_done();
-                Ok(Blob::new(bytes))
-            }
-            Reading::Longer(length) => {
-                self.counts.add_miss();
-                Err(HostFault::Over(limit, length))
-            }
-            Reading::Failed => {
+            _ => {
                 self.counts.add_fault();
                 Err(HostFault::Failed)
             }
-            Reading::Memory => Err(HostFault::Memory),
         }
     }
 
+    fn write_scratch(
+        &mut self,
+        alloc: Global,
+        site: &str,
+        name: &str,
+        bytes: &[u8],
+    ) -> Result<(), HostFault> {
+        let folder = path_in(alloc, SITES, site)?;
+        let path = path_in(alloc, folder.as_str(), name)?;
+        let written = publish(&self.rt, folder.as_str(), path.as_str(), bytes);
+        count_change(&mut self.counts, written)
+    }
+
     fn deliver(&mut self, alloc: Global, name: &str, bytes: &[u8]) -> Result<(), HostFault> {
-        self.delivered.insert(alloc, name, bytes)?;
-        self.counts.add_done();
+        let path = path_in(alloc, OUTPUT, name)?;
+        let written = deliver(&self.rt, path.as_str(), bytes);
+        count_change(&mut self.counts, written)
+    }
+
+    fn remove(&mut self, alloc: Global, site: &str, name: &str) -> Result<(), HostFault> {
+        let folder = path_in(alloc, SITES, site)?;
+        let path = path_in(alloc, folder.as_str(), name)?;
+        match remove_at_site(&self.rt, folder.as_str(), path.as_str()) {
+            Ok(true) => {
+                self.counts.add_done();
+                Ok(())
+            }
+            Ok(false) => {
+                self.counts.add_miss();
+                Err(HostFault::Absent)
+            }
+            Err(_) => {
+                self.counts.add_fault();
+                Err(HostFault::Failed)
+            }
+        }
+    }
+
+    fn scratch_empty(&mut self, alloc: Global, site: &str) -> Result<bool, HostFault> {
+        let folder = path_in(alloc, SITES, site)?;
+        match is_empty(alloc, &self.rt, folder.as_str()) {
+            Ok(true) => {
+                self.counts.add_done();
+                Ok(true)
+            }
+            Ok(false) => {
+                self.counts.add_miss();
+                Ok(false)
+            }
+            Err(_) => {
+                self.counts.add_fault();
+                Err(HostFault::Failed)
+            }
+        }
+    }
+
+    fn mark(&mut self, _alloc: Global) -> Result<(), Memory> {
         Ok(())
     }
 }

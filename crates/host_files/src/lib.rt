@@ -1,15 +1,20 @@
 //! Files and streams of the machine that a program runs on.
 //!
-//! [`FolderDocs`] meets `outside::Docs` over files, [`FolderHost`] meets `outside::Host` with replicas that
-//! are files, and [`StreamSink`] meets `outside::Sink` over a writer. Nothing is assumed of real files: what they hold isn't told, and what a stream holds is told
-//! only where the writer tells it. A reading within a limit is defined in `specs/Reading.antt`.
+//! [`FolderDocs`] meets `outside::Docs` over files, [`FolderHost`] meets `outside::Host` over files, and
+//! [`StreamSink`] meets `outside::Sink` over a writer. Nothing is assumed of real files: what they hold isn't
+//! told, and what a stream holds is told only where the writer tells it. A reading within a limit is defined in
+//! `specs/Reading.antt`, the path of a name in `specs/FileName.antt`.
 #![tactic(auto)]
 
+mod file_name;
 mod folder_docs;
 mod folder_host;
+mod law;
 mod reading;
+mod standing;
 mod stream_sink;
 
 pub use folder_docs::FolderDocs;
 pub use folder_host::FolderHost;
+pub use law::escaped_names_stay_apart;
 pub use stream_sink::StreamSink;

@@ -14,7 +14,7 @@ fn main(rt: HostRuntime) -> ExitCode {
         return ExitCode::from(Outcome::Memory.code());
     };
     let mut out = StreamSink::new(io::writer(&rt));
-    let host = FolderHost::new(alloc, rt);
+    let host = FolderHost::new(rt);
     let mut docs = FolderDocs::new(rt);
     let (outcome, _, _) = quick(alloc, &words, &mut docs, &mut out, host, Shipped::new());
     ExitCode::from(outcome.code())
