@@ -8,19 +8,25 @@ use Rattle.plan_core.specs.Words.{parents, reads, writes}
 use Rattle.plan_core.proofs.TestLemmas.{either, or_left, or_right}
 use Rattle.run_record.specs.Events.{Event, Grant, Arrive, End, Clean, Fail, Again, Regrant}
 use Rattle.lease_book.specs.Choice.{IsChoice}
-use Rattle.lease_book.specs.Law.{FitsFromStart, HasStorageLaws, IsSoundState}
+use Rattle.lease_book.specs.Law.{IsSoundState}
 use Rattle.lease_book.specs.Legal.{Allowed, IsOpen, Legal, LegalFrom}
 use Rattle.lease_book.specs.Reading.{ends, frees, IsRead}
 use Rattle.lease_book.specs.State.{State, after, ended, now, now_from, opened}
-use Rattle.lease_book.proofs.BookLemmas.{legal_more, now_more}
-use Rattle.lease_book.proofs.ReadingLemmas.{record_reads}
-use Rattle.lease_book.proofs.SoundLemmas.{sound_more, sound_opened}
-use Rattle.site_yard.specs.Law.{HasPlanLaws}
+use Rattle.site_yard.specs.Law.{HasPlanLaws, HasRecordLaws}
 use Rattle.site_yard.specs.Places.{is_swept}
 
-sound_now : (p : Plan) → HasStorageLaws p → (s : State) (r : List Event) → IsSoundState p s → LegalFrom p s r → IsSoundState p (now_from p s r)
-sound_now p laws s [] sound l = sound
-sound_now p laws s (e ∷ r) sound l = sound_now p laws (after p s e) r (sound_more p s e laws sound l.0) l.1
+now_more : (p : Plan) (s : State) (r : List Event) (e : Event) → now_from p s (r ++ e ∷ []) ≡ after p (now_from p s r) e
+now_more p s [] e = refl
+now_more p s (f ∷ r) e = now_more p (after p s f) r e
+
+legal_more : (p : Plan) (s : State) (r : List Event) (e : Event) → LegalFrom p s r → Allowed p (now_from p s r) e → LegalFrom p s (r ++ e ∷ [])
+legal_more p s [] e legal allowed = (allowed, tt)
+legal_more p s (f ∷ r) e legal allowed = (legal.0, legal_more p (after p s f) r e legal.1 allowed)
+
+-- every allowed entry keeps a state sound
+pub sound_now : (p : Plan) → ((s : State) (e : Event) → IsSoundState p s → Allowed p s e → IsSoundState p (after p s e)) → (s : State) (r : List Event) → IsSoundState p s → LegalFrom p s r → IsSoundState p (now_from p s r)
+sound_now p keeps s [] sound l = sound
+sound_now p keeps s (e ∷ r) sound l = sound_now p keeps (after p s e) r (keeps s e sound l.0) l.1
 
 moved_on : (past r : List Event) (e : Event) → (past ++ e ∷ []) ++ r ≡ past ++ e ∷ r
 moved_on past r e = append_assoc past (e ∷ []) r
@@ -32,12 +38,12 @@ not_true false h = refl
 true_false : (b : Bool) → b ≡ true → b ≡ false → ⊥
 true_false b h k = absurd cc
 
-module _ (p : Plan) (plan_laws : HasPlanLaws p) (laws : HasStorageLaws p) (order : List ℕ) (fits : FitsFromStart p order) where
+module _ (p : Plan) (plan_laws : HasPlanLaws p) (order : List ℕ) (laws : HasRecordLaws p order) where
   pub is_read : (r : List Event) → Legal p order r → IsRead p r (now p order r)
-  is_read r legal = record_reads p order r laws fits legal
+  is_read r legal = laws.reads_so r legal
 
   pub sound_here : (r : List Event) → Legal p order r → IsSoundState p (now p order r)
-  sound_here r legal = sound_now p laws (opened order) r (sound_opened p order fits) legal
+  sound_here r legal = laws.sound r legal
 
   -- a task whose parents have ended in the state has parents that have ended in the record
   ended_in : (r : List Event) → Legal p order r → (u : ℕ) → ended ((now p order r).phase u) ≡ true → list_any (ends u) r ≡ true

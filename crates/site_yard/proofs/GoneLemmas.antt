@@ -16,13 +16,12 @@ use Rattle.plan_core.specs.Proper.{IsProper}
 use Rattle.plan_core.specs.Words.{cleans, count_pairs, is_clean, kind, kind_cleans, reads, writes}
 use Rattle.plan_core.proofs.TestLemmas.{both, either, or_left, or_right, same_number}
 use Rattle.run_record.specs.Events.{Event, Grant, Arrive, End, Clean, Fail, Again, Regrant}
-use Rattle.lease_book.specs.Law.{FitsFromStart, HasStorageLaws}
 use Rattle.lease_book.specs.Legal.{Allowed, IsOpen, Legal, LegalFrom, MayFail}
 use Rattle.lease_book.specs.Reading.{ends, frees}
 use Rattle.lease_book.specs.State.{now}
 use Rattle.site_yard.specs.Changes.{arrival, carries, changes, changes_of, moved, or_nil, publishes, removal}
 use Rattle.site_yard.specs.Kept.{IsKept}
-use Rattle.site_yard.specs.Law.{HasPlanLaws}
+use Rattle.site_yard.specs.Law.{HasPlanLaws, HasRecordLaws}
 use Rattle.site_yard.specs.Names.{pair_file, pair_file_name, pair_site_name}
 use Rattle.site_yard.specs.Places.{is_swept}
 use Rattle.site_yard.proofs.FollowLemmas.{choice_after, ended_longer, from_next, legal_next, not_true, open_not_ended}
@@ -45,7 +44,7 @@ cleaner (Some (Transfer g from to)) q h = absurd cc
 cleaner (Some (Run s js)) q h = absurd cc
 cleaner (Some (CleanTask x)) q h = (x, refl, same_number x.0 q h)
 
-module _ (p : Plan) (proper : IsProper p) (plan_laws : HasPlanLaws p) (laws : HasStorageLaws p) (order : List ℕ) (fits : FitsFromStart p order) (c : ℕ → ℕ → Option (List ℕ)) (q t0 : ℕ) (mine : has (writes p t0) q ≡ true) where
+module _ (p : Plan) (proper : IsProper p) (plan_laws : HasPlanLaws p) (order : List ℕ) (laws : HasRecordLaws p order) (c : ℕ → ℕ → Option (List ℕ)) (q t0 : ℕ) (mine : has (writes p t0) q ≡ true) where
   -- the publication of other pairs leaves a pair that isn't there
   put_off : (t x : ℕ) (o : Option (List ℕ)) → has (writes p t) x ≡ true → has (writes p t) q ≡ false → o ≡ None → left_at (pair_site_name p q) (pair_file_name p q) (publishes p c t x) o ≡ None
   put_off t x o w other h = by_name (same (pair_site_name p q) (pair_site_name p x) && same (pair_file_name p q) (pair_file_name p x)) refl
@@ -80,7 +79,7 @@ module _ (p : Plan) (proper : IsProper p) (plan_laws : HasPlanLaws p) (laws : Ha
 
   -- the writer has ended, so no open task writes the pair, and no Clean does
   open_other : (past : List Event) (w t : ℕ) → Legal p order past → list_any (ends t0) past ≡ true → IsOpen (now p order past) w t → has (writes p t) q ≡ false
-  open_other past w t legal end opened_ = not_true (has (writes p t) q) (λ h. true_false (list_any (ends t0) past) end (ap (λ u. list_any (ends u) past) (proper.flow.one_writer t0 t q mine h) ∙ open_not_ended p plan_laws laws order fits past w t legal opened_))
+  open_other past w t legal end opened_ = not_true (has (writes p t) q) (λ h. true_false (list_any (ends t0) past) end (ap (λ u. list_any (ends u) past) (proper.flow.one_writer t0 t q mine h) ∙ open_not_ended p plan_laws order laws past w t legal opened_))
 
   clean_other : (t : ℕ) → is_clean p t ≡ true → has (writes p t) q ≡ false
   clean_other t clean = not_true (has (writes p t) q) (λ h. true_false (has (writes p t) q || has (reads p t) q) (or_left (has (writes p t) q) (has (reads p t) q) h) (plan_laws.cleans_only t q clean))
@@ -102,7 +101,7 @@ module _ (p : Plan) (proper : IsProper p) (plan_laws : HasPlanLaws p) (laws : Ha
   stays_gone past [] o legal end l h = h
   stays_gone past (e ∷ r) o legal end l h =
       left_append (pair_site_name p q) (pair_file_name p q) (changes_of p c e) (changes p c r) o
-      ∙ stays_gone (past ++ e ∷ []) r _ (legal_next p plan_laws laws order fits past e legal l.0) (ended_longer p plan_laws laws order fits past (e ∷ []) t0 end) (from_next p plan_laws laws order fits past r e l.1) (entry_off past e o legal end l.0 h)
+      ∙ stays_gone (past ++ e ∷ []) r _ (legal_next p plan_laws order laws past e legal l.0) (ended_longer p plan_laws order laws past (e ∷ []) t0 end) (from_next p plan_laws order laws past r e l.1) (entry_off past e o legal end l.0 h)
 
   removes_it : (k : Option TaskKind) (o : Option (List ℕ)) → kind_cleans k q ≡ true → left_by (pair_site_name p q) (pair_file_name p q) (removal p k) o ≡ None
   removes_it k o h =
@@ -119,14 +118,14 @@ module _ (p : Plan) (proper : IsProper p) (plan_laws : HasPlanLaws p) (laws : Ha
   sweeps_now past (End w t ns) o legal a f = absurd cc
   sweeps_now past (Fail w t cause ns) o legal a f = absurd cc
   sweeps_now past (Again w t cause ns) o legal a f = absurd cc
-  sweeps_now past (Clean w t) o legal a f = (choice_after p plan_laws laws order fits past t t0 legal a.2 (plan_laws.cleans_after t t0 q f (or_left (has (writes p t0) q) (has (reads p t0) q) mine)), removes_it (kind p t) o f)
+  sweeps_now past (Clean w t) o legal a f = (choice_after p plan_laws order laws past t t0 legal a.2 (plan_laws.cleans_after t t0 q f (or_left (has (writes p t0) q) (has (reads p t0) q) mine)), removes_it (kind p t) o f)
 
   gone : (past r : List Event) (o : Option (List ℕ)) → Legal p order past → LegalFrom p (now p order past) r → is_swept p r q ≡ true → left_by (pair_site_name p q) (pair_file_name p q) (changes p c r) o ≡ None
   unfolding is_swept
   gone past [] o legal l f = absurd cc
   gone past (e ∷ r) o legal l f = left_append (pair_site_name p q) (pair_file_name p q) (changes_of p c e) (changes p c r) o ∙ elim (either (frees p q e) (list_any (frees p q) r) f) [
-    | inl d ↦ stays_gone (past ++ e ∷ []) r _ (legal_next p plan_laws laws order fits past e legal l.0) (ended_longer p plan_laws laws order fits past (e ∷ []) t0 (sweeps_now past e o legal l.0 d).0) (from_next p plan_laws laws order fits past r e l.1) (sweeps_now past e o legal l.0 d).1
-    | inr d ↦ gone (past ++ e ∷ []) r _ (legal_next p plan_laws laws order fits past e legal l.0) (from_next p plan_laws laws order fits past r e l.1) d
+    | inl d ↦ stays_gone (past ++ e ∷ []) r _ (legal_next p plan_laws order laws past e legal l.0) (ended_longer p plan_laws order laws past (e ∷ []) t0 (sweeps_now past e o legal l.0 d).0) (from_next p plan_laws order laws past r e l.1) (sweeps_now past e o legal l.0 d).1
+    | inr d ↦ gone (past ++ e ∷ []) r _ (legal_next p plan_laws order laws past e legal l.0) (from_next p plan_laws order laws past r e l.1) d
   ]
 
 swept_range : (p : Plan) → HasPlanLaws p → (r : List Event) (q : ℕ) → is_swept p r q ≡ true → q < count_pairs p
@@ -149,9 +148,9 @@ swept_range p plan_laws (e ∷ r) q f = elim (either (frees p q e) (list_any (fr
     by_entry (Again w t cause ns) h = absurd cc
     by_entry (Clean w t) h = by_kind t h
 
-pub swept_gone : (p : Plan) → IsProper p → HasPlanLaws p → HasStorageLaws p → (order : List ℕ) → FitsFromStart p order → (apply : Apply) (r : List Event) (s m : Store) (f0 m0 : ℕ) (counts : Counts) → Legal p order r → IsKept apply p r (Some s) m f0 m0 counts → (q : ℕ) → is_swept p r q ≡ true → pair_at s.scratch (pair_site_name p q) (pair_file_name p q) ≡ None
-swept_gone p proper plan_laws laws order fits apply r s m f0 m0 counts legal kept q f =
+pub swept_gone : (p : Plan) → IsProper p → HasPlanLaws p → (order : List ℕ) → HasRecordLaws p order → (apply : Apply) (r : List Event) (s m : Store) (f0 m0 : ℕ) (counts : Counts) → Legal p order r → IsKept apply p r (Some s) m f0 m0 counts → (q : ℕ) → is_swept p r q ≡ true → pair_at s.scratch (pair_site_name p q) (pair_file_name p q) ≡ None
+swept_gone p proper plan_laws order laws apply r s m f0 m0 counts legal kept q f =
     let writer = has_writer p plan_laws q (swept_range p plan_laws r q f) in
     ap (λ z. pair_at z.scratch (pair_site_name p q) (pair_file_name p q)) kept.changed
     ∙ pair_changed m (changes p (carries apply p m) r) (pair_site_name p q) (pair_file_name p q)
-    ∙ gone p proper plan_laws laws order fits (carries apply p m) q writer.0 writer.1 [] r _ tt legal f
+    ∙ gone p proper plan_laws order laws (carries apply p m) q writer.0 writer.1 [] r _ tt legal f

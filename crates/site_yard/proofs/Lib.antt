@@ -8,9 +8,9 @@ mod SourceLemmas
 mod MoveLemmas
 mod SweepLemmas
 mod BringLemmas
-mod StepLemmas
 mod TraceLemmas
 mod GoneLemmas
 mod OthersLemmas
 mod DeliveredLemmas
 mod AgreesLemmas
+mod StepLemmas

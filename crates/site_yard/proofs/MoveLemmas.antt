@@ -21,13 +21,12 @@ use Rattle.storage_simulation.specs.Goods.{makes, or_zero}
 use Rattle.run_record.specs.declared.entry.Cause.{Cause}
 use Rattle.run_record.specs.declared.entry.Cause.TheVariants.{Absent, TooLong, Checksum, Oversize, Declined, ToolFailed, HostFailed, Memory}
 use Rattle.run_record.specs.Events.{Event, Arrive, Fail, Again}
-use Rattle.lease_book.specs.Law.{FitsFromStart, HasStorageLaws}
 use Rattle.lease_book.specs.Legal.{AreOfFirst, ArePublished, CauseFits, IsOpen, Legal, checksum, is_from_pfn}
 use Rattle.lease_book.specs.State.{now}
 use Rattle.site_yard.specs.Changes.{carries, changes_of, publishes}
 use Rattle.site_yard.specs.Failures.{IsCounted, faults_of, misses_of}
 use Rattle.site_yard.specs.Kept.{IsKept}
-use Rattle.site_yard.specs.Law.{HasPlanLaws}
+use Rattle.site_yard.specs.Law.{HasPlanLaws, HasRecordLaws}
 use Rattle.site_yard.specs.Moving.{Fetched, HaveFaultsRisen, HaveMissesRisen, IsChecked, IsUnfit, Moved, at_source, is_pfn, placing, source}
 use Rattle.site_yard.specs.Truthful.{AreSizes, HasSum, IsCause, IsDigest, IsTrue}
 use Rattle.site_yard.proofs.KeptLemmas.{kept_more}
@@ -165,7 +164,7 @@ arrive_true apply told p c w t n g (Site a) to b e is long checked = rw e (ap (o
 pub no_sizes : (p : Plan) (c : ℕ → ℕ → Option (List ℕ)) (t : ℕ) → AreSizes p c t []
 no_sizes p c t = refl
 
-module _ (p : Plan) (proper : IsProper p) (plan_laws : HasPlanLaws p) (laws : HasStorageLaws p) (order : List ℕ) (fits : FitsFromStart p order) (apply : Apply) (r : List Event) where
+module _ (p : Plan) (proper : IsProper p) (plan_laws : HasPlanLaws p) (order : List ℕ) (laws : HasRecordLaws p order) (apply : Apply) (r : List Event) where
   -- a Transfer that arrived
   arrive_kept : (o n : Option Store) (m : Store) (f0 m0 : ℕ) (before now_ : Counts) (w t size : ℕ) (g : FileId) (from : Source) (to : Target) → Legal p order r → IsKept apply p r o m f0 m0 before → IsOpen (now p order r) w t → kind p t ≡ Some (Transfer g from to) → IsLater before now_
       → Moved p g.0 from to o n before now_ (Ok size) → IsKept apply p (r ++ Arrive w t size ∷ []) n m f0 m0 now_
@@ -174,7 +173,7 @@ module _ (p : Plan) (proper : IsProper p) (plan_laws : HasPlanLaws p) (laws : Ha
   arrive_kept (Some s) n m f0 m0 before now_ w t size g from to legal kept opened_ e later moved =
       let c : ℕ → ℕ → Option (List ℕ) = carries apply p m in
       let bytes : List ℕ = moved.0 in
-      let is : c t g.0 ≡ Some bytes = sym (source_kept p proper plan_laws laws order fits apply r s m f0 m0 before legal kept w t g from to opened_ e) ∙ moved.2.1 in
+      let is : c t g.0 ≡ Some bytes = sym (source_kept p proper plan_laws order laws apply r s m f0 m0 before legal kept w t g from to opened_ e) ∙ moved.2.1 in
       kept_more apply p r (Arrive w t size) (Some s) n m f0 m0 before now_ kept
       (moved.3 ∙ ap (λ cs. Some (changed_by s cs)) (sym (arrives p c w t size g from to bytes e is)))
       (arrive_true apply (λ pfn. files.get m.replicas pfn) p c w t size g from to bytes e is moved.1 moved.2.2)
@@ -189,7 +188,7 @@ module _ (p : Plan) (proper : IsProper p) (plan_laws : HasPlanLaws p) (laws : Ha
   never_at_site : (s m : Store) (f0 m0 : ℕ) (before : Counts) (w t : ℕ) (g : FileId) (from : Source) (to : Target) → Legal p order r → IsKept apply p r (Some s) m f0 m0 before → IsOpen (now p order r) w t → kind p t ≡ Some (Transfer g from to) → is_pfn from ≡ false → IsUnfit (or_zero (declared p g.0)) (at_source s p g.0 from) → ⊥
   never_at_site s m f0 m0 before w t g (Pfn x) to legal kept opened_ e untold bad = absurd cc
   never_at_site s m f0 m0 before w t g (Site a) to legal kept opened_ e untold bad =
-      let there = from_site p proper plan_laws laws order fits apply r s m f0 m0 before legal kept w t g a to opened_ e in
+      let there = from_site p proper plan_laws order laws apply r s m f0 m0 before legal kept w t g a to opened_ e in
       unfit (or_zero (declared p g.0)) _ there.1.0 (ap (option_map length) there.0 ∙ there.1.1) there.1.2 bad
 
   pub never_unfit : (o : Option Store) (m : Store) (f0 m0 : ℕ) (before : Counts) (w t : ℕ) (g : FileId) (from : Source) (to : Target) → ∥ Legal p order r ∥₁ → ∥ IsKept apply p r o m f0 m0 before ∥₁ → IsOpen (now p order r) w t → kind p t ≡ Some (Transfer g from to) → NeverUnfit p g.0 from o
@@ -201,9 +200,9 @@ module _ (p : Plan) (proper : IsProper p) (plan_laws : HasPlanLaws p) (laws : Ha
   fetched_cause s m f0 m0 before b0 now_ t g (Site a) to Absent legal kept e why = absurd (let x = why.0 in cc)
   fetched_cause s m f0 m0 before b0 now_ t g (Site a) to (TooLong n) legal kept e why = absurd (let x = why.0 in cc)
   fetched_cause s m f0 m0 before b0 now_ t g (Site a) to (Checksum d) legal kept e why = absurd (let x = why.0 in cc)
-  fetched_cause s m f0 m0 before b0 now_ t g (Pfn x) to Absent legal kept e why = rw e (sym (replica_kept p proper plan_laws laws order fits apply r s m f0 m0 before legal kept x) ∙ why.2)
-  fetched_cause s m f0 m0 before b0 now_ t g (Pfn x) to (TooLong n) legal kept e why = rw e (ap (option_map length) (sym (replica_kept p proper plan_laws laws order fits apply r s m f0 m0 before legal kept x)) ∙ why.3)
-  fetched_cause s m f0 m0 before b0 now_ t g (Pfn x) to (Checksum d) legal kept e why = rw e (subst (IsDigest p d g.0) (replica_kept p proper plan_laws laws order fits apply r s m f0 m0 before legal kept x) why.2)
+  fetched_cause s m f0 m0 before b0 now_ t g (Pfn x) to Absent legal kept e why = rw e (sym (replica_kept p proper plan_laws order laws apply r s m f0 m0 before legal kept x) ∙ why.2)
+  fetched_cause s m f0 m0 before b0 now_ t g (Pfn x) to (TooLong n) legal kept e why = rw e (ap (option_map length) (sym (replica_kept p proper plan_laws order laws apply r s m f0 m0 before legal kept x)) ∙ why.3)
+  fetched_cause s m f0 m0 before b0 now_ t g (Pfn x) to (Checksum d) legal kept e why = rw e (subst (IsDigest p d g.0) (replica_kept p proper plan_laws order laws apply r s m f0 m0 before legal kept x) why.2)
   fetched_cause s m f0 m0 before b0 now_ t g from to (Oversize j f n) legal kept e why = absurd why
   fetched_cause s m f0 m0 before b0 now_ t g from to (Declined j) legal kept e why = absurd why
   fetched_cause s m f0 m0 before b0 now_ t g from to (ToolFailed j) legal kept e why = tt

@@ -21,13 +21,12 @@ use Rattle.plan_core.specs.Numbers.{has}
 use Rattle.plan_core.specs.Proper.{IsProper}
 use Rattle.plan_core.specs.Words.{is_pair, kind, reads, writes}
 use Rattle.run_record.specs.Events.{Event}
-use Rattle.lease_book.specs.Law.{FitsFromStart, HasStorageLaws}
 use Rattle.lease_book.specs.Legal.{IsOpen, Legal}
 use Rattle.lease_book.specs.Reading.{ends}
 use Rattle.lease_book.specs.State.{now, opened}
 use Rattle.site_yard.specs.Changes.{carries, changes, or_nil}
 use Rattle.site_yard.specs.Kept.{IsKept}
-use Rattle.site_yard.specs.Law.{HasPlanLaws}
+use Rattle.site_yard.specs.Law.{HasPlanLaws, HasRecordLaws}
 use Rattle.site_yard.specs.Moving.{at_source}
 use Rattle.site_yard.specs.Names.{file_name, pair_file, pair_file_name, pair_site_name, site_name}
 use Rattle.site_yard.specs.Places.{is_published, is_swept}
@@ -45,7 +44,7 @@ known (Some b) n e = refl
 abbrev pub IsHeld : Plan → (ℕ → ℕ → Option (List ℕ)) → Store → ℕ → ℕ → Type 0
 IsHeld p c s q t = (has (writes p t) q ≡ true) × (pair_at s.scratch (pair_site_name p q) (pair_file_name p q) ≡ c t (pair_file p q)) × IsSized p (c t (pair_file p q)) (pair_file p q)
 
-module _ (p : Plan) (proper : IsProper p) (plan_laws : HasPlanLaws p) (laws : HasStorageLaws p) (order : List ℕ) (fits : FitsFromStart p order) (apply : Apply) (r : List Event) (s m : Store) (f0 m0 : ℕ) (counts : Counts) (legal : Legal p order r) (kept : IsKept apply p r (Some s) m f0 m0 counts) where
+module _ (p : Plan) (proper : IsProper p) (plan_laws : HasPlanLaws p) (order : List ℕ) (laws : HasRecordLaws p order) (apply : Apply) (r : List Event) (s m : Store) (f0 m0 : ℕ) (counts : Counts) (legal : Legal p order r) (kept : IsKept apply p r (Some s) m f0 m0 counts) where
   -- a pair that was published and not swept
   pub published_kept : (q : ℕ) → is_published p r q ≡ true → is_swept p r q ≡ false → (t : ℕ) × IsHeld p (carries apply p m) s q t
   published_kept q put free =
@@ -75,8 +74,8 @@ module _ (p : Plan) (proper : IsProper p) (plan_laws : HasPlanLaws p) (laws : Ha
   read_kept w t q opened_ h =
       let found = has_writer p plan_laws q (read_below p plan_laws t q h) in
       let u : ℕ = found.0 in
-      let end = open_after p plan_laws laws order fits r w t u legal opened_ (plan_laws.readers_after t u q h found.1) in
-      (u, ended_kept q u found.1 end (not_swept p plan_laws laws order fits r w t q legal opened_ h))
+      let end = open_after p plan_laws order laws r w t u legal opened_ (plan_laws.readers_after t u q h found.1) in
+      (u, ended_kept q u found.1 end (not_swept p plan_laws order laws r w t q legal opened_ h))
 
   -- replicas stay as they were marked
   pub replica_kept : (x : List ℕ) → files.get s.replicas x ≡ files.get m.replicas x

@@ -24,7 +24,7 @@ use Rattle.lease_book.specs.Legal.{Allowed, CauseFits, IsOpen}
 use Rattle.lease_book.specs.State.{State, now}
 use Rattle.site_yard.specs.Failures.{IsCounted, host_faults, host_misses}
 use Rattle.site_yard.specs.Kept.{IsKept}
-use Rattle.site_yard.specs.Law.{HasPlanLaws}
+use Rattle.site_yard.proofs.AgreesLemmas.{HasBookLaws}
 use Rattle.site_yard.specs.Leased.{failed_as}
 use Rattle.site_yard.specs.Moving.{HaveMissesRisen, MovedBy, SweptAway}
 use Rattle.site_yard.specs.Names.{pair_file_name, pair_site_name}
@@ -37,35 +37,35 @@ use Rattle.site_yard.proofs.SweepLemmas.{clean_is, clean_keeps, never_absent, ne
 pub worker_low : (b : Book) (w t : ℕ) → IsOpen (state_at b) w t → w < 16
 worker_low b w t opened_ = ∥∥₁_elim b.kept.legal (hlevel le_prop) (λ l. open_worker b.plan (task_numbers b.order.items) b.history.events w t l opened_)
 
-pub bring_allowed : (b : Book) (q : Plan) (o n : Option Store) (before now_ : Counts) (w t size : ℕ) → q ≡ b.plan → HasPlanLaws b.plan → IsOpen (state_at b) w t → MovedBy q t o n before now_ (Ok size) → Allowed b.plan (state_at b) (Arrive w t size)
+pub bring_allowed : (b : Book) (q : Plan) (o n : Option Store) (before now_ : Counts) (w t size : ℕ) → q ≡ b.plan → HasBookLaws b → IsOpen (state_at b) w t → MovedBy q t o n before now_ (Ok size) → Allowed b.plan (state_at b) (Arrive w t size)
 bring_allowed b q o n before now_ w t size same laws opened_ by =
     let moved : MovedBy b.plan t o n before now_ (Ok size) = subst (λ p. MovedBy p t o n before now_ (Ok size)) same by in
-    arrive_allowed b.plan (task_numbers b.order.items) b.history.events w t size moved.file moved.from moved.to b.proper laws (worker_low b w t opened_) opened_ moved.kind_is (subst (λ z. z ≤ or_zero (declared b.plan moved.file.0)) (sym moved.moved.1) moved.moved.2.0)
+    arrive_allowed b.plan (task_numbers b.order.items) b.history.events w t size moved.file moved.from moved.to b.proper laws.plans (worker_low b w t opened_) opened_ moved.kind_is (subst (λ z. z ≤ or_zero (declared b.plan moved.file.0)) (sym moved.moved.1) moved.moved.2.0)
 
 pub bring_fits : (b : Book) (q : Plan) (o n : Option Store) (before now_ : Counts) (t : ℕ) (cause : Cause) → q ≡ b.plan → MovedBy q t o n before now_ (Err cause) → CauseFits b.plan t cause []
 bring_fits b q o n before now_ t cause same by =
     let moved : MovedBy b.plan t o n before now_ (Err cause) = subst (λ p. MovedBy p t o n before now_ (Err cause)) same by in
     fetched_fits b.plan _ before now_ t moved.file moved.from moved.to cause moved.kind_is moved.moved.0
 
-pub bring_arrives : (b : Book) (q : Plan) (apply : Apply) (o n : Option Store) (m : Store) (f0 m0 : ℕ) (before now_ : Counts) (w t size : ℕ) → q ≡ b.plan → HasPlanLaws b.plan → ∥ IsKept apply b.plan b.history.events o m f0 m0 before ∥₁ → IsOpen (state_at b) w t → IsLater before now_ → MovedBy q t o n before now_ (Ok size)
+pub bring_arrives : (b : Book) (q : Plan) (apply : Apply) (o n : Option Store) (m : Store) (f0 m0 : ℕ) (before now_ : Counts) (w t size : ℕ) → q ≡ b.plan → HasBookLaws b → ∥ IsKept apply b.plan b.history.events o m f0 m0 before ∥₁ → IsOpen (state_at b) w t → IsLater before now_ → MovedBy q t o n before now_ (Ok size)
     → ∥ IsKept apply b.plan (b.history.events ++ Arrive w t size ∷ []) n m f0 m0 now_ ∥₁
 bring_arrives b q apply o n m f0 m0 before now_ w t size same laws kept opened_ later by =
     let moved : MovedBy b.plan t o n before now_ (Ok size) = subst (λ p. MovedBy p t o n before now_ (Ok size)) same by in
-    arrive_keeps b.plan b.proper laws b.kept.laws (task_numbers b.order.items) b.kept.fits apply b.history.events o n m f0 m0 before now_ w t size moved.file moved.from moved.to b.kept.legal kept opened_ moved.kind_is later moved.moved
+    arrive_keeps b.plan b.proper laws.plans (task_numbers b.order.items) laws.records apply b.history.events o n m f0 m0 before now_ w t size moved.file moved.from moved.to b.kept.legal kept opened_ moved.kind_is later moved.moved
 
-pub bring_counted : (b : Book) (q : Plan) (apply : Apply) (o n : Option Store) (m : Store) (f0 m0 : ℕ) (before now_ : Counts) (w t : ℕ) (cause : Cause) → q ≡ b.plan → HasPlanLaws b.plan → ∥ IsKept apply b.plan b.history.events o m f0 m0 before ∥₁ → IsOpen (state_at b) w t → IsLater before now_ → MovedBy q t o n before now_ (Err cause) → IsCounted o before now_ (Fail w t cause [])
+pub bring_counted : (b : Book) (q : Plan) (apply : Apply) (o n : Option Store) (m : Store) (f0 m0 : ℕ) (before now_ : Counts) (w t : ℕ) (cause : Cause) → q ≡ b.plan → HasBookLaws b → ∥ IsKept apply b.plan b.history.events o m f0 m0 before ∥₁ → IsOpen (state_at b) w t → IsLater before now_ → MovedBy q t o n before now_ (Err cause) → IsCounted o before now_ (Fail w t cause [])
 bring_counted b q apply o n m f0 m0 before now_ w t cause same laws kept opened_ later by =
     let moved : MovedBy b.plan t o n before now_ (Err cause) = subst (λ p. MovedBy p t o n before now_ (Err cause)) same by in
-    fetched_counted b.plan o before now_ w t moved.file.0 moved.from cause [] later (never_unfit b.plan b.proper laws b.kept.laws (task_numbers b.order.items) b.kept.fits apply b.history.events o m f0 m0 before w t moved.file moved.from moved.to b.kept.legal kept opened_ moved.kind_is) moved.moved.0
+    fetched_counted b.plan o before now_ w t moved.file.0 moved.from cause [] later (never_unfit b.plan b.proper laws.plans (task_numbers b.order.items) laws.records apply b.history.events o m f0 m0 before w t moved.file moved.from moved.to b.kept.legal kept opened_ moved.kind_is) moved.moved.0
 
-pub bring_fails : (b : Book) (q : Plan) (apply : Apply) (o n : Option Store) (m : Store) (f0 m0 : ℕ) (before now_ : Counts) (w t : ℕ) (cause : Cause) → q ≡ b.plan → HasPlanLaws b.plan → ∥ IsKept apply b.plan b.history.events o m f0 m0 before ∥₁ → IsOpen (state_at b) w t → IsLater before now_ → MovedBy q t o n before now_ (Err cause)
+pub bring_fails : (b : Book) (q : Plan) (apply : Apply) (o n : Option Store) (m : Store) (f0 m0 : ℕ) (before now_ : Counts) (w t : ℕ) (cause : Cause) → q ≡ b.plan → HasBookLaws b → ∥ IsKept apply b.plan b.history.events o m f0 m0 before ∥₁ → IsOpen (state_at b) w t → IsLater before now_ → MovedBy q t o n before now_ (Err cause)
     → ∥ IsKept apply b.plan (b.history.events ++ failure b.plan (state_at b) w t cause [] ∷ []) n m f0 m0 now_ ∥₁
 bring_fails b q apply o n m f0 m0 before now_ w t cause same laws kept opened_ later by =
     let moved : MovedBy b.plan t o n before now_ (Err cause) = subst (λ p. MovedBy p t o n before now_ (Err cause)) same by in
-    fail_keeps b.plan b.proper laws b.kept.laws (task_numbers b.order.items) b.kept.fits apply b.history.events o n m f0 m0 before now_ (is_tried_again b.plan (state_at b) t cause) w t moved.file moved.from moved.to cause b.kept.legal kept opened_ moved.kind_is
+    fail_keeps b.plan b.proper laws.plans (task_numbers b.order.items) laws.records apply b.history.events o n m f0 m0 before now_ (is_tried_again b.plan (state_at b) t cause) w t moved.file moved.from moved.to cause b.kept.legal kept opened_ moved.kind_is
     (bring_counted b q apply o n m f0 m0 before now_ w t cause same laws kept opened_ later by) moved.moved
 
-pub bring_adds : (b : Book) (q : Plan) (apply : Apply) (o n : Option Store) (m : Store) (f0 m0 : ℕ) (before now_ : Counts) (w t : ℕ) (cause : Cause) (new : List Event) → q ≡ b.plan → HasPlanLaws b.plan → ∥ IsKept apply b.plan b.history.events o m f0 m0 before ∥₁ → IsOpen (state_at b) w t → IsLater before now_ → MovedBy q t o n before now_ (Err cause)
+pub bring_adds : (b : Book) (q : Plan) (apply : Apply) (o n : Option Store) (m : Store) (f0 m0 : ℕ) (before now_ : Counts) (w t : ℕ) (cause : Cause) (new : List Event) → q ≡ b.plan → HasBookLaws b → ∥ IsKept apply b.plan b.history.events o m f0 m0 before ∥₁ → IsOpen (state_at b) w t → IsLater before now_ → MovedBy q t o n before now_ (Err cause)
     → new ≡ b.history.events ++ failure b.plan (state_at b) w t cause [] ∷ [] → Adds b.history.events new (IsArrival w t) o before now_
 bring_adds b q apply o n m f0 m0 before now_ w t cause new same laws kept opened_ later by is = record {
   entry = failure b.plan (state_at b) w t cause [];
@@ -79,13 +79,13 @@ pub sweep_keeps : (b : Book) (q : Plan) (apply : Apply) (o n : Option Store) (m 
 sweep_keeps b q apply o n m f0 m0 before now_ w t x same kept e later by =
     clean_keeps apply b.plan b.history.events o n m f0 m0 before now_ w t x kept e later (subst (λ p. SweptAway (pair_site_name p x.0) (pair_file_name p x.0) o n before now_ (Ok tt)) same by)
 
-sweep_shows : (b : Book) (q : Plan) (apply : Apply) (o n : Option Store) (m : Store) (f0 m0 : ℕ) (before now_ : Counts) (w t : ℕ) (x : PairId) (cause : Cause) → q ≡ b.plan → HasPlanLaws b.plan → ∥ IsKept apply b.plan b.history.events o m f0 m0 before ∥₁ → IsChoice b.plan (state_at b) t → kind b.plan t ≡ Some (CleanTask x) → IsLater before now_ → SweptAway (pair_site_name q x.0) (pair_file_name q x.0) o n before now_ (Err cause)
+sweep_shows : (b : Book) (q : Plan) (apply : Apply) (o n : Option Store) (m : Store) (f0 m0 : ℕ) (before now_ : Counts) (w t : ℕ) (x : PairId) (cause : Cause) → q ≡ b.plan → HasBookLaws b → ∥ IsKept apply b.plan b.history.events o m f0 m0 before ∥₁ → IsChoice b.plan (state_at b) t → kind b.plan t ≡ Some (CleanTask x) → IsLater before now_ → SweptAway (pair_site_name q x.0) (pair_file_name q x.0) o n before now_ (Err cause)
     → IsCounted o before now_ (Fail w t cause [])
 sweep_shows b q apply o n m f0 m0 before now_ w t x cause same laws kept choice e later by =
-    sweep_counted b.plan o n before now_ w t x.0 cause [] later (never_absent b.plan b.proper laws b.kept.laws (task_numbers b.order.items) b.kept.fits apply b.history.events o m f0 m0 before t x b.kept.legal kept choice e)
+    sweep_counted b.plan o n before now_ w t x.0 cause [] later (never_absent b.plan b.proper laws.plans (task_numbers b.order.items) laws.records apply b.history.events o m f0 m0 before t x b.kept.legal kept choice e)
     (subst (λ p. SweptAway (pair_site_name p x.0) (pair_file_name p x.0) o n before now_ (Err cause)) same by)
 
-pub sweep_stops : (b : Book) (q : Plan) (apply : Apply) (o n : Option Store) (m : Store) (f0 m0 : ℕ) (before now_ : Counts) (w t : ℕ) (x : PairId) (cause : Cause) → q ≡ b.plan → HasPlanLaws b.plan → ∥ IsKept apply b.plan b.history.events o m f0 m0 before ∥₁ → IsChoice b.plan (state_at b) t → kind b.plan t ≡ Some (CleanTask x) → IsLater before now_ → SweptAway (pair_site_name q x.0) (pair_file_name q x.0) o n before now_ (Err cause)
+pub sweep_stops : (b : Book) (q : Plan) (apply : Apply) (o n : Option Store) (m : Store) (f0 m0 : ℕ) (before now_ : Counts) (w t : ℕ) (x : PairId) (cause : Cause) → q ≡ b.plan → HasBookLaws b → ∥ IsKept apply b.plan b.history.events o m f0 m0 before ∥₁ → IsChoice b.plan (state_at b) t → kind b.plan t ≡ Some (CleanTask x) → IsLater before now_ → SweptAway (pair_site_name q x.0) (pair_file_name q x.0) o n before now_ (Err cause)
     → ∥ IsKept apply b.plan (b.history.events ++ failure b.plan (state_at b) w t cause [] ∷ []) n m f0 m0 now_ ∥₁
 sweep_stops b q apply o n m f0 m0 before now_ w t x cause same laws kept choice e later by =
     sweep_fails apply b.plan b.history.events o n m f0 m0 before now_ (is_tried_again b.plan (state_at b) t cause) w t x.0 cause kept
@@ -97,7 +97,7 @@ failure_answers : (p : Plan) (b : Bool) (w : ℕ) (t : TaskId) (cause : Cause) (
 failure_answers p true w t cause r new o before now_ s choice clean counted kind_is is = (choice, clean, record { entry = Again w t.0 cause []; is = is; kind = (refl, refl, kind_is); counted = failed_counted o before now_ true w t.0 cause [] counted })
 failure_answers p false w t cause r new o before now_ s choice clean counted kind_is is = (choice, clean, record { entry = Fail w t.0 cause []; is = is; kind = (refl, refl, kind_is); counted = counted })
 
-pub sweep_answers : (b : Book) (q : Plan) (apply : Apply) (o n : Option Store) (m : Store) (f0 m0 : ℕ) (before now_ : Counts) (w : ℕ) (t : TaskId) (x : PairId) (cause : Cause) (new : List Event) (answer : Leased) → q ≡ b.plan → HasPlanLaws b.plan → ∥ IsKept apply b.plan b.history.events o m f0 m0 before ∥₁ → IsChoice b.plan (state_at b) t.0 → kind b.plan t.0 ≡ Some (CleanTask x) → IsLater before now_ → SweptAway (pair_site_name q x.0) (pair_file_name q x.0) o n before now_ (Err cause)
+pub sweep_answers : (b : Book) (q : Plan) (apply : Apply) (o n : Option Store) (m : Store) (f0 m0 : ℕ) (before now_ : Counts) (w : ℕ) (t : TaskId) (x : PairId) (cause : Cause) (new : List Event) (answer : Leased) → q ≡ b.plan → HasBookLaws b → ∥ IsKept apply b.plan b.history.events o m f0 m0 before ∥₁ → IsChoice b.plan (state_at b) t.0 → kind b.plan t.0 ≡ Some (CleanTask x) → IsLater before now_ → SweptAway (pair_site_name q x.0) (pair_file_name q x.0) o n before now_ (Err cause)
     → new ≡ b.history.events ++ failure b.plan (state_at b) w t.0 cause [] ∷ [] → answer ≡ failed_as t (slice_get new (length new - 1)) → Leases b.plan (state_at b) w b.history.events new o before now_ answer
 sweep_answers b q apply o n m f0 m0 before now_ w t x cause new answer same laws kept choice e later by is said =
     subst (Leases b.plan (state_at b) w b.history.events new o before now_) (sym (said ∙ ap (λ (l : List Event). failed_as t (slice_get l (length l - 1))) is ∙ ap (failed_as t) (last_is b.history.events (failure b.plan (state_at b) w t.0 cause []))))

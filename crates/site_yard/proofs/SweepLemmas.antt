@@ -1,5 +1,5 @@
 -- The entries of a lease.
-use Rattle.std.proofs.Common.{◌≡◌, ℕ, ◌⊎◌, inl, inr, Bool, true, false, cond, List, [], ◌∷◌, ◌++◌, length, refl, sym, ap, ◌∙◌, subst, nat_eq, arith}
+use Rattle.std.proofs.Common.{◌≡◌, ℕ, ◌⊎◌, inl, inr, Bool, true, false, cond, List, [], ◌∷◌, ◌++◌, length, refl, sym, ap, ◌∙◌, subst, nat_eq, arith, zero, suc}
 use Rattle.std.specs.Prelude.{Option, Some, None, option_map, IfSome, Err}
 use Rattle.std.specs.List.{list_any}
 use Rattle.std.specs.FinMap as files
@@ -18,22 +18,23 @@ use Rattle.plan_core.specs.Numbers.{has}
 use Rattle.plan_core.specs.Proper.{IsProper}
 use Rattle.plan_core.specs.Words.{cleans, is_clean, is_clean_kind, kind, kind_cleans, writes}
 use Rattle.plan_core.proofs.TestLemmas.{either, is_itself, or_left, or_right}
+use Rattle.storage_simulation.specs.declared.standing.Phase.{Phase}
+use Rattle.storage_simulation.specs.declared.standing.Phase.TheVariants.{Waits, Runs, Ended}
+use Rattle.storage_simulation.specs.Standings.{waits}
 use Rattle.run_record.specs.declared.entry.Cause.{Cause}
 use Rattle.run_record.specs.declared.entry.Cause.TheVariants.{Absent, TooLong, Checksum, Oversize, Declined, ToolFailed, HostFailed, Memory}
 use Rattle.run_record.specs.Events.{Event, Grant, Arrive, End, Clean, Fail, Again, Regrant}
 use Rattle.lease_book.specs.Book.{IsNext}
 use Rattle.lease_book.specs.declared.leasing.Next.{Next}
 use Rattle.lease_book.specs.declared.leasing.Next.TheVariants as next
-use Rattle.lease_book.specs.Choice.{IsChoice, IsFresh}
-use Rattle.lease_book.specs.Law.{FitsFromStart, HasStorageLaws}
+use Rattle.lease_book.specs.Choice.{IsChoice, IsFresh, IsFreshAmong}
 use Rattle.lease_book.specs.Legal.{CauseFits, Legal}
 use Rattle.lease_book.specs.Reading.{ends, frees}
 use Rattle.lease_book.specs.State.{State, ended, now}
-use Rattle.lease_book.proofs.SoundLemmas.{choice_in, fresh_among, not_both}
 use Rattle.site_yard.specs.Changes.{carries, changes_of, removal}
 use Rattle.site_yard.specs.Failures.{IsCounted}
 use Rattle.site_yard.specs.Kept.{IsKept}
-use Rattle.site_yard.specs.Law.{HasPlanLaws}
+use Rattle.site_yard.specs.Law.{HasPlanLaws, HasRecordLaws}
 use Rattle.site_yard.specs.Moving.{SweptAway}
 use Rattle.site_yard.specs.Names.{pair_file_name, pair_site_name}
 use Rattle.site_yard.specs.Places.{is_swept}
@@ -68,10 +69,31 @@ next_keeps apply p s w next.Done r new o m f0 m0 c is kept = subst (λ l. ∥ Is
 next_keeps apply p s w next.Stopped r new o m f0 m0 c is kept = subst (λ l. ∥ IsKept apply p l o m f0 m0 c ∥₁) (sym is.1) kept
 next_keeps apply p s w next.NotYet r new o m f0 m0 c is kept = subst (λ l. ∥ IsKept apply p l o m f0 m0 c ∥₁) (sym is.4) kept
 
+-- a fresh order begins with no Clean
+fresh_no_clean : (p : Plan) (s : State) (n : ℕ) (xs : List ℕ) (t : ℕ) → IsFreshAmong p s n xs t → is_clean p t ≡ false
+fresh_no_clean p s n [] t is = absurd is
+fresh_no_clean p s zero (x ∷ xs) t is = absurd is
+fresh_no_clean p s (suc n) (x ∷ xs) t (inl is) = fresh_no_clean p s (suc n) xs t is.1
+fresh_no_clean p s (suc n) (x ∷ xs) t (inr (inl is)) = subst (λ z. is_clean p z ≡ false) is.2 is.0.no_clean
+fresh_no_clean p s (suc n) (x ∷ xs) t (inr (inr is)) = fresh_no_clean p s n xs t is.2
+
+-- the Choice is one of rest
+has_split : (before later : List ℕ) (t : ℕ) → has (before ++ t ∷ later) t ≡ true
+has_split [] later t = or_left (nat_eq t t) (has later t) (is_itself t)
+has_split (x ∷ before) later t = or_right (nat_eq x t) (has (before ++ t ∷ later) t) (has_split before later t)
+
+choice_in : (p : Plan) (s : State) (t : ℕ) → IsChoice p s t → has s.rest t ≡ true
+choice_in p s t choice = ap (λ (l : List ℕ). has l t) choice.is ∙ has_split choice.before choice.later t
+
+not_both : (x : Phase) → waits x ≡ true → ended x ≡ true → ⊥
+not_both Waits h k = absurd cc
+not_both Runs h k = absurd cc
+not_both Ended h k = absurd cc
+
 -- a Clean that `next` answers is the Choice, and nothing is added
 pub next_clean : (p : Plan) (s : State) (w t : ℕ) (r new : List Event) → is_clean p t ≡ true → (IsChoice p s t × (new ≡ cond (is_clean p t) r (r ++ Grant w t ∷ []))) ⊎ (IsFresh p s t × (new ≡ r ++ Regrant w t ∷ [])) → IsChoice p s t × (new ≡ r)
 next_clean p s w t r new clean (inl is) = (is.0, is.1 ∙ ap (λ b. cond b r (r ++ Grant w t ∷ [])) clean)
-next_clean p s w t r new clean (inr is) = absurd (let candidate = (fresh_among p s 4 s.rest t is.0.among).0 in let x : true ≡ false = sym clean ∙ candidate.no_clean in cc)
+next_clean p s w t r new clean (inr is) = absurd (let x : true ≡ false = sym clean ∙ fresh_no_clean p s 4 s.rest t is.0.among in cc)
 
 -- another task that `next` answers is granted
 pub next_other : (p : Plan) (s : State) (w t : ℕ) (r new : List Event) → is_clean p t ≡ false → (IsChoice p s t × (new ≡ cond (is_clean p t) r (r ++ Grant w t ∷ []))) ⊎ (IsFresh p s t × (new ≡ r ++ Regrant w t ∷ [])) → (IsChoice p s t × (new ≡ r ++ Grant w t ∷ [])) ⊎ (IsFresh p s t × (new ≡ r ++ Regrant w t ∷ []))
@@ -109,13 +131,13 @@ no_prop x y = absurd x
 abbrev pub NeverAbsent : Plan → ℕ → Option Store → Type 0
 NeverAbsent p q o = (s : Store) → o ≡ Some s → pair_at s.scratch (pair_site_name p q) (pair_file_name p q) ≡ None → ⊥
 
-module _ (p : Plan) (proper : IsProper p) (plan_laws : HasPlanLaws p) (laws : HasStorageLaws p) (order : List ℕ) (fits : FitsFromStart p order) (apply : Apply) (r : List Event) where
+module _ (p : Plan) (proper : IsProper p) (plan_laws : HasPlanLaws p) (order : List ℕ) (laws : HasRecordLaws p order) (apply : Apply) (r : List Event) where
   -- the Choice hasn't ended
   choice_not_ended : (t : ℕ) → Legal p order r → IsChoice p (now p order r) t → list_any (ends t) r ≡ true → ⊥
   choice_not_ended t legal choice e =
       let s : State = now p order r in
-      let waits_ = (sound_here p plan_laws laws order fits r legal).safe.waiting t (choice_in p s t choice) in
-      let ended_ : ended (s.phase t) ≡ true = (is_read p plan_laws laws order fits r legal).ended t ∙ e in
+      let waits_ = (sound_here p plan_laws order laws r legal).safe.waiting t (choice_in p s t choice) in
+      let ended_ : ended (s.phase t) ≡ true = (is_read p plan_laws order laws r legal).ended t ∙ e in
       not_both (s.phase t) waits_ ended_
 
   swept_there : (s m : Store) (f0 m0 : ℕ) (c : Counts) (t : ℕ) (q : PairId) → Legal p order r → IsKept apply p r (Some s) m f0 m0 c → IsChoice p (now p order r) t → kind p t ≡ Some (CleanTask q) → pair_at s.scratch (pair_site_name p q.0) (pair_file_name p q.0) ≡ None → ⊥
@@ -123,9 +145,9 @@ module _ (p : Plan) (proper : IsProper p) (plan_laws : HasPlanLaws p) (laws : Ha
       let it = clean_sweeps p t q e in
       let writer = has_writer p plan_laws q.0 (swept_below p plan_laws t q e) in
       let u : ℕ = writer.0 in
-      let end = choice_after p plan_laws laws order fits r t u legal choice (plan_laws.cleans_after t u q.0 it (or_left (has (writes p u) q.0) _ writer.1)) in
+      let end = choice_after p plan_laws order laws r t u legal choice (plan_laws.cleans_after t u q.0 it (or_left (has (writes p u) q.0) _ writer.1)) in
       let free = not_true (is_swept p r q.0) (λ f. choice_not_ended t legal choice (swept_ends p t q.0 r (λ v h. proper.flow.one_clean v t q.0 h it) f)) in
-      let held = ended_kept p proper plan_laws laws order fits apply r s m f0 m0 c legal kept q.0 u writer.1 end free in
+      let held = ended_kept p proper plan_laws order laws apply r s m f0 m0 c legal kept q.0 u writer.1 end free in
       absurd (let x = sym (ap (option_map length) (sym held.1 ∙ none)) ∙ held.2.1 in cc)
 
   pub never_absent : (o : Option Store) (m : Store) (f0 m0 : ℕ) (c : Counts) (t : ℕ) (q : PairId) → ∥ Legal p order r ∥₁ → ∥ IsKept apply p r o m f0 m0 c ∥₁ → IsChoice p (now p order r) t → kind p t ≡ Some (CleanTask q) → NeverAbsent p q.0 o

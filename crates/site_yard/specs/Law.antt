@@ -12,6 +12,10 @@ use Rattle.plan_core.specs.Kinds.{reads_file, writes_file}
 use Rattle.plan_core.specs.Numbers.{RisesFrom, below, has}
 use Rattle.plan_core.specs.Proper.{is_kind_in_range, is_parent}
 use Rattle.plan_core.specs.Words.{cleans, count_pairs, delivers, is_clean, is_pair, kind, reads, writes}
+use Rattle.lease_book.specs.Law.{IsSoundState}
+use Rattle.lease_book.specs.Legal.{Legal}
+use Rattle.lease_book.specs.Reading.{IsRead}
+use Rattle.lease_book.specs.State.{now}
 use Rattle.site_yard.specs.Changes.{carries}
 use Rattle.site_yard.specs.Kept.{IsTruthful}
 use Rattle.site_yard.specs.Names.{file_name, pair_file, pair_file_name, pair_site_name}
@@ -32,6 +36,12 @@ pub record HasPlanLaws (p : Plan) : Type 0 where
   pub cleans_after : (t u q : ℕ) → cleans p t q ≡ true → (has (writes p u) q || has (reads p u) q) ≡ true → is_parent p u t ≡ true
   pub cleans_only : (t q : ℕ) → is_clean p t ≡ true → (has (writes p t) q || has (reads p t) q) ≡ false
   pub carrying : (apply : Apply) (told : Bytes → Option Bytes) → IsCarrying apply told p (carried apply told p)
+
+-- What lease_book promises of the records of an order that fits from the start: the state says what the list says, and
+-- is sound.
+pub record HasRecordLaws (p : Plan) (order : List ℕ) : Type 0 where
+  pub reads_so : (r : List Event) → Legal p order r → IsRead p r (now p order r)
+  pub sound : (r : List Event) → Legal p order r → IsSoundState p (now p order r)
 
 -- what the task that writes a pair carries for its file; what the task that delivers a file carries for it
 abbrev pub IsPairOf : Plan → (ℕ → ℕ → Option (List ℕ)) → ℕ → Option (List ℕ) → Type 0

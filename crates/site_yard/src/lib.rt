@@ -16,6 +16,7 @@ mod names;
 mod opening;
 mod yard;
 
+pub use law::kept_stores_show_records;
 pub use leased::Leased;
 pub use opening::{OpenFault, OpenRefused};
 pub use yard::Yard;

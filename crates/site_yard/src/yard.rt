@@ -11,7 +11,7 @@ ghost use Rattle.lease_book.specs.Choice.{IsChoice};
 ghost use Rattle.lease_book.specs.Legal.{IsOpen, Legal};
 ghost use Rattle.site_yard.specs.Kept.{IsKept};
 
-use crate::law::plan_laws;
+use crate::law::{plan_laws, record_laws};
 use crate::leased::{Leased, failed};
 use crate::moving::{move_task, sweep_pair};
 use crate::names::swept_pair;
@@ -101,6 +101,7 @@ impl<H: Host, T: Tool> Yard<H, T> {
         ensures misses { self.new.misses ≡ self.old.misses }
     {
         plan_laws();
+        record_laws();
         let ordered = &self.ordered;
         match sweep_pair(ordered.plan(), &mut self.host, alloc, pair) {
             Ok(()) => {
@@ -150,6 +151,7 @@ impl<H: Host, T: Tool> Yard<H, T> {
         ensures misses { self.new.misses ≡ self.old.misses }
     {
         plan_laws();
+        record_laws();
         let ordered = &self.ordered;
         match move_task(ordered.plan(), &mut self.host, alloc, task) {
             Ok(size) => self.book.arrive(worker, task, size),
@@ -164,6 +166,7 @@ impl<H: Host, T: Tool> Yard<H, T> {
         ensures counted { ∥ AreCounted (H.told self.now.host) self.now.faults self.now.misses (H.counts self.now.host) self.now.book.history.events ∥₁ }
     {
         plan_laws();
+        record_laws();
         let _record = self.book.record();
     }
 

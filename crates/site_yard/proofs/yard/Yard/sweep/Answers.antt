@@ -3,6 +3,7 @@ use Rattle.std.specs.Prelude.{slice_get}
 use Rattle.run_record.specs.Events.{Log}
 use Rattle.site_yard.specs.Leased.{failed_as}
 use Rattle.site_yard.proofs.StepLemmas.{sweep_answers, sweep_keeps, sweep_stops}
+use Rattle.site_yard.proofs.AgreesLemmas.{book_laws}
 use Rattle.site_yard.proofs.yard.Yard.sweep.Goals as goal
 
 pub invariant_of-self-clause-kept : goal.invariant_of-self-clause-kept
@@ -15,9 +16,9 @@ pub invariant_of-self-in-Err-clause-kept : goal.invariant_of-self-in-Err-clause-
 invariant_of-self-in-Err-clause-kept g c =
     let y = c.args.self.now in
     rw (c.fail.ensures.history, c.fail.ensures.plan, c.in-Err.ensures.marked)
-    (sweep_stops y.book _ g.T.Tool.apply _ _ _ y.faults y.misses _ _ c.args.worker c.args.task.0 c.args.pair c.in-Err.cause (c.plan.ensures ∙ sym y.same_plan) (c.plan_laws.ensures y.book.plan y.book.proper) y.kept c.requires.choice c.requires.kind c.in-Err.ensures.later c.in-Err.ensures.answer)
+    (sweep_stops y.book _ g.T.Tool.apply _ _ _ y.faults y.misses _ _ c.args.worker c.args.task.0 c.args.pair c.in-Err.cause (c.plan.ensures ∙ sym y.same_plan) (book_laws y.book c.plan_laws.ensures c.record_laws.ensures) y.kept c.requires.choice c.requires.kind c.in-Err.ensures.later c.in-Err.ensures.answer)
 
 pub returns-in-Err-clause-leased : goal.returns-in-Err-clause-leased
 returns-in-Err-clause-leased g c =
     let y = c.args.self.now in
-    sweep_answers y.book _ g.T.Tool.apply _ _ _ y.faults y.misses _ _ c.args.worker c.args.task c.args.pair c.in-Err.cause _ _ (c.plan.ensures ∙ sym y.same_plan) (c.plan_laws.ensures y.book.plan y.book.proper) y.kept c.requires.choice c.requires.kind c.in-Err.ensures.later c.in-Err.ensures.answer c.fail.ensures.history (c.failed.ensures ∙ ap (λ (l : Log). failed_as c.args.task (slice_get l.events (length l.events - 1))) c.record.ensures.value)
+    sweep_answers y.book _ g.T.Tool.apply _ _ _ y.faults y.misses _ _ c.args.worker c.args.task c.args.pair c.in-Err.cause _ _ (c.plan.ensures ∙ sym y.same_plan) (book_laws y.book c.plan_laws.ensures c.record_laws.ensures) y.kept c.requires.choice c.requires.kind c.in-Err.ensures.later c.in-Err.ensures.answer c.fail.ensures.history (c.failed.ensures ∙ ap (λ (l : Log). failed_as c.args.task (slice_get l.events (length l.events - 1))) c.record.ensures.value)
