@@ -96,6 +96,7 @@ impl<H: Host, T: Tool> Yard<H, T> {
         ensures leased { Leases self.old.book.plan (state_at self.old.book) worker self.old.book.history.events self.new.book.history.events (H.told self.old.host) (H.counts self.old.host) (H.counts self.new.host) result }
         ensures ordered { self.new.ordered ≡ self.old.ordered }
         ensures tells { is_some (H.told self.new.host) ≡ is_some (H.told self.old.host) }
+        ensures later { IsLater (H.counts self.old.host) (H.counts self.new.host) }
         ensures marked { H.marked self.new.host ≡ H.marked self.old.host }
         ensures faults { self.new.faults ≡ self.old.faults }
         ensures misses { self.new.misses ≡ self.old.misses }
@@ -121,6 +122,7 @@ impl<H: Host, T: Tool> Yard<H, T> {
         ensures leased { Leases self.old.ordered.plan (state_at self.old.book) worker self.old.book.history.events self.new.book.history.events (H.told self.old.host) (H.counts self.old.host) (H.counts self.new.host) result }
         ensures ordered { self.new.ordered ≡ self.old.ordered }
         ensures tells { is_some (H.told self.new.host) ≡ is_some (H.told self.old.host) }
+        ensures later { IsLater (H.counts self.old.host) (H.counts self.new.host) }
         ensures marked { H.marked self.new.host ≡ H.marked self.old.host }
         ensures faults { self.new.faults ≡ self.old.faults }
         ensures misses { self.new.misses ≡ self.old.misses }
@@ -146,6 +148,7 @@ impl<H: Host, T: Tool> Yard<H, T> {
         ensures entry { Adds self.old.book.history.events self.new.book.history.events (IsArrival worker task.0) (H.told self.old.host) (H.counts self.old.host) (H.counts self.new.host) }
         ensures ordered { self.new.ordered ≡ self.old.ordered }
         ensures tells { is_some (H.told self.new.host) ≡ is_some (H.told self.old.host) }
+        ensures later { IsLater (H.counts self.old.host) (H.counts self.new.host) }
         ensures marked { H.marked self.new.host ≡ H.marked self.old.host }
         ensures faults { self.new.faults ≡ self.old.faults }
         ensures misses { self.new.misses ≡ self.old.misses }
