@@ -1,0 +1,16 @@
+mod KeptLemmas
+mod PlaceLemmas
+mod PlanLemmas
+mod SuitsLemmas
+mod FollowLemmas
+mod HoldsLemmas
+mod SourceLemmas
+mod MoveLemmas
+mod SweepLemmas
+mod BringLemmas
+mod TraceLemmas
+mod GoneLemmas
+mod OthersLemmas
+mod DeliveredLemmas
+mod AgreesLemmas
+mod StepLemmas

@@ -1,0 +1,15 @@
+-- What the entries of a record say of the store.
+pub mod Names
+pub mod Changes
+pub mod Trace
+pub mod Truthful
+pub mod Failures
+pub mod Kept
+pub mod Places
+-- What the laws stand on.
+pub mod Law
+-- What the calls answer.
+pub mod Moving
+pub mod Opening
+pub mod Leased
+pub mod Yard

@@ -1,0 +1,22 @@
+//! The record of a run, tied to the host that holds its files.
+//!
+//! To the layer above a [`Yard`] is its record and its host's marked store: where the host tells, its store is the
+//! marked one with the changes that the record's entries name, one after the other (`specs/Changes.antt`), and the
+//! record is Truthful over it (`specs/Truthful.antt`). That is one equation (`specs/Kept.antt`); what follows from it of
+//! each file, of the trace and of the replicas is [`Yard::agrees`], by `specs/Law.antt`. How often the host's counts rose
+//! at least is in `specs/Failures.antt`. The plan and the book are those of `plan_core` and `lease_book`; what a task
+//! carries is plan_core's. What a call adds to the record is in `specs/Yard.antt`, what moves bytes in
+//! `specs/Moving.antt`, in the host's words alone.
+#![tactic(auto)]
+
+mod law;
+mod leased;
+mod moving;
+mod names;
+mod opening;
+mod yard;
+
+pub use law::kept_stores_show_records;
+pub use leased::Leased;
+pub use opening::{OpenFault, OpenRefused};
+pub use yard::Yard;

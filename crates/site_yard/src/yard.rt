@@ -1,0 +1,195 @@
+//! A book tied to a host.
+
+ghost use Rattle.std.specs.Prelude.{◌≡◌, ◌≤◌, ◌<◌, [], IfErr, IfOk, IfSome, Some, is_some, true};
+ghost use Rattle.outside.specs.Counts.{IsLater};
+ghost use Rattle.plan_core.specs.Proper.{IsProper};
+ghost use Rattle.plan_core.specs.declared.plan.TaskKind.TheVariants.{Clean};
+ghost use Rattle.plan_core.specs.Words.{is_transfer, kind, retries, task_numbers};
+ghost use Rattle.storage_simulation.specs.Goods.{IsWithinLimits};
+ghost use Rattle.lease_book.specs.Book.{state_at};
+ghost use Rattle.lease_book.specs.Choice.{IsChoice};
+ghost use Rattle.lease_book.specs.Legal.{IsOpen, Legal};
+ghost use Rattle.site_yard.specs.Kept.{IsKept};
+
+use crate::law::{plan_laws, record_laws};
+use crate::leased::{Leased, failed};
+use crate::moving::{move_task, sweep_pair};
+use crate::names::swept_pair;
+use crate::opening::{OpenFault, OpenRefused, look};
+use lease_book::{Book, Next};
+use outside::{Host, PairId, TaskId, Tool};
+use plan_core::Plan;
+use std::alloc::Global;
+use std::marker::PhantomData;
+use storage_simulation::Ordered;
+
+/// A plan's book, and the host that holds what the book says. It holds no tool: the type says what tools make.
+#[derive(Drop)]
+pub struct Yard<H: Host, T: Tool> {
+    pub(crate) ordered: Ordered,
+    pub(crate) book: Book,
+    pub(crate) host: H,
+    pub(crate) faults: u64,
+    pub(crate) misses: u64,
+    tool: PhantomData<T>,
+    ghost same_plan: { book.plan ≡ ordered.plan },
+    ghost same_order: { book.order.items ≡ ordered.tasks.items },
+    ghost kept: { ∥ IsKept T.apply book.plan book.history.events (H.told host) (H.marked host) faults misses (H.counts host) ∥₁ },
+}
+
+impl<H: Host, T: Tool> Yard<H, T> {
+    ghost use Rattle.site_yard.specs.Failures.{AreCounted};
+    ghost use Rattle.site_yard.specs.Law.{Agrees};
+    ghost use Rattle.site_yard.specs.Opening.{AreUnused, Refuses};
+    ghost use Rattle.site_yard.specs.Yard.{Adds, IsArrival, Leases};
+
+    /// Takes over a host whose sites are free. It marks the host first, and asks each site that has a pair once.
+    pub fn open(alloc: Global, ordered: Ordered, host: H) -> Result<Yard<H, T>, OpenRefused<H>>
+        requires proper { IsProper ordered.plan }
+        requires limits { IsWithinLimits ordered.plan }
+        requires retries { retries ordered.plan ≤ 10 }
+        ensures ordered { IfOk result (λ y. y.ordered ≡ ordered) }
+        ensures history { IfOk result (λ y. y.book.history.events ≡ []) }
+        ensures told { IfOk result (λ y. H.told y.host ≡ H.told host) }
+        ensures marked { IfOk result (λ y. IfSome (H.told host) (λ s. H.marked y.host ≡ s)) }
+        ensures faults { IfOk result (λ y. y.faults ≡ (H.counts host).faults) }
+        ensures misses { IfOk result (λ y. y.misses ≡ (H.counts host).misses) }
+        ensures later { IfOk result (λ y. IsLater (H.counts host) (H.counts y.host)) }
+        ensures unused { IfOk result (λ y. AreUnused ordered.plan (H.told host)) }
+        ensures refused { IfErr result (λ e. Refuses ordered.plan (H.told host) (H.counts host) (H.counts e.host) e.fault) }
+        ensures back { IfErr result (λ e. (e.ordered ≡ ordered) × (H.told e.host ≡ H.told host) × IsLater (H.counts host) (H.counts e.host)) }
+    {
+        let faults = host.faults();
+        let misses = host.misses();
+        let mut host = host;
+        let fault = match host.mark(alloc) {
+            Err(_) => OpenFault::Memory,
+            Ok(()) => match look(ordered.plan(), &mut host, alloc) {
+                Err(fault) => fault,
+                Ok(()) => match Book::open(alloc, &ordered) {
+                    Err(_) => OpenFault::Memory,
+                    Ok(book) => {
+                        return Ok(Yard {
+                            ordered,
+                            book,
+                            host,
+                            faults,
+                            misses,
+                            tool: PhantomData,
+                        });
+                    }
+                },
+            },
+        };
+        Err(OpenRefused {
+            fault,
+            ordered,
+            host,
+        })
+    }
+
+    /// Removes the pair of a Clean that is the Choice, and adds its Clean or a failure.
+    fn sweep(&mut self, alloc: Global, worker: u32, task: TaskId, pair: PairId) -> Leased
+        requires worker { worker < 16 }
+        requires choice { IsChoice self.old.book.plan (state_at self.old.book) task.0 }
+        requires kind { kind self.old.book.plan task.0 ≡ Some (Clean pair) }
+        ensures leased { Leases self.old.book.plan (state_at self.old.book) worker self.old.book.history.events self.new.book.history.events (H.told self.old.host) (H.counts self.old.host) (H.counts self.new.host) result }
+        ensures ordered { self.new.ordered ≡ self.old.ordered }
+        ensures tells { is_some (H.told self.new.host) ≡ is_some (H.told self.old.host) }
+        ensures later { IsLater (H.counts self.old.host) (H.counts self.new.host) }
+        ensures marked { H.marked self.new.host ≡ H.marked self.old.host }
+        ensures faults { self.new.faults ≡ self.old.faults }
+        ensures misses { self.new.misses ≡ self.old.misses }
+    {
+        plan_laws();
+        record_laws();
+        let ordered = &self.ordered;
+        match sweep_pair(ordered.plan(), &mut self.host, alloc, pair) {
+            Ok(()) => {
+                self.book.clean(worker, task);
+                Leased::Swept(task)
+            }
+            Err(cause) => {
+                self.book.fail(worker, task, &cause, &[]);
+                failed(self.book.record(), task)
+            }
+        }
+    }
+
+    /// The next task that may begin: granted, or, where it is a Clean, swept.
+    pub fn lease(&mut self, alloc: Global, worker: u32) -> Leased
+        requires { worker < 16 }
+        ensures leased { Leases self.old.ordered.plan (state_at self.old.book) worker self.old.book.history.events self.new.book.history.events (H.told self.old.host) (H.counts self.old.host) (H.counts self.new.host) result }
+        ensures ordered { self.new.ordered ≡ self.old.ordered }
+        ensures tells { is_some (H.told self.new.host) ≡ is_some (H.told self.old.host) }
+        ensures later { IsLater (H.counts self.old.host) (H.counts self.new.host) }
+        ensures marked { H.marked self.new.host ≡ H.marked self.old.host }
+        ensures faults { self.new.faults ≡ self.old.faults }
+        ensures misses { self.new.misses ≡ self.old.misses }
+    {
+        match self.book.next(worker) {
+            Next::Task(task) => {
+                let ordered = &self.ordered;
+                match swept_pair(ordered.plan(), task) {
+                    Some(pair) => self.sweep(alloc, worker, task, pair),
+                    None => Leased::Granted(task),
+                }
+            }
+            Next::Done => Leased::Done,
+            Next::Stopped => Leased::Stopped,
+            Next::NotYet => Leased::NotYet,
+        }
+    }
+
+    /// Moves a Transfer's bytes, and adds its Arrive or a failure.
+    pub fn bring(&mut self, alloc: Global, worker: u32, task: TaskId)
+        requires open { IsOpen (state_at self.old.book) worker task.0 }
+        requires kind { is_transfer self.old.ordered.plan task.0 ≡ true }
+        ensures entry { Adds self.old.book.history.events self.new.book.history.events (IsArrival worker task.0) (H.told self.old.host) (H.counts self.old.host) (H.counts self.new.host) }
+        ensures ordered { self.new.ordered ≡ self.old.ordered }
+        ensures tells { is_some (H.told self.new.host) ≡ is_some (H.told self.old.host) }
+        ensures later { IsLater (H.counts self.old.host) (H.counts self.new.host) }
+        ensures marked { H.marked self.new.host ≡ H.marked self.old.host }
+        ensures faults { self.new.faults ≡ self.old.faults }
+        ensures misses { self.new.misses ≡ self.old.misses }
+    {
+        plan_laws();
+        record_laws();
+        let ordered = &self.ordered;
+        match move_task(ordered.plan(), &mut self.host, alloc, task) {
+            Ok(size) => self.book.arrive(worker, task, size),
+            Err(cause) => self.book.fail(worker, task, &cause, &[]),
+        }
+    }
+
+    /// The record is Legal, a host that tells shows it, and the host's counts show its failures.
+    pub fn agrees(&self)
+        ensures legal { ∥ Legal self.now.ordered.plan (task_numbers self.now.ordered.tasks.items) self.now.book.history.events ∥₁ }
+        ensures shows { ∥ IfSome (H.told self.now.host) (Agrees T.apply self.now.ordered.plan self.now.book.history.events (H.marked self.now.host)) ∥₁ }
+        ensures counted { ∥ AreCounted (H.told self.now.host) self.now.faults self.now.misses (H.counts self.now.host) self.now.book.history.events ∥₁ }
+    {
+        plan_laws();
+        record_laws();
+        let _record = self.book.record();
+    }
+
+    /// The plan of the record.
+    pub fn plan(&self) -> &Plan
+        ensures { result.now ≡ self.now.ordered.plan }
+    {
+        let ordered = &self.ordered;
+        ordered.plan()
+    }
+
+    pub fn book(&self) -> &Book
+        ensures { result.now ≡ self.now.book }
+    {
+        &self.book
+    }
+
+    pub fn into_host(self) -> H
+        ensures { result ≡ self.host }
+    {
+        self.host
+    }
+}
