@@ -7,14 +7,16 @@ ghost use Rattle.outside.specs.Store.{Change};
 
 use crate::file_name::path_in;
 use crate::reading::{Reading, read_within};
-use crate::standing::{
-    OUTPUT, SITES, Standing, is_empty, make_folder, standing_at_site, write_file,
-};
+use crate::standing::{SITES, Standing, is_empty, standing_at_site};
+use crate::writing::{make_folder, write_file};
 use outside::{Blob, Counts, Host, HostFault, Memory};
 use std::alloc::Global;
 use std::io::ErrorKind;
 use std::rt::Files;
 use std::{fs, io};
+
+/// The folder of the delivered files.
+const OUTPUT: &str = "output";
 
 /// Replicas are files of the machine, a site's file is `sites/SITE/NAME` in the working folder and a delivered one
 /// `output/NAME`, with names escaped. What it holds isn't told. One run at a time has the working folder.
@@ -235,6 +237,7 @@ impl<R: Files + Drop> Host for FolderHost<R> {
                 self.counts.add_miss();
                 Ok(false)
             }
+            Err(e) if e.kind() == ErrorKind::OutOfMemory => Err(HostFault::Memory),
             Err(_) => {
                 self.counts.add_fault();
                 Err(HostFault::Failed)

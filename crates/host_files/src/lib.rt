@@ -13,6 +13,7 @@ mod law;
 mod reading;
 mod standing;
 mod stream_sink;
+mod writing;
 
 pub use folder_docs::FolderDocs;
 pub use folder_host::FolderHost;

@@ -1,18 +1,12 @@
 //! What stands at a path of the working folder. A symbolic link is never followed.
 
 use std::alloc::Global;
-use std::io::{ErrorKind, Write};
+use std::io::ErrorKind;
 use std::rt::Files;
 use std::{fs, io};
 
 /// The folder of the sites' folders.
 pub const SITES: &str = "sites";
-
-/// The folder of the delivered files.
-pub const OUTPUT: &str = "output";
-
-/// The file that a file is written to before it gets its name.
-const PART: &str = ".pegasus.part";
 
 /// What stands at a path.
 #[derive(Drop)]
@@ -24,7 +18,8 @@ pub enum Standing {
     Other,
 }
 
-fn found_at<R: Files>(rt: &R, path: &str) -> io::Result<Standing> {
+/// What stands at a path itself, be it a link.
+pub fn found_at<R: Files>(rt: &R, path: &str) -> io::Result<Standing> {
     let found = match fs::symlink_metadata(rt, path) {
         Ok(found) => found,
         Err(e) if e.kind() == ErrorKind::NotFound => return Ok(Standing::Nothing),
@@ -65,28 +60,4 @@ pub fn is_empty<R: Files>(alloc: Global, rt: &R, folder: &str) -> io::Result<boo
         }
         Standing::File | Standing::Other => Err(io::Error::from(ErrorKind::NotADirectory)),
     }
-}
-
-/// Makes a folder, if nothing stands there.
-pub fn make_folder<R: Files>(rt: &R, path: &str) -> io::Result<()> {
-    match found_at(rt, path)? {
-        Standing::Folder => Ok(()),
-        Standing::Nothing => fs::create_dir(rt, path),
-        Standing::File | Standing::Other => Err(io::Error::from(ErrorKind::NotADirectory)),
-    }
-}
-
-fn write_part<R: Files>(rt: &R, bytes: &[u8]) -> io::Result<()> {
-    let mut file = fs::File::create_new(rt, PART)?;
-    file.write_all(bytes)
-}
-
-/// Writes a file of its own and gives it the path's name, in place of an earlier file.
-pub fn write_file<R: Files>(rt: &R, path: &str, bytes: &[u8]) -> io::Result<()> {
-    match fs::remove_file(rt, PART) {
-        Err(e) if e.kind() != ErrorKind::NotFound => return Err(e),
-        _ => {}
-    }
-    write_part(rt, bytes)?;
-    fs::rename(rt, PART, path)
 }

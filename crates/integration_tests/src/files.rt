@@ -1,9 +1,10 @@
-//! Files as documents and as replicas.
+//! Files as documents, as replicas, and as what a store keeps.
 
 use host_files::*;
 use outside::{DocFault, Docs, Host, HostFault};
 use std::alloc::Global;
 use std::fs;
+use std::os::unix::fs::symlink;
 use std::rt::Files;
 use std::test::Fail;
 
@@ -69,7 +70,7 @@ fn replicas_of_a_folder(rt: HostRuntime) -> Result<(), Fail> {
     let alloc = rt.alloc();
     fs::write(&rt, "host_files_replica", "hello")?;
     fs::write(&rt, "host_files_long_replica", "hello!")?;
-    let mut host = FolderHost::new(alloc, rt);
+    let mut host = FolderHost::new(rt);
     for (pfn, wanted) in [
         ("host_files_replica", Ok(5)),
         ("file://host_files_replica", Ok(5)),
@@ -84,5 +85,66 @@ fn replicas_of_a_folder(rt: HostRuntime) -> Result<(), Fail> {
     assert_eq!(rt; host.misses(), 3);
     fs::remove_file(&rt, "host_files_replica")?;
     fs::remove_file(&rt, "host_files_long_replica")?;
+    Ok(())
+}
+
+/// What a reading of a site's file gave: how many bytes, or the fault.
+fn scratch_at<R: Files + Drop>(
+    alloc: Global,
+    host: &mut FolderHost<R>,
+    site: &str,
+    name: &str,
+) -> Result<usize, HostFault> {
+    let bytes = host.read_scratch(alloc, site, name, 5)?;
+    Ok(bytes.as_slice().len())
+}
+
+#[test]
+fn scratch_of_a_folder(rt: HostRuntime) -> Result<(), Fail> {
+    let alloc = rt.alloc();
+    let mut host = FolderHost::new(rt);
+    let site = "host/files";
+    assert!(rt; host.scratch_empty(alloc, site) == Ok(true));
+    assert!(rt; host.write_scratch(alloc, site, ".x%", b"hello") == Ok(()));
+    assert!(rt; host.write_scratch(alloc, site, "long", b"hello!") == Ok(()));
+    assert!(rt; fs::exists(&rt, "sites/host%2Ffiles/%2Ex%25")?);
+    for (name, wanted) in [
+        (".x%", Ok(5)),
+        ("long", Err(HostFault::Over(5, 6))),
+        ("x", Err(HostFault::Absent)),
+    ] {
+        assert!(rt;
+            scratch_at(alloc, &mut host, site, name) == wanted,
+            "{name}"
+        );
+    }
+    assert!(rt; host.scratch_empty(alloc, site) == Ok(false));
+    assert!(rt; host.remove(alloc, site, ".x%") == Ok(()));
+    assert!(rt; host.remove(alloc, site, ".x%") == Err(HostFault::Absent));
+    assert!(rt; host.remove(alloc, site, "long") == Ok(()));
+    assert!(rt; host.scratch_empty(alloc, site) == Ok(true));
+    assert!(rt; host.deliver(alloc, "host/files", b"hello") == Ok(()));
+    assert!(rt; fs::exists(&rt, "output/host%2Ffiles")?);
+    assert_eq!(rt; host.faults(), 0);
+    assert_eq!(rt; host.misses(), 4);
+    fs::remove_dir(&rt, "sites/host%2Ffiles")?;
+    fs::remove_file(&rt, "output/host%2Ffiles")?;
+    Ok(())
+}
+
+#[test]
+fn links_are_not_followed(rt: HostRuntime) -> Result<(), Fail> {
+    let alloc = rt.alloc();
+    let mut host = FolderHost::new(rt);
+    let site = "host_files_links";
+    assert!(rt; host.write_scratch(alloc, site, "x", b"hello") == Ok(()));
+    fs::write(&rt, "host_files_outside", "hello")?;
+    symlink(&rt, "../../host_files_outside", "sites/host_files_links/y")?;
+    assert!(rt; scratch_at(alloc, &mut host, site, "x") == Ok(5));
+    assert!(rt; scratch_at(alloc, &mut host, site, "y") == Err(HostFault::Failed));
+    assert!(rt; host.remove(alloc, site, "y") == Err(HostFault::Failed));
+    assert_eq!(rt; host.faults(), 2);
+    fs::remove_dir_all(&rt, "sites/host_files_links")?;
+    fs::remove_file(&rt, "host_files_outside")?;
     Ok(())
 }
