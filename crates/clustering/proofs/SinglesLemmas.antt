@@ -1,6 +1,6 @@
 -- The kept jobs in their order are distinct jobs.
-use Rattle.std.proofs.Common.{◌≡◌, ℕ, zero, suc, ◌<◌, ◌≤◌, ◌||◌, Bool, true, false, eqb, eqb-true, List, [], ◌∷◌, length, map, refl, sym, ap, subst, ◌∙◌, arith}
-use Rattle.std.specs.Prelude.{Option, Some, None, slice_get, ◌==◌}
+use Rattle.std.proofs.Common.{◌≡◌, ℕ, zero, suc, ◌≤◌, ◌||◌, Bool, true, false, eqb, List, [], ◌∷◌, length, refl, sym, ap, subst, ◌∙◌, arith}
+use Rattle.std.specs.Prelude.{Some, slice_get}
 use Rattle.std.specs.List.{AllByRecursion, IsDistinct, list_any}
 use Rattle.std.proofs.lemmas.List.{length-map}
 use Rattle.std.proofs.lemmas.Map.Steps.{length-le_from_distinct_below}
@@ -15,7 +15,7 @@ use Rattle.clustering.specs.Singles.{AreDistinctJobs, job_numbers}
 turned : (a b : ℕ) → eqb a b ≡ eqb b a
 turned a b = grind arith
 
-any_turned : (q : ℕ) (xs : List ℕ) → list_any (eqb q) xs ≡ is_among q xs
+pub any_turned : (q : ℕ) (xs : List ℕ) → list_any (eqb q) xs ≡ is_among q xs
 any_turned q [] = refl
 any_turned q (x ∷ xs) = ap (λ (b : Bool). b || list_any (eqb q) xs) (turned q x) ∙ ap (λ (b : Bool). eqb x q || b) (any_turned q xs)
 
@@ -25,7 +25,7 @@ no_other x (y ∷ ys) h = by_bool (eqb y x)
     (λ e. absurd (let k = or_left (eqb y x) (is_among x ys) e in let g : false ≡ true = sym h ∙ k in cc))
     (λ e. (turned x y ∙ e, no_other x ys (ap (λ (b : Bool). b || is_among x ys) (sym e) ∙ h)))
 
-distinct : (xs : List ℕ) → AreOnce xs → IsDistinct eqb xs
+pub distinct : (xs : List ℕ) → AreOnce xs → IsDistinct eqb xs
 unfolding IsDistinct
 distinct [] h = tt
 distinct (x ∷ xs) h = (no_other x xs h.0, distinct xs h.1)

@@ -1,13 +1,29 @@
-//! What the kept jobs in their order come to.
+//! What the kept jobs in their order and their clusters come to.
 
-ghost use Rattle.std.specs.Prelude.{◌≡◌, ℕ, Bool, true, List, length, Some, slice_get};
+ghost use Rattle.std.specs.Prelude.{◌≡◌, ◌≤◌, ℕ, Bool, true, List, length, Ok, Option, Some, slice_get};
 ghost use Rattle.outside.specs.declared.numbers.JobId.{JobId};
-ghost use Rattle.dependency_graph.specs.Levels.{is_kept};
+ghost use Rattle.outside.specs.declared.numbers.SiteId.{SiteId};
+ghost use Rattle.workflow_core.specs.declared.clusters.Clusters.{Clusters};
+ghost use Rattle.workflow_core.specs.declared.workflow.Workflow.{Workflow};
+ghost use Rattle.transformation_catalog.specs.declared.catalog.TransformationCatalog.{TransformationCatalog};
+ghost use Rattle.plan_request.specs.declared.request.ClusterMode.{ClusterMode};
+ghost use Rattle.dependency_graph.specs.Graph.{IsGraphOf, Links};
+ghost use Rattle.dependency_graph.specs.Levels.{AreLevels, is_kept};
 ghost use Rattle.dependency_graph.specs.Ranking.{IsRanked};
+ghost use Rattle.clustering.specs.Basis.{basis};
+ghost use Rattle.clustering.specs.Clusters.{ClustersAre};
+ghost use Rattle.clustering.specs.Condition.{AreParts};
 ghost use Rattle.clustering.specs.Singles.{AreDistinctJobs, job_numbers};
 
 /// The kept jobs in their order are jobs of the workflow, none stands twice, and each is kept.
 pub fn ranked_jobs_are_distinct()
     ensures distinct { (kept : List Bool) (levels : List ℕ) (js : List JobId) → IsRanked kept levels (job_numbers js) → AreDistinctJobs (length kept) js }
     ensures kept { (kept : List Bool) (levels : List ℕ) (js : List JobId) → IsRanked kept levels (job_numbers js) → (n : ℕ) (j : JobId) → slice_get js n ≡ Some j → is_kept kept j.0 ≡ true }
+{}
+
+/// Clusters of kept jobs can be made tasks: each job is in one at most, after those of it whose files it reads, and no
+/// clusters lead round.
+pub fn clusters_are_parts()
+    ensures { (mode : ClusterMode) (w : Workflow) (g : Links) (kept : List Bool) (levels : List ℕ) (sites : List (Option SiteId)) (t : TransformationCatalog) (c : Clusters)
+        → IsGraphOf w g → AreLevels g kept levels → ClustersAre mode w (basis w levels sites t) kept (Ok c) → AreParts w kept c.parts }
 {}

@@ -2,3 +2,4 @@ pub mod PlanFaultLemmas
 pub mod CourseLemmas
 pub mod PlanningLemmas
 pub mod LawLemmas
+pub mod DraftLemmas
