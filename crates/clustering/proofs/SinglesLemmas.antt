@@ -1,6 +1,6 @@
 -- The kept jobs in their order are distinct jobs.
-use Rattle.std.proofs.Common.{◌≡◌, ℕ, zero, suc, ◌<◌, ◌≤◌, ◌||◌, Bool, true, false, eqb, eqb-true, List, [], ◌∷◌, length, map, refl, sym, ap, subst, ◌∙◌, arith}
-use Rattle.std.specs.Prelude.{Option, Some, None, slice_get, ◌==◌}
+use Rattle.std.proofs.Common.{◌≡◌, ℕ, zero, suc, ◌≤◌, ◌||◌, Bool, true, false, eqb, List, [], ◌∷◌, length, refl, sym, ap, subst, ◌∙◌, arith}
+use Rattle.std.specs.Prelude.{Some, slice_get}
 use Rattle.std.specs.List.{AllByRecursion, IsDistinct, list_any}
 use Rattle.std.proofs.lemmas.List.{length-map}
 use Rattle.std.proofs.lemmas.Map.Steps.{length-le_from_distinct_below}
@@ -9,14 +9,13 @@ use Rattle.dependency_graph.specs.Edges.{is_among}
 use Rattle.dependency_graph.specs.Levels.{is_kept}
 use Rattle.dependency_graph.specs.Ranking.{AreOnce, IsRanked}
 use Rattle.dependency_graph.proofs.TestLemmas.{or_left, or_right, by_bool, itself}
-use Rattle.workflow_core.specs.declared.clusters.Clusters.{Clusters}
-use Rattle.clustering.specs.Singles.{AreDistinctJobs, AreSingles, job_numbers, single, singles}
+use Rattle.clustering.specs.Singles.{AreDistinctJobs, job_numbers}
 
 -- equality of numbers, either way round
 turned : (a b : ℕ) → eqb a b ≡ eqb b a
 turned a b = grind arith
 
-any_turned : (q : ℕ) (xs : List ℕ) → list_any (eqb q) xs ≡ is_among q xs
+pub any_turned : (q : ℕ) (xs : List ℕ) → list_any (eqb q) xs ≡ is_among q xs
 any_turned q [] = refl
 any_turned q (x ∷ xs) = ap (λ (b : Bool). b || list_any (eqb q) xs) (turned q x) ∙ ap (λ (b : Bool). eqb x q || b) (any_turned q xs)
 
@@ -26,7 +25,7 @@ no_other x (y ∷ ys) h = by_bool (eqb y x)
     (λ e. absurd (let k = or_left (eqb y x) (is_among x ys) e in let g : false ≡ true = sym h ∙ k in cc))
     (λ e. (turned x y ∙ e, no_other x ys (ap (λ (b : Bool). b || is_among x ys) (sym e) ∙ h)))
 
-distinct : (xs : List ℕ) → AreOnce xs → IsDistinct eqb xs
+pub distinct : (xs : List ℕ) → AreOnce xs → IsDistinct eqb xs
 unfolding IsDistinct
 distinct [] h = tt
 distinct (x ∷ xs) h = (no_other x xs h.0, distinct xs h.1)
@@ -61,15 +60,3 @@ ranked_distinct kept levels js ranked = record {
 
 pub ranked_kept : (kept : List Bool) (levels : List ℕ) (js : List JobId) → IsRanked kept levels (job_numbers js) → (n : ℕ) (j : JobId) → slice_get js n ≡ Some j → is_kept kept j.0 ≡ true
 ranked_kept kept levels js ranked n j h = sym (ranked.kept_ones j.0) ∙ among_at js n j h
-
--- who is among the jobs is in a cluster
-in_single : (a : ℕ) (js : List JobId) → is_among a (job_numbers js) ≡ true → list_any (λ (part : List JobId). is_among a (job_numbers part)) (singles js) ≡ true
-in_single a [] h = absurd cc
-in_single a (j ∷ js) h = by_bool (eqb j.0 a)
-    (λ e. or_left (is_among a (job_numbers (single j))) (list_any (λ (part : List JobId). is_among a (job_numbers part)) (singles js)) (or_left (eqb j.0 a) false e))
-    (λ e. or_right (is_among a (job_numbers (single j))) (list_any (λ (part : List JobId). is_among a (job_numbers part)) (singles js)) (in_single a js (ap (λ (b : Bool). b || is_among a (job_numbers js)) (sym e) ∙ h)))
-
-pub kept_clustered : (kept : List Bool) (levels : List ℕ) (c : Clusters) → AreSingles kept levels c → (a : ℕ) → is_kept kept a ≡ true → list_any (λ (js : List JobId). is_among a (job_numbers js)) c.parts ≡ true
-kept_clustered kept levels c are a h =
-    ap (list_any (λ (js : List JobId). is_among a (job_numbers js))) are.parts
-    ∙ in_single a are.jobs (are.ranked.kept_ones a ∙ h)

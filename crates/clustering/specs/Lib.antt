@@ -1,1 +1,8 @@
+-- What the public contracts say
 pub mod Singles
+pub mod Numbers
+pub mod Basis
+pub mod Gathering
+pub mod Runs
+pub mod Condition
+pub mod Clusters

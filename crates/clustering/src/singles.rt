@@ -1,14 +1,14 @@
-//! Kept jobs, each a cluster of its own.
+//! Jobs, each a cluster of its own.
 
-ghost use Rattle.std.specs.Prelude.{◌≡◌, ◌≤◌, length, IfOk};
-ghost use Rattle.clustering.specs.Singles.{AreSingles, job_numbers, singles};
+ghost use Rattle.std.specs.Prelude.{◌≡◌, IfOk};
+ghost use Rattle.clustering.specs.Singles.{job_numbers, singles};
 
-use dependency_graph::ranked;
 use outside::{Items, JobId, Memory};
 use std::alloc::Global;
 use workflow_core::Clusters;
 
-fn ids(alloc: Global, numbers: &[u32]) -> Result<Vec<JobId>, Memory>
+/// Jobs by number.
+pub fn ids(alloc: Global, numbers: &[u32]) -> Result<Vec<JobId>, Memory>
     ensures { IfOk result (λ v. job_numbers v.items ≡ numbers.now) }
 {
     let mut jobs = Vec::new(alloc);
@@ -18,7 +18,8 @@ fn ids(alloc: Global, numbers: &[u32]) -> Result<Vec<JobId>, Memory>
     Ok(jobs)
 }
 
-fn single_jobs(alloc: Global, jobs: &[JobId]) -> Result<Clusters, Memory>
+/// Each job as a cluster of its own.
+pub fn single_jobs(alloc: Global, jobs: &[JobId]) -> Result<Clusters, Memory>
     ensures { IfOk result (λ c. c.parts ≡ singles jobs.now) }
 {
     let mut parts = Vec::new(alloc);
@@ -30,15 +31,4 @@ fn single_jobs(alloc: Global, jobs: &[JobId]) -> Result<Clusters, Memory>
     Ok(Clusters {
         parts: Items::new(parts),
     })
-}
-
-/// The clusters of the kept jobs. There is one value of `kept` and of `levels` for each job.
-pub fn cluster(alloc: Global, kept: &[bool], levels: &[u32]) -> Result<Clusters, Memory>
-    requires few { length kept.now ≤ 10000 }
-    ensures { IfOk result (λ c. AreSingles kept.now levels.now c) }
-{
-    let order = ranked(alloc, kept, levels)?;
-    let jobs = ids(alloc, &order)?;
-    let clusters = single_jobs(alloc, &jobs)?;
-    Ok(clusters)
 }

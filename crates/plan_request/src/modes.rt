@@ -23,6 +23,7 @@ pub fn cluster(
     match row!(alloc, value, path, key, optional Text) {
         Some(named) => match named.as_str() {
             "none" => Ok(ClusterMode::None),
+            "horizontal" => Ok(ClusterMode::Horizontal),
             _ => Err(TreeFault::Unsupported(at_key(alloc, path, key)?, named)),
         },
         None => Ok(ClusterMode::None),

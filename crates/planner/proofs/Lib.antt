@@ -2,4 +2,5 @@ pub mod PlanFaultLemmas
 pub mod CourseLemmas
 pub mod PlanningLemmas
 pub mod LawLemmas
+pub mod DraftLemmas
 pub mod MeaningLemmas

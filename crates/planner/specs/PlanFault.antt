@@ -3,6 +3,8 @@ use Rattle.std.specs.Prelude.{◌≡◌, ℕ, List, [], Option, Some, None, slic
 use Rattle.outside.specs.declared.select_fault.SelectFault.{SelectFault}
 use Rattle.outside.specs.declared.select_fault.SelectFault.TheVariants as select
 use Rattle.workflow_core.specs.declared.workflow.Workflow.{Workflow}
+use Rattle.clustering.specs.declared.fault.ClusterFault.{ClusterFault}
+use Rattle.clustering.specs.declared.fault.ClusterFault.TheVariants as cluster
 use Rattle.dependency_graph.specs.Built.{id_of}
 use Rattle.dependency_graph.specs.declared.fault.GraphFault.{GraphFault}
 use Rattle.dependency_graph.specs.declared.fault.GraphFault.TheVariants as graph
@@ -43,6 +45,12 @@ abbrev pub select_fault : Workflow → SelectFault → PlanFault
 select_fault w (select.NoSite a name) = plan.NoSite (id_of w a.0) name
 select_fault w (select.NoTransformation a) = plan.NoTransformation (id_of w a.0)
 select_fault w select.Memory = plan.Memory
+
+abbrev pub cluster_fault : ClusterFault → PlanFault
+cluster_fault (cluster.BadNumber id key) = plan.BadNumber id key
+cluster_fault (cluster.LabelOverSites label one two) = plan.LabelOverSites label one two
+cluster_fault (cluster.ClusterCycle ids) = plan.ClusterCycle ids
+cluster_fault cluster.Memory = plan.Memory
 
 abbrev pub refine_fault : RefineFault → PlanFault
 refine_fault (refine.NoReplica lfn) = plan.NoReplica lfn

@@ -9,7 +9,9 @@ use Rattle.dependency_graph.specs.Levels.{AreLevels}
 use Rattle.data_reuse.specs.Kept.{AreKept}
 use Rattle.data_reuse.specs.Registered.{absent_in}
 use Rattle.site_selector.specs.Selecting.{IsFirstFault, IsSelected, Selection, selection}
-use Rattle.clustering.specs.Singles.{AreSingles}
+use Rattle.clustering.specs.Basis.{basis}
+use Rattle.clustering.specs.Clusters.{ClustersAre}
+use Rattle.clustering.specs.declared.fault.ClusterFault.{ClusterFault}
 use Rattle.plan_core.specs.declared.plan.Plan.{Plan}
 use Rattle.plan_core.specs.Words.{task_numbers}
 use Rattle.storage_simulation.specs.declared.ordered.Ordered.{Ordered}
@@ -22,7 +24,7 @@ use Rattle.cleanup_refiner.specs.Cleans.{cleaned}
 use Rattle.planner.specs.declared.inputs.Survey.{Survey}
 use Rattle.planner.specs.Course.{IsSurvey, Refuses}
 use Rattle.planner.specs.Ordering.{Passes}
-use Rattle.planner.specs.PlanFault.{refine_fault, select_fault}
+use Rattle.planner.specs.PlanFault.{cluster_fault, refine_fault, select_fault}
 use Rattle.planner.specs.declared.plan_fault.PlanFault.{PlanFault}
 use Rattle.planner.specs.declared.plan_fault.PlanFault.TheVariants as plan
 
@@ -36,13 +38,17 @@ pub record AreLeveled (r : PlanRequest) (s : Survey) (kept : List Bool) (levels 
 abbrev pub selection_of : PlanRequest → Survey → List Bool → List ℕ → Selection
 selection_of r s kept levels = selection s.workflow kept levels r s.transformations
 
+-- The clusters of the kept jobs at their sites, or why they can't be clustered.
+abbrev pub AreClustered : PlanRequest → Survey → List Bool → List ℕ → List (Option SiteId) → Result Clusters ClusterFault → Type 0
+AreClustered r s kept levels sites answer = ClustersAre r.cluster s.workflow (basis s.workflow levels sites s.transformations) kept answer
+
 -- These are the sites and the clusters of the kept jobs.
 pub record ArePlaced (r : PlanRequest) (s : Survey) (sites : List (Option SiteId)) (clusters : Clusters) : Type 0 where
   pub kept : List Bool
   pub levels : List ℕ
   pub leveled : AreLeveled r s kept levels
   pub selected : IsSelected (selection_of r s kept levels) sites
-  pub clustered : AreSingles kept levels clusters
+  pub clustered : AreClustered r s kept levels sites (Ok clusters)
 
 -- what is refined
 abbrev pub draft : PlanRequest → Survey → List (Option SiteId) → Clusters → Draft
@@ -78,6 +84,17 @@ pub record IsUnplaced (r : PlanRequest) (s : Survey) (fault : PlanFault) : Type 
   pub first : IsFirstFault (selection_of r s kept levels) select
   pub fault_is : fault ≡ select_fault s.workflow select
 
+-- that of clusters
+pub record IsUnclustered (r : PlanRequest) (s : Survey) (fault : PlanFault) : Type 0 where
+  pub kept : List Bool
+  pub levels : List ℕ
+  pub leveled : AreLeveled r s kept levels
+  pub sites : List (Option SiteId)
+  pub selected : IsSelected (selection_of r s kept levels) sites
+  pub cluster : ClusterFault
+  pub first : AreClustered r s kept levels sites (Err cluster)
+  pub fault_is : fault ≡ cluster_fault cluster
+
 -- that of the first file without a replica or a size, or of too many tasks
 pub record IsUnrefined (d : Draft) (limit : ℕ) (fault : PlanFault) : Type 0 where
   pub refine : RefineFault
@@ -100,7 +117,7 @@ pub record IsUnordered (r : PlanRequest) (s : Survey) (limit : ℕ) (fault : Pla
 -- when each fault comes; want of memory is free
 abbrev pub CannotPlace : PlanRequest → Survey → PlanFault → Type 0
 CannotPlace r s plan.Memory = Unit {0}
-CannotPlace r s fault = IsUnplaced r s fault
+CannotPlace r s fault = IsUnplaced r s fault ⊎ IsUnclustered r s fault
 
 abbrev pub CannotRefine : Draft → ℕ → PlanFault → Type 0
 CannotRefine d limit plan.Memory = Unit {0}
@@ -108,7 +125,7 @@ CannotRefine d limit fault = IsUnrefined d limit fault
 
 abbrev pub CannotPlan : PlanRequest → Survey → ℕ → PlanFault → Type 0
 CannotPlan r s limit plan.Memory = Unit {0}
-CannotPlan r s limit fault = IsUnplaced r s fault ⊎ (IsUnplanned r s limit fault ⊎ IsUnordered r s limit fault)
+CannotPlan r s limit fault = (IsUnplaced r s fault ⊎ IsUnclustered r s fault) ⊎ (IsUnplanned r s limit fault ⊎ IsUnordered r s limit fault)
 
 abbrev pub Plans : PlanRequest → Survey → ℕ → Result Ordered PlanFault → Type 0
 Plans r s limit (Ok o) = IsPlanned r s limit o

@@ -16,7 +16,7 @@ ghost use Rattle.planner.specs.declared.inputs.Survey.{Survey};
 ghost use Rattle.planner.specs.Planning.{ArePlaced, IsPlanOf, draft};
 
 use cleanup_refiner::cleaned_plan_is_proper;
-use clustering::ranked_jobs_are_distinct;
+use clustering::clusters_are_parts;
 use site_selector::selected_sites_are_placed;
 use storage_simulation::pairs_are_few;
 use transfer_refiner::{
@@ -27,7 +27,7 @@ use transfer_refiner::{
 pub fn placed_jobs_are_a_draft()
     ensures { (r : PlanRequest) (s : Survey) (sites : List (Option SiteId)) (clusters : Clusters) → IsWellFormed s.workflow → IsGraphOf s.workflow s.graph → execute_checked r.execute ≡ Ok tt → ArePlaced r s sites clusters → IsDraft (draft r s sites clusters) }
 {
-    ranked_jobs_are_distinct();
+    clusters_are_parts();
     selected_sites_are_placed();
     single_jobs_are_a_draft();
 }

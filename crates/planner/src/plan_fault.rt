@@ -1,9 +1,10 @@
 //! Why no plan is made of a request and its documents.
 
 ghost use Rattle.std.specs.Prelude.{◌≡◌};
-ghost use Rattle.planner.specs.PlanFault.{graph_fault, read_fault, refine_fault, tree_fault};
+ghost use Rattle.planner.specs.PlanFault.{cluster_fault, graph_fault, read_fault, refine_fault, tree_fault};
 
 use crate::document::Document;
+use clustering::ClusterFault;
 use dependency_graph::GraphFault;
 use outside::{Items, Memory, TaskId, Text};
 use peg_json::{Counted, ReadFault, TreeFault};
@@ -73,6 +74,21 @@ impl From<GraphFault> for PlanFault {
             GraphFault::TwoProducers(lfn, one, two) => PlanFault::TwoProducers(lfn, one, two),
             GraphFault::Cycle(ids) => PlanFault::Cycle(ids),
             GraphFault::Memory => PlanFault::Memory,
+        }
+    }
+}
+
+impl From<ClusterFault> for PlanFault {
+    ghost from_gives = { λ x e. e ≡ cluster_fault x };
+
+    fn from(fault: ClusterFault) -> PlanFault {
+        match fault {
+            ClusterFault::BadNumber(id, key) => PlanFault::BadNumber(id, key),
+            ClusterFault::LabelOverSites(label, one, two) => {
+                PlanFault::LabelOverSites(label, one, two)
+            }
+            ClusterFault::ClusterCycle(ids) => PlanFault::ClusterCycle(ids),
+            ClusterFault::Memory => PlanFault::Memory,
         }
     }
 }

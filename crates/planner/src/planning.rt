@@ -14,7 +14,7 @@ ghost use Rattle.cleanup_refiner.specs.Cleans.{cleaned};
 ghost use Rattle.planner.specs.declared.plan_fault.PlanFault.TheVariants as faults;
 ghost use Rattle.planner.specs.Meaning.{MeansWorkflow};
 ghost use Rattle.planner.specs.PlanFault.{select_fault};
-ghost use Rattle.planner.specs.Planning.{AreLeveled, ArePlaced, CannotPlace, CannotPlan, CannotRefine, IsFineFor, IsPlanOf, OfSurvey, Plans, PlansDocuments, draft, selection_of};
+ghost use Rattle.planner.specs.Planning.{AreClustered, AreLeveled, ArePlaced, CannotPlace, CannotPlan, CannotRefine, IsFineFor, IsPlanOf, OfSurvey, Plans, PlansDocuments, draft, selection_of};
 
 use crate::course::survey;
 use crate::inputs::Survey;
@@ -104,6 +104,36 @@ fn sites_of(
     }
 }
 
+/// The clusters of the kept jobs at their sites.
+fn clusters_of(
+    alloc: Global,
+    request: &PlanRequest,
+    survey: &Survey,
+    kept: &[bool],
+    levels: &[u32],
+    sites: &[Option<SiteId>],
+) -> Result<Clusters, PlanFault>
+    requires few { length kept.now ≤ 10000 }
+    requires leveled { AreLeveled request.now survey.now kept.now levels.now }
+    requires selected { IsSelected (selection_of request.now survey.now kept.now levels.now) sites.now }
+    ensures clusters { IfOk result (λ c. AreClustered request.now survey.now kept.now levels.now sites.now (Ok c)) }
+    ensures fault { IfErr result (CannotPlace request.now survey.now) }
+{
+    match cluster(
+        alloc,
+        &survey.workflow,
+        &survey.graph,
+        kept,
+        levels,
+        sites,
+        request.cluster,
+        &survey.transformations,
+    ) {
+        Ok(clusters) => Ok(clusters),
+        Err(fault) => Err(PlanFault::from(fault)),
+    }
+}
+
 /// The sites and the clusters of the kept jobs.
 fn place_jobs(alloc: Global, request: &PlanRequest, survey: &Survey) -> Result<Placed, PlanFault>
     requires well_formed { IsWellFormed survey.now.workflow }
@@ -125,8 +155,10 @@ fn place_jobs(alloc: Global, request: &PlanRequest, survey: &Survey) -> Result<P
         Ok(sites) => sites,
         Err(fault) => return Err(fault),
     };
-    let clusters = cluster(alloc, &kept, &levels)?;
-    Ok(Placed { sites, clusters })
+    match clusters_of(alloc, request, survey, &kept, &levels, &sites) {
+        Ok(clusters) => Ok(Placed { sites, clusters }),
+        Err(fault) => Err(fault),
+    }
 }
 
 /// The plan without its Cleans.

@@ -16,5 +16,6 @@ mod transformation_entry;
 mod transformation_site;
 
 pub use catalog::{TransformationCatalog, TransformationEntry, TransformationSite};
+pub use key::Key;
 pub use lookup::Entries;
 pub use reader::{from_tree, read};

@@ -1,25 +1,23 @@
-use Rattle.std.proofs.Common.{◌≡◌, ◌<◌, ◌≤◌, ℕ, length, subst}
-use Rattle.std.specs.Prelude.{Some, slice_get}
-use Rattle.outside.specs.declared.numbers.JobId.{JobId}
+use Rattle.std.proofs.Common.{[], refl, arith}
+use Rattle.planner.proofs.DraftLemmas.{with_parts}
 use Rattle.planner.specs.Planning.{selection_of}
 use Rattle.planner.proofs.law.placed_jobs_are_a_draft.Goals as goal
 
 pub returns : goal.returns
 returns c r s sites clusters formed graph checked placed =
-    let jobs = placed.clustered.jobs in
-    let long = placed.leveled.are_kept.long in
-    let distinct = c.ranked_jobs_are_distinct.ensures.distinct placed.kept placed.levels jobs placed.clustered.ranked in
-    let kept = c.ranked_jobs_are_distinct.ensures.kept placed.kept placed.levels jobs placed.clustered.ranked in
     let selection = selection_of r s placed.kept placed.levels in
-    let below : (n : ℕ) (j : JobId) → slice_get jobs n ≡ Some j → j.0 < length s.workflow.jobs = λ n j h. subst (λ (m : ℕ). j.0 < m) long (distinct.below n j h) in
-    c.single_jobs_are_a_draft.ensures s.workflow jobs clusters sites s.replicas r (record {
+    let bare = c.single_jobs_are_a_draft.ensures s.workflow [] (record { parts = [] }) sites s.replicas r (record {
       formed = formed;
       sound = graph.sound;
       checked = checked;
       jobs_placed = placed.selected.long;
       sites_below = c.selected_sites_are_placed.ensures.below selection sites placed.selected;
-      few = subst (λ (m : ℕ). length jobs ≤ m) long distinct.few;
-      below = below;
-      once = distinct.once;
-      placed = λ n j h. c.selected_sites_are_placed.ensures.placed selection sites placed.selected j.0 (kept n j h) (below n j h);
-    }) placed.clustered.parts
+      few = omega arith;
+      below = λ n j h. absurd cc;
+      once = λ m n i j h k e. absurd cc;
+      placed = λ n j h. absurd cc;
+    }) refl in
+    let parts = c.clusters_are_parts.ensures r.cluster s.workflow s.graph placed.kept placed.levels sites s.transformations clusters graph placed.leveled.are_levels placed.clustered in
+    with_parts s.workflow clusters sites s.replicas r placed.kept bare placed.leveled.are_kept.long parts
+    (c.selected_sites_are_placed.ensures.below selection sites placed.selected)
+    (c.selected_sites_are_placed.ensures.placed selection sites placed.selected)

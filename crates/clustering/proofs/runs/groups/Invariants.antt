@@ -1,0 +1,7 @@
+use Rattle.std.proofs.Common.{◌≡◌, ◌++◌, drop, map}
+use Rattle.outside.specs.declared.numbers.JobId.{JobId}
+use Rattle.clustering.specs.Basis.{group_of}
+use Rattle.clustering.proofs.runs.groups.Given as goal
+
+abbrev pub invariant-loop-job : goal.invariant-loop-job
+invariant-loop-job l = l.keyed.items ++ map (λ (j : JobId). (j, group_of l.basis j)) (drop l.job-index l.jobs) ≡ map (λ (j : JobId). (j, group_of l.basis j)) l.jobs

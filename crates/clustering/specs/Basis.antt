@@ -1,0 +1,80 @@
+-- What jobs are clustered by, and which of them are a group.
+use Rattle.std.specs.Prelude.{ℕ, ◌&&◌, Bool, List, [], ◌∷◌, nat_eq, Option, Some, None, slice_get}
+use Rattle.std.specs.Option.{option_eq}
+use Rattle.outside.specs.declared.numbers.JobId.{JobId}
+use Rattle.outside.specs.declared.numbers.SiteId.{SiteId}
+use Rattle.workflow_core.specs.declared.workflow.Job.{Job}
+use Rattle.workflow_core.specs.declared.workflow.Workflow.{Workflow}
+use Rattle.workflow_core.specs.declared.workflow.Transformation.{Transformation}
+use Rattle.transformation_catalog.specs.declared.catalog.TransformationCatalog.{TransformationCatalog}
+use Rattle.transformation_catalog.specs.declared.catalog.TransformationEntry.{TransformationEntry}
+use Rattle.transformation_catalog.specs.Key.{same_transformation}
+use Rattle.dependency_graph.specs.Levels.{level}
+use Rattle.clustering.specs.declared.numbers.Numbers.{Numbers}
+use Rattle.clustering.specs.Numbers.{bad_key, numbers_of}
+
+-- The workflow's jobs, their levels and sites, and a catalogue's entries.
+pub record Basis : Type 0 where
+  pub jobs : List Job
+  pub levels : List ℕ
+  pub sites : List (Option SiteId)
+  pub entries : List TransformationEntry
+
+abbrev pub basis : Workflow → List ℕ → List (Option SiteId) → TransformationCatalog → Basis
+basis w levels sites t = record { jobs = w.jobs; levels = levels; sites = sites; entries = t.entries }
+
+abbrev pub transformation_in : Option Job → Option Transformation
+transformation_in None = None
+transformation_in (Some j) = Some j.transformation
+
+abbrev pub site_in : Option (Option SiteId) → Option ℕ
+site_in None = None
+site_in (Some None) = None
+site_in (Some (Some s)) = Some s.0
+
+-- the number of a job's site, and its transformation
+abbrev pub site_at : Basis → ℕ → Option ℕ
+site_at c a = site_in (slice_get c.sites a)
+
+abbrev pub transformation_at : Basis → ℕ → Option Transformation
+transformation_at c a = transformation_in (slice_get c.jobs a)
+
+abbrev pub Group : Type 0
+Group = ℕ × Option ℕ × Option Transformation
+
+abbrev pub group_of : Basis → JobId → Group
+group_of c j = (level c.levels j.0, site_at c j.0, transformation_at c j.0)
+
+-- level, site and transformation are equal
+abbrev pub same_group : Basis → JobId → JobId → Bool
+same_group c i j =
+    (nat_eq (level c.levels i.0) (level c.levels j.0) && option_eq nat_eq (site_at c i.0) (site_at c j.0))
+    && option_eq same_transformation (transformation_at c i.0) (transformation_at c j.0)
+
+-- the numbers of some jobs: those of the first one
+abbrev pub no_numbers : Numbers
+no_numbers = record { num = None; size = None }
+
+abbrev pub numbers_in : List TransformationEntry → Option Job → Numbers
+numbers_in es None = no_numbers
+numbers_in es (Some j) = numbers_of es j
+
+abbrev pub numbers_at : Basis → Option JobId → Numbers
+numbers_at c None = no_numbers
+numbers_at c (Some j) = numbers_in c.entries (slice_get c.jobs j.0)
+
+abbrev pub group_numbers : Basis → List JobId → Numbers
+group_numbers c js = numbers_at c (slice_get js 0)
+
+-- a job's first bad number, and the first job that has one
+abbrev pub bad_in : List TransformationEntry → Option Job → Option (List ℕ)
+bad_in es None = None
+bad_in es (Some j) = bad_key es j
+
+abbrev pub or_later : JobId → Option (List ℕ) → Option (JobId × List ℕ) → Option (JobId × List ℕ)
+or_later j None later = later
+or_later j (Some key) later = Some (j, key)
+
+unfoldable pub first_bad : Basis → List JobId → Option (JobId × List ℕ)
+first_bad c [] = None
+first_bad c (j ∷ js) = or_later j (bad_in c.entries (slice_get c.jobs j.0)) (first_bad c js)

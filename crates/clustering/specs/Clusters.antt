@@ -1,0 +1,55 @@
+-- The clusters of each mode, or the first fault.
+use Rattle.std.specs.Prelude.{◌≡◌, ℕ, Bool, List, Some, None, Result, Ok, Err}
+use Rattle.outside.specs.declared.numbers.JobId.{JobId}
+use Rattle.workflow_core.specs.declared.clusters.Clusters.{Clusters}
+use Rattle.workflow_core.specs.declared.workflow.Workflow.{Workflow}
+use Rattle.plan_request.specs.declared.request.ClusterMode.{ClusterMode}
+use Rattle.plan_request.specs.declared.request.ClusterMode.TheVariants.{Horizontal}
+use Rattle.dependency_graph.specs.Built.{id_of}
+use Rattle.dependency_graph.specs.Ranking.{IsRanked}
+use Rattle.clustering.specs.declared.fault.ClusterFault.{ClusterFault}
+use Rattle.clustering.specs.declared.fault.ClusterFault.TheVariants.{BadNumber, Memory}
+use Rattle.clustering.specs.Basis.{Basis, first_bad}
+use Rattle.clustering.specs.Runs.{runs_of}
+use Rattle.clustering.specs.Singles.{AreSingles, job_numbers}
+
+-- The runs of the kept jobs, none of which has a bad number.
+pub record AreRuns (b : Basis) (kept : List Bool) (c : Clusters) : Type 0 where
+  pub jobs : List JobId
+  pub ranked : IsRanked kept b.levels (job_numbers jobs)
+  pub fine : first_bad b jobs ≡ None
+  pub parts : c.parts ≡ runs_of b jobs
+
+-- the first of these jobs with a bad number, and the key
+pub record IsFirstBad (w : Workflow) (b : Basis) (jobs : List JobId) (id key : List ℕ) : Type 0 where
+  pub job : JobId
+  pub first : first_bad b jobs ≡ Some (job, key)
+  pub id_is : id ≡ id_of w job.0
+
+-- the first kept job with a bad number
+pub record IsBadNumber (w : Workflow) (b : Basis) (kept : List Bool) (id key : List ℕ) : Type 0 where
+  pub jobs : List JobId
+  pub ranked : IsRanked kept b.levels (job_numbers jobs)
+  pub bad : IsFirstBad w b jobs id key
+
+abbrev pub ChecksNumbers : Workflow → Basis → List JobId → Result (Unit {0}) ClusterFault → Type 0
+ChecksNumbers w b jobs (Ok u) = first_bad b jobs ≡ None
+ChecksNumbers w b jobs (Err Memory) = Unit {0}
+ChecksNumbers w b jobs (Err (BadNumber id key)) = IsFirstBad w b jobs id key
+ChecksNumbers w b jobs (Err fault) = ⊥
+
+abbrev pub RunsAre : Workflow → Basis → List Bool → Result Clusters ClusterFault → Type 0
+RunsAre w b kept (Ok c) = AreRuns b kept c
+RunsAre w b kept (Err Memory) = Unit {0}
+RunsAre w b kept (Err (BadNumber id key)) = IsBadNumber w b kept id key
+RunsAre w b kept (Err fault) = ⊥
+
+abbrev pub SinglesAre : Basis → List Bool → Result Clusters ClusterFault → Type 0
+SinglesAre b kept (Ok c) = AreSingles kept b.levels c
+SinglesAre b kept (Err Memory) = Unit {0}
+SinglesAre b kept (Err fault) = ⊥
+
+-- Each kept job is a cluster by itself, unless they are put together in runs. Want of memory is free.
+abbrev pub ClustersAre : ClusterMode → Workflow → Basis → List Bool → Result Clusters ClusterFault → Type 0
+ClustersAre Horizontal w b kept answer = RunsAre w b kept answer
+ClustersAre mode w b kept answer = SinglesAre b kept answer

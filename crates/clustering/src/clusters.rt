@@ -1,0 +1,39 @@
+//! The clusters of the kept jobs.
+
+ghost use Rattle.std.specs.Prelude.{◌≤◌, length};
+ghost use Rattle.clustering.specs.Basis.{basis};
+ghost use Rattle.clustering.specs.Clusters.{ClustersAre};
+
+use crate::basis::Basis;
+use crate::fault::ClusterFault;
+use crate::horizontal::clusters_in_runs;
+use crate::singles::{ids, single_jobs};
+use dependency_graph::{Graph, ranked};
+use outside::SiteId;
+use plan_request::ClusterMode;
+use std::alloc::Global;
+use transformation_catalog::TransformationCatalog;
+use workflow_core::{Clusters, Workflow};
+
+/// The clusters of the kept jobs. There is one value of `kept`, `levels` and `sites` for each job.
+pub fn cluster(
+    alloc: Global,
+    workflow: &Workflow,
+    _graph: &Graph,
+    kept: &[bool],
+    levels: &[u32],
+    sites: &[Option<SiteId>],
+    mode: ClusterMode,
+    transformations: &TransformationCatalog,
+) -> Result<Clusters, ClusterFault>
+    requires few { length kept.now ≤ 10000 }
+    ensures { ClustersAre mode workflow.now (basis workflow.now levels.now sites.now transformations.now) kept.now result }
+{
+    let order = ranked(alloc, kept, levels)?;
+    let jobs = ids(alloc, &order)?;
+    if let ClusterMode::Horizontal = mode {
+        let basis = Basis::new(alloc, workflow, levels, sites, transformations)?;
+        return clusters_in_runs(alloc, workflow, &basis, kept, &jobs);
+    }
+    Ok(single_jobs(alloc, &jobs)?)
+}

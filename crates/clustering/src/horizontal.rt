@@ -1,0 +1,73 @@
+//! Kept jobs of one level, site and transformation, put together in runs.
+
+ghost use Rattle.std.specs.Prelude.{◌≡◌, ◌≤◌, length, IfOk};
+ghost use Rattle.dependency_graph.specs.Built.{id_of};
+ghost use Rattle.dependency_graph.specs.Graph.{job_lists};
+ghost use Rattle.dependency_graph.specs.Ranking.{IsRanked};
+ghost use Rattle.clustering.specs.Clusters.{ChecksNumbers, RunsAre};
+ghost use Rattle.clustering.specs.Singles.{job_numbers};
+
+use crate::basis::Basis;
+use crate::fault::ClusterFault;
+use crate::runs::runs_of;
+use outside::{Items, JobId, Memory, Text};
+use std::alloc::Global;
+use workflow_core::{Clusters, Workflow};
+
+fn id_of(alloc: Global, workflow: &Workflow, job: JobId) -> Result<Text, Memory>
+    ensures { IfOk result (λ id. id ≡ id_of workflow.now job.0) }
+{
+    match workflow.jobs.as_slice().get(job.0 as usize) {
+        Some(found) => found.id.copied(alloc),
+        None => Text::copy_of(alloc, ""),
+    }
+}
+
+/// Refuses the first job that has a bad number.
+#[tactic(auto, unfolding(crate::specs::Basis::first_bad))]
+fn check_numbers(
+    alloc: Global,
+    workflow: &Workflow,
+    basis: &Basis<'_>,
+    jobs: &[JobId],
+) -> Result<(), ClusterFault>
+    ensures { ChecksNumbers workflow.now basis.now jobs.now result }
+{
+    for job in jobs {
+        if let Some(key) = basis.bad_key(*job) {
+            let id = id_of(alloc, workflow, *job)?;
+            return Err(ClusterFault::BadNumber(id, Text::copy_of(alloc, key)?));
+        }
+    }
+    Ok(())
+}
+
+fn clusters_of(alloc: Global, parts: Vec<Vec<JobId>>) -> Result<Clusters, Memory>
+    ensures { IfOk result (λ c. c.parts ≡ job_lists parts.items) }
+{
+    let mut clusters = Vec::new(alloc);
+    for part in parts {
+        clusters.push(Items::new(part))?;
+    }
+    Ok(Clusters {
+        parts: Items::new(clusters),
+    })
+}
+
+/// The runs of the kept jobs, which stand in order of (level, number), or the first bad number.
+pub fn clusters_in_runs(
+    alloc: Global,
+    workflow: &Workflow,
+    basis: &Basis<'_>,
+    kept: &[bool],
+    jobs: &[JobId],
+) -> Result<Clusters, ClusterFault>
+    requires few { length kept.now ≤ 10000 }
+    requires ranked { IsRanked kept.now basis.now.levels (job_numbers jobs.now) }
+    ensures { RunsAre workflow.now basis.now kept.now result }
+{
+    check_numbers(alloc, workflow, basis, jobs)?;
+    let parts = runs_of(alloc, basis, jobs, kept.len())?;
+    let clusters = clusters_of(alloc, parts)?;
+    Ok(clusters)
+}
