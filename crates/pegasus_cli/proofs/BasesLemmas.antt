@@ -6,7 +6,7 @@ use Rattle.outside.specs.Host.{Reads}
 use Rattle.outside.specs.declared.counts.Counts.{Counts}
 use Rattle.outside.specs.declared.host.HostFault.{HostFault}
 use Rattle.outside.specs.declared.store.Store.{Store}
-use Rattle.pegasus_cli.specs.Bases.{Continues, ReadsBases, after_base, base_answer, base_limit}
+use Rattle.pegasus_cli.specs.Bases.{Continues, ReadsBases, after_base, base_answer, base_limit, told_bytes}
 use Rattle.pegasus_cli.specs.declared.outcome.Outcome.{Outcome}
 use Rattle.pegasus_cli.specs.declared.sources.Source.{Source}
 use Rattle.pegasus_cli.proofs.RestLemmas.{front_then, none_before}
@@ -35,14 +35,14 @@ goes_on_none told all rest before now front goes = λ after r reads.
 
 -- a file whose base came
 pub goes_on_some : (told : Option Store) (all rest : List (Option Source)) (s : Source) (before now next : Counts) (front : Bases) (bytes : List ℕ) → GoesOn told all (Some s ∷ rest) before now front
-    → ((read : Result (List ℕ) HostFault) × Reads told s.pfn base_limit now next read × (◌≡◌ {A = Result (List ℕ) Outcome} (Ok bytes) (base_answer s read))) → GoesOn told all rest before next (front ++ Some bytes ∷ [])
+    → ((read : Result (List ℕ) HostFault) × Reads (told_bytes told s.pfn) base_limit now next read × (◌≡◌ {A = Result (List ℕ) Outcome} (Ok bytes) (base_answer s read))) → GoesOn told all rest before next (front ++ Some bytes ∷ [])
 goes_on_some told all rest s before now next front bytes goes read = λ after r reads.
     subst (λ (x : Result Bases Outcome). ReadsBases told all before after x) (front_more front (Some bytes) r)
     (goes after (after_base (Some bytes) r) (read.0, next, read.1, subst (λ (a : Result (List ℕ) Outcome). Continues (λ c x. ReadsBases told rest c after x) a next after (after_base (Some bytes) r)) read.2 (r, reads, refl)))
 
 -- a file whose base didn't come
 pub stops_at : (told : Option Store) (all rest : List (Option Source)) (s : Source) (before now next : Counts) (front : Bases) (answer : Outcome) → GoesOn told all (Some s ∷ rest) before now front
-    → ((read : Result (List ℕ) HostFault) × Reads told s.pfn base_limit now next read × (◌≡◌ {A = Result (List ℕ) Outcome} (Err answer) (base_answer s read))) → ReadsBases told all before next (Err answer)
+    → ((read : Result (List ℕ) HostFault) × Reads (told_bytes told s.pfn) base_limit now next read × (◌≡◌ {A = Result (List ℕ) Outcome} (Err answer) (base_answer s read))) → ReadsBases told all before next (Err answer)
 stops_at told all rest s before now next front answer goes read =
     goes next (Err answer) (read.0, next, read.1, subst (λ (a : Result (List ℕ) Outcome). Continues (λ c x. ReadsBases told rest c next x) a next next (Err answer)) read.2 (refl, refl))
 

@@ -6,7 +6,6 @@ use Rattle.std.proofs.lemmas.Grind.{common_steps}
 use Rattle.std.proofs.lemmas.Bool.Decides.{nat_tests}
 use Rattle.std.proofs.lemmas.List.{append-nil}
 use Rattle.outside.specs.Counts.{IsLater, Rose}
-use Rattle.outside.specs.Host.{delivering}
 use Rattle.outside.specs.declared.counts.Counts.{Counts}
 use Rattle.outside.specs.declared.host.HostFault.{HostFault}
 use Rattle.outside.specs.declared.host.HostFault.TheVariants.{Absent, Failed, Over, Memory}
@@ -17,7 +16,7 @@ use Rattle.workflow_core.specs.declared.workflow.Output.{Output}
 use Rattle.workflow_core.specs.Requested.{requests, is_requested, requested, requested_from}
 use Rattle.dependency_graph.specs.Value.{Basis, value}
 use Rattle.workflow_eval.specs.Evaluating.{AreValues}
-use Rattle.pegasus_cli.specs.Delivery.{AreDeliveries, Delivery, DeliversEach, DeliversOne, HasDelivered, chosen, delivered_line, delivered_lines, delivering_all, marked, marked_by, picked}
+use Rattle.pegasus_cli.specs.Delivery.{AreDeliveries, Delivery, DeliversEach, DeliversOne, HasDelivered, chosen, delivered_line, delivered_lines, delivering, delivering_all, marked, marked_by, picked}
 
 set_mark : (marks : List Bool) (k f : ℕ) → f < length marks → get_or (slice_set marks k true) f false ≡ ((k == f) || get_or marks f false)
 set_mark marks k f h = grind (arith, common_steps, nat_tests)
@@ -115,20 +114,20 @@ chosen_are on w values are =
     zero_more : (k : ℕ) → k ≡ 0 + k
     zero_more k = omega arith
 
-delivering_more : (ds : List Delivery) (d : Delivery) (files : Store) → delivering_all (ds ++ d ∷ []) files ≡ delivering d.name d.bytes (delivering_all ds files)
+delivering_more : (ds : List Delivery) (d : Delivery) (files : Store) → delivering_all (ds ++ d ∷ []) files ≡ delivering d (delivering_all ds files)
 delivering_more [] d files = refl
-delivering_more (e ∷ ds) d files = delivering_more ds d (delivering e.name e.bytes files)
+delivering_more (e ∷ ds) d files = delivering_more ds d (delivering e files)
 
 lines_more : (ds : List Delivery) (d : Delivery) → delivered_lines (ds ++ d ∷ []) ≡ delivered_lines ds ++ delivered_line d
 lines_more [] d = append-nil (delivered_line d)
 lines_more (e ∷ ds) d = ap (λ (x : List ℕ). delivered_line e ++ x) (lines_more ds d) ∙ sym (append_assoc (delivered_line e) (delivered_lines ds) (delivered_line d))
 
-held_more : (first : List Delivery) (d : Delivery) (old mid new : Option Store) → mid ≡ option_map (delivering_all first) old → new ≡ option_map (delivering d.name d.bytes) mid → new ≡ option_map (delivering_all (first ++ d ∷ [])) old
-held_more first d None mid new so_far step = step ∙ ap (option_map (delivering d.name d.bytes)) so_far
-held_more first d (Some files) mid new so_far step = step ∙ ap (option_map (delivering d.name d.bytes)) so_far ∙ ap Some (sym (delivering_more first d files))
+held_more : (first : List Delivery) (d : Delivery) (old mid new : Option Store) → mid ≡ option_map (delivering_all first) old → new ≡ option_map (delivering d) mid → new ≡ option_map (delivering_all (first ++ d ∷ [])) old
+held_more first d None mid new so_far step = step ∙ ap (option_map (delivering d)) so_far
+held_more first d (Some files) mid new so_far step = step ∙ ap (option_map (delivering d)) so_far ∙ ap Some (sym (delivering_more first d files))
 
 pub delivered_more : (all first rest : List Delivery) (d : Delivery) (old mid new : Option Store) (before now after : List ℕ) → HasDelivered all old mid before now first (d ∷ rest)
-    → new ≡ option_map (delivering d.name d.bytes) mid → after ≡ now ++ delivered_line d → HasDelivered all old new before after (first ++ d ∷ []) rest
+    → new ≡ option_map (delivering d) mid → after ≡ now ++ delivered_line d → HasDelivered all old new before after (first ++ d ∷ []) rest
 delivered_more all first rest d old mid new before now after so_far step line = record {
   split = so_far.split ∙ sym (append_assoc first (d ∷ []) rest);
   held = held_more first d old mid new so_far.held step;

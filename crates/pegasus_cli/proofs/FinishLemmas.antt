@@ -1,8 +1,9 @@
 -- What keeps `eval` and `alone` from Done, where everything is defined.
-use Rattle.std.proofs.Common.{◌≡◌, ℕ, ◌≤◌, Bool, true, false, cond, List, [], ◌∷◌, refl, sym, ap, subst, ◌∙◌, inl, inr, arith}
-use Rattle.std.specs.Prelude.{◌⊎◌, Option, Some, None, is_some, Result, Ok, Err}
+use Rattle.std.proofs.Common.{◌≡◌, ℕ, ◌≤◌, ◌<◌, Bool, true, false, cond, List, [], ◌∷◌, length, refl, sym, ap, subst, ◌∙◌, inl, inr, arith}
+use Rattle.std.specs.Prelude.{◌⊎◌, Option, Some, None, is_some, Result, Ok, Err, nat_lt, if◌then◌else◌}
+use Rattle.std.proofs.lemmas.Bool.{le-ltb, lt-ltb}
 use Rattle.outside.specs.Counts.{Rose}
-use Rattle.outside.specs.Host.{Reads}
+use Rattle.outside.specs.Host.{IsLong, Reads, within}
 use Rattle.outside.specs.declared.counts.Counts.{Counts}
 use Rattle.outside.specs.declared.host.HostFault.{HostFault}
 use Rattle.outside.specs.declared.host.HostFault.TheVariants as host_faults
@@ -12,7 +13,7 @@ use Rattle.workflow_core.specs.declared.workflow.Workflow.{Workflow}
 use Rattle.dependency_graph.specs.Value.{Basis, basis}
 use Rattle.outside.specs.Tool.{Apply}
 use Rattle.workflow_eval.specs.Evaluating.{first_undefined, made_by_number}
-use Rattle.pegasus_cli.specs.Bases.{Continues, ReadsBases, after_base, base_answer, base_limit, told_bases, told_replica}
+use Rattle.pegasus_cli.specs.Bases.{Continues, ReadsBases, after_base, base_answer, base_limit, told_bases, told_bytes, told_replica}
 use Rattle.pegasus_cli.specs.Call.{IsDoneOrMemory}
 use Rattle.pegasus_cli.specs.Commands.Alone.{Tells}
 use Rattle.pegasus_cli.specs.Commands.Eval.{Says}
@@ -42,11 +43,32 @@ IsToldOrMemory r told = (r ≡ told) ⊎ (r ≡ Err outcomes.Memory)
 abbrev pub CameAs : Source → Counts → Counts → Result (List ℕ) HostFault → List ℕ → Type 0
 CameAs s before now read bytes = ((base_answer s read ≡ Ok bytes) × (before.faults ≤ now.faults)) ⊎ ((base_answer s read ≡ Err outcomes.Memory) ⊎ (Rose before.faults now.faults × (answer : Outcome) × (base_answer s read ≡ Err answer)))
 
-came_as : (told : Option Store) (s : Source) (before now : Counts) (read : Result (List ℕ) HostFault) (bytes : List ℕ) → base_answer s (told_replica told s.pfn) ≡ Ok bytes → Reads told s.pfn base_limit before now read → CameAs s before now read bytes
+over_of : ℕ → ℕ → Result (List ℕ) HostFault
+over_of limit n = Err (host_faults.Over limit n)
+
+within_ok : (limit : ℕ) (bytes : List ℕ) (found : Option (List ℕ)) → length bytes ≤ limit → found ≡ Some bytes → within limit found ≡ Ok bytes
+within_ok limit bytes found fits is = ap (within limit) is ∙ by (nat_lt limit (length bytes)) (le-ltb limit (length bytes) fits)
+  where
+    by : (b : Bool) → b ≡ false → ◌≡◌ {A = Result (List ℕ) HostFault} (if b then Err (host_faults.Over limit (length bytes)) else Ok bytes) (Ok bytes)
+    by true e = absurd cc
+    by false e = refl
+
+within_over : (limit l n : ℕ) (found : Option (List ℕ)) → l ≡ limit → limit < n → IsLong found n → within limit found ≡ Err (host_faults.Over l n)
+within_over limit l n None same over is = absurd (let e : ◌≡◌ {A = Option ℕ} None (Some n) = is in cc)
+within_over limit l n (Some bytes) same over is = by (nat_lt limit (length bytes)) (lt-ltb limit (length bytes) (omega (arith, over, long)))
+  where
+    long : length bytes ≡ n
+    long = let e : ◌≡◌ {A = Option ℕ} (Some (length bytes)) (Some n) = is in cc
+
+    by : (b : Bool) → b ≡ true → ◌≡◌ {A = Result (List ℕ) HostFault} (if b then Err (host_faults.Over limit (length bytes)) else Ok bytes) (Err (host_faults.Over l n))
+    by false e = absurd cc
+    by true e = ap (λ (m : ℕ). over_of limit m) long ∙ ap (λ (k : ℕ). over_of k n) (sym same)
+
+came_as : (told : Option Store) (s : Source) (before now : Counts) (read : Result (List ℕ) HostFault) (bytes : List ℕ) → base_answer s (told_replica told s.pfn) ≡ Ok bytes → Reads (told_bytes told s.pfn) base_limit before now read → CameAs s before now read bytes
 came_as None s before now read bytes is reads = absurd (let e : ◌≡◌ {A = Result (List ℕ) Outcome} (Err outcomes.Memory) (Ok bytes) = is in cc)
-came_as (Some st) s before now (Ok b) bytes is reads = inl (ap (base_answer s) (sym reads.2) ∙ is, (let k : now.faults ≡ before.faults = ap (λ (c : Counts). c.faults) reads.0 in omega (arith, k)))
-came_as (Some st) s before now (Err host_faults.Absent) bytes is reads = inl (ap (base_answer s) (sym reads.1) ∙ is, (let k : now.faults ≡ before.faults = ap (λ (c : Counts). c.faults) reads.0 in omega (arith, k)))
-came_as (Some st) s before now (Err (host_faults.Over limit n)) bytes is reads = inl (ap (base_answer s) (sym reads.3) ∙ is, (let k : now.faults ≡ before.faults = ap (λ (c : Counts). c.faults) reads.0 in omega (arith, k)))
+came_as (Some st) s before now (Ok b) bytes is reads = inl (ap (base_answer s) (sym (within_ok base_limit b _ reads.1 reads.2)) ∙ is, (let k : now.faults ≡ before.faults = ap (λ (c : Counts). c.faults) reads.0 in omega (arith, k)))
+came_as (Some st) s before now (Err host_faults.Absent) bytes is reads = inl (ap (base_answer s) (sym (ap (within base_limit) reads.1)) ∙ is, (let k : now.faults ≡ before.faults = ap (λ (c : Counts). c.faults) reads.0 in omega (arith, k)))
+came_as (Some st) s before now (Err (host_faults.Over limit n)) bytes is reads = inl (ap (base_answer s) (sym (within_over base_limit limit n _ reads.1 reads.2 reads.3)) ∙ is, (let k : now.faults ≡ before.faults = ap (λ (c : Counts). c.faults) reads.0 in omega (arith, k)))
 came_as (Some st) s before now (Err host_faults.Failed) bytes is reads = inr (inr ((let k = ap (λ (c : Counts). c.faults) reads in omega (arith, k)), _, refl))
 came_as (Some st) s before now (Err host_faults.Memory) bytes is reads = inr (inl refl)
 

@@ -1,6 +1,7 @@
 -- The bases of a workflow's files: the bytes of those that no job makes, read from their first places.
-use Rattle.std.specs.Prelude.{◌≡◌, ℕ, ◌^◌, List, [], ◌∷◌, if◌then◌else◌, Option, Some, None, Result, Ok, Err}
+use Rattle.std.specs.Prelude.{◌≡◌, ℕ, ◌^◌, List, [], ◌∷◌, if◌then◌else◌, Option, Some, None, option_map, Result, Ok, Err}
 use Rattle.std.specs.Str.{bytes_eq}
+use Rattle.std.specs.FinMap as map
 use Rattle.sha2.specs.Sha256.{sha256}
 use Rattle.peg_json.specs.Tree.{◌>>=◌}
 use Rattle.outside.specs.Host.{Reads, replica}
@@ -40,12 +41,16 @@ abbrev pub Continues : (Counts → Result (List (Option (List ℕ))) Outcome →
 Continues later (Ok bytes) now after result = (rest : Result (List (Option (List ℕ))) Outcome) × later now rest × (result ≡ after_base (Some bytes) rest)
 Continues later (Err answer) now after result = (after ≡ now) × (result ≡ Err answer)
 
+-- the bytes of a replica, where the host tells
+abbrev pub told_bytes : Option Store → List ℕ → Option (Option (List ℕ))
+told_bytes told pfn = option_map (λ s. map.get s.replicas pfn) told
+
 -- The files' sources were read one after the other, each with one call of the host, up to the first fault.
 abbrev pub ReadsBases : Option Store → List (Option Source) → Counts → Counts → Result (List (Option (List ℕ))) Outcome → Type 0
 ReadsBases told [] before after result = (after ≡ before) × (result ≡ Ok [])
 ReadsBases told (None ∷ ss) before after result = (rest : Result (List (Option (List ℕ))) Outcome) × ReadsBases told ss before after rest × (result ≡ after_base None rest)
 ReadsBases told (Some s ∷ ss) before after result =
-    (read : Result (List ℕ) HostFault) × (now : Counts) × Reads told s.pfn base_limit before now read × Continues (λ c r. ReadsBases told ss c after r) (base_answer s read) now after result
+    (read : Result (List ℕ) HostFault) × (now : Counts) × Reads (told_bytes told s.pfn) base_limit before now read × Continues (λ c r. ReadsBases told ss c after r) (base_answer s read) now after result
 
 -- the bytes that a host tells; of one that doesn't tell nothing can be said beforehand
 abbrev pub told_replica : Option Store → List ℕ → Result (List ℕ) HostFault

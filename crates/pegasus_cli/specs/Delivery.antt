@@ -5,8 +5,8 @@ use Rattle.std.specs.List.{flat_map}
 use Rattle.hex.specs.Hex.{encode_lower}
 use Rattle.sha2.specs.Sha256.{sha256}
 use Rattle.outside.specs.Counts.{Rose}
-use Rattle.outside.specs.Host.{delivering}
 use Rattle.outside.specs.Printed.{printed_name}
+use Rattle.outside.specs.Store.{Delivers, changed}
 use Rattle.outside.specs.declared.counts.Counts.{Counts}
 use Rattle.outside.specs.declared.host.HostFault.{HostFault}
 use Rattle.outside.specs.declared.host.HostFault.TheVariants.{Absent, Failed, Over, Memory}
@@ -27,10 +27,14 @@ AreDeliveries on w [] [] = Unit {0}
 AreDeliveries on w (f ∷ fs) (d ∷ ds) = (d.name ≡ slice_index_or w.files f []) × (value on w f ≡ Some d.bytes) × AreDeliveries on w fs ds
 AreDeliveries on w _ _ = ⊥
 
+-- the store with a delivery made
+abbrev pub delivering : Delivery → Store → Store
+delivering d s = changed s (Delivers d.name d.bytes)
+
 -- the store with each delivery made
 abbrev pub delivering_all : List Delivery → Store → Store
 delivering_all [] s = s
-delivering_all (d ∷ ds) s = delivering_all ds (delivering d.name d.bytes s)
+delivering_all (d ∷ ds) s = delivering_all ds (delivering d s)
 
 -- a file's line: a word, its name, its length and the SHA-256 of its bytes
 abbrev pub file_line : List ℕ → Delivery → List ℕ
@@ -73,7 +77,7 @@ pub record HasDelivered (all : List Delivery) (old new : Option Store) (before a
 
 -- one delivery: it is made and its line stands, or all is as before; `from` and `to` are the host's counts
 abbrev pub DeliversOne : Delivery → Option Store → Option Store → Counts → Counts → List ℕ → List ℕ → Result (Unit {0}) HostFault → Type 0
-DeliversOne d old new from to before after (Ok u) = (new ≡ option_map (delivering d.name d.bytes) old) × (after ≡ before ++ delivered_line d)
+DeliversOne d old new from to before after (Ok u) = (new ≡ option_map (delivering d) old) × (after ≡ before ++ delivered_line d)
 DeliversOne d old new from to before after (Err Failed) = Rose from.faults to.faults × (new ≡ old) × (after ≡ before)
 DeliversOne d old new from to before after (Err Memory) = (new ≡ old) × (after ≡ before)
 DeliversOne d old new from to before after (Err Absent) = ⊥

@@ -4,7 +4,7 @@ ghost use Rattle.std.specs.Prelude.{◌≡◌, List, ℕ, Result};
 ghost use Rattle.outside.specs.Counts.{IsLater};
 ghost use Rattle.outside.specs.Host.{Reads};
 ghost use Rattle.outside.specs.declared.host.HostFault.{HostFault as Fault};
-ghost use Rattle.pegasus_cli.specs.Bases.{ReadsBases, base_answer, base_limit, checked};
+ghost use Rattle.pegasus_cli.specs.Bases.{ReadsBases, base_answer, base_limit, checked, told_bytes};
 ghost use Rattle.pegasus_cli.specs.Outcome.{UnlessMemory, items_of};
 
 use crate::outcome::Outcome;
@@ -61,7 +61,7 @@ fn base_answer(
 /// Reads the bytes of a source.
 fn read_base<H: Host>(alloc: Global, host: &mut H, source: &Source) -> Result<Blob, Outcome>
     ensures answer { UnlessMemory result ((read : Result (List ℕ) Fault)
-        × Reads (H.told host.old) source.now.pfn base_limit (H.counts host.old) (H.counts host.new) read
+        × Reads (told_bytes (H.told host.old) source.now.pfn) base_limit (H.counts host.old) (H.counts host.new) read
         × (result ≡ base_answer source.now read)) }
     ensures told { H.told host.new ≡ H.told host.old }
     ensures later { IsLater (H.counts host.old) (H.counts host.new) }
