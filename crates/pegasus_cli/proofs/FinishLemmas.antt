@@ -43,7 +43,7 @@ IsToldOrMemory r told = (r ≡ told) ⊎ (r ≡ Err outcomes.Memory)
 abbrev pub CameAs : Source → Counts → Counts → Result (List ℕ) HostFault → List ℕ → Type 0
 CameAs s before now read bytes = ((base_answer s read ≡ Ok bytes) × (before.faults ≤ now.faults)) ⊎ ((base_answer s read ≡ Err outcomes.Memory) ⊎ (Rose before.faults now.faults × (answer : Outcome) × (base_answer s read ≡ Err answer)))
 
-over_of : ℕ → ℕ → Result (List ℕ) HostFault
+abbrev over_of : ℕ → ℕ → Result (List ℕ) HostFault
 over_of limit n = Err (host_faults.Over limit n)
 
 within_ok : (limit : ℕ) (bytes : List ℕ) (found : Option (List ℕ)) → length bytes ≤ limit → found ≡ Some bytes → within limit found ≡ Ok bytes
