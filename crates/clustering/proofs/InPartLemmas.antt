@@ -38,23 +38,23 @@ among_last (i ∷ p) j = or_right (eqb i.0 j.0) (is_among j.0 (job_numbers (p ++
 
 stays_in : (goes : JobId → JobId → Bool) (a : ℕ) (j : JobId) (ps : List (List JobId)) → is_in a ps ≡ true → is_in a (with_job goes ps j) ≡ true
 stays_in goes a j [] h = absurd cc
-stays_in goes a j (p ∷ ps) h = by (is_of_part goes j p)
+stays_in goes a j (p ∷ ps) h = by (is_of_part goes j p) (λ e. stays_in goes a j ps e)
   where
-    by : (b : Bool) → is_in a (cond b ((p ++ j ∷ []) ∷ ps) (p ∷ with_job goes ps j)) ≡ true
-    by true = or_case (is_among a (job_numbers p)) (is_in a ps) h
+    by : (b : Bool) → (is_in a ps ≡ true → is_in a (with_job goes ps j) ≡ true) → is_in a (cond b ((p ++ j ∷ []) ∷ ps) (p ∷ with_job goes ps j)) ≡ true
+    by true rest = or_case (is_among a (job_numbers p)) (is_in a ps) h
         (λ e. or_left (is_among a (job_numbers (p ++ j ∷ []))) (is_in a ps) (among_longer a p j e))
         (λ e. or_right (is_among a (job_numbers (p ++ j ∷ []))) (is_in a ps) e)
-    by false = or_case (is_among a (job_numbers p)) (is_in a ps) h
+    by false rest = or_case (is_among a (job_numbers p)) (is_in a ps) h
         (λ e. or_left (is_among a (job_numbers p)) (is_in a (with_job goes ps j)) e)
-        (λ e. or_right (is_among a (job_numbers p)) (is_in a (with_job goes ps j)) (stays_in goes a j ps e))
+        (λ e. or_right (is_among a (job_numbers p)) (is_in a (with_job goes ps j)) (rest e))
 
 comes_in : (goes : JobId → JobId → Bool) (j : JobId) (ps : List (List JobId)) → is_in j.0 (with_job goes ps j) ≡ true
 comes_in goes j [] = or_left (is_among j.0 (job_numbers (j ∷ []))) false (or_left (eqb j.0 j.0) false (itself j.0))
-comes_in goes j (p ∷ ps) = by (is_of_part goes j p)
+comes_in goes j (p ∷ ps) = by (is_of_part goes j p) (comes_in goes j ps)
   where
-    by : (b : Bool) → is_in j.0 (cond b ((p ++ j ∷ []) ∷ ps) (p ∷ with_job goes ps j)) ≡ true
-    by true = or_left (is_among j.0 (job_numbers (p ++ j ∷ []))) (is_in j.0 ps) (among_last p j)
-    by false = or_right (is_among j.0 (job_numbers p)) (is_in j.0 (with_job goes ps j)) (comes_in goes j ps)
+    by : (b : Bool) → is_in j.0 (with_job goes ps j) ≡ true → is_in j.0 (cond b ((p ++ j ∷ []) ∷ ps) (p ∷ with_job goes ps j)) ≡ true
+    by true rest = or_left (is_among j.0 (job_numbers (p ++ j ∷ []))) (is_in j.0 ps) (among_last p j)
+    by false rest = or_right (is_among j.0 (job_numbers p)) (is_in j.0 (with_job goes ps j)) rest
 
 all_stay : (goes : JobId → JobId → Bool) (a : ℕ) (js : List JobId) (ps : List (List JobId)) → is_in a ps ≡ true → is_in a (with_jobs goes ps js) ≡ true
 all_stay goes a [] ps h = h
