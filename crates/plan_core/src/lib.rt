@@ -26,8 +26,7 @@ pub use files::{SiteFiles, files_read, files_written};
 pub use law::{
     carried_is_carried_along, each_pair_has_one_writer, files_are_listed_by_pair,
     numbers_are_in_range, pairs_stand_once, parents_come_before, parents_write_what_is_read,
-    rising_lists_are_one,
-    some_task_is_first, ways_back_end,
+    rising_lists_are_one, some_task_is_first, ways_back_end,
 };
 pub use plan::{Pair, Plan, PlanFile, PlanJob, PlanSite, Source, Target, Task, TaskKind};
 pub use printing::print;

@@ -25,7 +25,7 @@ returns c r d s limit p checked few says formed planned apply told honest =
     let values = values_are apply told r s s.graph.ordered (c.values_flow_in_order.ensures s.workflow s.graph formed says.graph) in
     let held = replicas_hold apply told r s planned.sites planned.clusters honest in
     let means : (t f : ℕ) → carries planned.bare t f ≡ true → carried apply told planned.bare t f ≡ value_of apply told r s f =
-        c.refined_plan_means_the_workflow.ensures apply told (value_of apply told r s) is limit planned.bare are below fine refined values held hand in
+    c.refined_plan_means_the_workflow.ensures apply told (value_of apply told r s) is limit planned.bare are below fine refined values held hand in
     subst (λ (q : Plan). (t f : ℕ) → carries q t f ≡ true → carried apply told q t f ≡ value_of apply told r s f) (sym planned.cleaned_is)
     (with_strategy (λ (q : Plan). (t f : ℕ) → carries q t f ≡ true → carried apply told q t f ≡ value_of apply told r s f) r.cleanup planned.bare means
     (c.cleaned_plan_means_the_same.ensures apply told (value_of apply told r s) planned.bare proper (small.cleans is planned.bare refined) tasks means))
