@@ -21,7 +21,7 @@ use Rattle.site_yard.specs.Changes.{arrival, carries, changes, changes_of, moved
 use Rattle.site_yard.specs.Kept.{IsKept}
 use Rattle.site_yard.specs.Law.{HasPlanLaws}
 use Rattle.site_yard.specs.Names.{file_name}
-use Rattle.site_yard.specs.Places.{IsUndelivered, hands, is_delivered}
+use Rattle.site_yard.specs.Places.{IsUndelivered, delivers_file, is_delivered}
 use Rattle.site_yard.specs.Truthful.{IsTrue, Truthful}
 use Rattle.site_yard.proofs.PlaceLemmas.{same, same_is, same_self}
 use Rattle.site_yard.proofs.PlanLemmas.{one_file}
@@ -69,7 +69,7 @@ arrive_off p v n (Some (Transfer g from Delivery)) x h = by_name (same n (file_n
     by_name true e = absurd (h g.0 (is_itself g.0) (sym (same_is n (file_name p g.0) e)))
     by_name false e = refl
 
-entry_off : (p : Plan) (c : ℕ → ℕ → Option (List ℕ)) (n : List ℕ) (e : Event) (x : Option (List ℕ)) → ((f : ℕ) → hands p f e ≡ true → file_name p f ≡ n → ⊥) → taken_by n (changes_of p c e) x ≡ x
+entry_off : (p : Plan) (c : ℕ → ℕ → Option (List ℕ)) (n : List ℕ) (e : Event) (x : Option (List ℕ)) → ((f : ℕ) → delivers_file p f e ≡ true → file_name p f ≡ n → ⊥) → taken_by n (changes_of p c e) x ≡ x
 entry_off p c n (Grant w t) x h = refl
 entry_off p c n (Regrant w t) x h = refl
 entry_off p c n (Arrive w t k) x h = arrive_off p (c t) n (kind p t) x h
@@ -83,8 +83,8 @@ unfolding is_delivered
 record_off p c n [] x h = refl
 record_off p c n (e ∷ r) x h =
     taken_append n (changes_of p c e) (changes p c r) x
-    ∙ record_off p c n r _ (λ f d. h f (or_right (hands p f e) (list_any (hands p f) r) d))
-    ∙ entry_off p c n e x (λ f d. h f (or_left (hands p f e) (list_any (hands p f) r) d))
+    ∙ record_off p c n r _ (λ f d. h f (or_right (delivers_file p f e) (list_any (delivers_file p f) r) d))
+    ∙ entry_off p c n e x (λ f d. h f (or_left (delivers_file p f e) (list_any (delivers_file p f) r) d))
 
 pub undelivered_kept : (p : Plan) (apply : Apply) (r : List Event) (s m : Store) (f0 m0 : ℕ) (counts : Counts) → IsKept apply p r (Some s) m f0 m0 counts → (name : List ℕ) → IsUndelivered p r name → files.get s.delivered name ≡ files.get m.delivered name
 undelivered_kept p apply r s m f0 m0 counts kept name h =
@@ -134,7 +134,7 @@ module _ (p : Plan) (proper : IsProper p) (plan_laws : HasPlanLaws p) (c : ℕ �
       by_name true d = bytes_are (one_file p proper f g.0 (in_files t0 f mine) (in_files t g.0 it) (same_is (file_name p f) (file_name p g.0) d))
       by_name false d = other h d
 
-  entry_sets : (e : Event) (x : Option (List ℕ)) → (x ≡ Some b) ⊎ (hands p f e ≡ true) → taken_by (file_name p f) (changes_of p c e) x ≡ Some b
+  entry_sets : (e : Event) (x : Option (List ℕ)) → (x ≡ Some b) ⊎ (delivers_file p f e ≡ true) → taken_by (file_name p f) (changes_of p c e) x ≡ Some b
   entry_sets (Grant w t) x (inl h) = h
   entry_sets (Grant w t) x (inr h) = absurd cc
   entry_sets (Regrant w t) x (inl h) = h
@@ -156,13 +156,13 @@ module _ (p : Plan) (proper : IsProper p) (plan_laws : HasPlanLaws p) (c : ℕ �
   record_sets : (r : List Event) (x : Option (List ℕ)) → is_delivered p r f ≡ true → taken_by (file_name p f) (changes p c r) x ≡ Some b
   unfolding is_delivered
   record_sets [] x h = absurd cc
-  record_sets (e ∷ r) x h = taken_append (file_name p f) (changes_of p c e) (changes p c r) x ∙ elim (either (hands p f e) (list_any (hands p f) r) h) [
+  record_sets (e ∷ r) x h = taken_append (file_name p f) (changes_of p c e) (changes p c r) x ∙ elim (either (delivers_file p f e) (list_any (delivers_file p f) r) h) [
     | inl d ↦ record_leaves r _ (entry_sets e x (inr d))
     | inr d ↦ record_sets r _ d
   ]
 
 -- the task that has delivered a file carries it
-delivery_sized : (apply : Apply) (told : List ℕ → Option (List ℕ)) (p : Plan) (c : ℕ → ℕ → Option (List ℕ)) (e : Event) (f : ℕ) → IsTrue apply told p c e → hands p f e ≡ true → (t : ℕ) × (n : ℕ) × (delivers p t f ≡ true) × (option_map length (c t f) ≡ Some n)
+delivery_sized : (apply : Apply) (told : List ℕ → Option (List ℕ)) (p : Plan) (c : ℕ → ℕ → Option (List ℕ)) (e : Event) (f : ℕ) → IsTrue apply told p c e → delivers_file p f e ≡ true → (t : ℕ) × (n : ℕ) × (delivers p t f ≡ true) × (option_map length (c t f) ≡ Some n)
 delivery_sized apply told p c (Grant w t) f is h = absurd cc
 delivery_sized apply told p c (Regrant w t) f is h = absurd cc
 delivery_sized apply told p c (End w t ns) f is h = absurd cc
@@ -176,7 +176,7 @@ delivery_sized apply told p c (Arrive w t n) f is h =
 record_delivers : (apply : Apply) (told : List ℕ → Option (List ℕ)) (p : Plan) (c : ℕ → ℕ → Option (List ℕ)) (r : List Event) (f : ℕ) → Truthful apply told p c r → is_delivered p r f ≡ true → (t : ℕ) × (n : ℕ) × (delivers p t f ≡ true) × (option_map length (c t f) ≡ Some n)
 unfolding is_delivered
 record_delivers apply told p c [] f is h = absurd cc
-record_delivers apply told p c (e ∷ r) f is h = elim (either (hands p f e) (list_any (hands p f) r) h) [
+record_delivers apply told p c (e ∷ r) f is h = elim (either (delivers_file p f e) (list_any (delivers_file p f) r) h) [
   | inl d ↦ delivery_sized apply told p c e f is.0 d
   | inr d ↦ record_delivers apply told p c r f is.1 d
 ]

@@ -21,7 +21,7 @@ use Rattle.lease_book.specs.Reading.{frees}
 use Rattle.site_yard.specs.Changes.{arrival, changes, changes_of, moved, or_nil, publishes, removal}
 use Rattle.site_yard.specs.Law.{HasPlanLaws}
 use Rattle.site_yard.specs.Names.{file_name, pair_file, pair_file_name, pair_site, pair_site_name, site_name}
-use Rattle.site_yard.specs.Places.{is_published, is_swept, puts}
+use Rattle.site_yard.specs.Places.{is_published, is_swept, publishes_pair}
 use Rattle.site_yard.specs.Truthful.{AreSizes, IsLongAs, IsTrue, Truthful}
 use Rattle.site_yard.proofs.PlaceLemmas.{left_append, left_at, left_by, same, same_is, same_self}
 use Rattle.site_yard.proofs.PlanLemmas.{names_apart, transfer_writes, written_below, written_file}
@@ -133,7 +133,7 @@ module _ (p : Plan) (proper : IsProper p) (laws : HasPlanLaws p) (c : ℕ → �
   entry_leaves (Fail w t cause ns) o f h = puts_leave t (take (length ns) (writes p t)) o (λ x e. has_take (length ns) (writes p t) x e) h
   entry_leaves (Again w t cause ns) o f h = puts_leave t (take (length ns) (writes p t)) o (λ x e. has_take (length ns) (writes p t) x e) h
 
-  entry_sets : (e : Event) (o : Option (List ℕ)) → Suits p e → puts p q e ≡ true → left_by (pair_site_name p q) (pair_file_name p q) (changes_of p c e) o ≡ Some b
+  entry_sets : (e : Event) (o : Option (List ℕ)) → Suits p e → publishes_pair p q e ≡ true → left_by (pair_site_name p q) (pair_file_name p q) (changes_of p c e) o ≡ Some b
   entry_sets (Grant w t) o s h = absurd cc
   entry_sets (Regrant w t) o s h = absurd cc
   entry_sets (Arrive w t n) o s h = arrive_sets t (kind p t) o refl s.0 h
@@ -155,7 +155,7 @@ module _ (p : Plan) (proper : IsProper p) (laws : HasPlanLaws p) (c : ℕ → �
   record_sets [] o s f h = absurd cc
   record_sets (e ∷ r) o s f h =
       let parts = or_both (frees p q e) (list_any (frees p q) r) f in
-      left_append (pair_site_name p q) (pair_file_name p q) (changes_of p c e) (changes p c r) o ∙ elim (either (puts p q e) (list_any (puts p q) r) h) [
+      left_append (pair_site_name p q) (pair_file_name p q) (changes_of p c e) (changes p c r) o ∙ elim (either (publishes_pair p q e) (list_any (publishes_pair p q) r) h) [
         | inl d ↦ record_leaves r _ parts.1 (entry_sets e o s.0 d)
         | inr d ↦ record_sets r _ s.1 parts.1 d
       ]
@@ -207,7 +207,7 @@ module _ (apply : Apply) (told : List ℕ → Option (List ℕ)) (p : Plan) (pro
       let long : option_map length (c t g.0) ≡ Some n = sym (ap (λ (o : Option TaskKind). option_map length (moved (c t) o)) e) ∙ is in
       (t, h, (n, ap (λ z. option_map length (c t z)) file ∙ long, subst (λ z. n ≤ z) (good_of p q (written_below p laws t q h)) (small q made)))
 
-  entry_sized : (e : Event) → Suits p e → IsTrue apply told p c e → puts p q e ≡ true → IsWritten p c q
+  entry_sized : (e : Event) → Suits p e → IsTrue apply told p c e → publishes_pair p q e ≡ true → IsWritten p c q
   entry_sized (Grant w t) s is h = absurd cc
   entry_sized (Regrant w t) s is h = absurd cc
   entry_sized (Arrive w t n) s is h = arrive_sized t n (kind p t) refl s.0 s.1 is.0 h
@@ -219,7 +219,7 @@ module _ (apply : Apply) (told : List ℕ → Option (List ℕ)) (p : Plan) (pro
   pub record_sized : (r : List Event) → AllSuit p r → Truthful apply told p c r → is_published p r q ≡ true → IsWritten p c q
   unfolding is_published
   record_sized [] s is h = absurd cc
-  record_sized (e ∷ r) s is h = elim (either (puts p q e) (list_any (puts p q) r) h) [
+  record_sized (e ∷ r) s is h = elim (either (publishes_pair p q e) (list_any (publishes_pair p q) r) h) [
     | inl d ↦ entry_sized e s.0 is.0 d
     | inr d ↦ record_sized r s.1 is.1 d
   ]

@@ -20,13 +20,13 @@ use Rattle.site_yard.specs.Changes.{arrival, carries, changes, changes_of, moved
 use Rattle.site_yard.specs.Kept.{IsKept}
 use Rattle.site_yard.specs.Law.{HasPlanLaws}
 use Rattle.site_yard.specs.Names.{pair_file_name, pair_site_name}
-use Rattle.site_yard.specs.Places.{IsUntouched, is_published, is_swept, puts}
+use Rattle.site_yard.specs.Places.{IsUntouched, is_published, is_swept, publishes_pair}
 use Rattle.site_yard.proofs.HoldsLemmas.{arrival_is, same_id}
 use Rattle.site_yard.proofs.PlaceLemmas.{left_append, left_by, pair_changed, same, same_is}
 
 -- no pair that the entry publishes or sweeps has this name
 abbrev IsApart : Plan → Event → List ℕ → List ℕ → Type 0
-IsApart p e s n = (q : ℕ) → (puts p q e || frees p q e) ≡ true → pair_site_name p q ≡ s → pair_file_name p q ≡ n → ⊥
+IsApart p e s n = (q : ℕ) → (publishes_pair p q e || frees p q e) ≡ true → pair_site_name p q ≡ s → pair_file_name p q ≡ n → ⊥
 
 module _ (p : Plan) (proper : IsProper p) (plan_laws : HasPlanLaws p) (c : ℕ → ℕ → Option (List ℕ)) (s n : List ℕ) where
   off : (q : ℕ) → (pair_site_name p q ≡ s → pair_file_name p q ≡ n → ⊥) → (v : Bool) → (same s (pair_site_name p q) && same n (pair_file_name p q)) ≡ v → (x y : Option (List ℕ)) → cond v x y ≡ y
@@ -76,8 +76,8 @@ module _ (p : Plan) (proper : IsProper p) (plan_laws : HasPlanLaws p) (c : ℕ �
   record_off [] apart x = refl
   record_off (e ∷ r) apart x =
       left_append s n (changes_of p c e) (changes p c r) x
-      ∙ record_off r (λ q h. apart q (rest_of (puts p q e) (frees p q e) (list_any (puts p q) r) (list_any (frees p q) r) h)) _
-      ∙ entry_off e (λ q h. apart q (first_of (puts p q e) (frees p q e) (list_any (puts p q) r) (list_any (frees p q) r) h)) x
+      ∙ record_off r (λ q h. apart q (rest_of (publishes_pair p q e) (frees p q e) (list_any (publishes_pair p q) r) (list_any (frees p q) r) h)) _
+      ∙ entry_off e (λ q h. apart q (first_of (publishes_pair p q e) (frees p q e) (list_any (publishes_pair p q) r) (list_any (frees p q) r) h)) x
 
 pub others_kept : (p : Plan) → IsProper p → HasPlanLaws p → (apply : Apply) (r : List Event) (s m : Store) (f0 m0 : ℕ) (counts : Counts) → IsKept apply p r (Some s) m f0 m0 counts → (site name : List ℕ) → IsUntouched p r site name → pair_at s.scratch site name ≡ pair_at m.scratch site name
 others_kept p proper plan_laws apply r s m f0 m0 counts kept site name apart =

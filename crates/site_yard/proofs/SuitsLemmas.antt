@@ -18,7 +18,7 @@ use Rattle.lease_book.specs.Reading.{ends}
 use Rattle.lease_book.specs.State.{State, after}
 use Rattle.site_yard.specs.Law.{HasPlanLaws}
 use Rattle.site_yard.specs.Names.{file_in, pair_file}
-use Rattle.site_yard.specs.Places.{is_published, puts}
+use Rattle.site_yard.specs.Places.{is_published, publishes_pair}
 use Rattle.site_yard.proofs.PlanLemmas.{not_none}
 
 -- an entry is of the kind of its task, and its sizes are within the declared ones
@@ -130,7 +130,7 @@ fail_writes p t ns h = by (is_run p t) refl
         first_none (g ∷ gs) = tt
 
 -- the pairs of a task that has ended were published
-ending_puts : (p : Plan) → HasPlanLaws p → (e : Event) (t q : ℕ) → Suits p e → has (writes p t) q ≡ true → ends t e ≡ true → puts p q e ≡ true
+ending_puts : (p : Plan) → HasPlanLaws p → (e : Event) (t q : ℕ) → Suits p e → has (writes p t) q ≡ true → ends t e ≡ true → publishes_pair p q e ≡ true
 ending_puts p laws (Grant w u) t q s h e = absurd cc
 ending_puts p laws (Regrant w u) t q s h e = absurd cc
 ending_puts p laws (Fail w u c ns) t q s h e = absurd cc
@@ -145,6 +145,6 @@ pub ended_published : (p : Plan) → HasPlanLaws p → (r : List Event) (t q : �
 unfolding is_published
 ended_published p laws [] t q s h e = absurd cc
 ended_published p laws (x ∷ r) t q s h e = elim (either (ends t x) (list_any (ends t) r) e) [
-  | inl d ↦ or_left (puts p q x) (list_any (puts p q) r) (ending_puts p laws x t q s.0 h d)
-  | inr d ↦ or_right (puts p q x) (list_any (puts p q) r) (ended_published p laws r t q s.1 h d)
+  | inl d ↦ or_left (publishes_pair p q x) (list_any (publishes_pair p q) r) (ending_puts p laws x t q s.0 h d)
+  | inr d ↦ or_right (publishes_pair p q x) (list_any (publishes_pair p q) r) (ended_published p laws r t q s.1 h d)
 ]

@@ -9,25 +9,25 @@ use Rattle.lease_book.specs.Reading.{frees}
 use Rattle.site_yard.specs.Names.{file_name, pair_site_name, pair_file_name}
 
 -- an entry publishes the pair; it delivers the file
-abbrev pub puts : Plan → ℕ → Event → Bool
-puts p q (Arrive w t n) = has (writes p t) q
-puts p q (End w t ns) = has (writes p t) q
-puts p q (Fail w t cause ns) = has (take (length ns) (writes p t)) q
-puts p q (Again w t cause ns) = has (take (length ns) (writes p t)) q
-puts p q _ = false
+abbrev pub publishes_pair : Plan → ℕ → Event → Bool
+publishes_pair p q (Arrive w t n) = has (writes p t) q
+publishes_pair p q (End w t ns) = has (writes p t) q
+publishes_pair p q (Fail w t cause ns) = has (take (length ns) (writes p t)) q
+publishes_pair p q (Again w t cause ns) = has (take (length ns) (writes p t)) q
+publishes_pair p q _ = false
 
-abbrev pub hands : Plan → ℕ → Event → Bool
-hands p f (Arrive w t n) = delivers p t f
-hands p f _ = false
+abbrev pub delivers_file : Plan → ℕ → Event → Bool
+delivers_file p f (Arrive w t n) = delivers p t f
+delivers_file p f _ = false
 
 unfoldable pub is_published : Plan → List Event → ℕ → Bool
-is_published p r q = list_any (puts p q) r
+is_published p r q = list_any (publishes_pair p q) r
 
 unfoldable pub is_swept : Plan → List Event → ℕ → Bool
 is_swept p r q = list_any (frees p q) r
 
 unfoldable pub is_delivered : Plan → List Event → ℕ → Bool
-is_delivered p r f = list_any (hands p f) r
+is_delivered p r f = list_any (delivers_file p f) r
 
 -- no pair that was published or swept has this name; no file that was delivered
 abbrev pub IsUntouched : Plan → List Event → List ℕ → List ℕ → Type 0
