@@ -1,0 +1,92 @@
+"""Tests of tools/plan-model: against the plans printed in README and guide, and those of the files of cases."""
+import pathlib
+import re
+import subprocess
+import sys
+
+work = pathlib.Path(sys.argv[1])
+SETTINGS = ("failing", "write", "room", "each")
+OF_DOCUMENTS = re.compile(
+    "refused (request|workflow|sites|replicas|transformations|twice|unknown|catalogue|many (jobs|files|sites)) "
+)
+
+
+def model(*words):
+    ran = subprocess.run([sys.executable, "tools/plan-model", *words], capture_output=True, text=True, check=False)
+    assert not ran.stderr, (words, ran.stderr)
+    return ran.returncode, ran.stdout
+
+
+def blocks(page):
+    """The texts that a page prints after `./pegasus plan`, by the request."""
+    found, request = [], None
+    for line in pathlib.Path(page).read_text(encoding="utf-8").splitlines():
+        command = re.fullmatch(r"    \$ (?:\./pegasus plan (examples/\S+))?.*", line)
+        if command:
+            request = command[1] if "|" not in line else None
+            if request:
+                found.append((request, []))
+        elif not line.startswith("    "):
+            request = None
+        elif request:
+            found[-1][1].append(line[4:])
+    return found
+
+
+def add_section(documents, head, lines):
+    """A document's section; `times N` repeats it."""
+    words = head.split(" ")
+    text = "".join(line + "\n" for line in lines)
+    if words[1:2] == ["times"]:
+        text = "".join(text.replace("<n>", str(number)) for number in range(int(words[2])))
+    documents[words[0]] = documents.get(words[0], "") + text
+
+
+def parse(lines):
+    """A case's settings, documents, status and text."""
+    settings, documents, status, text, head, body = [], {}, None, None, None, []
+    for line in [*lines, "-- end --"]:
+        section = re.fullmatch("-- (.*) --", line)
+        if not section:
+            (settings if head is None else body).append(line)
+            continue
+        if head and head.startswith("status "):
+            status, text = head[len("status "):], "".join(it + "\n" for it in body)
+        elif head:
+            add_section(documents, head, body)
+        head, body = section[1], []
+    return settings, documents, status, text
+
+
+def cases(path):
+    """The plain calls of `plan` that end with a plan or a fault of planning, with their documents."""
+    front, *parts = re.split(r"^case ", pathlib.Path(path).read_text(encoding="utf-8"), flags=re.MULTILINE)
+    common, shared, _, _ = parse([line for line in front.splitlines() if line])
+    for part in parts:
+        name, *lines = part.rstrip("\n").splitlines()
+        settings, documents, status, text = parse(lines)
+        words = [line for line in settings if line.startswith("words ")] or common
+        is_plain = "words plan r.json" in words and not any(line.startswith(SETTINGS) for line in settings)
+        if is_plain and status in ("0", "4", "5") and not OF_DOCUMENTS.match(text):
+            yield name, {**shared, **documents}, int(status), text
+
+
+def compare(path, least):
+    count = 0
+    for name, documents, status, text in cases(path):
+        folder = work / name
+        folder.mkdir(parents=True)
+        for document, content in documents.items():
+            (folder / document).write_text(content, encoding="utf-8")
+        assert model("r.json", str(folder)) == (status, text), (path, name)
+        count += 1
+    assert count >= least, (path, count)
+    return count
+
+
+printed = [block for page in ("README.md",) for block in blocks(page)]
+assert "examples/diamond/request.json" in [request for request, _ in printed]
+for request, lines in printed:
+    assert model(request)[1].splitlines() == lines, request
+counts = [compare(f"crates/cases/data/{name}.cases", least) for name, least in (("plan", 20), ("clusters", 30))]
+print(f"plan-model: ok, {len(printed)} plans and {sum(counts)} cases")
