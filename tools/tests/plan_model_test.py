@@ -18,18 +18,18 @@ def model(*words):
 
 
 def blocks(page):
-    """The texts that a page prints after `./pegasus plan`, by the request."""
-    found, request = [], None
+    """The texts printed after `./pegasus plan`: the request, the pattern of a `grep` behind it, and the lines."""
+    found, is_inside = [], False
     for line in pathlib.Path(page).read_text(encoding="utf-8").splitlines():
-        command = re.fullmatch(r"    \$ (?:\./pegasus plan (examples/\S+))?.*", line)
+        command = re.fullmatch(r"    \$ (?:\./pegasus plan (examples/\S+)(?: \| grep '?([^']*)'?)?)?(.*)", line)
         if command:
-            request = command[1] if "|" not in line else None
-            if request:
-                found.append((request, []))
+            is_inside = bool(command[1]) and not command[3]
+            if is_inside:
+                found.append((command[1], command[2] or "", []))
         elif not line.startswith("    "):
-            request = None
-        elif request:
-            found[-1][1].append(line[4:])
+            is_inside = False
+        elif is_inside:
+            found[-1][2].append(line[4:])
     return found
 
 
@@ -84,9 +84,10 @@ def compare(path, least):
     return count
 
 
-printed = [block for page in ("README.md",) for block in blocks(page)]
-assert "examples/diamond/request.json" in [request for request, _ in printed]
-for request, lines in printed:
-    assert model(request)[1].splitlines() == lines, request
+printed = [block for page in ("README.md", "docs/GUIDE.md") for block in blocks(page)]
+printed = [block for block in printed if not OF_DOCUMENTS.match(block[2][0])]
+assert ("examples/diamond/request.json", "") in [(request, pattern) for request, pattern, _ in printed]
+for request, pattern, lines in printed:
+    assert [line for line in model(request)[1].splitlines() if re.search(pattern, line)] == lines, request
 counts = [compare(f"crates/cases/data/{name}.cases", least) for name, least in (("plan", 20), ("clusters", 30))]
 print(f"plan-model: ok, {len(printed)} plans and {sum(counts)} cases")
