@@ -59,14 +59,15 @@ def parse(lines):
 
 
 def cases(path):
-    """The plain calls of `plan` that end with a plan or a fault of planning, with their documents."""
+    """The plain calls that end with a plan, a fault of planning or one of the graph, with their documents."""
     front, *parts = re.split(r"^case ", pathlib.Path(path).read_text(encoding="utf-8"), flags=re.MULTILINE)
     common, shared, _, _ = parse([line for line in front.splitlines() if line])
     for part in parts:
         name, *lines = part.rstrip("\n").splitlines()
         settings, documents, status, text = parse(lines)
         words = [line for line in settings if line.startswith("words ")] or common
-        is_plain = "words plan r.json" in words and not any(line.startswith(SETTINGS) for line in settings)
+        is_told = "words plan r.json" in words or re.match("refused (cycle|producers) ", text)
+        is_plain = is_told and not any(line.startswith(SETTINGS) for line in settings)
         if is_plain and status in ("0", "4", "5") and not OF_DOCUMENTS.match(text):
             yield name, {**shared, **documents}, int(status), text
 
@@ -89,5 +90,6 @@ printed = [block for block in printed if not OF_DOCUMENTS.match(block[2][0])]
 assert ("examples/diamond/request.json", "") in [(request, pattern) for request, pattern, _ in printed]
 for request, pattern, lines in printed:
     assert [line for line in model(request)[1].splitlines() if re.search(pattern, line)] == lines, request
-counts = [compare(f"crates/cases/data/{name}.cases", least) for name, least in (("plan", 20), ("clusters", 30))]
+least = {"plan": 20, "clusters": 30, "graph": 10}
+counts = [compare(f"crates/cases/data/{name}.cases", count) for name, count in least.items()]
 print(f"plan-model: ok, {len(printed)} plans and {sum(counts)} cases")
