@@ -1,6 +1,6 @@
 -- Plans mean the workflow: values are made of values, honest replicas hold them, and requested files are at hand.
 use Rattle.std.proofs.Common.{◌≡◌, ℕ, zero, suc, ◌<◌, ◌≤◌, Bool, true, false, cond, not, ◌||◌, ◌&&◌, List, [], ◌∷◌, length, map, refl, sym, ap, subst, ◌∙◌, nat_eq, nat_lt, ◌⊎◌, inl, inr, arith}
-use Rattle.std.specs.Prelude.{Option, Some, None, IfSome, Result, Ok, Err, Decides, find, option_and_then, slice_get, slice_index_or}
+use Rattle.std.specs.Prelude.{Option, Some, None, IfSome, Result, Ok, Err, find, option_and_then, slice_get, slice_index_or}
 use Rattle.std.specs.List.{AllByRecursion, list_any}
 use Rattle.std.specs.Str.{bytes_eq}
 use Rattle.std.proofs.lemmas.Option.{get_or_from_slice_get, slice_get_within}
@@ -106,34 +106,34 @@ replicas_joined d w c e =
     let is = bind_ok (held Replicas read_of from_tree_of _ d.replicas w.replicas) or_empty c e in
     or_joined is.0 c is.2 (λ x h. held_joined _ d.replicas w.replicas [] x (is.1 ∙ ap Ok h))
 
+replicas_or : CatalogEntry → Result SurveyEntry PlanFault → CatalogEntry
+replicas_or c (Ok said) = said.replicas
+replicas_or c (Err f) = c
+
 pub said_joined : (r : PlanRequest) (d : Documents) (said : SurveyEntry) → surveyed r d ≡ Ok said → IsJoined said.replicas
-unfolding surveyed
+unfolding surveyed replicas_or
 said_joined r d said e =
     let one = bind_ok (workflow_in d.workflow) _ said e in
     let two = bind_ok (sites_in d one.0) _ said one.2 in
     let three = bind_ok (replicas_in d one.0) _ said two.2 in
     let four = bind_ok (transformations_in d one.0) _ said three.2 in
     let five = bind_ok (all_listed two.0 r.execute) _ said four.2 in
-    let same : three.0 ≡ said.replicas = let h = five.2 in cc in
-    subst IsJoined same (replicas_joined d one.0 three.0 three.1)
+    subst IsJoined (ap (replicas_or three.0) five.2) (replicas_joined d one.0 three.0 three.1)
 
 same_bytes : (xs ys : List ℕ) → bytes_eq xs ys ≡ true → xs ≡ ys
-same_bytes xs ys h = by (bytes_eq xs ys) h (bytes_eq-Decides xs ys)
-  where
-    by : (b : Bool) → b ≡ true → Decides b (xs ≡ ys) → xs ≡ ys
-    by true h d = d
-    by false h d = absurd cc
+same_bytes xs ys h = (bytes_eq-Decides xs ys).0 h
 
 -- a registered name has a pfn in its joined entry
 has_pfns : (es : List Replica) (name : List ℕ) (ns : List (List ℕ)) → list_any (registers name) (map (joined_entry es) ns) ≡ true → nat_lt 0 (length (joined_entry es name).pfns) ≡ true
 has_pfns es name [] h = absurd cc
-has_pfns es name (n ∷ ns) h = by (either (registers name (joined_entry es n)) (list_any (registers name) (map (joined_entry es) ns)) h)
+has_pfns es name (n ∷ ns) h = by (λ k. has_pfns es name ns k) (either (registers name (joined_entry es n)) (list_any (registers name) (map (joined_entry es) ns)) h)
   where
-    by : (registers name (joined_entry es n) ≡ true) ⊎ (list_any (registers name) (map (joined_entry es) ns) ≡ true) → nat_lt 0 (length (joined_entry es name).pfns) ≡ true
-    by (inl e) =
+    by : (list_any (registers name) (map (joined_entry es) ns) ≡ true → nat_lt 0 (length (joined_entry es name).pfns) ≡ true)
+        → (registers name (joined_entry es n) ≡ true) ⊎ (list_any (registers name) (map (joined_entry es) ns) ≡ true) → nat_lt 0 (length (joined_entry es name).pfns) ≡ true
+    by rest (inl e) =
         let parts = both (bytes_eq name n) (nat_lt 0 (length (joined_entry es n).pfns)) e in
         ap (λ (m : List ℕ). nat_lt 0 (length (joined_entry es m).pfns)) (same_bytes name n parts.0) ∙ parts.1
-    by (inr e) = has_pfns es name ns e
+    by rest (inr e) = rest e
 
 not_empty : (xs : List Pfn) → nat_lt 0 (length xs) ≡ true → is_empty xs ≡ false
 not_empty [] h = absurd cc
@@ -141,11 +141,11 @@ not_empty (x ∷ xs) h = refl
 
 finds : (es : List Replica) (name : List ℕ) (ns : List (List ℕ)) → nat_lt 0 (length (joined_entry es name).pfns) ≡ true → list_any (registers name) (map (joined_entry es) ns) ≡ true → is_empty (pfns_in (find (is_of name) (map (joined_entry es) ns))) ≡ false
 finds es name [] some h = absurd cc
-finds es name (n ∷ ns) some h = by (bytes_eq name n) refl
+finds es name (n ∷ ns) some h = by (λ k. finds es name ns some k) (bytes_eq name n) refl
   where
-    by : (b : Bool) → bytes_eq name n ≡ b → is_empty (pfns_in (cond b (Some (joined_entry es n)) (find (is_of name) (map (joined_entry es) ns)))) ≡ false
-    by true e = ap (λ (m : List ℕ). is_empty (joined_entry es m).pfns) (sym (same_bytes name n e)) ∙ not_empty (joined_entry es name).pfns some
-    by false e = finds es name ns some (ap (λ (b : Bool). (b && nat_lt 0 (length (joined_entry es n).pfns)) || list_any (registers name) (map (joined_entry es) ns)) (sym e) ∙ h)
+    by : (list_any (registers name) (map (joined_entry es) ns) ≡ true → is_empty (pfns_in (find (is_of name) (map (joined_entry es) ns))) ≡ false) → (b : Bool) → bytes_eq name n ≡ b → is_empty (pfns_in (cond b (Some (joined_entry es n)) (find (is_of name) (map (joined_entry es) ns)))) ≡ false
+    by rest true e = ap (λ (m : List ℕ). is_empty (joined_entry es m).pfns) (sym (same_bytes name n e)) ∙ not_empty (joined_entry es name).pfns some
+    by rest false e = rest (ap (λ (b : Bool). (b && nat_lt 0 (length (joined_entry es n).pfns)) || list_any (registers name) (map (joined_entry es) ns)) (sym e) ∙ h)
 
 pub registered_found : (c : CatalogEntry) → IsJoined c → (name : List ℕ) → is_registered c.entries name ≡ true → is_empty (pfns_in (find (is_of name) c.entries)) ≡ false
 registered_found c is name h =
@@ -156,11 +156,11 @@ registered_found c is name h =
 
 asked_output : (f : ℕ) (os : List Output) → list_any (λ (o : Output). o.stage_out && nat_eq o.file.0 f) os ≡ true → has (map (λ (o : Output). o.file.0) os) f ≡ true
 asked_output f [] h = absurd cc
-asked_output f (o ∷ os) h = by (either (o.stage_out && nat_eq o.file.0 f) (list_any (λ (o : Output). o.stage_out && nat_eq o.file.0 f) os) h)
+asked_output f (o ∷ os) h = by (λ k. asked_output f os k) (either (o.stage_out && nat_eq o.file.0 f) (list_any (λ (o : Output). o.stage_out && nat_eq o.file.0 f) os) h)
   where
-    by : ((o.stage_out && nat_eq o.file.0 f) ≡ true) ⊎ (list_any (λ (o : Output). o.stage_out && nat_eq o.file.0 f) os ≡ true) → has (o.file.0 ∷ map (λ (o : Output). o.file.0) os) f ≡ true
-    by (inl e) = or_left (nat_eq o.file.0 f) (has (map (λ (o : Output). o.file.0) os) f) (both o.stage_out (nat_eq o.file.0 f) e).1
-    by (inr e) = or_right (nat_eq o.file.0 f) (has (map (λ (o : Output). o.file.0) os) f) (asked_output f os e)
+    by : (list_any (λ (o : Output). o.stage_out && nat_eq o.file.0 f) os ≡ true → has (map (λ (o : Output). o.file.0) os) f ≡ true) → ((o.stage_out && nat_eq o.file.0 f) ≡ true) ⊎ (list_any (λ (o : Output). o.stage_out && nat_eq o.file.0 f) os ≡ true) → has (o.file.0 ∷ map (λ (o : Output). o.file.0) os) f ≡ true
+    by rest (inl e) = or_left (nat_eq o.file.0 f) (has (map (λ (o : Output). o.file.0) os) f) (both o.stage_out (nat_eq o.file.0 f) e).1
+    by rest (inr e) = or_right (nat_eq o.file.0 f) (has (map (λ (o : Output). o.file.0) os) f) (rest e)
 
 -- the job that makes a requested file
 record Asked (w : Workflow) (f : ℕ) : Type 0 where
@@ -175,11 +175,11 @@ asked w f h =
 
 any_more : (test other : List JobId → Bool) (parts : List (List JobId)) → ((js : List JobId) → test js ≡ true → other js ≡ true) → list_any test parts ≡ true → list_any other parts ≡ true
 any_more test other [] more h = absurd cc
-any_more test other (js ∷ parts) more h = by (either (test js) (list_any test parts) h)
+any_more test other (js ∷ parts) more h = by (λ k. any_more test other parts more k) (either (test js) (list_any test parts) h)
   where
-    by : (test js ≡ true) ⊎ (list_any test parts ≡ true) → (other js || list_any other parts) ≡ true
-    by (inl e) = or_left (other js) (list_any other parts) (more js e)
-    by (inr e) = or_right (other js) (list_any other parts) (any_more test other parts more e)
+    by : (list_any test parts ≡ true → list_any other parts ≡ true) → (test js ≡ true) ⊎ (list_any test parts ≡ true) → (other js || list_any other parts) ≡ true
+    by rest (inl e) = or_left (other js) (list_any other parts) (more js e)
+    by rest (inr e) = or_right (other js) (list_any other parts) (rest e)
 
 slice_there : (xs : List (List ℕ)) (i : ℕ) → i < length xs → slice_get xs i ≡ Some (slice_index_or xs i [])
 slice_there [] i l = absurd (omega arith)
@@ -214,12 +214,8 @@ unmade_registered r s kept levels parts d same are leveled clustered f h unmade 
     kept_if : absent f ≡ true → IsKept absent s.workflow job.a
     kept_if e = record { steps = 0; last = job.a; way = refl; wanted = any_has (λ g. absent g && is_requested s.workflow g) f (written_by s.workflow job.a) job.makes_it (and_both (absent f) (is_requested s.workflow f) e h) }
 
-    decided : (b : Bool) → b ≡ false → Decides b (IsKept absent s.workflow job.a) → IsKept absent s.workflow job.a → ⊥
-    decided true e d k = cc
-    decided false e d k = d k
-
     not_kept : is_kept kept job.a ≡ false → absent f ≡ false
-    not_kept k = by_bool (absent f) (λ e. absurd (decided (is_kept kept job.a) k (leveled.are_kept.each job.a job.below) (kept_if e))) (λ e. e)
+    not_kept k = by_bool (absent f) (λ e. absurd (let x : false ≡ true = sym k ∙ (leveled.are_kept.each job.a job.below).1 (kept_if e) in cc)) (λ e. e)
 
 pub at_hand : (r : PlanRequest) (s : Survey) (c : CatalogEntry) → c.entries ≡ s.replicas.entries → IsJoined c → IsWellFormed s.workflow → (sites : List (Option SiteId)) (clusters : Clusters) (kept : List Bool) (levels : List ℕ) → AreLeveled r s kept levels
     → ((a : ℕ) → is_kept kept a ≡ true → list_any (λ (js : List JobId). is_among a (job_numbers js)) clusters.parts ≡ true) → AreAtHand (draft r s sites clusters)
