@@ -38,7 +38,7 @@ above_one kept levels (j ∷ js) a h = by_bool (nat_eq j.0 a)
     (λ e. let same : above kept levels j.0 ≡ above kept levels a = ap (above kept levels) (eqb-true j.0 a e) in grind arith)
     (λ e. let rest = above_one kept levels js a (ap (λ (b : Bool). b || is_among a (numbers js)) (sym e) ∙ h) in grind arith)
 
-parents_are : (ls : List (List JobId)) (b : ℕ) → numbers (jobs_at ls b) ≡ slice_index_or (map numbers ls) b []
+pub parents_are : (ls : List (List JobId)) (b : ℕ) → numbers (jobs_at ls b) ≡ slice_index_or (map numbers ls) b []
 parents_are [] b = refl
 parents_are (l ∷ ls) zero = refl
 parents_are (l ∷ ls) (suc b) = parents_are ls b
@@ -137,7 +137,7 @@ abbrev first_level : List ℕ → List JobId → ℕ
 first_level levels [] = 0
 first_level levels (j ∷ js) = level levels j.0
 
-some_of : (test : ℕ → Bool) (ns : List ℕ) → list_any test ns ≡ true → (n : ℕ) × (is_among n ns ≡ true) × (test n ≡ true)
+pub some_of : (test : ℕ → Bool) (ns : List ℕ) → list_any test ns ≡ true → (n : ℕ) × (is_among n ns ≡ true) × (test n ≡ true)
 some_of test [] h = absurd cc
 some_of test (x ∷ ns) h = or_case (test x) (list_any test ns) h
     (λ k. (x, or_left (nat_eq x x) (is_among x ns) (itself x), k))

@@ -14,17 +14,20 @@ use Rattle.transformation_catalog.specs.declared.catalog.TransformationCatalog.{
 use Rattle.transformation_catalog.specs.Key.{same_transformation, sameness}
 use Rattle.plan_request.specs.declared.request.ClusterMode.{ClusterMode}
 use Rattle.plan_request.specs.declared.request.ClusterMode.TheVariants as modes
+use Rattle.digraph.specs.Cycle.{Returns}
 use Rattle.dependency_graph.specs.Edges.{is_among}
 use Rattle.dependency_graph.specs.Graph.{IsGraphOf, Links}
 use Rattle.dependency_graph.specs.Levels.{AreLevels, level}
 use Rattle.dependency_graph.specs.Ranking.{AreOnce, IsRanked}
 use Rattle.clustering.specs.Basis.{Basis, basis, same_group, site_at, transformation_at}
 use Rattle.clustering.specs.Clusters.{ClustersAre}
-use Rattle.clustering.specs.Condition.{AreParts}
+use Rattle.clustering.specs.Condition.{AreParts, leads}
 use Rattle.clustering.specs.Gathering.{gathered, with_job, with_jobs}
+use Rattle.clustering.specs.Labels.{labels_of, same_label}
 use Rattle.clustering.specs.Runs.{run_of, runs_of, same_run}
 use Rattle.clustering.specs.Singles.{AreSingles, job_numbers, single, singles}
 use Rattle.clustering.proofs.ConditionLemmas.{Climbs, Kept, are_parts, before, level_acyclic, ranked_keeps, ranked_rises, rises_along}
+use Rattle.clustering.proofs.CyclesLemmas.{label_equal}
 use Rattle.clustering.proofs.GatheredLemmas.{gathered_parts}
 
 -- ---- runs
@@ -63,6 +66,13 @@ level_parts w kept levels goes js up equal ranked same =
 run_parts : (w : Workflow) (b : Basis) (kept : List Bool) (jobs : List JobId) → Climbs w kept b.levels → IsRanked kept b.levels (job_numbers jobs) → AreParts w kept (runs_of b jobs)
 unfolding runs_of
 run_parts w b kept jobs up ranked = level_parts w kept b.levels (same_run b jobs) jobs up (run_equal b jobs) ranked (run_level b jobs)
+
+-- ---- labels
+
+label_parts : (w : Workflow) (b : Basis) (kept : List Bool) (jobs : List JobId) → Climbs w kept b.levels → IsRanked kept b.levels (job_numbers jobs) → ((a : ℕ) → Returns (leads w (labels_of b jobs)) a → ⊥)
+    → AreParts w kept (labels_of b jobs)
+unfolding labels_of
+label_parts w b kept jobs up ranked acyclic = are_parts w kept b.levels (same_label b) jobs up (label_equal b) ranked acyclic
 
 -- ---- single jobs
 
@@ -125,4 +135,6 @@ pub clusters_parts : (mode : ClusterMode) (w : Workflow) (g : Links) (kept : Lis
     → IsGraphOf w g → AreLevels g kept levels → ClustersAre mode w (basis w levels sites t) kept (Ok c) → AreParts w kept c.parts
 clusters_parts modes.Horizontal w g kept levels sites t c graph leveled h =
     subst (AreParts w kept) (sym h.parts) (run_parts w (basis w levels sites t) kept h.jobs (rises_along w g kept levels graph leveled) h.ranked)
+clusters_parts modes.Label w g kept levels sites t c graph leveled h =
+    subst (AreParts w kept) (sym h.parts) (label_parts w (basis w levels sites t) kept h.jobs (rises_along w g kept levels graph leveled) h.ranked h.acyclic)
 clusters_parts mode w g kept levels sites t c graph leveled h = singles_are w kept levels c (rises_along w g kept levels graph leveled) h

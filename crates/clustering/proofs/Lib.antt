@@ -3,6 +3,8 @@ pub mod GatheringLemmas
 pub mod GatheredLemmas
 pub mod NumbersLemmas
 pub mod RunsLemmas
+pub mod LabelsLemmas
 pub mod ConditionLemmas
+pub mod CyclesLemmas
 pub mod LawLemmas
 pub mod InPartLemmas

@@ -5,4 +5,6 @@ pub mod Basis
 pub mod Gathering
 pub mod Runs
 pub mod Condition
+pub mod Labels
+pub mod Cycles
 pub mod Clusters

@@ -3,10 +3,11 @@
 ghost use Rattle.std.specs.Prelude.{◌≡◌, ◌<◌, IfOk, IfSome, option_map, slice_get};
 ghost use Rattle.dependency_graph.specs.Levels.{level};
 ghost use Rattle.clustering.specs.Basis.{bad_in, basis, group_numbers, group_of, numbers_in, site_at};
+ghost use Rattle.clustering.specs.Labels.{label_at, label_key};
 ghost use Rattle.clustering.specs.Numbers.{entry_of};
 
 use crate::numbers::{Numbers, bad_key, numbers_of};
-use outside::{JobId, Memory, SiteId};
+use outside::{JobId, Memory, SiteId, Text};
 use std::alloc::Global;
 use std::marker::Model;
 use transformation_catalog::{Entries, Key, TransformationCatalog, TransformationEntry};
@@ -71,7 +72,8 @@ impl<'a> Basis<'a> {
         }
     }
 
-    fn site(&self, job: JobId) -> Option<u32>
+    /// The number of a job's site.
+    pub fn site(&self, job: JobId) -> Option<u32>
         ensures { result ≡ site_at self.now job.0 }
     {
         match self.sites.get(job.0 as usize) {
@@ -89,6 +91,29 @@ impl<'a> Basis<'a> {
             None => None,
         };
         (self.level(job), self.site(job), transformation)
+    }
+
+    pub fn label(&self, job: JobId) -> Option<&'a Text>
+        ensures { option_map (λ t. t.now) result ≡ label_at self.now job.0 }
+    {
+        match self.jobs.get(job.0 as usize) {
+            Some(found) => found.label.as_ref(),
+            None => None,
+        }
+    }
+
+    /// A job's label, or its number where it has none.
+    pub fn label_key(
+        &self,
+        alloc: Global,
+        job: JobId,
+    ) -> Result<(Option<Text>, Option<u32>), Memory>
+        ensures { IfOk result (λ k. k ≡ label_key self.now job) }
+    {
+        match self.label(job) {
+            Some(label) => Ok((Some(label.copied(alloc)?), None)),
+            None => Ok((None, Some(job.0))),
+        }
     }
 
     fn numbers_at(&self, job: JobId) -> Numbers

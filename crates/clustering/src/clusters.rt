@@ -1,10 +1,12 @@
 //! The clusters of the kept jobs.
 
-ghost use Rattle.std.specs.Prelude.{◌≤◌, length};
+ghost use Rattle.std.specs.Prelude.{◌≡◌, ◌≤◌, length};
+ghost use Rattle.dependency_graph.specs.Graph.{IsGraphOf};
 ghost use Rattle.clustering.specs.Basis.{basis};
 ghost use Rattle.clustering.specs.Clusters.{ClustersAre};
 
 use crate::basis::Basis;
+use crate::by_label::clusters_by_label;
 use crate::fault::ClusterFault;
 use crate::horizontal::clusters_in_runs;
 use crate::singles::{ids, single_jobs};
@@ -19,7 +21,7 @@ use workflow_core::{Clusters, Workflow};
 pub fn cluster(
     alloc: Global,
     workflow: &Workflow,
-    _graph: &Graph,
+    graph: &Graph,
     kept: &[bool],
     levels: &[u32],
     sites: &[Option<SiteId>],
@@ -27,6 +29,8 @@ pub fn cluster(
     transformations: &TransformationCatalog,
 ) -> Result<Clusters, ClusterFault>
     requires few { length kept.now ≤ 10000 }
+    requires long { length kept.now ≡ length workflow.now.jobs }
+    requires graph { IsGraphOf workflow.now graph.now }
     ensures { ClustersAre mode workflow.now (basis workflow.now levels.now sites.now transformations.now) kept.now result }
 {
     let order = ranked(alloc, kept, levels)?;
@@ -34,6 +38,10 @@ pub fn cluster(
     if let ClusterMode::Horizontal = mode {
         let basis = Basis::new(alloc, workflow, levels, sites, transformations)?;
         return clusters_in_runs(alloc, workflow, &basis, kept, &jobs);
+    }
+    if let ClusterMode::Label = mode {
+        let basis = Basis::new(alloc, workflow, levels, sites, transformations)?;
+        return clusters_by_label(alloc, workflow, graph, &basis, kept, &jobs);
     }
     Ok(single_jobs(alloc, &jobs)?)
 }

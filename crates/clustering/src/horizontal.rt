@@ -14,7 +14,8 @@ use outside::{Items, JobId, Memory, Text};
 use std::alloc::Global;
 use workflow_core::{Clusters, Workflow};
 
-fn id_of(alloc: Global, workflow: &Workflow, job: JobId) -> Result<Text, Memory>
+/// The id of a job.
+pub fn id_of(alloc: Global, workflow: &Workflow, job: JobId) -> Result<Text, Memory>
     ensures { IfOk result (λ id. id ≡ id_of workflow.now job.0) }
 {
     match workflow.jobs.as_slice().get(job.0 as usize) {
@@ -42,7 +43,8 @@ fn check_numbers(
     Ok(())
 }
 
-fn clusters_of(alloc: Global, parts: Vec<Vec<JobId>>) -> Result<Clusters, Memory>
+/// Lists of jobs as clusters.
+pub fn clusters_of(alloc: Global, parts: Vec<Vec<JobId>>) -> Result<Clusters, Memory>
     ensures { IfOk result (λ c. c.parts ≡ job_lists parts.items) }
 {
     let mut clusters = Vec::new(alloc);

@@ -12,13 +12,13 @@ use Rattle.plan_request.specs.declared.request.ClusterMode.TheVariants as cluste
 use Rattle.plan_request.specs.declared.request.Cleanup.{Cleanup}
 use Rattle.plan_request.specs.declared.request.Cleanup.TheVariants as cleanups
 
--- clustering by label is not built yet
 abbrev pub cluster_named : List ℕ → Option (List ℕ) → Result ClusterMode TreeFault
 cluster_named path None = Ok clusters.None
 cluster_named path (Some s) =
     if bytes_eq s (codes "none") then Ok clusters.None
     else (if bytes_eq s (codes "horizontal") then Ok clusters.Horizontal
-    else Err (faults.Unsupported path s))
+    else (if bytes_eq s (codes "label") then Ok clusters.Label
+    else Err (faults.Unsupported path s)))
 
 -- the clustering at a key; none where it is absent
 abbrev pub cluster_at : List ℕ → Data → List ℕ → Result ClusterMode TreeFault

@@ -24,6 +24,7 @@ pub fn cluster(
         Some(named) => match named.as_str() {
             "none" => Ok(ClusterMode::None),
             "horizontal" => Ok(ClusterMode::Horizontal),
+            "label" => Ok(ClusterMode::Label),
             _ => Err(TreeFault::Unsupported(at_key(alloc, path, key)?, named)),
         },
         None => Ok(ClusterMode::None),

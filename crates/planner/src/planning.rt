@@ -114,6 +114,7 @@ fn clusters_of(
     sites: &[Option<SiteId>],
 ) -> Result<Clusters, PlanFault>
     requires few { length kept.now ≤ 10000 }
+    requires graph { IsGraphOf survey.now.workflow survey.now.graph }
     requires leveled { AreLeveled request.now survey.now kept.now levels.now }
     requires selected { IsSelected (selection_of request.now survey.now kept.now levels.now) sites.now }
     ensures clusters { IfOk result (λ c. AreClustered request.now survey.now kept.now levels.now sites.now (Ok c)) }

@@ -1,0 +1,7 @@
+use Rattle.std.proofs.Common.{◌≡◌, ◌++◌, drop, map}
+use Rattle.outside.specs.declared.numbers.JobId.{JobId}
+use Rattle.clustering.specs.Labels.{label_key}
+use Rattle.clustering.proofs.labels.labels_of.Given as goal
+
+abbrev pub invariant-loop-job : goal.invariant-loop-job
+invariant-loop-job l = l.keyed.items ++ map (λ (j : JobId). (j, label_key l.basis j)) (drop l.job-index l.jobs) ≡ map (λ (j : JobId). (j, label_key l.basis j)) l.jobs
