@@ -8,6 +8,8 @@ mod SourceLemmas
 mod MoveLemmas
 mod SweepLemmas
 mod BringLemmas
+mod HostFailLemmas
+mod LoadLemmas
 mod TraceLemmas
 mod GoneLemmas
 mod OthersLemmas

@@ -10,6 +10,7 @@ pub mod Places
 pub mod Law
 -- What the calls answer.
 pub mod Moving
+pub mod Loading
 pub mod Opening
 pub mod Leased
 pub mod Yard

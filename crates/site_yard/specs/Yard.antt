@@ -1,17 +1,24 @@
 -- What a call of a yard adds to its record.
-use Rattle.std.specs.Prelude.{◌≡◌, ℕ, ◌⊎◌, true, false, List, [], ◌∷◌, ◌++◌, Option}
+use Rattle.std.specs.Prelude.{◌≡◌, ℕ, ◌⊎◌, true, false, List, [], ◌∷◌, ◌++◌, map, Option, Some, None, IfSome, Vec}
+use Rattle.std.specs.declared.alloc.Global.{Global}
+use Rattle.std.specs.FinMap as files
+use Rattle.outside.specs.Tool.{Apply}
 use Rattle.outside.specs.declared.counts.Counts.{Counts}
 use Rattle.outside.specs.declared.store.Store.{Store}
 use Rattle.plan_core.specs.declared.plan.Plan.{Plan}
-use Rattle.plan_core.specs.Words.{is_clean}
+use Rattle.plan_core.specs.Carried.{stored}
+use Rattle.plan_core.specs.Words.{is_clean, reads}
 use Rattle.storage_simulation.specs.declared.standing.Phase.TheVariants.{Runs}
 use Rattle.run_record.specs.declared.entry.Cause.{Cause}
-use Rattle.run_record.specs.declared.entry.Cause.TheVariants.{ToolFailed}
+use Rattle.run_record.specs.declared.entry.Cause.TheVariants.{Declined, ToolFailed, Memory}
 use Rattle.run_record.specs.Events.{Event, Grant, Regrant, Arrive, Clean, Fail, Again}
 use Rattle.lease_book.specs.Choice.{HasNoChoice, IsChoice, IsFresh}
 use Rattle.lease_book.specs.Legal.{IsComplete}
 use Rattle.lease_book.specs.State.{State}
+use Rattle.site_yard.specs.Changes.{carries}
 use Rattle.site_yard.specs.Failures.{IsCounted}
+use Rattle.site_yard.specs.Names.{pair_file, pair_site}
+use Rattle.site_yard.specs.Truthful.{IsCause}
 use Rattle.site_yard.specs.declared.leased.Leased.{Leased}
 use Rattle.site_yard.specs.declared.leased.Leased.TheVariants as leased
 
@@ -51,3 +58,29 @@ Leases p s w r after told before now (leased.Again t) = IsChoice p s t.0 × (is_
 Leases p s w r after told before now leased.Done = IsComplete p s × (after ≡ r)
 Leases p s w r after told before now leased.Stopped = (s.failing ≡ true) × (after ≡ r)
 Leases p s w r after told before now leased.NotYet = (s.failing ≡ false) × HasNoChoice p s × ((t : ℕ) → IsFresh p s t → ⊥) × ((u : ℕ) × (s.phase u ≡ Runs)) × (after ≡ r)
+
+-- what the writer of a pair carries for its file
+abbrev pub content : Plan → (ℕ → ℕ → Option (List ℕ)) → ℕ → Option (List ℕ)
+content p c q = stored p c (pair_site p q) (pair_file p q)
+
+-- a failure of the task by the worker, before anything was published
+abbrev pub IsFailure : ℕ → ℕ → Event → Type 0
+IsFailure w t (Fail v u c ns) = (v ≡ w) × (u ≡ t) × IsNoTool c × (ns ≡ [])
+IsFailure w t (Again v u c ns) = (v ≡ w) × (u ≡ t) × IsNoTool c × (ns ≡ [])
+IsFailure w t _ = ⊥
+
+-- what a load answers: where it is told, what the writers of the task's reads carry, and no entry; or a failure
+abbrev pub Loads : Apply → Plan → Store → ℕ → ℕ → List Event → List Event → Option Store → Counts → Counts → Option (Vec (List ℕ) Global) → Type 0
+Loads apply p marked w t r after told before now (Some blobs) = (after ≡ r) × IfSome told (λ s. map (content p (carries apply p marked)) (reads p t) ≡ map Some blobs.items)
+Loads apply p marked w t r after told before now None = Adds r after (IsFailure w t) told before now
+
+-- a cause that a worker tells
+abbrev pub IsWorkers : Cause → Type 0
+IsWorkers (Declined j) = Unit {0}
+IsWorkers (ToolFailed j) = Unit {0}
+IsWorkers Memory = Unit {0}
+IsWorkers _ = ⊥
+
+-- where it is told, the cause is so
+abbrev pub IsTold : Apply → Plan → Store → Option Store → ℕ → Cause → Type 0
+IsTold apply p marked told t cause = IfSome told (λ s. IsCause apply (λ pfn. files.get marked.replicas pfn) p (carries apply p marked) t cause)

@@ -11,6 +11,7 @@
 
 mod law;
 mod leased;
+mod loading;
 mod moving;
 mod names;
 mod opening;

@@ -26,7 +26,7 @@ fn replica_cause(fault: HostFault) -> Cause
     }
 }
 
-fn scratch_cause(fault: HostFault) -> Cause
+pub(crate) fn scratch_cause(fault: HostFault) -> Cause
     ensures { result ≡ scratch_cause fault }
 {
     match fault {

@@ -1,24 +1,26 @@
 //! A book tied to a host.
 
-ghost use Rattle.std.specs.Prelude.{◌≡◌, ◌≤◌, ◌<◌, [], IfErr, IfOk, IfSome, Some, is_some, true};
+ghost use Rattle.std.specs.Prelude.{◌≡◌, ◌≤◌, ◌<◌, ◌++◌, ◌∷◌, [], IfErr, IfOk, IfSome, Some, is_some, true};
 ghost use Rattle.outside.specs.Counts.{IsLater};
 ghost use Rattle.plan_core.specs.Proper.{IsProper};
 ghost use Rattle.plan_core.specs.declared.plan.TaskKind.TheVariants.{Clean};
-ghost use Rattle.plan_core.specs.Words.{is_transfer, kind, retries, task_numbers};
+ghost use Rattle.plan_core.specs.Words.{is_transfer, kind, reads, retries, task_numbers};
 ghost use Rattle.storage_simulation.specs.Goods.{IsWithinLimits};
-ghost use Rattle.lease_book.specs.Book.{state_at};
+ghost use Rattle.lease_book.specs.Book.{failure, state_at};
 ghost use Rattle.lease_book.specs.Choice.{IsChoice};
-ghost use Rattle.lease_book.specs.Legal.{IsOpen, Legal};
+ghost use Rattle.lease_book.specs.Legal.{CauseFits, IsOpen, Legal};
 ghost use Rattle.site_yard.specs.Kept.{IsKept};
 
 use crate::law::{plan_laws, record_laws};
 use crate::leased::{Leased, failed};
+use crate::loading::load_inputs;
 use crate::moving::{move_task, sweep_pair};
 use crate::names::swept_pair;
 use crate::opening::{OpenFault, OpenRefused, look};
 use lease_book::{Book, Next};
-use outside::{Host, PairId, TaskId, Tool};
+use outside::{Blob, Host, PairId, TaskId, Tool};
 use plan_core::Plan;
+use run_record::Cause;
 use std::alloc::Global;
 use std::marker::PhantomData;
 use storage_simulation::Ordered;
@@ -40,8 +42,9 @@ pub struct Yard<H: Host, T: Tool> {
 impl<H: Host, T: Tool> Yard<H, T> {
     ghost use Rattle.site_yard.specs.Failures.{AreCounted};
     ghost use Rattle.site_yard.specs.Law.{Agrees};
+    ghost use Rattle.site_yard.specs.Loading.{ReadPairs};
     ghost use Rattle.site_yard.specs.Opening.{AreUnused, Refuses};
-    ghost use Rattle.site_yard.specs.Yard.{Adds, IsArrival, Leases};
+    ghost use Rattle.site_yard.specs.Yard.{Adds, IsArrival, IsWorkers, IsTold, Leases, Loads};
 
     /// Takes over a host whose sites are free. It marks the host first, and asks each site that has a pair once.
     pub fn open(alloc: Global, ordered: Ordered, host: H) -> Result<Yard<H, T>, OpenRefused<H>>
@@ -160,6 +163,58 @@ impl<H: Host, T: Tool> Yard<H, T> {
             Ok(size) => self.book.arrive(worker, task, size),
             Err(cause) => self.book.fail(worker, task, &cause, &[]),
         }
+    }
+
+    /// Reads what a task reads, in order, and adds nothing.
+    fn read_inputs(&mut self, alloc: Global, task: TaskId) -> Result<Vec<Blob>, Cause>
+        ensures answer { ReadPairs self.old.ordered.plan (reads self.old.ordered.plan task.0) (H.told self.old.host) (H.counts self.old.host) (H.counts self.new.host) result }
+        ensures told { H.told self.new.host ≡ H.told self.old.host }
+        ensures ordered { self.new.ordered ≡ self.old.ordered }
+        ensures book { self.new.book ≡ self.old.book }
+        ensures later { IsLater (H.counts self.old.host) (H.counts self.new.host) }
+        ensures marked { H.marked self.new.host ≡ H.marked self.old.host }
+        ensures faults { self.new.faults ≡ self.old.faults }
+        ensures misses { self.new.misses ≡ self.old.misses }
+    {
+        let ordered = &self.ordered;
+        load_inputs(ordered.plan(), &mut self.host, alloc, task)
+    }
+
+    /// Reads what a task reads, in order, or adds a failure.
+    pub fn load(&mut self, alloc: Global, worker: u32, task: TaskId) -> Option<Vec<Blob>>
+        requires open { IsOpen (state_at self.old.book) worker task.0 }
+        ensures loaded { Loads T.apply self.old.ordered.plan (H.marked self.old.host) worker task.0 self.old.book.history.events self.new.book.history.events (H.told self.old.host) (H.counts self.old.host) (H.counts self.new.host) result }
+        ensures told { H.told self.new.host ≡ H.told self.old.host }
+        ensures ordered { self.new.ordered ≡ self.old.ordered }
+        ensures later { IsLater (H.counts self.old.host) (H.counts self.new.host) }
+        ensures marked { H.marked self.new.host ≡ H.marked self.old.host }
+        ensures faults { self.new.faults ≡ self.old.faults }
+        ensures misses { self.new.misses ≡ self.old.misses }
+    {
+        plan_laws();
+        record_laws();
+        match self.read_inputs(alloc, task) {
+            Ok(blobs) => Some(blobs),
+            Err(cause) => {
+                self.book.fail(worker, task, &cause, &[]);
+                None
+            }
+        }
+    }
+
+    /// Adds the failure of a Run whose tool declined or failed, or that memory was wanted for. It takes no memory.
+    pub fn fault(&mut self, worker: u32, task: TaskId, cause: &Cause)
+        requires open { IsOpen (state_at self.old.book) worker task.0 }
+        requires kind { IsWorkers cause.now }
+        requires fits { CauseFits self.old.ordered.plan task.0 cause.now [] }
+        requires told { IsTold T.apply self.old.ordered.plan (H.marked self.old.host) (H.told self.old.host) task.0 cause.now }
+        ensures entry { self.new.book.history.events ≡ self.old.book.history.events ++ failure self.old.ordered.plan (state_at self.old.book) worker task.0 cause.now [] ∷ [] }
+        ensures host { self.new.host ≡ self.old.host }
+        ensures ordered { self.new.ordered ≡ self.old.ordered }
+        ensures faults { self.new.faults ≡ self.old.faults }
+        ensures misses { self.new.misses ≡ self.old.misses }
+    {
+        self.book.fail(worker, task, cause, &[]);
     }
 
     /// The record is Legal, a host that tells shows it, and the host's counts show its failures.
