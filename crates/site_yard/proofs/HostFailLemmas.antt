@@ -60,7 +60,7 @@ hosts_keeps apply p r o n m f0 m0 before now_ b w t cause ns kept changed sizes 
     by true = changed
     by false = changed
 
-still : (c : Counts) → IsLater c c
+pub still : (c : Counts) → IsLater c c
 still c = record { done = omega arith; faults = omega arith; misses = omega arith }
 
 -- a cause that a worker tells: the host's counts stay

@@ -16,3 +16,4 @@ mod OthersLemmas
 mod DeliveredLemmas
 mod AgreesLemmas
 mod StepLemmas
+mod StoreLemmas

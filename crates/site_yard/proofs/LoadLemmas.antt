@@ -47,7 +47,7 @@ some_unfit : (p : Plan) (qs : List ℕ) (q : ℕ) (o : Option Store) → has qs 
 some_unfit p qs q None h f = tt
 some_unfit p qs q (Some s) h f = (q, h, f)
 
-rose_from : (a b c : ℕ) → a ≤ b → Rose b c → Rose a c
+pub rose_from : (a b c : ℕ) → a ≤ b → Rose b c → Rose a c
 rose_from a b c h r = omega (arith, h, r)
 
 stops_at : (p : Plan) (qs : List ℕ) (q : ℕ) (o : Option Store) (first before now_ : Counts) (cause : Cause) → has qs q ≡ true → IsLater first before → ReadPair p q o before now_ (Err cause) → ReadPairs p qs o first now_ (Err cause)

@@ -11,6 +11,7 @@ pub mod Law
 -- What the calls answer.
 pub mod Moving
 pub mod Loading
+pub mod Storing
 pub mod Opening
 pub mod Leased
 pub mod Yard

@@ -45,7 +45,7 @@ fn pair_site(plan: &Plan, pair: PairId) -> SiteId
 }
 
 #[tactic(auto, unfolding(crate::specs::Names::pair_file))]
-fn pair_file(plan: &Plan, pair: PairId) -> FileId
+pub(crate) fn pair_file(plan: &Plan, pair: PairId) -> FileId
     ensures { result.0 ≡ pair_file plan.now pair.0 }
 {
     match plan.pair(pair) {
