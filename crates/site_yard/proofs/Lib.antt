@@ -17,3 +17,4 @@ mod DeliveredLemmas
 mod AgreesLemmas
 mod StepLemmas
 mod StoreLemmas
+mod EndingLemmas

@@ -13,5 +13,6 @@ pub mod Moving
 pub mod Loading
 pub mod Storing
 pub mod Opening
+pub mod Ending
 pub mod Leased
 pub mod Yard

@@ -9,6 +9,7 @@
 //! `specs/Moving.antt`, `Loading.antt` and `Storing.antt`, in the host's words alone.
 #![tactic(auto)]
 
+mod ending;
 mod law;
 mod leased;
 mod loading;
@@ -18,6 +19,7 @@ mod opening;
 mod storing;
 mod yard;
 
+pub use ending::RunFault;
 pub use law::kept_stores_show_records;
 pub use leased::Leased;
 pub use opening::{OpenFault, OpenRefused};

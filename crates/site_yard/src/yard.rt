@@ -1,6 +1,6 @@
 //! A book tied to a host.
 
-ghost use Rattle.std.specs.Prelude.{◌≡◌, ◌≤◌, ◌<◌, ◌++◌, ◌∷◌, [], IfErr, IfOk, IfSome, Some, is_some, length, true, vec_capacity};
+ghost use Rattle.std.specs.Prelude.{◌≡◌, ◌≤◌, ◌<◌, ◌++◌, ◌∷◌, ◌⊎◌, [], IfErr, IfOk, IfSome, Some, is_some, length, true, vec_capacity};
 ghost use Rattle.outside.specs.Counts.{IsLater};
 ghost use Rattle.plan_core.specs.Proper.{IsProper};
 ghost use Rattle.plan_core.specs.declared.plan.TaskKind.TheVariants.{Clean};
@@ -8,9 +8,10 @@ ghost use Rattle.plan_core.specs.Words.{is_run, is_transfer, kind, reads, retrie
 ghost use Rattle.storage_simulation.specs.Goods.{IsWithinLimits};
 ghost use Rattle.lease_book.specs.Book.{failure, state_at};
 ghost use Rattle.lease_book.specs.Choice.{IsChoice};
-ghost use Rattle.lease_book.specs.Legal.{CauseFits, IsOpen, Legal};
+ghost use Rattle.lease_book.specs.Legal.{CauseFits, IsComplete, IsOpen, Legal};
 ghost use Rattle.site_yard.specs.Kept.{IsKept};
 
+use crate::ending::{RunFault, first_failed, run_fault};
 use crate::law::{plan_laws, record_laws};
 use crate::leased::{Leased, failed};
 use crate::loading::load_inputs;
@@ -41,6 +42,7 @@ pub struct Yard<H: Host, T: Tool> {
 }
 
 impl<H: Host, T: Tool> Yard<H, T> {
+    ghost use Rattle.site_yard.specs.Ending.{Ends};
     ghost use Rattle.site_yard.specs.Failures.{AreCounted};
     ghost use Rattle.site_yard.specs.Law.{Agrees};
     ghost use Rattle.site_yard.specs.Loading.{ReadPairs};
@@ -300,6 +302,24 @@ impl<H: Host, T: Tool> Yard<H, T> {
         plan_laws();
         record_laws();
         let _record = self.book.record();
+    }
+
+    /// Why the run failed, by its first Fail.
+    pub fn ending(&self, alloc: Global) -> Result<(), RunFault>
+        requires over { IsComplete self.now.ordered.plan (state_at self.now.book) ⊎ ((state_at self.now.book).failing ≡ true) }
+        ensures ends { Ends self.now.ordered.plan self.now.book.history.events result }
+        ensures done { IfOk result (λ u. IsComplete self.now.ordered.plan (state_at self.now.book)) }
+    {
+        plan_laws();
+        record_laws();
+        let ordered = &self.ordered;
+        match first_failed(self.book.record()) {
+            None => Ok(()),
+            Some(failed) => match run_fault(ordered.plan(), alloc, failed.task, &failed.cause) {
+                Ok(fault) => Err(fault),
+                Err(_) => Err(RunFault::Memory),
+            },
+        }
     }
 
     /// The plan of the record.
