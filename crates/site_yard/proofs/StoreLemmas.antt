@@ -233,7 +233,7 @@ module _ (p : Plan) (laws : HasPlanLaws p) (t : ℕ) (outs : List (List ℕ)) (r
   fail_sizes ns is = (
     λ h. absurd (let x : true ≡ false = sym run ∙ h in cc),
     subst (λ l. AreOfFirst p l ns) (sym (run_makes p t run))
-    (subst (AreOfFirst p (writes p t)) (sym is) (sizes_first p (length ns) (writes p t) outs many (written_all p laws t) all)),
+        (subst (AreOfFirst p (writes p t)) (sym is) (sizes_first p (length ns) (writes p t) outs many (written_all p laws t) all)),
   )
 
 module _ (apply : Apply) (p : Plan) (m : Store) (o : Option Store) (t : ℕ) (outs : List (List ℕ)) (told : AreOutputs apply p m o t outs) where
@@ -350,12 +350,12 @@ past_among p c t x n (q ∷ qs) [] is h = absurd h
 past_among p c t x n (q ∷ qs) (b ∷ bs) is h =
     let head : c t (pair_file p q) ≡ Some b = ap (head_of None) is in
     let step : (z : Bool) → nat_lt (pair_limit p q) (length b) ≡ z → oversize_among p (c t) (q ∷ qs) ≡ cond z (Some (pair_file p q)) (oversize_among p (c t) qs) = λ z e.
-        ap (λ o. cond (is_over (pair_limit p q) o) (Some (pair_file p q)) (oversize_among p (c t) qs)) head ∙ ap (λ y. cond y (Some (pair_file p q)) (oversize_among p (c t) qs)) e in
+    ap (λ o. cond (is_over (pair_limit p q) o) (Some (pair_file p q)) (oversize_among p (c t) qs)) head ∙ ap (λ y. cond y (Some (pair_file p q)) (oversize_among p (c t) qs)) e in
     elim h [
       | inl here ↦ (
-          step true (less_is (pair_limit p q) (length b) here.0) ∙ ap (λ y. Some (pair_file p y)) here.1,
-          ap (λ y. option_map length (c t (pair_file p y))) (sym here.1) ∙ ap (option_map length) head ∙ ap Some here.2,
-        )
+        step true (less_is (pair_limit p q) (length b) here.0) ∙ ap (λ y. Some (pair_file p y)) here.1,
+        ap (λ y. option_map length (c t (pair_file p y))) (sym here.1) ∙ ap (option_map length) head ∙ ap Some here.2,
+      )
       | inr later ↦
           let rest = past_among p c t x n qs bs (ap tail_of is) later.1 in
           (step false (not_less (pair_limit p q) (length b) later.0) ∙ rest.0, rest.1)

@@ -72,10 +72,12 @@ fn source_pfn(plan: &Plan, task: TaskId) -> &str
     ensures { result.now ≡ source_pfn (kind plan.now task.0) }
 {
     match plan.kind(task) {
-        Some(TaskKind::Transfer {
-            from: Source::Pfn(pfn),
-            ..
-        }) => pfn.as_str(),
+        Some(
+            TaskKind::Transfer {
+                from: Source::Pfn(pfn),
+                ..
+            },
+        ) => pfn.as_str(),
         _ => "",
     }
 }
@@ -129,7 +131,12 @@ fn oversize(
 }
 
 /// The fault of a failed task.
-pub(crate) fn run_fault(plan: &Plan, alloc: Global, task: TaskId, cause: &Cause) -> Result<RunFault, Memory>
+pub(crate) fn run_fault(
+    plan: &Plan,
+    alloc: Global,
+    task: TaskId,
+    cause: &Cause,
+) -> Result<RunFault, Memory>
     ensures { IfOk result (λ f. f ≡ fault_of plan.now task cause.now) }
 {
     match cause {

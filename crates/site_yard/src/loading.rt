@@ -12,12 +12,7 @@ use plan_core::Plan;
 use run_record::Cause;
 use std::alloc::Global;
 
-fn read_pair<H: Host>(
-    plan: &Plan,
-    host: &mut H,
-    alloc: Global,
-    pair: PairId,
-) -> Result<Blob, Cause>
+fn read_pair<H: Host>(plan: &Plan, host: &mut H, alloc: Global, pair: PairId) -> Result<Blob, Cause>
     ensures answer { ReadPair plan.now pair.0 (H.told host.old) (H.counts host.old) (H.counts host.new) result }
     ensures told { H.told host.new ≡ H.told host.old }
     ensures marked { H.marked host.new ≡ H.marked host.old }

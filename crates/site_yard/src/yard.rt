@@ -207,7 +207,14 @@ impl<H: Host, T: Tool> Yard<H, T> {
     }
 
     /// Publishes outputs that are within their declared sizes, and adds an End or a failure. The sizes have room.
-    fn publish(&mut self, alloc: Global, worker: u32, task: TaskId, outputs: &[Blob], sizes: Vec<u64>)
+    fn publish(
+        &mut self,
+        alloc: Global,
+        worker: u32,
+        task: TaskId,
+        outputs: &[Blob],
+        sizes: Vec<u64>,
+    )
         requires open { IsOpen (state_at self.old.book) worker task.0 }
         requires kind { is_run self.old.book.plan task.0 ≡ true }
         requires many { length outputs.now ≡ length (writes self.old.book.plan task.0) }
@@ -227,7 +234,14 @@ impl<H: Host, T: Tool> Yard<H, T> {
         record_laws();
         let mut sizes = sizes;
         let ordered = &self.ordered;
-        match store(ordered.plan(), &mut self.host, alloc, task, outputs, &mut sizes) {
+        match store(
+            ordered.plan(),
+            &mut self.host,
+            alloc,
+            task,
+            outputs,
+            &mut sizes,
+        ) {
             Ok(()) => self.book.end(worker, task, &sizes),
             Err(cause) => self.book.fail(worker, task, &cause, &sizes),
         }

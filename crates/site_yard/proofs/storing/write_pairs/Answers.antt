@@ -9,8 +9,7 @@ loop-k-preserved g c =
     let i = c.loop-k.invariant in
     let less : k < length c.args.outputs.now = omega (arith, c.loop-k-test.true, c.requires.many) in
     let at = c.index-outputs-k.is in
-    let is = c.as_slice-bytes.ensures in
-    (
+    let is = c.as_slice-bytes.ensures in (
       wrote_here c.args.plan.now c.args.pairs.now c.args.outputs.now k _ _ _ _ _ _ c.loop-k-test.true less at is i.0 c.in-Ok.ensures.answer,
       c.in-Ok.ensures.marked ∙ i.1,
       later_both (g.H.Host.counts c.args.host.now) (g.H.Host.counts c.loop-k.host) (g.H.Host.counts c.write_pair.new.host) i.2 c.in-Ok.ensures.later,

@@ -23,4 +23,3 @@ pub returns-in-Err-clause-entry : goal.returns-in-Err-clause-entry
 returns-in-Err-clause-entry g c =
     let y = c.args.self.now in
     stop_adds y.book (g.H.Host.told y.host) (g.H.Host.told y.host) (g.H.Host.counts y.host) (g.H.Host.counts y.host) c.args.worker c.args.task.0 c.args.outputs.now [] Memory _ c.requires.within (still (g.H.Host.counts y.host)) (wrote_none y.book.plan (writes y.book.plan c.args.task.0) c.args.outputs.now (g.H.Host.told y.host) (g.H.Host.counts y.host) (g.H.Host.counts y.host)) c.fail.ensures.history
-
