@@ -8,9 +8,13 @@ mod SourceLemmas
 mod MoveLemmas
 mod SweepLemmas
 mod BringLemmas
+mod HostFailLemmas
+mod LoadLemmas
 mod TraceLemmas
 mod GoneLemmas
 mod OthersLemmas
 mod DeliveredLemmas
 mod AgreesLemmas
 mod StepLemmas
+mod StoreLemmas
+mod EndingLemmas

@@ -100,7 +100,7 @@ pub host_counted : (o : Option Store) (before now : Counts) (w t : ℕ) (ns : Li
 host_counted o before now w t ns later (inl rose) = rose_fault o before now (Fail w t HostFailed ns) refl refl later rose
 host_counted o before now w t ns later (inr missed) = rose_missing o before now (Fail w t HostFailed ns) missed.1 refl refl later missed.0
 
-unfit : (limit : ℕ) (o : Option (List ℕ)) (n : ℕ) → option_map length o ≡ Some n → n ≤ limit → IsUnfit limit o → ⊥
+pub unfit : (limit : ℕ) (o : Option (List ℕ)) (n : ℕ) → option_map length o ≡ Some n → n ≤ limit → IsUnfit limit o → ⊥
 unfit limit None n e small bad = absurd cc
 unfit limit (Some x) n e small bad = let same = got_some (length x) n e in absurd (omega (arith, bad, small, same))
 
@@ -108,7 +108,7 @@ unfit limit (Some x) n e small bad = let same = got_some (length x) n e in absur
 abbrev pub NeverUnfit : Plan → ℕ → Source → Option Store → Type 0
 NeverUnfit p f from o = (s : Store) → o ≡ Some s → is_pfn from ≡ false → IsUnfit (or_zero (declared p f)) (at_source s p f from) → ⊥
 
-no_prop : (x y : ⊥) → x ≡ y
+pub no_prop : (x y : ⊥) → x ≡ y
 no_prop x y = absurd x
 
 -- what the counts show of a failed Transfer

@@ -10,6 +10,9 @@ pub mod Places
 pub mod Law
 -- What the calls answer.
 pub mod Moving
+pub mod Loading
+pub mod Storing
 pub mod Opening
+pub mod Ending
 pub mod Leased
 pub mod Yard

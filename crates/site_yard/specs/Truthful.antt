@@ -1,14 +1,14 @@
 -- Truthful records: what the entries say of sizes and causes is so, over the told replicas and what tasks carry.
 use Rattle.std.specs.Prelude.{◌≡◌, ℕ, ◌≤◌, Bool, true, false, cond, nat_lt, List, [], ◌∷◌, map, length, take, Option, Some, None, option_map, option_and_then}
 use Rattle.sha2.specs.Sha256.{sha256}
-use Rattle.outside.specs.Tool.{Apply}
+use Rattle.outside.specs.Tool.{Apply, all_of}
 use Rattle.outside.specs.declared.numbers.JobId.{JobId}
 use Rattle.plan_core.specs.declared.plan.Plan.{Plan}
 use Rattle.plan_core.specs.declared.plan.PlanJob.{PlanJob}
 use Rattle.plan_core.specs.declared.plan.TaskKind.{TaskKind}
 use Rattle.plan_core.specs.declared.plan.TaskKind.TheVariants.{Transfer, Run}
 use Rattle.plan_core.specs.declared.plan.Source.TheVariants.{Pfn}
-use Rattle.plan_core.specs.Carried.{after_job, all_of, read}
+use Rattle.plan_core.specs.Carried.{after_job, read}
 use Rattle.plan_core.specs.Numbers.{has}
 use Rattle.plan_core.specs.Words.{declared, inputs, kind, made, outputs, writes}
 use Rattle.storage_simulation.specs.Goods.{or_zero}

@@ -6,16 +6,20 @@
 //! each file, of the trace and of the replicas is [`Yard::agrees`], by `specs/Law.antt`. How often the host's counts rose
 //! at least is in `specs/Failures.antt`. The plan and the book are those of `plan_core` and `lease_book`; what a task
 //! carries is plan_core's. What a call adds to the record is in `specs/Yard.antt`, what moves bytes in
-//! `specs/Moving.antt`, in the host's words alone.
+//! `specs/Moving.antt`, `Loading.antt` and `Storing.antt`, in the host's words alone.
 #![tactic(auto)]
 
+mod ending;
 mod law;
 mod leased;
+mod loading;
 mod moving;
 mod names;
 mod opening;
+mod storing;
 mod yard;
 
+pub use ending::RunFault;
 pub use law::kept_stores_show_records;
 pub use leased::Leased;
 pub use opening::{OpenFault, OpenRefused};

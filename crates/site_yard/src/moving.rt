@@ -26,7 +26,7 @@ fn replica_cause(fault: HostFault) -> Cause
     }
 }
 
-fn scratch_cause(fault: HostFault) -> Cause
+pub(crate) fn scratch_cause(fault: HostFault) -> Cause
     ensures { result ≡ scratch_cause fault }
 {
     match fault {
@@ -37,7 +37,7 @@ fn scratch_cause(fault: HostFault) -> Cause
 
 /// The checksum that is registered for a file.
 #[tactic(auto, unfolding(lease_book::specs::Legal::checksum))]
-fn checksum(plan: &Plan, file: FileId) -> Option<[u8; 32]>
+pub(crate) fn checksum(plan: &Plan, file: FileId) -> Option<[u8; 32]>
     ensures { result ≡ checksum plan.now file.0 }
 {
     match plan.files.as_slice().get(file.0 as usize) {

@@ -6,6 +6,7 @@ ghost use Rattle.plan_core.specs.declared.plan.Pair.{Pair};
 ghost use Rattle.plan_core.specs.declared.plan.TaskKind.TheVariants.{Clean};
 ghost use Rattle.plan_core.specs.Words.{declared, is_clean, kind};
 ghost use Rattle.storage_simulation.specs.Goods.{or_zero};
+ghost use Rattle.site_yard.specs.Loading.{pair_limit};
 ghost use Rattle.site_yard.specs.Names.{file_name, is_used, pair_file, pair_file_name, pair_site, pair_site_name, site_name};
 
 use outside::{FileId, PairId, SiteId, TaskId};
@@ -44,7 +45,7 @@ fn pair_site(plan: &Plan, pair: PairId) -> SiteId
 }
 
 #[tactic(auto, unfolding(crate::specs::Names::pair_file))]
-fn pair_file(plan: &Plan, pair: PairId) -> FileId
+pub(crate) fn pair_file(plan: &Plan, pair: PairId) -> FileId
     ensures { result.0 ≡ pair_file plan.now pair.0 }
 {
     match plan.pair(pair) {
@@ -75,6 +76,13 @@ pub(crate) fn declared_size(plan: &Plan, file: FileId) -> u64
         Some(size) => size,
         None => 0,
     }
+}
+
+/// The declared size of a pair's file in bytes, 0 where there is none.
+pub(crate) fn pair_limit(plan: &Plan, pair: PairId) -> u64
+    ensures { result ≡ pair_limit plan.now pair.0 }
+{
+    declared_size(plan, pair_file(plan, pair))
 }
 
 /// Whether a site has a pair.

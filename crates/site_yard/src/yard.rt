@@ -1,24 +1,28 @@
 //! A book tied to a host.
 
-ghost use Rattle.std.specs.Prelude.{◌≡◌, ◌≤◌, ◌<◌, [], IfErr, IfOk, IfSome, Some, is_some, true};
+ghost use Rattle.std.specs.Prelude.{◌≡◌, ◌≤◌, ◌<◌, ◌++◌, ◌∷◌, ◌⊎◌, [], IfErr, IfOk, IfSome, Some, is_some, length, true, vec_capacity};
 ghost use Rattle.outside.specs.Counts.{IsLater};
 ghost use Rattle.plan_core.specs.Proper.{IsProper};
 ghost use Rattle.plan_core.specs.declared.plan.TaskKind.TheVariants.{Clean};
-ghost use Rattle.plan_core.specs.Words.{is_transfer, kind, retries, task_numbers};
+ghost use Rattle.plan_core.specs.Words.{is_run, is_transfer, kind, reads, retries, task_numbers, writes};
 ghost use Rattle.storage_simulation.specs.Goods.{IsWithinLimits};
-ghost use Rattle.lease_book.specs.Book.{state_at};
+ghost use Rattle.lease_book.specs.Book.{failure, state_at};
 ghost use Rattle.lease_book.specs.Choice.{IsChoice};
-ghost use Rattle.lease_book.specs.Legal.{IsOpen, Legal};
+ghost use Rattle.lease_book.specs.Legal.{CauseFits, IsComplete, IsOpen, Legal};
 ghost use Rattle.site_yard.specs.Kept.{IsKept};
 
+use crate::ending::{RunFault, first_failed, run_fault};
 use crate::law::{plan_laws, record_laws};
 use crate::leased::{Leased, failed};
+use crate::loading::load_inputs;
 use crate::moving::{move_task, sweep_pair};
 use crate::names::swept_pair;
 use crate::opening::{OpenFault, OpenRefused, look};
+use crate::storing::{find_overlong, store};
 use lease_book::{Book, Next};
-use outside::{Host, PairId, TaskId, Tool};
+use outside::{Blob, Host, PairId, TaskId, Tool};
 use plan_core::Plan;
+use run_record::Cause;
 use std::alloc::Global;
 use std::marker::PhantomData;
 use storage_simulation::Ordered;
@@ -38,10 +42,13 @@ pub struct Yard<H: Host, T: Tool> {
 }
 
 impl<H: Host, T: Tool> Yard<H, T> {
+    ghost use Rattle.site_yard.specs.Ending.{Ends};
     ghost use Rattle.site_yard.specs.Failures.{AreCounted};
     ghost use Rattle.site_yard.specs.Law.{Agrees};
+    ghost use Rattle.site_yard.specs.Loading.{ReadPairs};
     ghost use Rattle.site_yard.specs.Opening.{AreUnused, Refuses};
-    ghost use Rattle.site_yard.specs.Yard.{Adds, IsArrival, Leases};
+    ghost use Rattle.site_yard.specs.Storing.{AreWithin};
+    ghost use Rattle.site_yard.specs.Yard.{Adds, AreOutputs, IsArrival, IsEnding, IsWorkers, IsTold, Leases, Loads};
 
     /// Takes over a host whose sites are free. It marks the host first, and asks each site that has a pair once.
     pub fn open(alloc: Global, ordered: Ordered, host: H) -> Result<Yard<H, T>, OpenRefused<H>>
@@ -162,6 +169,144 @@ impl<H: Host, T: Tool> Yard<H, T> {
         }
     }
 
+    /// Reads what a task reads, in order, and adds nothing.
+    fn read_inputs(&mut self, alloc: Global, task: TaskId) -> Result<Vec<Blob>, Cause>
+        ensures answer { ReadPairs self.old.ordered.plan (reads self.old.ordered.plan task.0) (H.told self.old.host) (H.counts self.old.host) (H.counts self.new.host) result }
+        ensures told { H.told self.new.host ≡ H.told self.old.host }
+        ensures ordered { self.new.ordered ≡ self.old.ordered }
+        ensures book { self.new.book ≡ self.old.book }
+        ensures later { IsLater (H.counts self.old.host) (H.counts self.new.host) }
+        ensures marked { H.marked self.new.host ≡ H.marked self.old.host }
+        ensures faults { self.new.faults ≡ self.old.faults }
+        ensures misses { self.new.misses ≡ self.old.misses }
+    {
+        let ordered = &self.ordered;
+        load_inputs(ordered.plan(), &mut self.host, alloc, task)
+    }
+
+    /// Reads what a task reads, in order, or adds a failure.
+    pub fn load(&mut self, alloc: Global, worker: u32, task: TaskId) -> Option<Vec<Blob>>
+        requires open { IsOpen (state_at self.old.book) worker task.0 }
+        ensures loaded { Loads T.apply self.old.ordered.plan (H.marked self.old.host) worker task.0 self.old.book.history.events self.new.book.history.events (H.told self.old.host) (H.counts self.old.host) (H.counts self.new.host) result }
+        ensures told { H.told self.new.host ≡ H.told self.old.host }
+        ensures ordered { self.new.ordered ≡ self.old.ordered }
+        ensures later { IsLater (H.counts self.old.host) (H.counts self.new.host) }
+        ensures marked { H.marked self.new.host ≡ H.marked self.old.host }
+        ensures faults { self.new.faults ≡ self.old.faults }
+        ensures misses { self.new.misses ≡ self.old.misses }
+    {
+        plan_laws();
+        record_laws();
+        match self.read_inputs(alloc, task) {
+            Ok(blobs) => Some(blobs),
+            Err(cause) => {
+                self.book.fail(worker, task, &cause, &[]);
+                None
+            }
+        }
+    }
+
+    /// Publishes outputs that are within their declared sizes, and adds an End or a failure. The sizes have room.
+    fn publish(
+        &mut self,
+        alloc: Global,
+        worker: u32,
+        task: TaskId,
+        outputs: &[Blob],
+        sizes: Vec<u64>,
+    )
+        requires open { IsOpen (state_at self.old.book) worker task.0 }
+        requires kind { is_run self.old.book.plan task.0 ≡ true }
+        requires many { length outputs.now ≡ length (writes self.old.book.plan task.0) }
+        requires told { AreOutputs T.apply self.old.book.plan (H.marked self.old.host) (H.told self.old.host) task.0 outputs.now }
+        requires within { AreWithin self.old.book.plan (writes self.old.book.plan task.0) outputs.now }
+        requires room { length outputs.now ≤ vec_capacity sizes }
+        requires none { sizes.items ≡ [] }
+        ensures entry { Adds self.old.book.history.events self.new.book.history.events (IsEnding self.old.book.plan worker task.0 outputs.now) (H.told self.old.host) (H.counts self.old.host) (H.counts self.new.host) }
+        ensures ordered { self.new.ordered ≡ self.old.ordered }
+        ensures tells { is_some (H.told self.new.host) ≡ is_some (H.told self.old.host) }
+        ensures later { IsLater (H.counts self.old.host) (H.counts self.new.host) }
+        ensures marked { H.marked self.new.host ≡ H.marked self.old.host }
+        ensures faults { self.new.faults ≡ self.old.faults }
+        ensures misses { self.new.misses ≡ self.old.misses }
+    {
+        plan_laws();
+        record_laws();
+        let mut sizes = sizes;
+        let ordered = &self.ordered;
+        match store(
+            ordered.plan(),
+            &mut self.host,
+            alloc,
+            task,
+            outputs,
+            &mut sizes,
+        ) {
+            Ok(()) => self.book.end(worker, task, &sizes),
+            Err(cause) => self.book.fail(worker, task, &cause, &sizes),
+        }
+    }
+
+    /// The same. The memory for the sizes is taken before the first write.
+    fn store_within(&mut self, alloc: Global, worker: u32, task: TaskId, outputs: &[Blob])
+        requires open { IsOpen (state_at self.old.book) worker task.0 }
+        requires kind { is_run self.old.book.plan task.0 ≡ true }
+        requires many { length outputs.now ≡ length (writes self.old.book.plan task.0) }
+        requires told { AreOutputs T.apply self.old.book.plan (H.marked self.old.host) (H.told self.old.host) task.0 outputs.now }
+        requires within { AreWithin self.old.book.plan (writes self.old.book.plan task.0) outputs.now }
+        ensures entry { Adds self.old.book.history.events self.new.book.history.events (IsEnding self.old.book.plan worker task.0 outputs.now) (H.told self.old.host) (H.counts self.old.host) (H.counts self.new.host) }
+        ensures ordered { self.new.ordered ≡ self.old.ordered }
+        ensures tells { is_some (H.told self.new.host) ≡ is_some (H.told self.old.host) }
+        ensures later { IsLater (H.counts self.old.host) (H.counts self.new.host) }
+        ensures marked { H.marked self.new.host ≡ H.marked self.old.host }
+        ensures faults { self.new.faults ≡ self.old.faults }
+        ensures misses { self.new.misses ≡ self.old.misses }
+    {
+        match Vec::with_capacity(alloc, outputs.len()) {
+            Ok(sizes) => self.publish(alloc, worker, task, outputs, sizes),
+            Err(_) => self.book.fail(worker, task, &Cause::Memory, &[]),
+        }
+    }
+
+    /// Publishes a Run's outputs in order, unless one is too long, and adds its End or a failure.
+    pub fn store_outputs(&mut self, alloc: Global, worker: u32, task: TaskId, outputs: &[Blob])
+        requires open { IsOpen (state_at self.old.book) worker task.0 }
+        requires kind { is_run self.old.ordered.plan task.0 ≡ true }
+        requires many { length outputs.now ≡ length (writes self.old.ordered.plan task.0) }
+        requires told { AreOutputs T.apply self.old.ordered.plan (H.marked self.old.host) (H.told self.old.host) task.0 outputs.now }
+        ensures entry { Adds self.old.book.history.events self.new.book.history.events (IsEnding self.old.ordered.plan worker task.0 outputs.now) (H.told self.old.host) (H.counts self.old.host) (H.counts self.new.host) }
+        ensures ordered { self.new.ordered ≡ self.old.ordered }
+        ensures tells { is_some (H.told self.new.host) ≡ is_some (H.told self.old.host) }
+        ensures later { IsLater (H.counts self.old.host) (H.counts self.new.host) }
+        ensures marked { H.marked self.new.host ≡ H.marked self.old.host }
+        ensures faults { self.new.faults ≡ self.old.faults }
+        ensures misses { self.new.misses ≡ self.old.misses }
+    {
+        let ordered = &self.ordered;
+        match find_overlong(ordered.plan(), task, outputs) {
+            Some(over) => {
+                let cause = Cause::Oversize(over.job, over.file, over.length);
+                self.book.fail(worker, task, &cause, &[]);
+            }
+            None => self.store_within(alloc, worker, task, outputs),
+        }
+    }
+
+    /// Adds the failure of a Run whose tool declined or failed, or that memory was wanted for. It takes no memory.
+    pub fn fault(&mut self, worker: u32, task: TaskId, cause: &Cause)
+        requires open { IsOpen (state_at self.old.book) worker task.0 }
+        requires kind { IsWorkers cause.now }
+        requires fits { CauseFits self.old.ordered.plan task.0 cause.now [] }
+        requires told { IsTold T.apply self.old.ordered.plan (H.marked self.old.host) (H.told self.old.host) task.0 cause.now }
+        ensures entry { self.new.book.history.events ≡ self.old.book.history.events ++ failure self.old.ordered.plan (state_at self.old.book) worker task.0 cause.now [] ∷ [] }
+        ensures host { self.new.host ≡ self.old.host }
+        ensures ordered { self.new.ordered ≡ self.old.ordered }
+        ensures faults { self.new.faults ≡ self.old.faults }
+        ensures misses { self.new.misses ≡ self.old.misses }
+    {
+        self.book.fail(worker, task, cause, &[]);
+    }
+
     /// The record is Legal, a host that tells shows it, and the host's counts show its failures.
     pub fn agrees(&self)
         ensures legal { ∥ Legal self.now.ordered.plan (task_numbers self.now.ordered.tasks.items) self.now.book.history.events ∥₁ }
@@ -171,6 +316,24 @@ impl<H: Host, T: Tool> Yard<H, T> {
         plan_laws();
         record_laws();
         let _record = self.book.record();
+    }
+
+    /// Why the run failed, by its first Fail.
+    pub fn ending(&self, alloc: Global) -> Result<(), RunFault>
+        requires over { IsComplete self.now.ordered.plan (state_at self.now.book) ⊎ ((state_at self.now.book).failing ≡ true) }
+        ensures ends { Ends self.now.ordered.plan self.now.book.history.events result }
+        ensures done { IfOk result (λ u. IsComplete self.now.ordered.plan (state_at self.now.book)) }
+    {
+        plan_laws();
+        record_laws();
+        let ordered = &self.ordered;
+        match first_failed(self.book.record()) {
+            None => Ok(()),
+            Some(failed) => match run_fault(ordered.plan(), alloc, failed.task, &failed.cause) {
+                Ok(fault) => Err(fault),
+                Err(_) => Err(RunFault::Memory),
+            },
+        }
     }
 
     /// The plan of the record.

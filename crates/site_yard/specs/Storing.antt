@@ -1,0 +1,59 @@
+-- What the writing of outputs answers, in the host's words alone.
+use Rattle.std.specs.Prelude.{◌≡◌, ℕ, ◌≤◌, ◌<◌, ◌⊎◌, true, List, [], ◌∷◌, map, length, take, Option, option_map, Result, Ok, Err}
+use Rattle.outside.specs.Store.{Change, Publishes, changed_by}
+use Rattle.outside.specs.declared.counts.Counts.{Counts}
+use Rattle.outside.specs.declared.store.Store.{Store}
+use Rattle.plan_core.specs.declared.plan.Plan.{Plan}
+use Rattle.plan_core.specs.Numbers.{has}
+use Rattle.plan_core.specs.Words.{kind, outputs, writes}
+use Rattle.run_record.specs.declared.entry.Cause.{Cause}
+use Rattle.run_record.specs.declared.entry.Cause.TheVariants.{HostFailed, Memory}
+use Rattle.lease_book.specs.Legal.{has_job}
+use Rattle.site_yard.specs.Loading.{pair_limit}
+use Rattle.site_yard.specs.Moving.{HaveFaultsRisen}
+use Rattle.site_yard.specs.Names.{pair_file, pair_file_name, pair_site_name}
+
+-- no output is longer than the declared size of its pair's file
+abbrev pub AreWithin : Plan → List ℕ → List (List ℕ) → Type 0
+AreWithin p [] bs = Unit {0}
+AreWithin p (q ∷ qs) [] = Unit {0}
+AreWithin p (q ∷ qs) (b ∷ bs) = (length b ≤ pair_limit p q) × AreWithin p qs bs
+
+-- the first output that is longer is that of pair x, of length n
+abbrev pub IsFirstPast : Plan → List ℕ → List (List ℕ) → ℕ → ℕ → Type 0
+IsFirstPast p [] bs x n = ⊥
+IsFirstPast p (q ∷ qs) [] x n = ⊥
+IsFirstPast p (q ∷ qs) (b ∷ bs) x n = ((pair_limit p q < length b) × (q ≡ x) × (length b ≡ n)) ⊎ ((length b ≤ pair_limit p q) × IsFirstPast p qs bs x n)
+
+-- a job of the Run makes the file of the first output that is longer than declared, which has this length
+pub record IsOverlong (p : Plan) (t : ℕ) (outs : List (List ℕ)) (j f n : ℕ) : Type 0 where
+  pub pair : ℕ
+  pub first : IsFirstPast p (writes p t) outs pair n
+  pub file : pair_file p pair ≡ f
+  pub job : has_job (kind p t) j ≡ true
+  pub made : has (outputs p.jobs j) f ≡ true
+
+-- the changes that publish these bytes at these pairs
+abbrev pub publishing : Plan → List ℕ → List (List ℕ) → List Change
+publishing p [] bs = []
+publishing p (q ∷ qs) [] = []
+publishing p (q ∷ qs) (b ∷ bs) = Publishes (pair_site_name p q) (pair_file_name p q) b ∷ publishing p qs bs
+
+-- a pair was published, or all that is told is as before
+abbrev pub WrotePair : Plan → ℕ → List ℕ → Option Store → Option Store → Counts → Counts → Result (Unit {0}) Cause → Type 0
+WrotePair p q bytes old new before now (Ok u) = new ≡ option_map (λ s. changed_by s (Publishes (pair_site_name p q) (pair_file_name p q) bytes ∷ [])) old
+WrotePair p q bytes old new before now (Err HostFailed) = HaveFaultsRisen before now × (new ≡ old)
+WrotePair p q bytes old new before now (Err Memory) = new ≡ old
+WrotePair p q bytes old new before now (Err _) = ⊥
+
+-- the first outputs were published, as many as there are sizes, and these are their lengths
+pub record WroteFirst (p : Plan) (qs : List ℕ) (outs : List (List ℕ)) (old new : Option Store) (sizes : List ℕ) : Type 0 where
+  pub told : new ≡ option_map (λ s. changed_by s (publishing p (take (length sizes) qs) outs)) old
+  pub sizes_are : sizes ≡ map length (take (length sizes) outs)
+
+-- all outputs were published, or the first of them
+abbrev pub WrotePairs : Plan → List ℕ → List (List ℕ) → Option Store → Option Store → List ℕ → Counts → Counts → Result (Unit {0}) Cause → Type 0
+WrotePairs p qs outs old new sizes before now (Ok u) = WroteFirst p qs outs old new sizes × (length sizes ≡ length qs)
+WrotePairs p qs outs old new sizes before now (Err HostFailed) = WroteFirst p qs outs old new sizes × HaveFaultsRisen before now
+WrotePairs p qs outs old new sizes before now (Err Memory) = WroteFirst p qs outs old new sizes
+WrotePairs p qs outs old new sizes before now (Err _) = ⊥
