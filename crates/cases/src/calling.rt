@@ -30,6 +30,14 @@ struct Found<'a> {
     scratch: Vec<GivenAt<'a>>,
 }
 
+/// The objects after a call.
+#[derive(Drop)]
+struct Left {
+    status: u8,
+    host: MemoryHost,
+    sink: MemorySink,
+}
+
 /// What a call left.
 #[derive(Drop)]
 pub struct Ended {
@@ -110,21 +118,31 @@ fn host(alloc: Global, failing: &[u64], found: &Found<'_>) -> Result<MemoryHost,
     Ok(host)
 }
 
+/// Calls, and keeps what the call left.
 fn call(
     alloc: Global,
     weather: &Weather,
     docs: &mut MemoryDocs,
     found: &Found<'_>,
     words: &[String],
-) -> Result<Ended, Memory> {
+) -> Result<Left, Memory> {
     let writes = Vec::from_slice(alloc, &weather.writes)?;
     let mut sink = MemorySink::new(alloc, weather.room, weather.taken, writes)?;
     let host = host(alloc, &weather.host_calls, found)?;
     let tool = FailingTool::new(Vec::from_slice(alloc, &weather.runs)?);
     let (outcome, host, _) = quick(alloc, words, docs, &mut sink, host, tool);
-    let trace = trace_text(alloc, host.trace())?;
-    Ok(Ended {
+    Ok(Left {
         status: outcome.code(),
+        host,
+        sink,
+    })
+}
+
+fn ended(alloc: Global, left: Left) -> Result<Ended, Memory> {
+    let trace = trace_text(alloc, left.host.trace())?;
+    let Left { status, host, sink } = left;
+    Ok(Ended {
+        status,
         host,
         sink,
         trace,
@@ -171,7 +189,8 @@ fn try_once<'a>(
     cut: Option<(&str, usize)>,
 ) -> Result<Option<Difference<'a>>, Memory> {
     let mut docs = documents(alloc, &case.weather.fetches, &found.documents, cut)?;
-    let ended = call(alloc, &case.weather, &mut docs, found, &line.words)?;
+    let left = call(alloc, &case.weather, &mut docs, found, &line.words)?;
+    let ended = ended(alloc, left)?;
     if is_met(case, &ended) {
         return Ok(None);
     }
