@@ -138,7 +138,7 @@ fn call(
     })
 }
 
-fn ended(alloc: Global, left: Left) -> Result<Ended, Memory> {
+fn with_trace(alloc: Global, left: Left) -> Result<Ended, Memory> {
     let trace = trace_text(alloc, left.host.trace())?;
     let Left { status, host, sink } = left;
     Ok(Ended {
@@ -190,7 +190,7 @@ fn try_once<'a>(
 ) -> Result<Option<Difference<'a>>, Memory> {
     let mut docs = documents(alloc, &case.weather.fetches, &found.documents, cut)?;
     let left = call(alloc, &case.weather, &mut docs, found, &line.words)?;
-    let ended = ended(alloc, left)?;
+    let ended = with_trace(alloc, left)?;
     if is_met(case, &ended) {
         return Ok(None);
     }
