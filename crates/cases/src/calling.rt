@@ -1,9 +1,8 @@
 //! The calls of a case, over objects in memory.
 
-use crate::case::{Case, CommandLine, Document, Setup, SiteFiles, Weather};
+use crate::case::{Case, CommandLine, Document, Setup, Weather};
 use crate::comparing::is_met;
 use crate::failing_tool::FailingTool;
-use crate::trace::trace_text;
 use outside::{Memory, MemoryDocs, MemoryHost, MemorySink};
 use pegasus_cli::quick;
 use std::alloc::Global;
@@ -15,27 +14,11 @@ struct Given<'a> {
     bytes: Vec<u8>,
 }
 
-/// A site's file under its name.
-#[derive(Drop)]
-struct GivenAt<'a> {
-    site: &'a str,
-    file: Given<'a>,
-}
-
 /// What the calls of a case find.
 #[derive(Drop)]
 struct Found<'a> {
     documents: Vec<Given<'a>>,
     replicas: Vec<Given<'a>>,
-    scratch: Vec<GivenAt<'a>>,
-}
-
-/// The objects after a call.
-#[derive(Drop)]
-struct Left {
-    status: u8,
-    host: MemoryHost,
-    sink: MemorySink,
 }
 
 /// What a call left.
@@ -44,8 +27,6 @@ pub struct Ended {
     pub status: u8,
     pub host: MemoryHost,
     pub sink: MemorySink,
-    /// The host's trace as text.
-    pub trace: Vec<u8>,
 }
 
 /// A call that ended otherwise than its case says.
@@ -71,23 +52,6 @@ fn add_given<'a>(
     Ok(())
 }
 
-fn add_scratch<'a>(
-    alloc: Global,
-    given: &mut Vec<GivenAt<'a>>,
-    sites: &'a [SiteFiles],
-) -> Result<(), Memory> {
-    for at in sites {
-        let site = at.site.as_str();
-        for document in &at.files {
-            let name = document.name.as_str();
-            let bytes = document.bytes(alloc)?;
-            let file = Given { name, bytes };
-            given.push(GivenAt { site, file })?;
-        }
-    }
-    Ok(())
-}
-
 /// The documents, the last one of each name, of which the named one is cut after so many bytes.
 fn documents(
     alloc: Global,
@@ -107,45 +71,30 @@ fn documents(
     Ok(docs)
 }
 
-fn host(alloc: Global, failing: &[u64], found: &Found<'_>) -> Result<MemoryHost, Memory> {
+fn host(alloc: Global, failing: &[u64], replicas: &[Given<'_>]) -> Result<MemoryHost, Memory> {
     let mut host = MemoryHost::new(alloc, Vec::from_slice(alloc, failing)?);
-    for replica in &found.replicas {
+    for replica in replicas {
         host.put_replica(alloc, replica.name, &replica.bytes)?;
-    }
-    for at in &found.scratch {
-        host.put_scratch(alloc, at.site, at.file.name, &at.file.bytes)?;
     }
     Ok(host)
 }
 
-/// Calls, and keeps what the call left.
 fn call(
     alloc: Global,
     weather: &Weather,
     docs: &mut MemoryDocs,
-    found: &Found<'_>,
+    replicas: &[Given<'_>],
     words: &[String],
-) -> Result<Left, Memory> {
+) -> Result<Ended, Memory> {
     let writes = Vec::from_slice(alloc, &weather.writes)?;
     let mut sink = MemorySink::new(alloc, weather.room, weather.taken, writes)?;
-    let host = host(alloc, &weather.host_calls, found)?;
+    let host = host(alloc, &weather.host_calls, replicas)?;
     let tool = FailingTool::new(Vec::from_slice(alloc, &weather.runs)?);
     let (outcome, host, _) = quick(alloc, words, docs, &mut sink, host, tool);
-    Ok(Left {
+    Ok(Ended {
         status: outcome.code(),
         host,
         sink,
-    })
-}
-
-fn with_trace(alloc: Global, left: Left) -> Result<Ended, Memory> {
-    let trace = trace_text(alloc, left.host.trace())?;
-    let Left { status, host, sink } = left;
-    Ok(Ended {
-        status,
-        host,
-        sink,
-        trace,
     })
 }
 
@@ -189,8 +138,13 @@ fn try_once<'a>(
     cut: Option<(&str, usize)>,
 ) -> Result<Option<Difference<'a>>, Memory> {
     let mut docs = documents(alloc, &case.weather.fetches, &found.documents, cut)?;
-    let left = call(alloc, &case.weather, &mut docs, found, &line.words)?;
-    let ended = with_trace(alloc, left)?;
+    let ended = call(
+        alloc,
+        &case.weather,
+        &mut docs,
+        &found.replicas,
+        &line.words,
+    )?;
     if is_met(case, &ended) {
         return Ok(None);
     }
@@ -211,14 +165,11 @@ pub fn first_difference<'a>(
     let mut found = Found {
         documents: Vec::new(alloc),
         replicas: Vec::new(alloc),
-        scratch: Vec::new(alloc),
     };
     add_given(alloc, &mut found.documents, &common.documents)?;
     add_given(alloc, &mut found.documents, &case.setup.documents)?;
     add_given(alloc, &mut found.replicas, &common.replicas)?;
     add_given(alloc, &mut found.replicas, &case.setup.replicas)?;
-    add_scratch(alloc, &mut found.scratch, &common.scratch)?;
-    add_scratch(alloc, &mut found.scratch, &case.setup.scratch)?;
     let calls = if case.setup.calls.is_empty() {
         &common.calls
     } else {
