@@ -98,8 +98,8 @@ pub tells_by : (o n : Option Store) (g : Store → Store) → n ≡ option_map g
 tells_by None n g e = ap is_some e
 tells_by (Some s) n g e = ap is_some e
 
-pub moved_tells : (p : Plan) (f : ℕ) (from : Source) (to : Target) (o n : Option Store) (before now_ : Counts) (x : Result ℕ Cause) → Moved p f from to o n before now_ x → is_some n ≡ is_some o
-moved_tells p f from to o n before now_ (Ok k) moved = tells_by o n (λ s. changed_by s (placing p f to moved.0 ∷ [])) moved.3
+pub moved_tells : (p : Plan) (f : ℕ) (from : Source) (to : Target) (o n : Option Store) (before now_ : Counts) (x : Result (List ℕ) Cause) → Moved p f from to o n before now_ x → is_some n ≡ is_some o
+moved_tells p f from to o n before now_ (Ok bytes) moved = tells_by o n (λ s. changed_by s (placing p f to bytes ∷ [])) moved.1
 moved_tells p f from to o n before now_ (Err cause) moved = ap is_some moved.1
 
 -- the last entry

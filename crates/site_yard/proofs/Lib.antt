@@ -15,6 +15,12 @@ mod GoneLemmas
 mod OthersLemmas
 mod DeliveredLemmas
 mod AgreesLemmas
+mod DeliveryListLemmas
+mod DeliveryRoomLemmas
 mod StepLemmas
 mod StoreLemmas
 mod EndingLemmas
+mod FaultsLemmas
+mod FailingLemmas
+mod CompletingLemmas
+mod LeavingLemmas

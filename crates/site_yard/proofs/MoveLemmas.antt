@@ -166,23 +166,22 @@ no_sizes p c t = refl
 
 module _ (p : Plan) (proper : IsProper p) (plan_laws : HasPlanLaws p) (order : List ℕ) (laws : HasRecordLaws p order) (apply : Apply) (r : List Event) where
   -- a Transfer that arrived
-  arrive_kept : (o n : Option Store) (m : Store) (f0 m0 : ℕ) (before now_ : Counts) (w t size : ℕ) (g : FileId) (from : Source) (to : Target) → Legal p order r → IsKept apply p r o m f0 m0 before → IsOpen (now p order r) w t → kind p t ≡ Some (Transfer g from to) → IsLater before now_
-      → Moved p g.0 from to o n before now_ (Ok size) → IsKept apply p (r ++ Arrive w t size ∷ []) n m f0 m0 now_
-  arrive_kept None n m f0 m0 before now_ w t size g from to legal kept opened_ e later moved =
-      kept_more apply p r (Arrive w t size) None n m f0 m0 before now_ kept moved.3 tt (rose_none None before now_ (Arrive w t size) refl refl later)
-  arrive_kept (Some s) n m f0 m0 before now_ w t size g from to legal kept opened_ e later moved =
+  arrive_kept : (o n : Option Store) (m : Store) (f0 m0 : ℕ) (before now_ : Counts) (w t : ℕ) (bytes : List ℕ) (g : FileId) (from : Source) (to : Target) → Legal p order r → IsKept apply p r o m f0 m0 before → IsOpen (now p order r) w t → kind p t ≡ Some (Transfer g from to) → IsLater before now_
+      → Moved p g.0 from to o n before now_ (Ok bytes) → IsKept apply p (r ++ Arrive w t (length bytes) ∷ []) n m f0 m0 now_
+  arrive_kept None n m f0 m0 before now_ w t bytes g from to legal kept opened_ e later moved =
+      kept_more apply p r (Arrive w t (length bytes)) None n m f0 m0 before now_ kept moved.1 tt (rose_none None before now_ (Arrive w t (length bytes)) refl refl later)
+  arrive_kept (Some s) n m f0 m0 before now_ w t bytes g from to legal kept opened_ e later moved =
       let c : ℕ → ℕ → Option (List ℕ) = carries apply p m in
-      let bytes : List ℕ = moved.0 in
-      let is : c t g.0 ≡ Some bytes = sym (source_kept p proper plan_laws order laws apply r s m f0 m0 before legal kept w t g from to opened_ e) ∙ moved.2.1 in
-      kept_more apply p r (Arrive w t size) (Some s) n m f0 m0 before now_ kept
-      (moved.3 ∙ ap (λ cs. Some (changed_by s cs)) (sym (arrives p c w t size g from to bytes e is)))
-      (arrive_true apply (λ pfn. files.get m.replicas pfn) p c w t size g from to bytes e is moved.1 moved.2.2)
-      (rose_none (Some s) before now_ (Arrive w t size) refl refl later)
+      let is : c t g.0 ≡ Some bytes = sym (source_kept p proper plan_laws order laws apply r s m f0 m0 before legal kept w t g from to opened_ e) ∙ moved.0.1 in
+      kept_more apply p r (Arrive w t (length bytes)) (Some s) n m f0 m0 before now_ kept
+      (moved.1 ∙ ap (λ cs. Some (changed_by s cs)) (sym (arrives p c w t (length bytes) g from to bytes e is)))
+      (arrive_true apply (λ pfn. files.get m.replicas pfn) p c w t (length bytes) g from to bytes e is refl moved.0.2)
+      (rose_none (Some s) before now_ (Arrive w t (length bytes)) refl refl later)
 
-  pub arrive_keeps : (o n : Option Store) (m : Store) (f0 m0 : ℕ) (before now_ : Counts) (w t size : ℕ) (g : FileId) (from : Source) (to : Target) → ∥ Legal p order r ∥₁ → ∥ IsKept apply p r o m f0 m0 before ∥₁ → IsOpen (now p order r) w t → kind p t ≡ Some (Transfer g from to) → IsLater before now_
-      → Moved p g.0 from to o n before now_ (Ok size) → ∥ IsKept apply p (r ++ Arrive w t size ∷ []) n m f0 m0 now_ ∥₁
-  arrive_keeps o n m f0 m0 before now_ w t size g from to legal kept opened_ e later moved =
-      ∥∥₁_elim legal ∥∥₁_prop (λ l. ∥∥₁_map kept (λ k. arrive_kept o n m f0 m0 before now_ w t size g from to l k opened_ e later moved))
+  pub arrive_keeps : (o n : Option Store) (m : Store) (f0 m0 : ℕ) (before now_ : Counts) (w t : ℕ) (bytes : List ℕ) (g : FileId) (from : Source) (to : Target) → ∥ Legal p order r ∥₁ → ∥ IsKept apply p r o m f0 m0 before ∥₁ → IsOpen (now p order r) w t → kind p t ≡ Some (Transfer g from to) → IsLater before now_
+      → Moved p g.0 from to o n before now_ (Ok bytes) → ∥ IsKept apply p (r ++ Arrive w t (length bytes) ∷ []) n m f0 m0 now_ ∥₁
+  arrive_keeps o n m f0 m0 before now_ w t bytes g from to legal kept opened_ e later moved =
+      ∥∥₁_elim legal ∥∥₁_prop (λ l. ∥∥₁_map kept (λ k. arrive_kept o n m f0 m0 before now_ w t bytes g from to l k opened_ e later moved))
 
   -- what an open Transfer reads at a site is there, and not too long
   never_at_site : (s m : Store) (f0 m0 : ℕ) (before : Counts) (w t : ℕ) (g : FileId) (from : Source) (to : Target) → Legal p order r → IsKept apply p r (Some s) m f0 m0 before → IsOpen (now p order r) w t → kind p t ≡ Some (Transfer g from to) → is_pfn from ≡ false → IsUnfit (or_zero (declared p g.0)) (at_source s p g.0 from) → ⊥

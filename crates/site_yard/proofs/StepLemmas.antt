@@ -1,6 +1,6 @@
 -- The steps of a yard, over its book.
 use Rattle.std.proofs.Common.{◌≡◌, ℕ, ◌-◌, ◌≤◌, ◌<◌, ◌⊎◌, Bool, true, false, cond, List, [], ◌∷◌, ◌++◌, length, refl, sym, ap, ◌∙◌, subst, arith}
-use Rattle.std.specs.Prelude.{Option, Some, None, IfSome, Ok, Err, Decides, slice_get, if◌then◌else◌}
+use Rattle.std.specs.Prelude.{Option, Some, None, IfSome, is_some, Result, Ok, Err, Decides, slice_get, if◌then◌else◌}
 use Rattle.std.specs.Coded.{le_prop}
 use Rattle.std.proofs.Math.Logic.{∥∥₁_elim}
 use Rattle.outside.specs.Counts.{IsLater, next_count, one_done, one_miss}
@@ -22,6 +22,7 @@ use Rattle.lease_book.specs.Book.{failure, is_tried_again, state_at}
 use Rattle.lease_book.specs.Choice.{IsChoice, IsFresh}
 use Rattle.lease_book.specs.Legal.{Allowed, CauseFits, IsOpen}
 use Rattle.lease_book.specs.State.{State, now}
+use Rattle.site_yard.specs.Delivered.{AreDelivered, count_deliveries, delivered_file, delivery_of}
 use Rattle.site_yard.specs.Failures.{IsCounted, host_faults, host_misses}
 use Rattle.site_yard.specs.Kept.{IsKept}
 use Rattle.site_yard.proofs.AgreesLemmas.{HasBookLaws}
@@ -29,29 +30,51 @@ use Rattle.site_yard.specs.Leased.{failed_as}
 use Rattle.site_yard.specs.Moving.{HaveMissesRisen, MovedBy, SweptAway}
 use Rattle.site_yard.specs.Names.{pair_file_name, pair_site_name}
 use Rattle.site_yard.specs.Yard.{Adds, IsArrival, IsNoTool, Leases}
+use Rattle.site_yard.specs.declared.delivered.Delivered.{Delivered}
 use Rattle.site_yard.specs.declared.leased.Leased.{Leased}
-use Rattle.site_yard.proofs.BringLemmas.{arrive_allowed, failed_arrival, fetched_no_tool, last_is, open_worker}
+use Rattle.site_yard.proofs.BringLemmas.{arrive_allowed, failed_arrival, fetched_no_tool, last_is, moved_tells, open_worker}
+use Rattle.site_yard.proofs.DeliveryListLemmas.{list_keeps, list_length}
+use Rattle.site_yard.proofs.DeliveryRoomLemmas.{is_delivered, room_for}
 use Rattle.site_yard.proofs.MoveLemmas.{arrive_keeps, fail_keeps, failed, failed_counted, fetched_counted, fetched_fits, never_unfit}
 use Rattle.site_yard.proofs.SweepLemmas.{clean_is, clean_keeps, never_absent, next_clean, sweep_counted, sweep_fails, swept_no_tool}
 
 pub worker_low : (b : Book) (w t : ℕ) → IsOpen (state_at b) w t → w < 16
 worker_low b w t opened_ = ∥∥₁_elim b.kept.legal (hlevel le_prop) (λ l. open_worker b.plan (task_numbers b.order.items) b.history.events w t l opened_)
 
-pub bring_allowed : (b : Book) (q : Plan) (o n : Option Store) (before now_ : Counts) (w t size : ℕ) → q ≡ b.plan → HasBookLaws b → IsOpen (state_at b) w t → MovedBy q t o n before now_ (Ok size) → Allowed b.plan (state_at b) (Arrive w t size)
-bring_allowed b q o n before now_ w t size same laws opened_ by =
-    let moved : MovedBy b.plan t o n before now_ (Ok size) = subst (λ p. MovedBy p t o n before now_ (Ok size)) same by in
-    arrive_allowed b.plan (task_numbers b.order.items) b.history.events w t size moved.file moved.from moved.to b.proper laws.plans (worker_low b w t opened_) opened_ moved.kind_is (subst (λ z. z ≤ or_zero (declared b.plan moved.file.0)) (sym moved.moved.1) moved.moved.2.0)
+pub bring_allowed : (b : Book) (q : Plan) (o n : Option Store) (before now_ : Counts) (w t size : ℕ) (bytes : List ℕ) → q ≡ b.plan → size ≡ length bytes → HasBookLaws b → IsOpen (state_at b) w t → MovedBy q t o n before now_ (Ok bytes) → Allowed b.plan (state_at b) (Arrive w t size)
+bring_allowed b q o n before now_ w t size bytes same long laws opened_ by =
+    let moved : MovedBy b.plan t o n before now_ (Ok bytes) = subst (λ p. MovedBy p t o n before now_ (Ok bytes)) same by in
+    arrive_allowed b.plan (task_numbers b.order.items) b.history.events w t size moved.file moved.from moved.to b.proper laws.plans (worker_low b w t opened_) opened_ moved.kind_is (subst (λ z. z ≤ or_zero (declared b.plan moved.file.0)) (sym long) moved.moved.0.0)
 
 pub bring_fits : (b : Book) (q : Plan) (o n : Option Store) (before now_ : Counts) (t : ℕ) (cause : Cause) → q ≡ b.plan → MovedBy q t o n before now_ (Err cause) → CauseFits b.plan t cause []
 bring_fits b q o n before now_ t cause same by =
     let moved : MovedBy b.plan t o n before now_ (Err cause) = subst (λ p. MovedBy p t o n before now_ (Err cause)) same by in
     fetched_fits b.plan _ before now_ t moved.file moved.from moved.to cause moved.kind_is moved.moved.0
 
-pub bring_arrives : (b : Book) (q : Plan) (apply : Apply) (o n : Option Store) (m : Store) (f0 m0 : ℕ) (before now_ : Counts) (w t size : ℕ) → q ≡ b.plan → HasBookLaws b → ∥ IsKept apply b.plan b.history.events o m f0 m0 before ∥₁ → IsOpen (state_at b) w t → IsLater before now_ → MovedBy q t o n before now_ (Ok size)
+pub bring_arrives : (b : Book) (q : Plan) (apply : Apply) (o n : Option Store) (m : Store) (f0 m0 : ℕ) (before now_ : Counts) (w t size : ℕ) (bytes : List ℕ) → q ≡ b.plan → size ≡ length bytes → HasBookLaws b → ∥ IsKept apply b.plan b.history.events o m f0 m0 before ∥₁ → IsOpen (state_at b) w t → IsLater before now_ → MovedBy q t o n before now_ (Ok bytes)
     → ∥ IsKept apply b.plan (b.history.events ++ Arrive w t size ∷ []) n m f0 m0 now_ ∥₁
-bring_arrives b q apply o n m f0 m0 before now_ w t size same laws kept opened_ later by =
-    let moved : MovedBy b.plan t o n before now_ (Ok size) = subst (λ p. MovedBy p t o n before now_ (Ok size)) same by in
-    arrive_keeps b.plan b.proper laws.plans (task_numbers b.order.items) laws.records apply b.history.events o n m f0 m0 before now_ w t size moved.file moved.from moved.to b.kept.legal kept opened_ moved.kind_is later moved.moved
+bring_arrives b q apply o n m f0 m0 before now_ w t size bytes same long laws kept opened_ later by =
+    let moved : MovedBy b.plan t o n before now_ (Ok bytes) = subst (λ p. MovedBy p t o n before now_ (Ok bytes)) same by in
+    subst (λ z. ∥ IsKept apply b.plan (b.history.events ++ Arrive w t z ∷ []) n m f0 m0 now_ ∥₁) (sym long)
+    (arrive_keeps b.plan b.proper laws.plans (task_numbers b.order.items) laws.records apply b.history.events o n m f0 m0 before now_ w t bytes moved.file moved.from moved.to b.kept.legal kept opened_ moved.kind_is later moved.moved)
+
+-- with what was delivered, for which there is room
+pub bring_room : (b : Book) (q : Plan) (apply : Apply) (o : Option Store) (m : Store) (w t room : ℕ) (ds : List Delivered) → q ≡ b.plan → HasBookLaws b → IsOpen (state_at b) w t → AreDelivered apply b.plan b.history.events o m ds → count_deliveries b.plan ≤ room → is_some (delivered_file (kind q t)) ≡ true → length ds < room
+bring_room b q apply o m w t room ds same laws opened_ listed fits is =
+    let here = ∥∥₁_elim b.kept.legal (hlevel le_prop) (λ l. room_for b.plan laws.plans (task_numbers b.order.items) laws.records b.history.events w t l opened_ (is_delivered b.plan t (subst (λ p. is_some (delivered_file (kind p t)) ≡ true) same is))) in
+    let many = list_length apply b.plan b.history.events o m ds listed in
+    omega (arith, here, many, fits)
+
+pub bring_lists : (b : Book) (q k : Plan) (apply : Apply) (o n : Option Store) (m : Store) (f0 m0 : ℕ) (before now_ : Counts) (w t : ℕ) (bytes seen : List ℕ) (ds : List Delivered) → q ≡ b.plan → k ≡ b.plan → seen ≡ bytes → HasBookLaws b → ∥ IsKept apply b.plan b.history.events o m f0 m0 before ∥₁ → IsOpen (state_at b) w t → MovedBy q t o n before now_ (Ok bytes)
+    → AreDelivered apply b.plan b.history.events o m ds → AreDelivered apply b.plan (b.history.events ++ Arrive w t (length seen) ∷ []) n m (ds ++ delivery_of (kind k t) seen)
+bring_lists b q k apply o n m f0 m0 before now_ w t bytes seen ds same also is laws kept opened_ by listed =
+    let moved : MovedBy b.plan t o n before now_ (Ok bytes) = subst (λ p. MovedBy p t o n before now_ (Ok bytes)) same by in
+    subst (λ p. AreDelivered apply b.plan (b.history.events ++ Arrive w t (length seen) ∷ []) n m (ds ++ delivery_of (kind p t) seen)) (sym also)
+    (subst (λ z. AreDelivered apply b.plan (b.history.events ++ Arrive w t (length z) ∷ []) n m (ds ++ delivery_of (kind b.plan t) z)) (sym is)
+    (list_keeps b.plan b.proper laws.plans (task_numbers b.order.items) laws.records apply b.history.events o n m f0 m0 before now_ w t bytes moved.file moved.from moved.to ds b.kept.legal kept opened_ moved.kind_is moved.moved listed))
+
+pub bring_tells : (q : Plan) (t : ℕ) (o n : Option Store) (before now_ : Counts) (x : Result (List ℕ) Cause) → MovedBy q t o n before now_ x → is_some n ≡ is_some o
+bring_tells q t o n before now_ x by = moved_tells q by.file.0 by.from by.to o n before now_ x by.moved
 
 pub bring_counted : (b : Book) (q : Plan) (apply : Apply) (o n : Option Store) (m : Store) (f0 m0 : ℕ) (before now_ : Counts) (w t : ℕ) (cause : Cause) → q ≡ b.plan → HasBookLaws b → ∥ IsKept apply b.plan b.history.events o m f0 m0 before ∥₁ → IsOpen (state_at b) w t → IsLater before now_ → MovedBy q t o n before now_ (Err cause) → IsCounted o before now_ (Fail w t cause [])
 bring_counted b q apply o n m f0 m0 before now_ w t cause same laws kept opened_ later by =

@@ -6,6 +6,7 @@ pub mod Truthful
 pub mod Failures
 pub mod Kept
 pub mod Places
+pub mod Delivered
 -- What the laws stand on.
 pub mod Law
 -- What the calls answer.
@@ -16,3 +17,6 @@ pub mod Opening
 pub mod Ending
 pub mod Leased
 pub mod Yard
+-- Why a run may fail, and what it leaves.
+pub mod Faults
+pub mod Leaving

@@ -94,8 +94,8 @@ Placed p f to bytes old new before now (Err Memory) = new ≡ old
 Placed p f to bytes old new before now (Err _) = ⊥
 
 -- a Transfer's bytes were moved, or all that is told is as before
-abbrev pub Moved : Plan → ℕ → Source → Target → Option Store → Option Store → Counts → Counts → Result ℕ Cause → Type 0
-Moved p f from to old new before now (Ok n) = (bytes : List ℕ) × (n ≡ length bytes) × Fetched p f from (source old p f from) before now (Ok bytes) × (new ≡ option_map (λ s. changed_by s (placing p f to bytes ∷ [])) old)
+abbrev pub Moved : Plan → ℕ → Source → Target → Option Store → Option Store → Counts → Counts → Result (List ℕ) Cause → Type 0
+Moved p f from to old new before now (Ok bytes) = Fetched p f from (source old p f from) before now (Ok bytes) × (new ≡ option_map (λ s. changed_by s (placing p f to bytes ∷ [])) old)
 Moved p f from to old new before now (Err cause) = Fetched p f from (source old p f from) before now (Err cause) × (new ≡ old)
 
 -- a pair was removed, or all that is told is as before
@@ -106,7 +106,7 @@ SweptAway site name old new before now (Err Memory) = new ≡ old
 SweptAway site name old new before now (Err _) = ⊥
 
 -- the bytes of this Transfer were moved, or all that is told is as before
-pub record MovedBy (p : Plan) (t : ℕ) (old new : Option Store) (before now : Counts) (result : Result ℕ Cause) : Type 0 where
+pub record MovedBy (p : Plan) (t : ℕ) (old new : Option Store) (before now : Counts) (result : Result (List ℕ) Cause) : Type 0 where
   pub file : FileId
   pub from : Source
   pub to : Target

@@ -1,11 +1,13 @@
--- What an opening answers.
-use Rattle.std.specs.Prelude.{◌≡◌, ℕ, ◌<◌, true, length, Option, Result, Ok, Err, IfSome}
+-- What an opening answers, and why a run failed that wasn't opened.
+use Rattle.std.specs.Prelude.{◌≡◌, ℕ, ◌<◌, true, length, Option, None, Result, Ok, Err, IfSome}
 use Rattle.outside.specs.SiteMap.{IsEmptyAt}
 use Rattle.outside.specs.declared.counts.Counts.{Counts}
 use Rattle.outside.specs.declared.store.Store.{Store}
 use Rattle.plan_core.specs.declared.plan.Plan.{Plan}
 use Rattle.site_yard.specs.Moving.{HaveFaultsRisen, HaveMissesRisen}
 use Rattle.site_yard.specs.Names.{is_used, site_name}
+use Rattle.site_yard.specs.declared.ending.RunFault.{RunFault}
+use Rattle.site_yard.specs.declared.ending.RunFault.TheVariants as run
 use Rattle.site_yard.specs.declared.opening.OpenFault.{OpenFault}
 use Rattle.site_yard.specs.declared.opening.OpenFault.TheVariants.{ScratchInUse, HostFailed, Memory}
 
@@ -37,3 +39,9 @@ Refuses p told before now Memory = Unit {0}
 abbrev pub Looked : Plan → Option Store → Counts → Counts → Result (Unit {0}) OpenFault → Type 0
 Looked p told before now (Ok u) = AreUnused p told
 Looked p told before now (Err fault) = Refuses p told before now fault
+
+-- the fault of a run that wasn't opened, with the name of a site in use
+abbrev pub fault_of_opening : Plan → OpenFault → RunFault
+fault_of_opening p (ScratchInUse x) = run.ScratchInUse (site_name p x.0)
+fault_of_opening p HostFailed = run.HostFailed None
+fault_of_opening p Memory = run.Memory

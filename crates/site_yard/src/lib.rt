@@ -6,12 +6,17 @@
 //! each file, of the trace and of the replicas is [`Yard::agrees`], by `specs/Law.antt`. How often the host's counts rose
 //! at least is in `specs/Failures.antt`. The plan and the book are those of `plan_core` and `lease_book`; what a task
 //! carries is plan_core's. What a call adds to the record is in `specs/Yard.antt`, what moves bytes in
-//! `specs/Moving.antt`, `Loading.antt` and `Storing.antt`, in the host's words alone.
+//! `specs/Moving.antt`, `Loading.antt` and `Storing.antt`, in the host's words alone. What was delivered, with lengths and
+//! digests, is [`Yard::delivered`] (`specs/Delivered.antt`).
 #![tactic(auto)]
 
+mod completing;
+mod delivered;
 mod ending;
+mod faults;
 mod law;
 mod leased;
+mod leaving;
 mod loading;
 mod moving;
 mod names;
@@ -19,8 +24,12 @@ mod opening;
 mod storing;
 mod yard;
 
+pub use completing::{complete_records_deliver, empty_records};
+pub use delivered::Delivered;
 pub use ending::RunFault;
+pub use faults::{fails_show_in_the_state, nothing_else_fails};
 pub use law::kept_stores_show_records;
 pub use leased::Leased;
-pub use opening::{OpenFault, OpenRefused};
+pub use leaving::what_is_left_is_held;
+pub use opening::{OpenFault, OpenRefused, opening_fault};
 pub use yard::Yard;

@@ -141,7 +141,7 @@ fn place<H: Host>(
     }
 }
 
-/// Moves a Transfer's bytes from its source to its target, and gives their number.
+/// Moves a Transfer's bytes from its source to its target, and hands them on.
 pub(crate) fn transfer<H: Host>(
     plan: &Plan,
     host: &mut H,
@@ -149,7 +149,7 @@ pub(crate) fn transfer<H: Host>(
     file: FileId,
     from: &Source,
     to: Target,
-) -> Result<u64, Cause>
+) -> Result<Blob, Cause>
     ensures answer { Moved plan.now file.0 from.now to (H.told host.old) (H.told host.new) (H.counts host.old) (H.counts host.new) result }
     ensures marked { H.marked host.new ≡ H.marked host.old }
     ensures later { IsLater (H.counts host.old) (H.counts host.new) }
@@ -159,7 +159,7 @@ pub(crate) fn transfer<H: Host>(
         Err(cause) => return Err(cause),
     };
     match place(plan, host, alloc, file, to, bytes.as_slice()) {
-        Ok(()) => Ok(bytes.as_slice().len() as u64),
+        Ok(()) => Ok(bytes),
         Err(cause) => Err(cause),
     }
 }
@@ -170,7 +170,7 @@ pub(crate) fn move_task<H: Host>(
     host: &mut H,
     alloc: Global,
     task: TaskId,
-) -> Result<u64, Cause>
+) -> Result<Blob, Cause>
     requires { is_transfer plan.now task.0 ≡ true }
     ensures answer { MovedBy plan.now task.0 (H.told host.old) (H.told host.new) (H.counts host.old) (H.counts host.new) result }
     ensures marked { H.marked host.new ≡ H.marked host.old }

@@ -1,11 +1,13 @@
-//! Whether the sites of a plan are free.
+//! Whether the sites of a plan are free, and why a run wasn't opened.
 
-ghost use Rattle.std.specs.Prelude.{◌≡◌, ◌≤◌, ◌<◌, ◌^◌, length};
+ghost use Rattle.std.specs.Prelude.{◌≡◌, ◌≤◌, ◌<◌, ◌^◌, ◌⊎◌, length};
 ghost use Rattle.outside.specs.Counts.{IsLater};
-ghost use Rattle.site_yard.specs.Opening.{Looked, LookedAt};
+ghost use Rattle.site_yard.specs.Opening.{Looked, LookedAt, fault_of_opening};
+ghost use Rattle.site_yard.specs.declared.ending.RunFault.TheVariants as run;
 
+use crate::ending::RunFault;
 use crate::names::{is_used, site_name};
-use outside::{Host, HostFault, SiteId};
+use outside::{Host, HostFault, SiteId, Text};
 use plan_core::Plan;
 use std::alloc::Global;
 use storage_simulation::Ordered;
@@ -59,4 +61,18 @@ pub(crate) fn look<H: Host>(plan: &Plan, host: &mut H, alloc: Global) -> Result<
         }
     }
     Ok(())
+}
+
+/// Why a run failed that wasn't opened, or want of memory for the site's name.
+pub fn opening_fault(plan: &Plan, alloc: Global, fault: OpenFault) -> RunFault
+    ensures { (result ≡ fault_of_opening plan.now fault) ⊎ (result ≡ run.Memory) }
+{
+    match fault {
+        OpenFault::ScratchInUse(site) => match Text::copy_of(alloc, site_name(plan, site)) {
+            Ok(name) => RunFault::ScratchInUse(name),
+            Err(_) => RunFault::Memory,
+        },
+        OpenFault::HostFailed => RunFault::HostFailed(None),
+        OpenFault::Memory => RunFault::Memory,
+    }
 }

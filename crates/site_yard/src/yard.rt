@@ -9,8 +9,10 @@ ghost use Rattle.storage_simulation.specs.Goods.{IsWithinLimits};
 ghost use Rattle.lease_book.specs.Book.{failure, state_at};
 ghost use Rattle.lease_book.specs.Choice.{IsChoice};
 ghost use Rattle.lease_book.specs.Legal.{CauseFits, IsComplete, IsOpen, Legal};
+ghost use Rattle.site_yard.specs.Delivered.{AreDelivered, AreDelivered-prop, count_deliveries};
 ghost use Rattle.site_yard.specs.Kept.{IsKept};
 
+use crate::delivered::{Delivered, count_deliveries, keep};
 use crate::ending::{RunFault, first_failed, run_fault};
 use crate::law::{plan_laws, record_laws};
 use crate::leased::{Leased, failed};
@@ -27,7 +29,8 @@ use std::alloc::Global;
 use std::marker::PhantomData;
 use storage_simulation::Ordered;
 
-/// A plan's book, and the host that holds what the book says. It holds no tool: the type says what tools make.
+/// A plan's book, the host that holds what the book says, and what was delivered, with room for all deliveries. It holds
+/// no tool: the type says what tools make.
 #[derive(Drop)]
 pub struct Yard<H: Host, T: Tool> {
     pub(crate) ordered: Ordered,
@@ -35,13 +38,18 @@ pub struct Yard<H: Host, T: Tool> {
     pub(crate) host: H,
     pub(crate) faults: u64,
     pub(crate) misses: u64,
+    pub(crate) delivered: Vec<Delivered>,
     tool: PhantomData<T>,
     ghost same_plan: { book.plan ≡ ordered.plan },
     ghost same_order: { book.order.items ≡ ordered.tasks.items },
     ghost kept: { ∥ IsKept T.apply book.plan book.history.events (H.told host) (H.marked host) faults misses (H.counts host) ∥₁ },
+    ghost room: { count_deliveries book.plan ≤ vec_capacity delivered },
+    ghost listed: { AreDelivered T.apply book.plan book.history.events (H.told host) (H.marked host) delivered.items } by { AreDelivered-prop T.apply book.plan book.history.events (H.told host) (H.marked host) delivered.items },
 }
 
 impl<H: Host, T: Tool> Yard<H, T> {
+    ghost use Rattle.site_yard.specs.Changes.{carries};
+    ghost use Rattle.site_yard.specs.Delivered.{AreDigests, AreFiles, AreLengths, AreLong, arrivals};
     ghost use Rattle.site_yard.specs.Ending.{Ends};
     ghost use Rattle.site_yard.specs.Failures.{AreCounted};
     ghost use Rattle.site_yard.specs.Law.{Agrees};
@@ -50,7 +58,8 @@ impl<H: Host, T: Tool> Yard<H, T> {
     ghost use Rattle.site_yard.specs.Storing.{AreWithin};
     ghost use Rattle.site_yard.specs.Yard.{Adds, AreOutputs, IsArrival, IsEnding, IsWorkers, IsTold, Leases, Loads};
 
-    /// Takes over a host whose sites are free. It marks the host first, and asks each site that has a pair once.
+    /// Takes over a host whose sites are free. It takes room for the deliveries, marks the host, and asks each site that
+    /// has a pair once.
     pub fn open(alloc: Global, ordered: Ordered, host: H) -> Result<Yard<H, T>, OpenRefused<H>>
         requires proper { IsProper ordered.plan }
         requires limits { IsWithinLimits ordered.plan }
@@ -69,22 +78,26 @@ impl<H: Host, T: Tool> Yard<H, T> {
         let faults = host.faults();
         let misses = host.misses();
         let mut host = host;
-        let fault = match host.mark(alloc) {
+        let fault = match Vec::with_capacity(alloc, count_deliveries(ordered.plan())) {
             Err(_) => OpenFault::Memory,
-            Ok(()) => match look(ordered.plan(), &mut host, alloc) {
-                Err(fault) => fault,
-                Ok(()) => match Book::open(alloc, &ordered) {
-                    Err(_) => OpenFault::Memory,
-                    Ok(book) => {
-                        return Ok(Yard {
-                            ordered,
-                            book,
-                            host,
-                            faults,
-                            misses,
-                            tool: PhantomData,
-                        });
-                    }
+            Ok(delivered) => match host.mark(alloc) {
+                Err(_) => OpenFault::Memory,
+                Ok(()) => match look(ordered.plan(), &mut host, alloc) {
+                    Err(fault) => fault,
+                    Ok(()) => match Book::open(alloc, &ordered) {
+                        Err(_) => OpenFault::Memory,
+                        Ok(book) => {
+                            return Ok(Yard {
+                                ordered,
+                                book,
+                                host,
+                                faults,
+                                misses,
+                                delivered,
+                                tool: PhantomData,
+                            });
+                        }
+                    },
                 },
             },
         };
@@ -148,7 +161,7 @@ impl<H: Host, T: Tool> Yard<H, T> {
         }
     }
 
-    /// Moves a Transfer's bytes, and adds its Arrive or a failure.
+    /// Moves a Transfer's bytes, and adds its Arrive, with what was delivered, or a failure.
     pub fn bring(&mut self, alloc: Global, worker: u32, task: TaskId)
         requires open { IsOpen (state_at self.old.book) worker task.0 }
         requires kind { is_transfer self.old.ordered.plan task.0 ≡ true }
@@ -164,7 +177,11 @@ impl<H: Host, T: Tool> Yard<H, T> {
         record_laws();
         let ordered = &self.ordered;
         match move_task(ordered.plan(), &mut self.host, alloc, task) {
-            Ok(size) => self.book.arrive(worker, task, size),
+            Ok(moved) => {
+                let bytes = moved.as_slice();
+                keep(ordered.plan(), &mut self.delivered, task, bytes);
+                self.book.arrive(worker, task, bytes.len() as u64);
+            }
             Err(cause) => self.book.fail(worker, task, &cause, &[]),
         }
     }
@@ -334,6 +351,16 @@ impl<H: Host, T: Tool> Yard<H, T> {
                 Err(_) => Err(RunFault::Memory),
             },
         }
+    }
+
+    /// What was delivered, in the order of the record.
+    pub fn delivered(&self) -> &[Delivered]
+        ensures files { AreFiles result.now (arrivals self.now.ordered.plan self.now.book.history.events) }
+        ensures lengths { AreLengths result.now (arrivals self.now.ordered.plan self.now.book.history.events) }
+        ensures digests { IfSome (H.told self.now.host) (λ s. AreDigests (carries T.apply self.now.ordered.plan (H.marked self.now.host)) result.now (arrivals self.now.ordered.plan self.now.book.history.events)) }
+        ensures long { AreLong result.now }
+    {
+        &self.delivered
     }
 
     /// The plan of the record.

@@ -2,6 +2,7 @@ use Rattle.std.proofs.Common.{sym, ap, ◌∙◌}
 use Rattle.plan_core.specs.Words.{kind}
 use Rattle.site_yard.proofs.SweepLemmas.{clean_is, next_keeps}
 use Rattle.site_yard.proofs.StepLemmas.{next_choice, next_leases}
+use Rattle.site_yard.proofs.DeliveryListLemmas.{next_lists}
 use Rattle.site_yard.proofs.yard.Yard.lease.Goals as goal
 
 pub invariant_of-self-clause-kept : goal.invariant_of-self-clause-kept
@@ -23,3 +24,8 @@ returns-in-Some-clause-leased g c =
 
 pub returns-in-NotYet-clause-leased : goal.returns-in-NotYet-clause-leased
 returns-in-NotYet-clause-leased g c = rw (sym c.args.self.now.same_plan) c.in-NotYet.ensures.next
+
+pub invariant_of-self-clause-listed : goal.invariant_of-self-clause-listed
+invariant_of-self-clause-listed g c =
+    let y = c.args.self.now in
+    rw c.next.ensures.plan (next_lists g.T.Tool.apply y.book.plan _ c.args.worker c.next.result y.book.history.events _ _ _ y.delivered.items c.next.ensures.next y.listed)

@@ -2,6 +2,8 @@ use Rattle.std.proofs.Common.{sym, ap}
 use Rattle.site_yard.proofs.LoadLemmas.{load_adds, load_carried, load_fails, load_fits}
 use Rattle.site_yard.proofs.StepLemmas.{worker_low}
 use Rattle.site_yard.proofs.AgreesLemmas.{book_laws}
+use Rattle.site_yard.proofs.DeliveryListLemmas.{list_fails}
+use Rattle.std.proofs.Common.{refl}
 use Rattle.site_yard.proofs.yard.Yard.load.Goals as goal
 
 pub returns-in-Ok-clause-loaded : goal.returns-in-Ok-clause-loaded
@@ -31,3 +33,9 @@ returns-in-Err-clause-loaded g c =
     let y = c.args.self.now in
     load_adds y.book y.ordered.plan g.T.Tool.apply _ _ y.faults y.misses (g.H.Host.counts y.host) (g.H.Host.counts c.read_inputs.new.self.host) c.args.worker c.args.task.0 c.in-Err.cause _ (sym y.same_plan) (book_laws y.book c.plan_laws.ensures c.record_laws.ensures) y.kept c.requires.open c.in-Err.ensures.later c.in-Err.ensures.answer
     (rw (sym c.read_inputs.ensures.book) c.fail.ensures.history)
+
+pub invariant_of-self-clause-listed : goal.invariant_of-self-clause-listed
+invariant_of-self-clause-listed g c =
+    let y = c.read_inputs.new.self in
+    rw (c.fail.ensures.history, c.fail.ensures.plan)
+    (list_fails y.book g.T.Tool.apply (g.H.Host.told y.host) _ _ c.args.worker c.args.task.0 c.in-Err.cause _ y.delivered.items refl y.listed)

@@ -5,6 +5,8 @@ use Rattle.site_yard.specs.Storing.{WrotePairs}
 use Rattle.site_yard.proofs.AgreesLemmas.{book_laws}
 use Rattle.site_yard.proofs.StepLemmas.{worker_low}
 use Rattle.site_yard.proofs.StoreLemmas.{end_adds, end_allowed, end_keeps, stop_adds, stop_fits, stop_keeps, stop_tells, wrote_tells}
+use Rattle.site_yard.proofs.DeliveryListLemmas.{list_fails, list_still}
+use Rattle.std.proofs.Common.{refl}
 use Rattle.site_yard.proofs.yard.Yard.publish.Goals as goal
 
 pub end-requires : goal.end-requires
@@ -65,3 +67,17 @@ returns-clause-tells g c =
     stop_tells y.book.plan (writes y.book.plan c.args.task.0) c.args.outputs.now _ _ _ (g.H.Host.counts y.host) (g.H.Host.counts c.store.new.host) c.in-Err.cause c.requires.within
     (subst (λ ns. WrotePairs y.book.plan (writes y.book.plan c.args.task.0) c.args.outputs.now (g.H.Host.told y.host) (g.H.Host.told c.store.new.host) ns (g.H.Host.counts y.host) (g.H.Host.counts c.store.new.host) (Err c.in-Err.cause)) (sym c.deref-in-Err.ensures.value)
     (subst (λ p. WrotePairs p (writes p c.args.task.0) c.args.outputs.now (g.H.Host.told y.host) (g.H.Host.told c.store.new.host) c.store.new.sizes.items (g.H.Host.counts y.host) (g.H.Host.counts c.store.new.host) (Err c.in-Err.cause)) (c.plan.ensures ∙ sym y.same_plan) c.in-Err.ensures.answer))
+
+pub invariant_of-self-clause-listed : goal.invariant_of-self-clause-listed
+invariant_of-self-clause-listed g c =
+    let y = c.args.self.now in
+    rw (c.end.ensures.history, c.end.ensures.plan, c.in-Ok.ensures.marked)
+    (list_still g.T.Tool.apply y.book.plan y.book.history.events _ (g.H.Host.told y.host) _ _ y.delivered.items refl (wrote_tells _ _ _ _ _ _ c.in-Ok.ensures.answer.0) y.listed)
+
+pub invariant_of-self-in-Err-clause-listed : goal.invariant_of-self-in-Err-clause-listed
+invariant_of-self-in-Err-clause-listed g c =
+    let y = c.args.self.now in
+    rw (c.fail.ensures.history, c.fail.ensures.plan, c.in-Err.ensures.marked)
+    (list_fails y.book g.T.Tool.apply (g.H.Host.told y.host) _ _ c.args.worker c.args.task.0 c.in-Err.cause _ y.delivered.items (stop_tells y.book.plan (writes y.book.plan c.args.task.0) c.args.outputs.now _ _ _ (g.H.Host.counts y.host) (g.H.Host.counts c.store.new.host) c.in-Err.cause c.requires.within
+    (subst (λ ns. WrotePairs y.book.plan (writes y.book.plan c.args.task.0) c.args.outputs.now (g.H.Host.told y.host) (g.H.Host.told c.store.new.host) ns (g.H.Host.counts y.host) (g.H.Host.counts c.store.new.host) (Err c.in-Err.cause)) (sym c.deref-in-Err.ensures.value)
+    (subst (λ p. WrotePairs p (writes p c.args.task.0) c.args.outputs.now (g.H.Host.told y.host) (g.H.Host.told c.store.new.host) c.store.new.sizes.items (g.H.Host.counts y.host) (g.H.Host.counts c.store.new.host) (Err c.in-Err.cause)) (c.plan.ensures ∙ sym y.same_plan) c.in-Err.ensures.answer))) y.listed)

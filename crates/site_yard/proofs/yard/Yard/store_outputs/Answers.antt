@@ -4,6 +4,9 @@ use Rattle.site_yard.specs.Storing.{AreWithin, IsOverlong}
 use Rattle.site_yard.specs.Yard.{Adds, AreOutputs, IsEnding}
 use Rattle.site_yard.proofs.StoreLemmas.{over_adds, over_fits, over_keeps}
 use Rattle.site_yard.proofs.StepLemmas.{worker_low}
+use Rattle.site_yard.proofs.DeliveryListLemmas.{list_fails}
+use Rattle.std.proofs.Common.{[], refl}
+use Rattle.run_record.specs.declared.entry.Cause.TheVariants.{Oversize}
 use Rattle.site_yard.proofs.yard.Yard.store_outputs.Goals as goal
 
 pub fail-requires-clause-worker : goal.fail-requires-clause-worker
@@ -35,3 +38,9 @@ pub store_within-requires-clause-within : goal.store_within-requires-clause-with
 store_within-requires-clause-within g c =
     let y = c.args.self.now in
     subst (λ p. AreWithin p (writes p c.args.task.0) c.args.outputs.now) (c.plan.ensures ∙ sym y.same_plan) c.in-None.ensures
+
+pub invariant_of-self-clause-listed : goal.invariant_of-self-clause-listed
+invariant_of-self-clause-listed g c =
+    let y = c.args.self.now in
+    rw (c.fail.ensures.history, c.fail.ensures.plan)
+    (list_fails y.book g.T.Tool.apply (g.H.Host.told y.host) _ _ c.args.worker c.args.task.0 (Oversize c.in-Some.over.job c.in-Some.over.file c.in-Some.over.length) [] y.delivered.items refl y.listed)
