@@ -4,3 +4,4 @@ pub mod PlanningLemmas
 pub mod LawLemmas
 pub mod DraftLemmas
 pub mod MeaningLemmas
+pub mod DeliveriesLemmas

@@ -1,5 +1,5 @@
 -- Plans mean the workflow: values are made of values, honest replicas hold them, and requested files are at hand.
-use Rattle.std.proofs.Common.{◌≡◌, ℕ, zero, suc, ◌<◌, ◌≤◌, Bool, true, false, cond, not, ◌||◌, ◌&&◌, List, [], ◌∷◌, length, map, refl, sym, ap, subst, ◌∙◌, nat_eq, nat_lt, ◌⊎◌, inl, inr, arith}
+use Rattle.std.proofs.Common.{◌≡◌, ℕ, zero, suc, ◌<◌, Bool, true, false, cond, not, ◌||◌, ◌&&◌, List, [], ◌∷◌, length, map, refl, sym, ap, subst, ◌∙◌, nat_eq, nat_lt, ◌⊎◌, inl, inr, arith}
 use Rattle.std.specs.Prelude.{Option, Some, None, IfSome, Result, Ok, Err, find, option_and_then, slice_get, slice_index_or}
 use Rattle.std.specs.List.{AllByRecursion, list_any}
 use Rattle.std.specs.Str.{bytes_eq}
@@ -22,11 +22,11 @@ use Rattle.workflow_core.specs.declared.workflow.Workflow.{Workflow}
 use Rattle.workflow_core.specs.Requested.{is_requested, requests}
 use Rattle.workflow_core.specs.WellFormed.{IsWellFormed, outputs_of}
 use Rattle.dependency_graph.specs.Built.{name_of}
-use Rattle.dependency_graph.specs.Edges.{has_output, is_among, written_by}
+use Rattle.dependency_graph.specs.Edges.{is_among, written_by}
 use Rattle.dependency_graph.specs.Flow.{FlowsAlong}
 use Rattle.dependency_graph.specs.Levels.{is_kept}
-use Rattle.dependency_graph.specs.Value.{made_by, tool_at}
-use Rattle.data_reuse.specs.Kept.{AreKept, IsKept, is_wanted}
+use Rattle.dependency_graph.specs.Value.{made_by}
+use Rattle.data_reuse.specs.Kept.{IsKept}
 use Rattle.data_reuse.specs.Registered.{absent_in, is_registered, registers}
 use Rattle.replica_catalog.specs.declared.catalog.Pfn.{Pfn}
 use Rattle.replica_catalog.specs.declared.catalog.Replica.{Replica}
@@ -44,7 +44,7 @@ use Rattle.plan_core.specs.declared.plan.Plan.{Plan}
 use Rattle.plan_core.specs.Numbers.{has}
 use Rattle.plan_core.proofs.NumbersLemmas.{any_has}
 use Rattle.plan_core.proofs.TestLemmas.{and_both, both, by_bool, either, or_left, or_right}
-use Rattle.transfer_refiner.specs.Draft.{Draft, entry_in, is_empty, makes, pfns_in, pfns_of}
+use Rattle.transfer_refiner.specs.Draft.{Draft, entry_in, is_empty, makes, pfns_in}
 use Rattle.transfer_refiner.specs.Meaning.{AreAtHand, AreHeld, AreValues}
 use Rattle.transfer_refiner.specs.Tasks.{is_made}
 use Rattle.transfer_refiner.proofs.JobsLemmas.{written_below}
@@ -59,7 +59,6 @@ use Rattle.planner.specs.declared.plan_fault.PlanFault.{PlanFault}
 use Rattle.planner.specs.Catalogue.{found, held}
 use Rattle.planner.specs.Course.{SurveyEntry, all_listed, or_empty, replicas_in, sites_in, surveyed, transformations_in, workflow_in}
 use Rattle.planner.specs.Meaning.{AreHonest, IsHonest, Told, basis_of, entry_named, value_of}
-use Rattle.planner.specs.Meaning as meaning
 use Rattle.planner.specs.Planning.{AreLeveled, draft}
 use Rattle.planner.specs.PlanFault.{answered}
 

@@ -6,3 +6,4 @@ pub mod Course
 pub mod Ordering
 pub mod Planning
 pub mod Meaning
+pub mod Deliveries

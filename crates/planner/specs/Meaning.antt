@@ -1,5 +1,5 @@
 -- What the files of a request's workflow are worth, and when the registered replicas are honest.
-use Rattle.std.specs.Prelude.{◌≡◌, ℕ, Bool, true, List, [], ◌∷◌, find, map, Option, Some, None, IfSome, is_some, option_map, slice_get}
+use Rattle.std.specs.Prelude.{◌≡◌, ℕ, true, List, [], ◌∷◌, find, map, Option, Some, None, IfSome, is_some, option_map, slice_get}
 use Rattle.std.specs.List.{AllByRecursion}
 use Rattle.sha2.specs.Sha256.{sha256}
 use Rattle.outside.specs.Tool.{Apply}

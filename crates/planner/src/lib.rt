@@ -8,6 +8,7 @@
 
 mod catalogue;
 mod course;
+mod deliveries;
 mod document;
 mod inputs;
 mod law;
@@ -18,6 +19,7 @@ mod planning;
 mod refused;
 
 pub use course::survey;
+pub use deliveries::plans_deliver_requests;
 pub use document::Document;
 pub use inputs::Survey;
 pub use meaning::plans_mean_the_workflow;
