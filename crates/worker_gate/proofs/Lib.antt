@@ -1,0 +1,9 @@
+mod SmallLemmas
+mod StateLemmas
+mod WorkLemmas
+mod RunLemmas
+mod CarriedLemmas
+mod TaskLemmas
+mod TableLemmas
+mod RunningLemmas
+mod ComputingLemmas

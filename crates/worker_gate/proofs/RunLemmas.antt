@@ -1,0 +1,178 @@
+-- From one step to the end of the record.
+use Rattle.std.proofs.Common.{◌≡◌, ℕ, ◌+◌, ◌≤◌, ◌<◌, ◌||◌, false, List, [], ◌∷◌, ◌++◌, length, take, refl, sym, ap, subst, ◌∙◌, arith, append_assoc, length-append}
+use Rattle.std.specs.List.{list_any}
+use Rattle.std.proofs.lemmas.List.Folds.{list_any-append}
+use Rattle.std.proofs.Math.Logic.{∥∥₁_elim}
+use Rattle.std.proofs.Props.{props}
+use Rattle.outside.specs.Counts.{IsLater}
+use Rattle.outside.specs.declared.counts.Counts.{Counts}
+use Rattle.plan_core.specs.declared.plan.Plan.{Plan}
+use Rattle.plan_core.specs.Words.{retries, task_numbers}
+use Rattle.run_record.specs.Events.{Event, Grant, Arrive, End, Clean, Fail, Again, Regrant}
+use Rattle.storage_simulation.specs.Following.{AreOnce}
+use Rattle.lease_book.specs.declared.book.Book.{Book}
+use Rattle.lease_book.specs.Book.{state_at}
+use Rattle.lease_book.specs.Law.{IsConsistent}
+use Rattle.lease_book.specs.Legal.{Legal, LegalFrom}
+use Rattle.lease_book.specs.Room.{entries_room}
+use Rattle.lease_book.specs.State.{State, after, now, now_from, opened, without}
+use Rattle.lease_book.proofs.ListLemmas.{without_head}
+use Rattle.site_yard.specs.Failures.{RoseBy, tool_faults}
+use Rattle.worker_gate.specs.Alone.{AllBy, BeginFirst, IsOver, NoneOpen, WorksAlone, begun, is_afresh}
+use Rattle.worker_gate.specs.Law.{HasLeaseLaws}
+use Rattle.worker_gate.specs.Stepping.{WorksOn}
+use Rattle.worker_gate.proofs.StateLemmas.{first_append, legal_split, now_split, room_after}
+use Rattle.worker_gate.proofs.WorkLemmas.{IsOneRun, consistent_at, rose_both, rose_zero}
+
+nothing_more : (r : List Event) → r ≡ r ++ []
+nothing_more [] = refl
+nothing_more (e ∷ r) = ap (λ l. e ∷ l) (nothing_more r)
+
+no_faults : tool_faults 0 [] ≡ 0
+unfolding tool_faults
+no_faults = refl
+
+faults_append : (xs ys : List Event) → tool_faults 0 (xs ++ ys) ≡ tool_faults 0 xs + tool_faults 0 ys
+unfolding tool_faults
+faults_append [] ys = omega arith
+faults_append (e ∷ xs) ys = let rest = faults_append xs ys in omega (arith, rest)
+
+all_append : (w : ℕ) (xs ys : List Event) → AllBy w xs → AllBy w ys → AllBy w (xs ++ ys)
+all_append w [] ys a b = b
+all_append w (e ∷ xs) ys a b = (a.0, all_append w xs ys a.1 b)
+
+pub one_run : (b : Book) → IsOneRun b b
+one_run b = record { plan = refl; order = refl }
+
+pub runs_on : (a b c : Book) → IsOneRun a b → IsOneRun b c → IsOneRun a c
+runs_on a b c x y = record { plan = y.plan ∙ x.plan; order = y.order ∙ x.order }
+
+-- before the first step
+pub works_first : (b : Book) (x : ℕ) → NoneOpen (state_at b) → WorksOn b.plan (state_at b) b.history.events b.history.events (state_at b) x x
+works_first b x none = record {
+  added = [];
+  is = nothing_more b.history.events;
+  by_zero = tt;
+  first = tt;
+  none_afresh = refl;
+  none_open = none;
+  counted = rose_zero _ x no_faults;
+}
+
+state_over : (a b : Book) (xs : List Event) → IsOneRun a b → b.history.events ≡ a.history.events ++ xs → state_at b ≡ now_from a.plan (state_at a) xs
+state_over a b xs same is =
+    ap (λ p. now p (task_numbers b.order.items) b.history.events) same.plan
+    ∙ ap (λ os. now a.plan (task_numbers os) b.history.events) same.order
+    ∙ ap (λ r. now a.plan (task_numbers a.order.items) r) is
+    ∙ now_split a.plan (opened (task_numbers a.order.items)) a.history.events xs
+
+-- one step more
+pub works_then : (a b c : Book) (x y z : ℕ) → IsOneRun a b → y ≤ z → WorksOn a.plan (state_at a) a.history.events b.history.events (state_at b) x y → WorksOn b.plan (state_at b) b.history.events c.history.events (state_at c) y z
+    → WorksOn a.plan (state_at a) a.history.events c.history.events (state_at c) x z
+works_then a b c x y z same le u v = record {
+  added = u.added ++ v.added;
+  is = v.is ∙ ap (λ l. l ++ v.added) u.is ∙ append_assoc a.history.events u.added v.added;
+  by_zero = all_append 0 u.added v.added u.by_zero v.by_zero;
+  first = first_append a.plan (state_at a) u.added v.added u.first
+      (subst (λ s. BeginFirst a.plan s v.added) (state_over a b u.added same u.is)
+      (subst (λ p. BeginFirst p (state_at b) v.added) same.plan v.first));
+  none_afresh = list_any-append is_afresh u.added v.added ∙ ap (λ q. q || list_any is_afresh v.added) u.none_afresh ∙ v.none_afresh;
+  none_open = v.none_open;
+  counted = subst (λ n. RoseBy n x z) (sym (faults_append u.added v.added)) (rose_both _ _ x y z le u.counted v.counted);
+}
+
+legal_here : (a b : Book) (xs : List Event) → IsOneRun a b → b.history.events ≡ a.history.events ++ xs → Legal b.plan (task_numbers b.order.items) b.history.events → LegalFrom a.plan (state_at a) xs
+legal_here a b xs same is legal =
+    legal_split a.plan (opened (task_numbers a.order.items)) a.history.events xs
+    (subst (Legal a.plan (task_numbers a.order.items)) is
+    (subst (λ os. Legal a.plan (task_numbers os) b.history.events) same.order
+    (subst (λ p. Legal p (task_numbers b.order.items) b.history.events) same.plan legal)))
+
+-- the room falls with each step
+some_added : (r xs new : List Event) → new ≡ r ++ xs → length r < length new → 0 < length xs
+some_added r xs new is h = let l = ap length is in let m = length-append r xs in omega (arith, l, m, h)
+
+less_by : (a b n : ℕ) → a + n ≤ b → 0 < n → a < b
+less_by a b n le some = omega (arith, le, some)
+
+pub room_falls_on : (a b : Book) (x y : ℕ) → HasLeaseLaws a.plan → IsOneRun a b → WorksOn a.plan (state_at a) a.history.events b.history.events (state_at b) x y → length a.history.events < length b.history.events → entries_room b.plan (state_at b) < entries_room a.plan (state_at a)
+room_falls_on a b x y laws same works longer =
+    ∥∥₁_elim b.kept.legal (hlevel props) (λ legal.
+    subst (λ s. entries_room b.plan s < entries_room a.plan (state_at a)) (sym (state_over a b works.added same works.is))
+    (subst (λ p. entries_room p (now_from a.plan (state_at a) works.added) < entries_room a.plan (state_at a)) (sym same.plan)
+    (less_by _ _ (length works.added)
+    (room_after a.plan laws (state_at a) works.added (consistent_at a) (legal_here a b works.added same works.is legal))
+    (some_added a.history.events works.added b.history.events works.is longer))))
+
+-- where nothing is tried again, tasks begin in the order that was left
+first_is : (t : ℕ) (xs : List ℕ) → t ∷ [] ≡ take 1 xs → (ts : List ℕ) × (xs ≡ t ∷ ts)
+first_is t [] e = absurd cc
+first_is t (x ∷ xs) e = (xs, let same : t ≡ x = cc in ap (λ y. y ∷ xs) (sym same))
+
+begins_next : (rest left bs : List ℕ) (t : ℕ) → AreOnce rest → t ∷ [] ≡ take 1 rest → left ≡ without t rest → bs ≡ take (length bs) left → t ∷ bs ≡ take (length (t ∷ bs)) rest
+begins_next rest left bs t once first is so =
+    let cut = first_is t rest first in
+    let same : left ≡ cut.0 = is ∙ ap (without t) cut.1 ∙ without_head t cut.0 (subst AreOnce cut.1 once) in
+    ap (λ l. t ∷ l) (so ∙ ap (take (length bs)) same) ∙ ap (take (length (t ∷ bs))) (sym cut.1)
+
+none_less : (n r : ℕ) → r ≡ 0 → n < r → ⊥
+none_less n r e h = absurd (omega (arith, e, h))
+
+in_order_from : (p : Plan) (s : State) (xs : List Event) → HasLeaseLaws p → IsConsistent p s → retries p ≡ 0 → LegalFrom p s xs → BeginFirst p s xs → list_any is_afresh xs ≡ false → begun xs ≡ take (length (begun xs)) s.rest
+in_order_from p s [] laws consistent none legal first fresh = refl
+in_order_from p s (Grant w t ∷ xs) laws consistent none legal first fresh =
+    begins_next s.rest (without t s.rest) (begun xs) t consistent.sound.safe.once first.0 refl (in_order_from p (after p s (Grant w t)) xs laws (laws.consistent s (Grant w t) consistent legal.0) none legal.1 first.1 fresh)
+in_order_from p s (Clean w t ∷ xs) laws consistent none legal first fresh =
+    begins_next s.rest (without t s.rest) (begun xs) t consistent.sound.safe.once first.0 refl (in_order_from p (after p s (Clean w t)) xs laws (laws.consistent s (Clean w t) consistent legal.0) none legal.1 first.1 fresh)
+in_order_from p s (Regrant w t ∷ xs) laws consistent none legal first fresh = absurd cc
+in_order_from p s (Again w t c ns ∷ xs) laws consistent none legal first fresh = absurd (none_less (s.agains t) (retries p) none legal.0.5)
+in_order_from p s (Arrive w t n ∷ xs) laws consistent none legal first fresh = in_order_from p (after p s (Arrive w t n)) xs laws (laws.consistent s (Arrive w t n) consistent legal.0) none legal.1 first.1 fresh
+in_order_from p s (End w t ns ∷ xs) laws consistent none legal first fresh = in_order_from p (after p s (End w t ns)) xs laws (laws.consistent s (End w t ns) consistent legal.0) none legal.1 first.1 fresh
+in_order_from p s (Fail w t c ns ∷ xs) laws consistent none legal first fresh = in_order_from p (after p s (Fail w t c ns)) xs laws (laws.consistent s (Fail w t c ns) consistent legal.0) none legal.1 first.1 fresh
+
+pub in_order_of : (a b : Book) (xs : List Event) → HasLeaseLaws a.plan → IsOneRun a b → b.history.events ≡ a.history.events ++ xs → BeginFirst a.plan (state_at a) xs → list_any is_afresh xs ≡ false → retries a.plan ≡ 0 → begun xs ≡ take (length (begun xs)) (state_at a).rest
+in_order_of a b xs laws same is first fresh none =
+    ∥∥₁_elim b.kept.legal (hlevel props) (λ legal. in_order_from a.plan (state_at a) xs laws (consistent_at a) none (legal_here a b xs same is legal) first fresh)
+
+-- the end: c's record is b's, and it is over
+pub works_alone : (a b c : Book) (p : Plan) (order : List ℕ) (x y : ℕ) → HasLeaseLaws a.plan → a.plan ≡ p → task_numbers a.order.items ≡ order → IsOneRun a b → WorksOn a.plan (state_at a) a.history.events b.history.events (state_at b) x y → c.history.events ≡ b.history.events → IsOver b.plan (state_at b)
+    → WorksAlone p order a.history.events c.history.events x y
+works_alone a b c p order x y laws plan tasks same_b works is over =
+    subst (λ o. WorksAlone p o a.history.events c.history.events x y) tasks
+    (subst (λ q. WorksAlone q (task_numbers a.order.items) a.history.events c.history.events x y) plan (record {
+      added = works.added;
+      is = is ∙ works.is;
+      by_zero = works.by_zero;
+      over = subst (λ s. IsOver a.plan s) here (subst (λ q. IsOver q (state_at b)) same_b.plan over);
+      none_open = subst NoneOpen here works.none_open;
+      first = works.first;
+      none_afresh = works.none_afresh;
+      in_order = in_order_of a b works.added laws same_b works.is works.first works.none_afresh;
+      counted = works.counted;
+    }))
+  where
+    here : state_at b ≡ now a.plan (task_numbers a.order.items) c.history.events
+    here =
+        ap (λ q. now q (task_numbers b.order.items) b.history.events) same_b.plan
+        ∙ ap (λ os. now a.plan (task_numbers os) b.history.events) same_b.order
+        ∙ ap (λ r. now a.plan (task_numbers a.order.items) r) (sym is)
+
+-- counts that never fall
+pub still : (a : Counts) → IsLater a a
+still a = record { done = omega arith; faults = omega arith; misses = omega arith }
+
+pub later_both : (a b c : Counts) → IsLater a b → IsLater b c → IsLater a c
+later_both a b c x y =
+    let xd : a.done ≤ b.done = x.done in
+    let xf : a.faults ≤ b.faults = x.faults in
+    let xm : a.misses ≤ b.misses = x.misses in
+    let yd : b.done ≤ c.done = y.done in
+    let yf : b.faults ≤ c.faults = y.faults in
+    let ym : b.misses ≤ c.misses = y.misses in
+    record { done = omega (arith, xd, yd); faults = omega (arith, xf, yf); misses = omega (arith, xm, ym) }
+
+pub same_count : (x : ℕ) → x ≤ x
+same_count x = omega arith
+
+pub both_counts : (x y z : ℕ) → x ≤ y → y ≤ z → x ≤ z
+both_counts x y z a b = omega (arith, a, b)

@@ -1,0 +1,59 @@
+use Rattle.std.proofs.Common.{refl, sym, ap, subst, ◌∙◌}
+use Rattle.plan_core.specs.Words.{task_numbers}
+use Rattle.lease_book.specs.Book.{state_at}
+use Rattle.worker_gate.specs.Alone.{IsOver}
+use Rattle.worker_gate.specs.Stepping.{WorksOn}
+use Rattle.worker_gate.proofs.RunLemmas.{both_counts, later_both, room_falls_on, same_count, still, works_alone, works_first, works_then}
+use Rattle.worker_gate.proofs.WorkLemmas.{one_run_of}
+use Rattle.worker_gate.proofs.alone.run_alone.Goals as goal
+
+pub loop-alloc-init : goal.loop-alloc-init
+loop-alloc-init g c =
+    let x = g.T.Tool.faults c.args.crew.now.tool in
+    (works_first c.args.yard.book x c.requires, same_count x, refl, refl, refl, refl, refl, still (g.H.Host.counts c.args.yard.host))
+
+pub loop-alloc-smaller : goal.loop-alloc-smaller
+loop-alloc-smaller g c =
+    let b = c.loop-alloc.yard in
+    let d = c.step.new.yard in
+    let y = g.T.Tool.faults c.loop-alloc.crew.tool in
+    let z = g.T.Tool.faults c.step.new.tool in
+    let here = one_run_of b.book d.book b.ordered d.ordered b.same_plan b.same_order d.same_plan d.same_order c.loop-alloc-test.ensures.ordered in
+    let works = subst (λ p. WorksOn p (state_at b.book) b.book.history.events d.book.history.events (state_at d.book) y z) (sym b.same_plan) c.loop-alloc-test.ensures.steps.0 in
+    room_falls_on b.book d.book y z (c.lease_laws.ensures b.book.plan b.book.proper) here works c.loop-alloc-test.ensures.steps.1
+
+pub loop-alloc-preserved : goal.loop-alloc-preserved
+loop-alloc-preserved g c =
+    let a = c.args.yard in
+    let b = c.loop-alloc.yard in
+    let d = c.step.new.yard in
+    let x = g.T.Tool.faults c.args.crew.now.tool in
+    let y = g.T.Tool.faults c.loop-alloc.crew.tool in
+    let z = g.T.Tool.faults c.step.new.tool in
+    let i = c.loop-alloc.invariant in
+    let e = c.loop-alloc-test.ensures in
+    let before = one_run_of a.book b.book a.ordered b.ordered a.same_plan a.same_order b.same_plan b.same_order i.2 in
+    let works = subst (λ p. WorksOn p (state_at b.book) b.book.history.events d.book.history.events (state_at d.book) y z) (sym b.same_plan) e.steps.0 in (
+      works_then a.book b.book d.book x y z before e.tool i.0 works,
+      both_counts x y z i.1 e.tool,
+      e.ordered ∙ i.2,
+      e.marked ∙ i.3,
+      e.faults ∙ i.4,
+      e.misses ∙ i.5,
+      e.tells ∙ i.6,
+      later_both (g.H.Host.counts a.host) (g.H.Host.counts b.host) (g.H.Host.counts d.host) i.7 e.later,
+    )
+
+pub returns-clause-works : goal.returns-clause-works
+returns-clause-works g c =
+    let a = c.args.yard in
+    let b = c.loop-alloc.yard in
+    let d = c.step.new.yard in
+    let x = g.T.Tool.faults c.args.crew.now.tool in
+    let y = g.T.Tool.faults c.loop-alloc.crew.tool in
+    let i = c.loop-alloc.invariant in
+    let e = c.loop-alloc-test.ensures in
+    let before = one_run_of a.book b.book a.ordered b.ordered a.same_plan a.same_order b.same_plan b.same_order i.2 in
+    rw (e.steps.2)
+    (works_alone a.book b.book d.book a.ordered.plan (task_numbers a.ordered.tasks.items) x y (c.lease_laws.ensures a.book.plan a.book.proper) a.same_plan (ap task_numbers a.same_order) before i.0 e.steps.0
+    (subst (λ p. IsOver p (state_at b.book)) (sym b.same_plan) e.steps.1))

@@ -1,0 +1,21 @@
+use Rattle.std.proofs.Common.{◌≡◌, ◌≤◌}
+use Rattle.std.specs.Prelude.{is_some}
+use Rattle.outside.specs.Counts.{IsLater}
+use Rattle.lease_book.specs.Book.{state_at}
+use Rattle.lease_book.specs.Room.{entries_room}
+use Rattle.worker_gate.specs.Stepping.{WorksOn}
+use Rattle.worker_gate.proofs.alone.run_alone.Given as goal
+
+abbrev pub invariant-loop-alloc : goal.invariant-loop-alloc
+invariant-loop-alloc g l =
+    WorksOn l.fn.yard.book.plan (state_at l.fn.yard.book) l.fn.yard.book.history.events l.yard.book.history.events (state_at l.yard.book) (g.T.Tool.faults l.initial.crew.tool) (g.T.Tool.faults l.crew.tool)
+    × (g.T.Tool.faults l.initial.crew.tool ≤ g.T.Tool.faults l.crew.tool)
+    × (l.yard.ordered ≡ l.fn.yard.ordered)
+    × (g.H.Host.marked l.yard.host ≡ g.H.Host.marked l.fn.yard.host)
+    × (l.yard.faults ≡ l.fn.yard.faults)
+    × (l.yard.misses ≡ l.fn.yard.misses)
+    × (is_some (g.H.Host.told l.yard.host) ≡ is_some (g.H.Host.told l.fn.yard.host))
+    × IsLater (g.H.Host.counts l.fn.yard.host) (g.H.Host.counts l.yard.host)
+
+abbrev pub decreases-loop-alloc : goal.decreases-loop-alloc
+decreases-loop-alloc g l = entries_room l.yard.book.plan (state_at l.yard.book)

@@ -1,0 +1,28 @@
+use Rattle.std.proofs.Common.{subst, ap}
+use Rattle.std.specs.FinMap as files
+use Rattle.plan_core.specs.Proper.{IsProper}
+use Rattle.worker_gate.proofs.TaskLemmas.{cause_told_after, outputs_told}
+use Rattle.worker_gate.proofs.stepping.run_task.Goals as goal
+
+pub store_outputs-requires-clause-told : goal.store_outputs-requires-clause-told
+store_outputs-requires-clause-told g c =
+    let y = c.args.yard.now in
+    let z = c.load.new.self in
+    let t = c.args.task.0 in
+    let blobs = c.in-Some.blobs.items in
+    rw c.deref.ensures.value
+    (outputs_told g.T.Tool.apply y.ordered.plan z.ordered.plan c.plan.result.now (g.H.Host.marked y.host) (g.H.Host.marked z.host) (g.H.Host.told y.host) (g.H.Host.told z.host) t blobs (g.T.Tool.faults c.args.tool.now) (g.T.Tool.faults c.compute.new.tool) c.in-Ok.outputs
+    (ap (λ o. o.plan) c.in-Some.ensures.ordered) c.plan.ensures c.in-Some.ensures.marked c.in-Some.ensures.told
+    (c.runs_carry_what_they_compute.ensures g.T.Tool.apply (λ pfn. files.get (g.H.Host.marked y.host).replicas pfn) y.ordered.plan t blobs (subst IsProper y.same_plan y.book.proper) c.requires.kind)
+    c.in-Some.ensures.loaded.1 c.in-Ok.ensures.answer)
+
+pub fault-requires-clause-told : goal.fault-requires-clause-told
+fault-requires-clause-told g c =
+    let y = c.args.yard.now in
+    let z = c.load.new.self in
+    let t = c.args.task.0 in
+    let blobs = c.in-Some.blobs.items in
+    cause_told_after g.T.Tool.apply y.ordered.plan z.ordered.plan c.plan.result.now (g.H.Host.marked y.host) (g.H.Host.marked z.host) (g.H.Host.told y.host) (g.H.Host.told z.host) t blobs (g.T.Tool.faults c.args.tool.now) (g.T.Tool.faults c.compute.new.tool) c.in-Err.cause
+    (ap (λ o. o.plan) c.in-Some.ensures.ordered) c.plan.ensures c.in-Some.ensures.marked c.in-Some.ensures.told
+    (c.runs_carry_what_they_compute.ensures g.T.Tool.apply (λ pfn. files.get (g.H.Host.marked y.host).replicas pfn) y.ordered.plan t blobs (subst IsProper y.same_plan y.book.proper) c.requires.kind)
+    c.in-Some.ensures.loaded.1 c.in-Err.ensures.answer

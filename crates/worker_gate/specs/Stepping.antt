@@ -1,0 +1,39 @@
+-- What one step of a worker adds to a record.
+use Rattle.std.specs.Prelude.{◌≡◌, ℕ, ◌<◌, Bool, true, false, List, [], ◌∷◌, ◌++◌, length}
+use Rattle.std.specs.List.{list_any}
+use Rattle.plan_core.specs.declared.plan.Plan.{Plan}
+use Rattle.run_record.specs.Events.{Event, Arrive, End, Fail, Again}
+use Rattle.lease_book.specs.State.{State}
+use Rattle.site_yard.specs.Failures.{RoseBy, tool_faults, tool_faults_of}
+use Rattle.worker_gate.specs.Alone.{AllBy, BeginFirst, IsOver, NoneOpen, is_afresh}
+
+-- worker 0's entry after the grant of a task
+abbrev pub IsDone : ℕ → Event → Type 0
+IsDone t (Arrive w u n) = (w ≡ 0) × (u ≡ t)
+IsDone t (End w u ns) = (w ≡ 0) × (u ≡ t)
+IsDone t (Fail w u c ns) = (w ≡ 0) × (u ≡ t)
+IsDone t (Again w u c ns) = (w ≡ 0) × (u ≡ t)
+IsDone t _ = ⊥
+
+-- one entry more, which the tool's count shows
+pub record DoesTask (r after : List Event) (t before later : ℕ) : Type 0 where
+  pub entry : Event
+  pub is : after ≡ r ++ entry ∷ []
+  pub done : IsDone t entry
+  pub counted : RoseBy (tool_faults_of 0 entry) before later
+
+-- What is added after a record r, whose state is s: worker 0's entries, each of which begins what is left first, and no
+-- fresh order. In the state that follows no task is open.
+pub record WorksOn (p : Plan) (s : State) (r after : List Event) (next : State) (before later : ℕ) : Type 0 where
+  pub added : List Event
+  pub is : after ≡ r ++ added
+  pub by_zero : AllBy 0 added
+  pub first : BeginFirst p s added
+  pub none_afresh : list_any is_afresh added ≡ false
+  pub none_open : NoneOpen next
+  pub counted : RoseBy (tool_faults 0 added) before later
+
+-- it adds something, or the record is over
+abbrev pub Steps : Plan → State → List Event → List Event → State → ℕ → ℕ → Bool → Type 0
+Steps p s r after next before later true = WorksOn p s r after next before later × (length r < length after)
+Steps p s r after next before later false = (after ≡ r) × IsOver p s × (later ≡ before)

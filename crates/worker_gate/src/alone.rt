@@ -1,0 +1,37 @@
+//! One worker alone.
+
+ghost use Rattle.std.specs.Prelude.{◌≡◌, ◌≤◌, is_some};
+ghost use Rattle.outside.specs.Counts.{IsLater};
+ghost use Rattle.plan_core.specs.Words.{task_numbers};
+ghost use Rattle.lease_book.specs.Book.{state_at};
+ghost use Rattle.worker_gate.specs.Alone.{NoneOpen, WorksAlone};
+
+use crate::law::lease_laws;
+use crate::stepping::step;
+use craft::{Crew, Gate};
+use outside::{Host, Tool};
+use site_yard::Yard;
+use std::alloc::Global;
+
+/// Works as worker 0 until all is done or something failed. It waits for nobody, and asks no gate.
+pub fn run_alone<H: Host, T: Tool, G: Gate>(
+    alloc: Global,
+    yard: Yard<H, T>,
+    crew: &mut Crew<T, G>,
+) -> Yard<H, T>
+    requires { NoneOpen (state_at yard.book) }
+    ensures works { WorksAlone yard.ordered.plan (task_numbers yard.ordered.tasks.items) yard.book.history.events result.book.history.events (T.faults crew.old.tool) (T.faults crew.new.tool) }
+    ensures tool { T.faults crew.old.tool ≤ T.faults crew.new.tool }
+    ensures ordered { result.ordered ≡ yard.ordered }
+    ensures marked { H.marked result.host ≡ H.marked yard.host }
+    ensures faults { result.faults ≡ yard.faults }
+    ensures misses { result.misses ≡ yard.misses }
+    ensures tells { is_some (H.told result.host) ≡ is_some (H.told yard.host) }
+    ensures later { IsLater (H.counts yard.host) (H.counts result.host) }
+{
+    // A law for the proof: it does nothing.
+    lease_laws();
+    let mut yard = yard;
+    while step(alloc, &mut yard, &mut crew.tool) {}
+    yard
+}

@@ -1,0 +1,87 @@
+//! One task of a worker alone, from its lease to its end.
+
+ghost use Rattle.std.specs.Prelude.{◌≡◌, ◌≤◌, is_some, true};
+ghost use Rattle.outside.specs.Counts.{IsLater};
+ghost use Rattle.plan_core.specs.Words.{is_run};
+ghost use Rattle.lease_book.specs.Book.{state_at};
+ghost use Rattle.lease_book.specs.Legal.{IsOpen};
+ghost use Rattle.worker_gate.specs.Alone.{NoneOpen};
+ghost use Rattle.worker_gate.specs.Stepping.{DoesTask, Steps};
+
+use crate::computing::compute;
+use crate::law::{lease_laws, runs_carry_what_they_compute};
+use outside::{Host, TaskId, Tool};
+use site_yard::{Leased, Yard};
+use std::alloc::Global;
+
+/// Reads what a Run reads, computes its jobs and stores what they make.
+fn run_task<H: Host, T: Tool>(alloc: Global, yard: &mut Yard<H, T>, tool: &mut T, task: TaskId)
+    requires open { IsOpen (state_at yard.old.book) 0 task.0 }
+    requires kind { is_run yard.old.ordered.plan task.0 ≡ true }
+    ensures does { DoesTask yard.old.book.history.events yard.new.book.history.events task.0 (T.faults tool.old) (T.faults tool.new) }
+    ensures tool { T.faults tool.old ≤ T.faults tool.new }
+    ensures ordered { yard.new.ordered ≡ yard.old.ordered }
+    ensures marked { H.marked yard.new.host ≡ H.marked yard.old.host }
+    ensures faults { yard.new.faults ≡ yard.old.faults }
+    ensures misses { yard.new.misses ≡ yard.old.misses }
+    ensures tells { is_some (H.told yard.new.host) ≡ is_some (H.told yard.old.host) }
+    ensures later { IsLater (H.counts yard.old.host) (H.counts yard.new.host) }
+{
+    // A law for the proof: it does nothing.
+    runs_carry_what_they_compute();
+    match yard.load(alloc, 0, task) {
+        None => {}
+        Some(blobs) => match compute(alloc, yard.plan(), task, blobs, tool) {
+            Ok(outputs) => yard.store_outputs(alloc, 0, task, &outputs),
+            Err(cause) => yard.fault(0, task, &cause),
+        },
+    }
+}
+
+/// Does what a task says that is open.
+fn do_task<H: Host, T: Tool>(alloc: Global, yard: &mut Yard<H, T>, tool: &mut T, task: TaskId)
+    requires { IsOpen (state_at yard.old.book) 0 task.0 }
+    ensures does { DoesTask yard.old.book.history.events yard.new.book.history.events task.0 (T.faults tool.old) (T.faults tool.new) }
+    ensures tool { T.faults tool.old ≤ T.faults tool.new }
+    ensures ordered { yard.new.ordered ≡ yard.old.ordered }
+    ensures marked { H.marked yard.new.host ≡ H.marked yard.old.host }
+    ensures faults { yard.new.faults ≡ yard.old.faults }
+    ensures misses { yard.new.misses ≡ yard.old.misses }
+    ensures tells { is_some (H.told yard.new.host) ≡ is_some (H.told yard.old.host) }
+    ensures later { IsLater (H.counts yard.old.host) (H.counts yard.new.host) }
+{
+    if yard.plan().is_transfer(task) {
+        yard.bring(alloc, 0, task);
+    } else {
+        run_task(alloc, yard, tool, task);
+    }
+}
+
+/// Leases as worker 0 and does the task. It tells whether the record goes on.
+pub(crate) fn step<H: Host, T: Tool>(alloc: Global, yard: &mut Yard<H, T>, tool: &mut T) -> bool
+    requires { NoneOpen (state_at yard.old.book) }
+    ensures steps { Steps yard.old.ordered.plan (state_at yard.old.book) yard.old.book.history.events yard.new.book.history.events (state_at yard.new.book) (T.faults tool.old) (T.faults tool.new) result }
+    ensures tool { T.faults tool.old ≤ T.faults tool.new }
+    ensures ordered { yard.new.ordered ≡ yard.old.ordered }
+    ensures marked { H.marked yard.new.host ≡ H.marked yard.old.host }
+    ensures faults { yard.new.faults ≡ yard.old.faults }
+    ensures misses { yard.new.misses ≡ yard.old.misses }
+    ensures tells { is_some (H.told yard.new.host) ≡ is_some (H.told yard.old.host) }
+    ensures later { IsLater (H.counts yard.old.host) (H.counts yard.new.host) }
+{
+    // For the proof: a law, and that the record's state is safe.
+    lease_laws();
+    let _record = yard.book().record();
+    match yard.lease(alloc, 0) {
+        Leased::Granted(task) => {
+            do_task(alloc, yard, tool, task);
+            true
+        }
+        Leased::Swept(_) => true,
+        Leased::Failed(_) => true,
+        Leased::Again(_) => true,
+        Leased::Done => false,
+        Leased::Stopped => false,
+        Leased::NotYet => unreachable!(),
+    }
+}
