@@ -1,6 +1,6 @@
 -- The clause of a call.
-use Rattle.std.proofs.Common.{◌≡◌, ℕ, ◌++◌, List, [], length, take, refl, sym, ap, subst, ◌∙◌, inl, inr, arith}
-use Rattle.std.specs.Prelude.{◌⊎◌, Option, Some, None, Result, Ok, Err}
+use Rattle.std.proofs.Common.{◌≡◌, ℕ, ◌++◌, List, [], ◌∷◌, length, map, get_or, take, refl, sym, ap, subst, ◌∙◌, inl, inr, arith}
+use Rattle.std.specs.Prelude.{◌⊎◌, Option, Some, None, Result, Ok, Err, slice_set}
 use Rattle.std.specs.Io.KnownBytes.{Appends}
 use Rattle.outside.specs.Counts.{Rose}
 use Rattle.outside.specs.FileMap.{Files}
@@ -26,18 +26,17 @@ use Rattle.planner.specs.declared.plan_fault.PlanFault.TheVariants as plan
 use Rattle.planner.specs.declared.inputs.Survey.{Survey}
 use Rattle.pegasus_cli.specs.Call.{Ends, HasWorked, IsAnswer, IsAnswered, IsDoneOrMemory, IsStopped, IsUsage, MayFinish, NoneRose}
 use Rattle.pegasus_cli.specs.Commands.{spec_of}
-use Rattle.pegasus_cli.specs.Commands.Alone.{Tells}
 use Rattle.pegasus_cli.specs.Commands.Eval.{Says as eval_says}
 use Rattle.pegasus_cli.specs.Commands.Check.{Says}
 use Rattle.pegasus_cli.specs.Course.{ButMemory, Gives, HasFailed, IsStep, documents, plan_answer, read_from}
-use Rattle.pegasus_cli.specs.Delivery.{Delivery}
-use Rattle.pegasus_cli.specs.Moments.{Call, DocsMoment, Output, Work}
+use Rattle.pegasus_cli.specs.Moments.{Call, DocsMoment, Output, Work, first_count}
 use Rattle.pegasus_cli.specs.Outcome.{line_of, outcome_of}
 use Rattle.pegasus_cli.specs.Survey.{GoesOn, IsSurveyed, Stops}
 use Rattle.pegasus_cli.specs.declared.survey.Surveyed.{Surveyed}
 use Rattle.pegasus_cli.specs.Words.{command as command_of}
 use Rattle.pegasus_cli.proofs.CourseLemmas.{result_again, told_gives}
-use Rattle.pegasus_cli.proofs.FinishLemmas.{alone_finishes, eval_finishes}
+use Rattle.pegasus_cli.proofs.AloneLemmas.{NothingElseFails, alone_finishes, alone_is_no_usage}
+use Rattle.pegasus_cli.proofs.FinishLemmas.{eval_finishes}
 use Rattle.pegasus_cli.proofs.PlanLemmas.{plan_finishes, plan_is_no_usage}
 
 pub ends_as : (o : Output) (text : List ℕ) (a : Outcome) → (a ≡ outcomes.Memory → ⊥) → IsAnswer a → Appends o.before.written o.after.written (text ++ line_of a) → Ends o text a a
@@ -150,16 +149,16 @@ check_finishes s text outcomes.Done h = tt
 check_finishes s text outcomes.Memory h = tt
 check_finishes s text a h = absurd h
 
-finishes : (k : Command) (w : Work) (s : Surveyed) (text : List ℕ) (a : Outcome) → (spec_of k).Works w s text a → (spec_of k).CanFinish w s → (Rose w.before.counts.faults w.after.counts.faults → ⊥) → (Rose w.before.tool w.after.tool → ⊥) → IsDoneOrMemory a
-finishes commands.Check w s text a works can host tool = check_finishes s.survey text a works.says
-finishes commands.Plan w s text a works can host tool = plan_finishes s text a works.says can
-finishes commands.Eval w s text a works can host tool = eval_finishes w s text a works.says can host tool
-finishes commands.Alone w s text a works can host tool = alone_finishes w s works.first works.rest a works.tells can host tool
+finishes : (law : NothingElseFails) (k : Command) (w : Work) (s : Surveyed) (text : List ℕ) (a : Outcome) → (spec_of k).Works w s text a → (spec_of k).CanFinish w s → (Rose w.before.counts.faults w.after.counts.faults → ⊥) → (Rose w.before.tool w.after.tool → ⊥) → IsDoneOrMemory a
+finishes law commands.Check w s text a works can host tool = check_finishes s.survey text a works.says
+finishes law commands.Plan w s text a works can host tool = plan_finishes s text a works.says can
+finishes law commands.Eval w s text a works can host tool = eval_finishes w s text a works.says can host tool
+finishes law commands.Alone w s text a works can host tool = alone_finishes law w s text a works can host tool
 
 -- The command did its work.
-pub worked_answered : (c : Call) (k : Command) (request : List ℕ) (s : Surveyed) (answer outcome : Outcome) (text : List ℕ) → command_of c.asked.words ≡ Some (k, request) → GoesOn request c.asked.before c.asked.after s → (spec_of k).Works c.work s text answer
+pub worked_answered : (law : NothingElseFails) (c : Call) (k : Command) (request : List ℕ) (s : Surveyed) (answer outcome : Outcome) (text : List ℕ) → command_of c.asked.words ≡ Some (k, request) → GoesOn request c.asked.before c.asked.after s → (spec_of k).Works c.work s text answer
     → Ends c.output text answer outcome → IsAnswered c outcome
-worked_answered c k request s answer outcome text is goes_on works ends = record {
+worked_answered law c k request s answer outcome text is goes_on works ends = record {
   answer = answer;
   text = text;
   came = inr (inr (record { command = k; request = request; is_command = is; surveyed = s; goes_on = goes_on; works = works }));
@@ -170,7 +169,7 @@ worked_answered c k request s answer outcome text is goes_on works ends = record
       let came = came_as mine.requested may.requested (told_step may.request c.asked.before c.asked.after may.files may.requested (Ok mine.requested) may.told may.reads still.docs mine.came) in
       let surveyed = subst (λ (x : Requested). IsSurveyed x s) came mine.surveyed in
       let can = subst (λ (x : Command). (spec_of x).CanFinish c.work s) (ap (λ (x : Command × List ℕ). x.0) same) (may.can_finish s surveyed) in
-      ends_done c.output text answer outcome ends (finishes k c.work s text answer works can still.host still.tool) still.sink;
+      ends_done c.output text answer outcome ends (finishes law k c.work s text answer works can still.host still.tool) still.sink;
 }
 
 check_is_no_usage : (s : Survey) (text : List ℕ) → Says s text outcomes.Usage → ⊥
@@ -179,14 +178,11 @@ check_is_no_usage s text h = h
 eval_is_no_usage : (w : Work) (s : Surveyed) (text : List ℕ) → eval_says w s text outcomes.Usage → ⊥
 eval_is_no_usage w s text h = h.0
 
-alone_is_no_usage : (w : Work) (s : Surveyed) (first rest : List Delivery) → Tells w s first rest outcomes.Usage → ⊥
-alone_is_no_usage w s first rest h = h.0
-
 work_is_no_usage : (k : Command) (w : Work) (s : Surveyed) (text : List ℕ) → (spec_of k).Works w s text outcomes.Usage → ⊥
 work_is_no_usage commands.Check w s text h = check_is_no_usage s.survey text h.says
 work_is_no_usage commands.Plan w s text h = plan_is_no_usage s text h.says
 work_is_no_usage commands.Eval w s text h = eval_is_no_usage w s text h.says
-work_is_no_usage commands.Alone w s text h = alone_is_no_usage w s h.first h.rest h.tells
+work_is_no_usage commands.Alone w s text h = alone_is_no_usage w s text h
 
 early_is_no_usage : (e : Early) → outcomes.Usage ≡ outcome_of e → ⊥
 early_is_no_usage early.Memory h = (let clash : ◌≡◌ {A = Outcome} outcomes.Usage outcomes.Memory = h in absurd cc)
@@ -213,3 +209,12 @@ no_command_is_usage c outcome none answered = came_so answered.came
     came_so (inl usage) = usage.answers
     came_so (inr (inl stopped)) = absurd (no_command (command_of c.asked.words) (stopped.command, stopped.request) stopped.is_command none)
     came_so (inr (inr worked)) = absurd (no_command (command_of c.asked.words) (worked.command, worked.request) worked.is_command none)
+
+-- the count of the first member of a crew, before and after it worked
+pub first_is : {A : Type 0} (count : A → ℕ) (crew : List A) (first : A) → length crew ≡ 16 → first ≡ get_or crew 0 first → first_count (map count crew) ≡ count first
+first_is count [] first long is = absurd (omega (arith, long))
+first_is count (m ∷ ms) first long is = ap count (sym is)
+
+pub first_set : {A : Type 0} (count : A → ℕ) (crew : List A) (first : A) → length crew ≡ 16 → first_count (map count (slice_set crew 0 first)) ≡ count first
+first_set count [] first long = absurd (omega (arith, long))
+first_set count (m ∷ ms) first long = refl

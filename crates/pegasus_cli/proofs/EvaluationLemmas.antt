@@ -9,7 +9,7 @@ use Rattle.workflow_eval.specs.Evaluating.{Evaluates, IsReached}
 use Rattle.workflow_eval.specs.declared.fault.EvalFault.{EvalFault}
 use Rattle.workflow_eval.specs.declared.fault.EvalFault.TheVariants as eval_faults
 use Rattle.pegasus_cli.specs.Bases.{ReadsBases}
-use Rattle.pegasus_cli.specs.Delivery.{chosen}
+use Rattle.pegasus_cli.specs.ValueText.{chosen}
 use Rattle.pegasus_cli.specs.Evaluation.{AnswersFault, Evaluated, HasBases, HasNoValues, HasValues, prepared}
 use Rattle.outside.specs.Tool.{Apply}
 use Rattle.pegasus_cli.specs.Moments.{Work, WorkMoment, working}
@@ -17,9 +17,9 @@ use Rattle.pegasus_cli.specs.Outcome.{UnlessMemory}
 use Rattle.pegasus_cli.specs.declared.evaluation.Prepared.{Prepared}
 use Rattle.pegasus_cli.specs.declared.outcome.Outcome.{Outcome}
 use Rattle.pegasus_cli.specs.declared.outcome.Outcome.TheVariants as outcomes
-use Rattle.pegasus_cli.specs.declared.run_fault.RunFault.TheVariants.{ReplicaAbsent, ReplicaTooLong, ChecksumDiffers, Declined, ToolFailed, HostFailed}
+use Rattle.site_yard.specs.declared.ending.RunFault.TheVariants.{ReplicaAbsent, ReplicaTooLong, ChecksumDiffers, Declined, ToolFailed, HostFailed}
 use Rattle.pegasus_cli.specs.declared.survey.Surveyed.{Surveyed}
-use Rattle.pegasus_cli.proofs.DeliveryLemmas.{chosen_are}
+use Rattle.pegasus_cli.proofs.ValueTextLemmas.{chosen_are}
 use Rattle.pegasus_cli.proofs.PreparedLemmas.{IsBaseFault, IsRefused, only_bases_fail, only_refuses}
 
 -- sources or tools are not to be had

@@ -1,4 +1,4 @@
--- What keeps `eval` and `alone` from Done, where everything is defined.
+-- What keeps `eval` from Done, where everything is defined.
 use Rattle.std.proofs.Common.{◌≡◌, ℕ, ◌≤◌, ◌<◌, Bool, true, false, cond, List, [], ◌∷◌, length, refl, sym, ap, subst, ◌∙◌, inl, inr, arith}
 use Rattle.std.specs.Prelude.{◌⊎◌, Option, Some, None, is_some, Result, Ok, Err, nat_lt, if◌then◌else◌}
 use Rattle.std.proofs.lemmas.Bool.{le-ltb, lt-ltb}
@@ -15,19 +15,17 @@ use Rattle.outside.specs.Tool.{Apply}
 use Rattle.workflow_eval.specs.Evaluating.{first_undefined, made_by_number}
 use Rattle.pegasus_cli.specs.Bases.{Continues, ReadsBases, after_base, base_answer, base_limit, told_bases, told_bytes, told_replica}
 use Rattle.pegasus_cli.specs.Call.{IsDoneOrMemory}
-use Rattle.pegasus_cli.specs.Commands.Alone.{Tells}
 use Rattle.pegasus_cli.specs.Commands.Eval.{Says}
-use Rattle.pegasus_cli.specs.Delivery.{Delivery}
 use Rattle.pegasus_cli.specs.Evaluation.{AllDefined, HasBases, HasNoValues, IsDeclined, IsUnread, prepared}
 use Rattle.pegasus_cli.specs.Moments.{Work}
 use Rattle.pegasus_cli.specs.declared.evaluation.Prepared.{Prepared}
 use Rattle.pegasus_cli.specs.declared.outcome.Outcome.{Outcome}
 use Rattle.pegasus_cli.specs.declared.outcome.Outcome.TheVariants as outcomes
-use Rattle.pegasus_cli.specs.declared.run_fault.RunFault.{RunFault}
-use Rattle.pegasus_cli.specs.declared.run_fault.RunFault.TheVariants.{Declined, ToolFailed}
+use Rattle.site_yard.specs.declared.ending.RunFault.{RunFault}
+use Rattle.site_yard.specs.declared.ending.RunFault.TheVariants.{Declined, ToolFailed}
 use Rattle.pegasus_cli.specs.declared.sources.Source.{Source}
 use Rattle.pegasus_cli.specs.declared.survey.Surveyed.{Surveyed}
-use Rattle.pegasus_cli.proofs.DeliveryLemmas.{rose_since}
+use Rattle.pegasus_cli.proofs.ValueTextLemmas.{rose_since}
 use Rattle.pegasus_cli.proofs.RestLemmas.{both_came}
 
 abbrev pub Bases : Type 0
@@ -174,10 +172,3 @@ pub eval_finishes : (w : Work) (s : Surveyed) (text : List ℕ) (a : Outcome) �
 eval_finishes w s text outcomes.Done h can host tool = tt
 eval_finishes w s text outcomes.Memory h can host tool = tt
 eval_finishes w s text a h can host tool = no_values_finishes w s a h.0 can host tool
-
-pub alone_finishes : (w : Work) (s : Surveyed) (first rest : List Delivery) (a : Outcome) → Tells w s first rest a → AllDefined w s → (Rose w.before.counts.faults w.after.counts.faults → ⊥) → (Rose w.before.tool w.after.tool → ⊥) → IsDoneOrMemory a
-alone_finishes w s first rest outcomes.Done h can host tool = tt
-alone_finishes w s first rest outcomes.Memory h can host tool = tt
-alone_finishes w s first rest (outcomes.Failed fault) (inl h) can host tool = absurd (host h.rose)
-alone_finishes w s first rest (outcomes.Failed fault) (inr h) can host tool = no_values_finishes w s (outcomes.Failed fault) h.0 can host tool
-alone_finishes w s first rest a h can host tool = no_values_finishes w s a h.0 can host tool

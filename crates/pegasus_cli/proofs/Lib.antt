@@ -5,7 +5,10 @@ pub mod BasesLemmas
 pub mod EvaluationLemmas
 pub mod FinishLemmas
 pub mod PlanLemmas
-pub mod CallLemmas
-pub mod DeliveryLemmas
-pub mod SurveyLemmas
+pub mod RunningLemmas
 pub mod AloneLemmas
+pub mod PolicyLemmas
+pub mod CallLemmas
+pub mod ValueTextLemmas
+pub mod SurveyLemmas
+pub mod RunFaultLemmas

@@ -35,7 +35,7 @@ plan_finishes s text outcomes.Done h none = tt
 plan_finishes s text outcomes.Memory h none = tt
 plan_finishes s text a h none = subst IsDoneOrMemory (sym (h.0.answers ∙ ap (λ (f : PlanFault). outcome_of (plan_answer f)) (none h.0.fault h.0.comes))) tt
 
-no_usage : (fault : PlanFault) → outcomes.Usage ≡ outcome_of (plan_answer fault) → ⊥
+pub no_usage : (fault : PlanFault) → outcomes.Usage ≡ outcome_of (plan_answer fault) → ⊥
 no_usage plan_faults.Memory e = cc
 no_usage (plan_faults.Exceeds site task needed bound) e = cc
 no_usage fault e = cc

@@ -14,14 +14,14 @@ use Rattle.workflow_eval.specs.declared.fault.EvalFault.{EvalFault}
 use Rattle.workflow_eval.specs.declared.fault.EvalFault.TheVariants as eval_faults
 use Rattle.planner.specs.declared.inputs.Survey.{Survey}
 use Rattle.pegasus_cli.specs.Bases.{ReadsBases, told_bases}
-use Rattle.pegasus_cli.specs.Delivery.{AreDeliveries, Delivery}
+use Rattle.pegasus_cli.specs.ValueText.{AreValued, Valued}
 use Rattle.pegasus_cli.specs.JobTools.{tools_of}
 use Rattle.pegasus_cli.specs.Moments.{Work}
 use Rattle.pegasus_cli.specs.Sources.{sources_of}
 use Rattle.pegasus_cli.specs.declared.evaluation.Prepared.{Prepared}
 use Rattle.pegasus_cli.specs.declared.outcome.Outcome.{Outcome}
 use Rattle.pegasus_cli.specs.declared.outcome.Outcome.TheVariants as outcomes
-use Rattle.pegasus_cli.specs.declared.run_fault.RunFault.TheVariants.{Declined, ToolFailed}
+use Rattle.site_yard.specs.declared.ending.RunFault.TheVariants.{Declined, ToolFailed}
 use Rattle.pegasus_cli.specs.declared.survey.Surveyed.{Surveyed}
 
 -- the source of each file that no job makes, and then the tool of each job; or the first one that isn't to be had
@@ -40,11 +40,11 @@ pub record HasBases (w : Work) (s : Surveyed) (now : Counts) (on : Basis) : Type
   pub apply : on.apply ≡ w.apply
 
 -- Each job makes something of its inputs' values, and these are the requested files with their values.
-pub record IsValued (on : Basis) (s : Survey) (all : List Delivery) : Type 0 where
+pub record IsValued (on : Basis) (s : Survey) (all : List Valued) : Type 0 where
   pub defined : first_undefined on s.workflow s.graph.ordered ≡ None
-  pub values : AreDeliveries on s.workflow (requested s.workflow) all
+  pub values : AreValued on s.workflow (requested s.workflow) all
 
-pub record HasValues (w : Work) (s : Surveyed) (all : List Delivery) : Type 0 where
+pub record HasValues (w : Work) (s : Surveyed) (all : List Valued) : Type 0 where
   pub on : Basis
   pub now : Counts
   pub bases : HasBases w s now on

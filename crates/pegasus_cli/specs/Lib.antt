@@ -10,7 +10,10 @@ pub mod Evaluation
 pub mod Sources
 pub mod JobTools
 pub mod Bases
-pub mod Delivery
+pub mod ValueText
+pub mod KeptTools
+pub mod Running
+pub mod RunText
 pub mod CheckText
 -- The lines and the status of an outcome.
 pub mod Outcome

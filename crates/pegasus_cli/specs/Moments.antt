@@ -1,5 +1,5 @@
 -- What the objects of a call show before and after it.
-use Rattle.std.specs.Prelude.{ℕ, Bool, List, Option}
+use Rattle.std.specs.Prelude.{ℕ, Bool, List, [], ◌∷◌, Option}
 use Rattle.outside.specs.FileMap.{Files}
 use Rattle.outside.specs.Tool.{Apply}
 use Rattle.outside.specs.declared.counts.Counts.{Counts}
@@ -13,7 +13,7 @@ pub record DocsMoment : Type 0 where
   pub told : Option Files
   pub counts : Counts
 
--- what the host holds, where it is told, its counts, and how often the tool has failed
+-- what the host holds, where it is told, its counts, and how often the tool of the first member of the crew has failed
 pub record WorkMoment : Type 0 where
   pub told : Option Store
   pub counts : Counts
@@ -56,6 +56,11 @@ work_moment g h tool = record { told = g.told h; counts = g.counts h; tool = too
 
 abbrev pub sink_moment : {K : Type 0} → sink.Ghosts K → K → SinkMoment
 sink_moment g k = record { written = g.written k; faults = g.faults k }
+
+-- the count of the first member of a crew
+abbrev pub first_count : List ℕ → ℕ
+first_count [] = 0
+first_count (n ∷ ns) = n
 
 -- a call, by its parts
 abbrev pub asking : List (List ℕ) → DocsMoment → DocsMoment → Asked

@@ -1,10 +1,14 @@
 -- When the documents end a call, and when it goes on.
 use Rattle.std.specs.Prelude.{◌≡◌, ◌⊎◌, ℕ, List, Result, Ok, Err}
+use Rattle.plan_core.specs.declared.plan.Plan.{Plan}
 use Rattle.planner.specs.Course.{IsSurvey, Refuses}
+use Rattle.planner.specs.Meaning.{MeansWorkflow}
+use Rattle.planner.specs.Planning.{IsPlanOf}
 use Rattle.pegasus_cli.specs.declared.survey.Surveyed.{Surveyed}
 use Rattle.planner.specs.declared.plan_fault.PlanFault.{PlanFault}
 use Rattle.pegasus_cli.specs.declared.course.Requested.{Requested}
 use Rattle.pegasus_cli.specs.declared.early.Early.{Early}
+use Rattle.pegasus_cli.specs.Commands.Plan.{task_limit}
 use Rattle.pegasus_cli.specs.Course.{IsStep, documents, plan_answer}
 use Rattle.pegasus_cli.specs.Moments.{DocsMoment}
 
@@ -34,3 +38,7 @@ pub record GoesOn (name : List ℕ) (before after : DocsMoment) (s : Surveyed) :
 abbrev pub Surveys : List ℕ → DocsMoment → DocsMoment → Result Surveyed Early → Type 0
 Surveys name before after (Ok s) = GoesOn name before after s
 Surveys name before after (Err e) = Stops name before after e
+
+-- every plan of what the survey says means its workflow
+abbrev pub PlansMeanWorkflow : Surveyed → Type 0
+PlansMeanWorkflow s = (p : Plan) → IsPlanOf s.request s.survey task_limit p → MeansWorkflow s.request s.survey p

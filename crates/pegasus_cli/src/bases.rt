@@ -8,10 +8,10 @@ ghost use Rattle.pegasus_cli.specs.Bases.{ReadsBases, base_answer, base_limit, c
 ghost use Rattle.pegasus_cli.specs.Outcome.{UnlessMemory, items_of};
 
 use crate::outcome::Outcome;
-use crate::run_fault::RunFault;
 use crate::sources::Source;
 use outside::{Blob, Host, HostFault};
 use sha2::{Digest, Sha256};
+use site_yard::RunFault;
 use std::alloc::Global;
 
 /// The longest base, in bytes.

@@ -1,6 +1,7 @@
 //! The commands.
 
 ghost use Rattle.std.specs.Prelude.{◌≡◌, [], Ok};
+ghost use Rattle.outside.specs.Policy.{plain};
 ghost use Rattle.workflow_core.specs.WellFormed.{IsWellFormed};
 ghost use Rattle.dependency_graph.specs.Graph.{IsGraphOf};
 ghost use Rattle.plan_request.specs.Limits.{IsWithinLimits};
@@ -8,6 +9,7 @@ ghost use Rattle.plan_request.specs.Reader.{execute_checked};
 ghost use Rattle.pegasus_cli.specs.Call.{IsAnswer};
 ghost use Rattle.pegasus_cli.specs.Commands.{spec_of};
 ghost use Rattle.pegasus_cli.specs.Moments.{work_moment, working};
+ghost use Rattle.pegasus_cli.specs.Survey.{PlansMeanWorkflow};
 
 mod alone;
 mod check;
@@ -16,8 +18,12 @@ mod plan;
 
 use crate::outcome::Outcome;
 use crate::survey::Surveyed;
+use craft::{Crew, Gate};
 use outside::{Host, Tool};
 use std::alloc::Global;
+
+/// The most tasks that a plan may have.
+pub(crate) const TASK_LIMIT: u64 = 2000;
 
 /// What is asked for.
 #[derive(Clone, Copy, Debug, PartialEq, Eq)]
@@ -28,7 +34,7 @@ pub enum Command {
     Plan,
     /// Evaluates the workflow and tells the requested files.
     Eval,
-    /// Runs the workflow's jobs one after the other.
+    /// Plans the workflow and runs the plan with one worker.
     Alone,
 }
 
@@ -40,7 +46,7 @@ pub(crate) struct Worked {
 }
 
 /// An answer with no text before its line.
-fn at_once(alloc: Global, answer: Outcome) -> Worked
+pub(crate) fn at_once(alloc: Global, answer: Outcome) -> Worked
     ensures answer { result.answer ≡ answer }
     ensures text { result.text.items ≡ [] }
 {
@@ -50,26 +56,45 @@ fn at_once(alloc: Global, answer: Outcome) -> Worked
     }
 }
 
+/// What came of a command, and the host after it.
+#[derive(Drop)]
+pub(crate) struct Ran<H> {
+    pub(crate) worked: Worked,
+    pub(crate) host: H,
+}
+
 /// The work of a command over what the documents gave.
-pub(crate) fn work<H: Host, T: Tool>(
+pub(crate) fn work<H: Host, T: Tool, G: Gate>(
     alloc: Global,
     command: Command,
     surveyed: &Surveyed,
-    host: &mut H,
-    tool: &mut T,
-) -> Worked
+    host: H,
+    crew: &mut Crew<T, G>,
+) -> Ran<H>
     requires well_formed { IsWellFormed surveyed.now.survey.workflow }
     requires graph { IsGraphOf surveyed.now.survey.workflow surveyed.now.survey.graph }
     requires sites { execute_checked surveyed.now.request.execute ≡ Ok tt }
     requires limits { IsWithinLimits surveyed.now.request }
-    ensures works { (spec_of command).Works (working T.apply T.known (work_moment H.Host host.old (T.faults tool.old)) (work_moment H.Host host.new (T.faults tool.new)))
-        surveyed.now result.text.items result.answer }
-    ensures answer { IsAnswer result.answer }
+    requires policy { surveyed.now.request.policy ≡ plain }
+    requires means { PlansMeanWorkflow surveyed.now }
+    ensures works { (spec_of command).Works (working T.apply T.known (work_moment H.Host host (T.faults crew.old.tool)) (work_moment H.Host result.host (T.faults crew.new.tool)))
+        surveyed.now result.worked.text.items result.worked.answer }
+    ensures answer { IsAnswer result.worked.answer }
 {
+    let mut host = host;
     match command {
-        Command::Check => check::work(alloc, surveyed, host, tool),
-        Command::Plan => plan::work(alloc, surveyed, host, tool),
-        Command::Eval => eval::work(alloc, surveyed, host, tool),
-        Command::Alone => alone::work(alloc, surveyed, host, tool),
+        Command::Check => {
+            let worked = check::work(alloc, surveyed, &mut host, &mut crew.tool);
+            Ran { worked, host }
+        }
+        Command::Plan => {
+            let worked = plan::work(alloc, surveyed, &mut host, &mut crew.tool);
+            Ran { worked, host }
+        }
+        Command::Eval => {
+            let worked = eval::work(alloc, surveyed, &mut host, &mut crew.tool);
+            Ran { worked, host }
+        }
+        Command::Alone => alone::work(alloc, surveyed, host, crew),
     }
 }

@@ -1,6 +1,7 @@
 //! The documents of a call, fetched one after the other.
 
 ghost use Rattle.std.specs.Prelude.{◌≡◌, IfOk, Ok, Err};
+ghost use Rattle.outside.specs.Policy.{plain};
 ghost use Rattle.plan_request.specs.Limits.{IsWithinLimits};
 ghost use Rattle.plan_request.specs.Reader.{execute_checked};
 ghost use Rattle.pegasus_cli.specs.Course.{ButMemory, IsStep, doc_answer, document, documents, if_named, named_documents, plan_answer, request_in_bytes};
@@ -89,6 +90,7 @@ fn request_in(alloc: Global, bytes: &Blob) -> Result<PlanRequest, Early>
     ensures answer { ButMemory result (result ≡ request_in_bytes bytes.now) }
     ensures sites { IfOk result (λ r. execute_checked r.execute ≡ Ok tt) }
     ensures limits { IfOk result (λ r. IsWithinLimits r) }
+    ensures policy { IfOk result (λ r. r.policy ≡ plain) }
 {
     match plan_request::read(alloc, bytes.as_slice()) {
         Ok(request) => Ok(request),
@@ -100,6 +102,7 @@ fn fetch_request<D: Docs>(alloc: Global, docs: &mut D, name: &str) -> Result<Pla
     ensures answer { IsStep (document name.now request_in_bytes) (docs_moment D.Docs docs.old) (docs_moment D.Docs docs.new) result }
     ensures sites { IfOk result (λ r. execute_checked r.execute ≡ Ok tt) }
     ensures limits { IfOk result (λ r. IsWithinLimits r) }
+    ensures policy { IfOk result (λ r. r.policy ≡ plain) }
 {
     match fetch(alloc, docs, name) {
         Ok(bytes) => request_in(alloc, &bytes),
@@ -151,6 +154,7 @@ pub(crate) fn fetch_documents<D: Docs>(
     ensures answer { IsStep (documents name.now) (docs_moment D.Docs docs.old) (docs_moment D.Docs docs.new) result }
     ensures sites { IfOk result (λ r. execute_checked r.request.execute ≡ Ok tt) }
     ensures limits { IfOk result (λ r. IsWithinLimits r.request) }
+    ensures policy { IfOk result (λ r. r.request.policy ≡ plain) }
 {
     match fetch_request(alloc, docs, name) {
         Ok(request) => fetch_named(alloc, docs, request),

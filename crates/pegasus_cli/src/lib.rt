@@ -1,4 +1,4 @@
-//! What the command line `pegasus` does, over documents, a sink, a host and a tool.
+//! What the command line `pegasus` does, over documents, a sink, a host and a crew.
 //!
 //! `quick` of `call.rt` is the call that the program makes; its clause says when each outcome comes,
 //! what the host holds then and what was written. The definitions stand in `specs/`, over those of the
@@ -10,19 +10,21 @@ mod call;
 mod check_text;
 mod commands;
 mod course;
-mod delivery;
 mod early;
 mod evaluation;
 mod job_tools;
+mod kept_tools;
 mod law;
 mod outcome;
 mod run_fault;
+mod run_text;
+mod running;
 mod sources;
 mod survey;
+mod value_text;
 mod words;
 
 pub use call::quick;
 pub use law::{told_documents_decide, usage_is_no_command};
 pub use outcome::Outcome;
-pub use run_fault::RunFault;
 pub use words::user_words;

@@ -5,9 +5,10 @@ ghost use Rattle.pegasus_cli.specs.declared.outcome.Outcome.TheVariants as outco
 ghost use Rattle.pegasus_cli.specs.Outcome.{exceeds_line, line_of, outcome_of};
 
 use crate::early::Early;
-use crate::run_fault::{RunFault, push_failed};
+use crate::run_fault::push_failed;
 use outside::{Memory, TaskId, Text, Word, push_line};
 use planner::{PlanFault, push_refused};
+use site_yard::RunFault;
 use std::alloc::{AllocFailed, Global};
 
 const USAGE: &str =

@@ -1,29 +1,13 @@
-//! Why a run failed, and its line.
+//! The line of a failed run.
 
 ghost use Rattle.std.specs.Prelude.{◌≡◌, ◌++◌, OnOk};
-ghost use Rattle.pegasus_cli.specs.declared.run_fault.RunFault.TheVariants.{ChecksumDiffers};
+ghost use Rattle.site_yard.specs.declared.ending.RunFault.TheVariants.{ChecksumDiffers, Oversize};
 ghost use Rattle.pegasus_cli.specs.RunFault.{failed_line};
 
 use hex::encode;
-use outside::{Memory, TaskId, Text, Word, push_line};
+use outside::{Memory, Text, Word, push_line};
+use site_yard::RunFault;
 use std::alloc::Global;
-
-/// Why the work of a call failed.
-#[derive(Debug, Drop)]
-pub enum RunFault {
-    /// A file's name, and its first pfn, where it isn't.
-    ReplicaAbsent(Text, Text),
-    /// A file's name, the limit, and the length of its replica.
-    ReplicaTooLong(Text, u64, u64),
-    /// A file's name, the SHA-256 that is registered for it, and that of its replica.
-    ChecksumDiffers(Text, [u8; 32], [u8; 32]),
-    /// Of the values of this job's inputs its tool makes nothing.
-    Declined(Text),
-    /// The tool failed at this job.
-    ToolFailed(Text),
-    /// The host failed, at a task or outside any.
-    HostFailed(Option<TaskId>),
-}
 
 fn push_differs(
     alloc: Global,
@@ -40,6 +24,23 @@ fn push_differs(
     let wanted = Word::Plain(wanted.as_str());
     let got = Word::Plain(got.as_str());
     push_line(alloc, text, "failed checksum", &[lfn, wanted, got])
+}
+
+fn push_oversize<'a>(
+    alloc: Global,
+    text: &mut Vec<u8>,
+    id: &'a Text,
+    lfn: &'a Text,
+    declared: u64,
+    length: u64,
+) -> Result<(), Memory>
+    ensures { OnOk result (text.new.items ≡ text.old.items ++ failed_line (Oversize id.now lfn.now declared length)) }
+{
+    let id = Word::Name(id.as_bytes());
+    let lfn = Word::Name(lfn.as_bytes());
+    let declared = Word::Number(declared);
+    let length = Word::Number(length);
+    push_line(alloc, text, "failed oversize", &[id, lfn, declared, length])
 }
 
 /// Adds the line of a failed run.
@@ -64,6 +65,9 @@ pub(crate) fn push_failed(alloc: Global, text: &mut Vec<u8>, fault: &RunFault) -
             ],
         ),
         RunFault::ChecksumDiffers(lfn, wanted, got) => push_differs(alloc, text, lfn, wanted, got),
+        RunFault::Oversize(id, lfn, declared, length) => {
+            push_oversize(alloc, text, id, lfn, *declared, *length)
+        }
         RunFault::Declined(id) => push_line(
             alloc,
             text,
@@ -83,5 +87,12 @@ pub(crate) fn push_failed(alloc: Global, text: &mut Vec<u8>, fault: &RunFault) -
             "failed host",
             &[Word::Number(u64::from(task.0))],
         ),
+        RunFault::ScratchInUse(site) => push_line(
+            alloc,
+            text,
+            "failed scratch",
+            &[Word::Name(site.as_bytes())],
+        ),
+        RunFault::Memory => Ok(()),
     }
 }

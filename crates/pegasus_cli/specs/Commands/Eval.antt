@@ -1,7 +1,7 @@
 -- `eval`: tells the values of the requested files, by file number. It delivers nothing.
 use Rattle.std.specs.Prelude.{◌≡◌, ℕ, List, []}
 use Rattle.pegasus_cli.specs.CommandSpec.{CommandSpec}
-use Rattle.pegasus_cli.specs.Delivery.{Delivery, value_lines}
+use Rattle.pegasus_cli.specs.ValueText.{Valued, value_lines}
 use Rattle.pegasus_cli.specs.Evaluation.{AllDefined, HasNoValues, HasValues}
 use Rattle.pegasus_cli.specs.Moments.{Work}
 use Rattle.pegasus_cli.specs.declared.outcome.Outcome.{Outcome}
@@ -10,7 +10,7 @@ use Rattle.pegasus_cli.specs.declared.survey.Surveyed.{Surveyed}
 
 -- When each answer comes, and the text before its line.
 abbrev pub Says : Work → Surveyed → List ℕ → Outcome → Type 0
-Says w s text outcomes.Done = (all : List Delivery) × HasValues w s all × (text ≡ value_lines all)
+Says w s text outcomes.Done = (all : List Valued) × HasValues w s all × (text ≡ value_lines all)
 Says w s text outcomes.Memory = Unit {0}
 Says w s text answer = HasNoValues w s answer × (text ≡ [])
 

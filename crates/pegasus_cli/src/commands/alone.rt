@@ -1,51 +1,66 @@
 //! `alone`.
 
-ghost use Rattle.std.specs.Prelude.{◌≡◌};
+ghost use Rattle.std.specs.Prelude.{◌≡◌, [], Ok};
+ghost use Rattle.outside.specs.Policy.{plain};
 ghost use Rattle.workflow_core.specs.WellFormed.{IsWellFormed};
 ghost use Rattle.dependency_graph.specs.Graph.{IsGraphOf};
+ghost use Rattle.plan_request.specs.Limits.{IsWithinLimits};
+ghost use Rattle.plan_request.specs.Reader.{execute_checked};
 ghost use Rattle.pegasus_cli.specs.Call.{IsAnswer};
-ghost use Rattle.pegasus_cli.specs.Commands.Alone.{alone, delivery_answer};
+ghost use Rattle.pegasus_cli.specs.Commands.Alone.{alone};
 ghost use Rattle.pegasus_cli.specs.Moments.{work_moment, working};
+ghost use Rattle.pegasus_cli.specs.Survey.{PlansMeanWorkflow};
 
-use crate::commands::{Worked, at_once};
-use crate::delivery::deliver_requested;
-use crate::evaluation::values_of;
-use crate::outcome::Outcome;
-use crate::run_fault::RunFault;
+use crate::commands::{Ran, TASK_LIMIT, at_once};
+use crate::course::of_plan_fault;
+use crate::kept_tools::unknown_tool;
+use crate::outcome::{Outcome, of_early};
+use crate::running::run_plan;
 use crate::survey::Surveyed;
-use outside::{Host, HostFault, Tool};
+use craft::{Crew, Gate};
+use outside::{Host, Memory, Tool};
+use planner::{plan_survey, plans_deliver_requests};
+use site_yard::complete_records_deliver;
 use std::alloc::Global;
 
-fn of_delivery(delivered: Result<(), HostFault>) -> Outcome
-    ensures { result ≡ delivery_answer delivered }
+/// Nothing was run.
+fn unrun<H: Host>(alloc: Global, answer: Outcome, host: H) -> Ran<H>
+    ensures answer { result.worked.answer ≡ answer }
+    ensures text { result.worked.text.items ≡ [] }
+    ensures host { result.host ≡ host }
 {
-    match delivered {
-        Ok(()) => Outcome::Done,
-        Err(HostFault::Memory) => Outcome::Memory,
-        Err(_) => Outcome::Failed(RunFault::HostFailed(None)),
+    Ran {
+        worked: at_once(alloc, answer),
+        host,
     }
 }
 
-pub(crate) fn work<H: Host, T: Tool>(
+pub(crate) fn work<H: Host, T: Tool, G: Gate>(
     alloc: Global,
     surveyed: &Surveyed,
-    host: &mut H,
-    tool: &mut T,
-) -> Worked
+    host: H,
+    crew: &mut Crew<T, G>,
+) -> Ran<H>
     requires well_formed { IsWellFormed surveyed.now.survey.workflow }
     requires graph { IsGraphOf surveyed.now.survey.workflow surveyed.now.survey.graph }
-    ensures works { alone.Works (working T.apply T.known (work_moment H.Host host.old (T.faults tool.old)) (work_moment H.Host host.new (T.faults tool.new)))
-        surveyed.now result.text.items result.answer }
-    ensures answer { IsAnswer result.answer }
+    requires sites { execute_checked surveyed.now.request.execute ≡ Ok tt }
+    requires limits { IsWithinLimits surveyed.now.request }
+    requires policy { surveyed.now.request.policy ≡ plain }
+    requires means { PlansMeanWorkflow surveyed.now }
+    ensures works { alone.Works (working T.apply T.known (work_moment H.Host host (T.faults crew.old.tool)) (work_moment H.Host result.host (T.faults crew.new.tool)))
+        surveyed.now result.worked.text.items result.worked.answer }
+    ensures answer { IsAnswer result.worked.answer }
 {
-    let values = match values_of(alloc, surveyed, host, tool) {
-        Ok(values) => values,
-        Err(answer) => return at_once(alloc, answer),
+    // Laws for the proof: they do nothing.
+    plans_deliver_requests();
+    complete_records_deliver();
+    let ordered = match plan_survey(alloc, &surveyed.request, &surveyed.survey, TASK_LIMIT) {
+        Ok(ordered) => ordered,
+        Err(fault) => return unrun(alloc, of_early(of_plan_fault(fault)), host),
     };
-    let mut text = Vec::new(alloc);
-    let delivered = deliver_requested(alloc, host, &surveyed.survey.workflow, &values, &mut text);
-    Worked {
-        answer: of_delivery(delivered),
-        text,
+    match unknown_tool(alloc, ordered.plan(), &crew.tool) {
+        Ok(None) => run_plan(alloc, ordered, host, crew),
+        Ok(Some(fault)) => unrun(alloc, Outcome::Refused(fault), host),
+        Err(Memory) => unrun(alloc, Outcome::Memory, host),
     }
 }

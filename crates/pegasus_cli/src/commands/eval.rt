@@ -8,10 +8,10 @@ ghost use Rattle.pegasus_cli.specs.Commands.Eval.{eval};
 ghost use Rattle.pegasus_cli.specs.Moments.{work_moment, working};
 
 use crate::commands::{Worked, at_once};
-use crate::delivery::value_text;
 use crate::evaluation::values_of;
 use crate::outcome::Outcome;
 use crate::survey::Surveyed;
+use crate::value_text::value_text;
 use outside::{Host, Memory, Tool};
 use std::alloc::Global;
 

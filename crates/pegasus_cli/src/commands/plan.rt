@@ -9,7 +9,7 @@ ghost use Rattle.pegasus_cli.specs.Call.{IsAnswer};
 ghost use Rattle.pegasus_cli.specs.Commands.Plan.{ArePeaks, IsTextOf, plan};
 ghost use Rattle.pegasus_cli.specs.Moments.{work_moment, working};
 
-use crate::commands::{Worked, at_once};
+use crate::commands::{TASK_LIMIT, Worked, at_once};
 use crate::course::of_plan_fault;
 use crate::outcome::{Outcome, of_early};
 use crate::survey::Surveyed;
@@ -18,9 +18,6 @@ use plan_core::print;
 use planner::plan_survey;
 use std::alloc::Global;
 use storage_simulation::Ordered;
-
-/// The most tasks that a plan may have.
-const TASK_LIMIT: u64 = 2000;
 
 /// The peak of each site.
 #[tactic(auto, using(crate::proofs::PlanLemmas::no_peaks, crate::proofs::PlanLemmas::peaks_more))]

@@ -5,7 +5,7 @@ use Rattle.std.proofs.lemmas.List.{drop_all, drop_more}
 use Rattle.pegasus_cli.specs.declared.sources.Source.{Source}
 use Rattle.pegasus_cli.proofs.RestLemmas.{unless_then}
 use Rattle.pegasus_cli.proofs.BasesLemmas.{all_came, goes_on_none, goes_on_some, stops_at}
-use Rattle.pegasus_cli.proofs.DeliveryLemmas.{later_still}
+use Rattle.pegasus_cli.proofs.ValueTextLemmas.{later_still}
 use Rattle.pegasus_cli.proofs.bases.read_bases.Goals as goal
 use Rattle.pegasus_cli.proofs.bases.read_bases.Goals.{in-Some+in-Ok+in_ok-push-in-Ok, in-None+in_ok-push-in-None}
 

@@ -1,18 +1,35 @@
-use Rattle.pegasus_cli.specs.Delivery.{chosen}
+use Rattle.std.proofs.Common.{◌∙◌, ap, sym}
+use Rattle.plan_core.specs.declared.plan.Plan.{Plan}
+use Rattle.plan_core.specs.Words.{task_numbers}
+use Rattle.lease_book.proofs.BookLemmas.{order_all}
+use Rattle.pegasus_cli.specs.Commands.Plan.{task_limit}
+use Rattle.pegasus_cli.specs.KeptTools.{unknown_tool}
 use Rattle.pegasus_cli.specs.Moments.{work_moment, working}
-use Rattle.pegasus_cli.proofs.AloneLemmas.{delivered_runs, runs_nothing}
-use Rattle.pegasus_cli.proofs.EvaluationLemmas.{values_are}
+use Rattle.pegasus_cli.proofs.AloneLemmas.{few_retries, run_is}
 use Rattle.pegasus_cli.proofs.commands.alone.work.Goals as goal
 
-pub returns-in-Err-clause-works : goal.returns-in-Err-clause-works
-returns-in-Err-clause-works g c = runs_nothing _ _ _ c.in-Err.answer _ c.at_once.ensures.answer c.at_once.ensures.text c.in-Err.ensures.told c.in-Err.ensures.answer
+pub run_plan-requires-clause-retries : goal.run_plan-requires-clause-retries
+run_plan-requires-clause-retries g c =
+    let s = c.args.surveyed.now in
+    few_retries c.in-Ok.ordered.plan ((c.plans_deliver_requests.ensures s.request s.survey task_limit c.in-Ok.ordered.plan c.in-Ok.ensures.plan.planned).policy ∙ c.requires.policy)
 
-pub returns-clause-works : goal.returns-clause-works
-returns-clause-works g c =
-    let before = work_moment g.H.Host c.args.host.now (g.T.Tool.faults c.args.tool.now) in
-    let middle = work_moment g.H.Host c.values_of.new.host (g.T.Tool.faults c.values_of.new.tool) in
-    let after = work_moment g.H.Host c.deliver_requested-delivered.new.host (g.T.Tool.faults c.values_of.new.tool) in
-    let w = working g.T.Tool.apply g.T.Tool.known before after in
-    let values = values_are g.T.Tool.apply g.T.Tool.known before middle after c.args.surveyed.now c.in-Ok.values c.in-Ok.ensures.answer in
-    let delivered = rw (c.deref.ensures.value, c.in-Ok.ensures.told) at c.deliver_requested-delivered.ensures.answer in
-    delivered_runs w c.args.surveyed.now (chosen c.args.surveyed.now.survey.workflow c.in-Ok.values.items) c.deliver_requested-delivered.result (g.H.Host.counts c.values_of.new.host) c.new-text.result.items _ _ values c.in-Ok.ensures.later.faults delivered c.new-text.ensures.items c.of_delivery.ensures
+pub returns-in-Ok-None-clause-works : goal.returns-in-Ok-None-clause-works
+returns-in-Ok-None-clause-works g c =
+    let s = c.args.surveyed.now in
+    let o = c.in-Ok.ordered in
+    let p = o.plan in
+    let order = task_numbers o.tasks.items in
+    let proper = c.in-Ok.ensures.proper in
+    let fits = order_all p order o.fits o.order in
+    let none = sym c.in-Ok-None.field-0-is ∙ c.in-Ok-None.ensures ∙ ap (λ (q : Plan). unknown_tool g.T.Tool.known q.jobs) c.plan.ensures in
+    let before = work_moment g.H.Host c.args.host (g.T.Tool.faults c.args.crew.now.tool) in
+    let after = work_moment g.H.Host c.run_plan.result.host (g.T.Tool.faults c.run_plan.new.crew.tool) in
+    run_is (working g.T.Tool.apply g.T.Tool.known before after) s p o.tasks.items c.run_plan.result.worked.text.items c.run_plan.result.worked.answer
+    c.in-Ok.ensures.plan.planned c.in-Ok.ensures.plan.order proper c.requires.policy (sym none)
+    (record {
+      complete = λ r legal complete t f d. c.complete_records_deliver.ensures.complete p order r proper fits legal complete t f d;
+      only = λ r f h. c.complete_records_deliver.ensures.only p r f h;
+    })
+    (c.plans_deliver_requests.ensures s.request s.survey task_limit p c.in-Ok.ensures.plan.planned)
+    (c.requires.means p c.in-Ok.ensures.plan.planned)
+    c.run_plan.ensures.ran
