@@ -1,15 +1,18 @@
-"""Tests of tools/draw: its pictures of a plan by hand."""
+"""Tests of tools/draw: its pictures of a plan by hand and of the diamond's record."""
+import pathlib
 import subprocess
 import sys
+import tempfile
 import xml.etree.ElementTree as tree
 
 PLAN = """plan 1
 workflow report
+policy 1 0 8
 site 0 near 30
 site 1 far 20
 file 0 raw%20data 10
 file 1 table 5
-job 0 A site 0
+job 0 A<&" site 0
 job 1 B dropped
 task 0 run 0 jobs 0 reads 0 writes 1 after 1
 task 1 transfer 0 from pfn /data/raw to site 0 after -
@@ -22,29 +25,91 @@ peak 1 5
 closed
 done
 """
+# Two workers; a run is tried again by the other one, and the delivery isn't closed.
+RECORD = """record 2
+grant 0 1
+arrive 0 1 9
+grant 0 0
+again 0 0 hostfailed
+grant 1 0
+end 1 0 4
+clean 0 4
+grant 1 2
+arrive 1 2 4
+grant 0 3
+closed
+"""
+DIAMOND = "examples/diamond/request.json"
 SVG = "{http://www.w3.org/2000/svg}"
 
 
-def draw(kind, text):
-    return subprocess.run([sys.executable, "tools/draw", kind], input=text, capture_output=True, text=True, check=False)
+def python(words, text=""):
+    return subprocess.run([sys.executable, *words], input=text, capture_output=True, text=True, check=False)
 
 
-def classes(picture, name):
-    return [part for part in tree.fromstring(picture).iter() if name in part.get("class", "").split()]
+def draw(kind, *texts):
+    """The picture of texts, of which the last one is handed in."""
+    with tempfile.TemporaryDirectory() as work:
+        names = [str(pathlib.Path(work, str(place))) for place, _ in enumerate(texts[:-1])]
+        for name, text in zip(names, texts):
+            pathlib.Path(name).write_text(text, encoding="utf-8")
+        return python(["tools/draw", kind, *names], texts[-1])
 
 
-plan = draw("plan", PLAN)
-assert plan.returncode == 0, plan.stderr
-for kind, count in (("run", 1), ("transfer", 2), ("delivery", 1), ("clean", 1), ("edge", 5), ("band", 3)):
-    assert len(classes(plan.stdout, kind)) == count, (kind, count)
+def picture(kind, *texts):
+    drawn = draw(kind, *texts)
+    assert drawn.returncode == 0 and not drawn.stderr, drawn.stderr
+    return tree.fromstring(drawn.stdout)
 
-storage = draw("storage", PLAN)
-words = [part.text for part in tree.fromstring(storage.stdout).iter(SVG + "text")]
-assert "peak 15" in words and "bound 30" in words and "peak 5" in words and "bound 20" in words, words
-assert len(classes(storage.stdout, "held")) == 2
 
-for bad in ("", "plan 2\n", PLAN.replace("closed\n", ""), PLAN.replace("task 1 transfer", "task 1 fly")):
+def count(drawn, *names):
+    return sum(set(names) <= set(part.get("class", "").split()) for part in drawn.iter())
+
+
+def words(drawn):
+    return [part.text for part in drawn.iter(SVG + "text")]
+
+
+def marks(drawn, *names):
+    """How many there are but for the one of the legend."""
+    return count(drawn, *names) - 1
+
+
+plan = picture("plan", PLAN)
+for kind, wanted in (("run", 1), ("transfer", 2), ("delivery", 1), ("clean", 1)):
+    assert marks(plan, kind) == wanted, kind
+assert count(plan, "band") == 3 and sum(len(group) for group in plan.iter(SVG + "g") if group.get("class")) == 5
+assert '0 A<&"' in words(plan), words(plan)
+
+storage = picture("storage", PLAN)
+for place in ("near: at most 15 bytes, bound 30", "far: at most 5 bytes, bound 20", "output: at most 5 bytes, bound 8"):
+    assert place in words(storage), words(storage)
+assert marks(storage, "held") == marks(storage, "bound") == 3
+
+record = picture("record", PLAN, RECORD)
+assert "worker 0" in words(record) and "worker 1" in words(record)
+assert (count(record, "bar"), count(record, "bar", "run"), count(record, "bar", "open")) == (5, 2, 1)
+assert count(record, "sweep") == 1 and marks(record, "failed") == 1
+for place in ("near: at most 14 bytes, bound 30", "far: at most 5 bytes, bound 20", "output: at most 5 bytes, bound 8"):
+    assert place in words(record), words(record)
+
+run = [python([f"tools/{model}-model", DIAMOND]).stdout for model in ("plan", "run")]
+diamond = picture("record", *run)
+assert (count(diamond, "bar"), count(diamond, "sweep"), count(diamond, "failed")) == (6, 6, 0)
+assert "condorpool: at most 28 bytes, bound 30" in words(diamond), words(diamond)
+# The line over all that is stored and reserved is highest after the third entry, the grant of task 0.
+lines = [part.get("d") for part in diamond.iter(SVG + "path") if part.get("class") == "level"]
+corners = [[float(number) for number in step.split("V")] for step in lines[1].split("H")[1:-1]]
+assert min(corners, key=lambda corner: corner[1])[0] == 70 + 3 * 44, corners
+
+for bad in ("", "plan 2\n", PLAN.replace("closed\n", ""), PLAN.replace("task 1 transfer", "task 1 fly"),
+            PLAN.replace("order 1 0", "order 0 1"), PLAN.replace("order 1 0 4", "order 1 0"),
+            PLAN.replace("run 0 jobs", "run 2 jobs"), PLAN.replace("writes 1", "writes 2")):
     refused = draw("plan", bad)
     assert refused.returncode == 1 and refused.stdout == "" and refused.stderr.startswith("draw: "), bad
-assert draw("colours", PLAN).returncode == 64
+for bad in ("failed tool A\n", RECORD.replace("closed\n", ""), RECORD.replace("grant 0 3", "grant 0 5"),
+            RECORD.replace("end 1 0 4", "end 1 0 4 4"), RECORD.replace("clean 0 4", "sweep 0 4")):
+    refused = draw("record", PLAN, bad)
+    assert refused.returncode == 1 and refused.stdout == "" and refused.stderr.startswith("draw: "), bad
+assert draw("colours", PLAN).returncode == 64 and python(["tools/draw", "record"]).returncode == 64
 print("draw: ok")

@@ -1,2 +1,3 @@
 -- What a case says of its calls.
 pub mod Comparing
+pub mod Trace

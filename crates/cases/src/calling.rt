@@ -1,11 +1,15 @@
 //! The calls of a case, over objects in memory.
 
-use crate::case::{Case, CommandLine, Document, Setup, Weather};
+ghost use Rattle.std.specs.Prelude.{◌≡◌, IfOk, length};
+
+use crate::case::{Case, CommandLine, Document, Setup, SiteFiles, Weather};
 use crate::comparing::is_met;
-use crate::failing_tool::FailingTool;
+use crate::trace::trace_text;
+use craft::{Crew, Faulty, OpenGate};
 use outside::{Memory, MemoryDocs, MemoryHost, MemorySink};
 use pegasus_cli::quick;
 use std::alloc::Global;
+use toolbox::Shipped;
 
 /// A document or a replica under its name.
 #[derive(Drop)]
@@ -14,11 +18,39 @@ struct Given<'a> {
     bytes: Vec<u8>,
 }
 
+/// A site's file under its name.
+#[derive(Drop)]
+struct GivenAt<'a> {
+    site: &'a str,
+    file: Given<'a>,
+}
+
 /// What the calls of a case find.
 #[derive(Drop)]
 struct Found<'a> {
     documents: Vec<Given<'a>>,
     replicas: Vec<Given<'a>>,
+    scratch: Vec<GivenAt<'a>>,
+}
+
+type Member = Crew<Faulty<Shipped>, OpenGate>;
+
+/// What a call is given.
+#[derive(Drop)]
+struct Prepared {
+    docs: MemoryDocs,
+    sink: MemorySink,
+    host: MemoryHost,
+    crew: Vec<Member>,
+    ghost all: { length crew.items ≡ 16 },
+}
+
+/// What a call gave back.
+#[derive(Drop)]
+struct Returned {
+    status: u8,
+    host: MemoryHost,
+    sink: MemorySink,
 }
 
 /// What a call left.
@@ -27,6 +59,8 @@ pub struct Ended {
     pub status: u8,
     pub host: MemoryHost,
     pub sink: MemorySink,
+    /// What the host did, as text.
+    pub trace: Vec<u8>,
 }
 
 /// A call that ended otherwise than its case says.
@@ -52,6 +86,23 @@ fn add_given<'a>(
     Ok(())
 }
 
+fn add_scratch<'a>(
+    alloc: Global,
+    given: &mut Vec<GivenAt<'a>>,
+    sites: &'a [SiteFiles],
+) -> Result<(), Memory> {
+    for at in sites {
+        let site = at.site.as_str();
+        for document in &at.files {
+            let name = document.name.as_str();
+            let bytes = document.bytes(alloc)?;
+            let file = Given { name, bytes };
+            given.push(GivenAt { site, file })?;
+        }
+    }
+    Ok(())
+}
+
 /// The documents, the last one of each name, of which the named one is cut after so many bytes.
 fn documents(
     alloc: Global,
@@ -71,30 +122,72 @@ fn documents(
     Ok(docs)
 }
 
-fn host(alloc: Global, failing: &[u64], replicas: &[Given<'_>]) -> Result<MemoryHost, Memory> {
+fn host(alloc: Global, failing: &[u64], found: &Found<'_>) -> Result<MemoryHost, Memory> {
     let mut host = MemoryHost::new(alloc, Vec::from_slice(alloc, failing)?);
-    for replica in replicas {
+    for replica in &found.replicas {
         host.put_replica(alloc, replica.name, &replica.bytes)?;
+    }
+    for at in &found.scratch {
+        host.put_scratch(alloc, at.site, at.file.name, &at.file.bytes)?;
     }
     Ok(host)
 }
 
-fn call(
+/// As many members as the program has, of whose tools these runs fail.
+fn crew_of(alloc: Global, failing: &[u64]) -> Result<Vec<Member>, Memory>
+    ensures { IfOk result (λ crew. length crew.items ≡ 16) }
+{
+    let mut crew = Vec::new(alloc);
+    for member in 0..16_usize {
+        crew.push(Crew {
+            tool: Faulty::new(Shipped::new(), Vec::from_slice(alloc, failing)?),
+            gate: OpenGate,
+        })?;
+    }
+    Ok(crew)
+}
+
+fn prepare(
     alloc: Global,
     weather: &Weather,
-    docs: &mut MemoryDocs,
-    replicas: &[Given<'_>],
-    words: &[String],
-) -> Result<Ended, Memory> {
+    found: &Found<'_>,
+    cut: Option<(&str, usize)>,
+) -> Result<Prepared, Memory> {
     let writes = Vec::from_slice(alloc, &weather.writes)?;
-    let mut sink = MemorySink::new(alloc, weather.room, weather.taken, writes)?;
-    let host = host(alloc, &weather.host_calls, replicas)?;
-    let tool = FailingTool::new(Vec::from_slice(alloc, &weather.runs)?);
-    let (outcome, host, _) = quick(alloc, words, docs, &mut sink, host, tool);
-    Ok(Ended {
+    Ok(Prepared {
+        docs: documents(alloc, &weather.fetches, &found.documents, cut)?,
+        sink: MemorySink::new(alloc, weather.room, weather.taken, writes)?,
+        host: host(alloc, &weather.host_calls, found)?,
+        crew: crew_of(alloc, &weather.runs)?,
+    })
+}
+
+/// Makes a call. It stands alone, since the clause of `quick` is long.
+fn call(alloc: Global, words: &[String], prepared: Prepared) -> Returned {
+    let mut docs = prepared.docs;
+    let mut sink = prepared.sink;
+    let (outcome, host, _) = quick(
+        alloc,
+        words,
+        &mut docs,
+        &mut sink,
+        prepared.host,
+        prepared.crew,
+    );
+    Returned {
         status: outcome.code(),
         host,
         sink,
+    }
+}
+
+fn with_trace(alloc: Global, returned: Returned) -> Result<Ended, Memory> {
+    let trace = trace_text(alloc, returned.host.trace())?;
+    Ok(Ended {
+        status: returned.status,
+        host: returned.host,
+        sink: returned.sink,
+        trace,
     })
 }
 
@@ -137,14 +230,8 @@ fn try_once<'a>(
     line: &'a CommandLine,
     cut: Option<(&str, usize)>,
 ) -> Result<Option<Difference<'a>>, Memory> {
-    let mut docs = documents(alloc, &case.weather.fetches, &found.documents, cut)?;
-    let ended = call(
-        alloc,
-        &case.weather,
-        &mut docs,
-        &found.replicas,
-        &line.words,
-    )?;
+    let prepared = prepare(alloc, &case.weather, found, cut)?;
+    let ended = with_trace(alloc, call(alloc, &line.words, prepared))?;
     if is_met(case, &ended) {
         return Ok(None);
     }
@@ -165,11 +252,14 @@ pub fn first_difference<'a>(
     let mut found = Found {
         documents: Vec::new(alloc),
         replicas: Vec::new(alloc),
+        scratch: Vec::new(alloc),
     };
     add_given(alloc, &mut found.documents, &common.documents)?;
     add_given(alloc, &mut found.documents, &case.setup.documents)?;
     add_given(alloc, &mut found.replicas, &common.replicas)?;
     add_given(alloc, &mut found.replicas, &case.setup.replicas)?;
+    add_scratch(alloc, &mut found.scratch, &common.scratch)?;
+    add_scratch(alloc, &mut found.scratch, &case.setup.scratch)?;
     let calls = if case.setup.calls.is_empty() {
         &common.calls
     } else {

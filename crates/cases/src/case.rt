@@ -31,12 +31,20 @@ impl Document {
     }
 }
 
-/// The calls of a case, and the documents and replicas that they find.
+/// What stands at a site.
+#[derive(Drop)]
+pub struct SiteFiles {
+    pub site: String,
+    pub files: Vec<Document>,
+}
+
+/// The calls of a case, and the documents, replicas and sites' files that they find.
 #[derive(Drop)]
 pub struct Setup {
     pub calls: Vec<CommandLine>,
     pub documents: Vec<Document>,
     pub replicas: Vec<Document>,
+    pub scratch: Vec<SiteFiles>,
 }
 
 /// Adds a piece to the one of a name.
@@ -57,12 +65,32 @@ pub fn add_piece(
     Ok(())
 }
 
+/// Adds a piece to the file of a name at a site.
+pub fn add_scratch(
+    alloc: Global,
+    all: &mut Vec<SiteFiles>,
+    site: String,
+    name: String,
+    piece: Piece,
+) -> Result<(), Memory> {
+    for at in all.iter_mut() {
+        if at.site == site {
+            return add_piece(alloc, &mut at.files, name, piece);
+        }
+    }
+    let mut files = Vec::new(alloc);
+    add_piece(alloc, &mut files, name, piece)?;
+    all.push(SiteFiles { site, files })?;
+    Ok(())
+}
+
 impl Setup {
     pub fn new(alloc: Global) -> Setup {
         Setup {
             calls: Vec::new(alloc),
             documents: Vec::new(alloc),
             replicas: Vec::new(alloc),
+            scratch: Vec::new(alloc),
         }
     }
 
@@ -78,7 +106,7 @@ impl Setup {
 pub struct Weather {
     pub fetches: Vec<u64>,
     pub writes: Vec<u64>,
-    /// Calls of the host: readings of replicas, and deliveries.
+    /// Calls of the host.
     pub host_calls: Vec<u64>,
     pub runs: Vec<u64>,
     /// How many bytes a write takes at most.
@@ -116,6 +144,14 @@ pub struct Delivered {
     pub bytes: Option<String>,
 }
 
+/// What stands at a site under a name in the end: these bytes, or nothing.
+#[derive(Drop)]
+pub struct Stored {
+    pub site: String,
+    pub name: String,
+    pub bytes: Option<String>,
+}
+
 /// Calls over the same documents, each of which has to end alike.
 #[derive(Drop)]
 pub struct Case {
@@ -126,6 +162,9 @@ pub struct Case {
     pub cut: Option<String>,
     pub ending: Ending,
     pub delivered: Vec<Delivered>,
+    pub stored: Vec<Stored>,
+    /// The changes that the host has to have made, where the case says so.
+    pub trace: Option<String>,
 }
 
 /// The cases of a file, with the calls and the documents of those that have none of their own.

@@ -1,11 +1,11 @@
 //! Comparing what a call left with what its case says.
 
-ghost use Rattle.std.specs.Prelude.{◌≡◌, ◌↔◌, IsTrue, string_bytes, All};
+ghost use Rattle.std.specs.Prelude.{◌≡◌, ◌↔◌, IfSome, IsTrue, string_bytes, All};
 ghost use Rattle.outside.specs.MemorySink.{sink_bytes};
-ghost use Rattle.cases.specs.Comparing.{IsHeld};
+ghost use Rattle.cases.specs.Comparing.{IsHeld, IsStored};
 
 use crate::calling::Ended;
-use crate::case::{Case, Delivered};
+use crate::case::{Case, Delivered, Stored};
 use outside::MemoryHost;
 
 /// Whether the host holds the bytes, or nothing where there are none.
@@ -19,13 +19,39 @@ pub fn is_held(host: &MemoryHost, file: &Delivered) -> bool
     }
 }
 
+/// Whether a site has the bytes, or nothing where there are none.
+pub fn is_stored(host: &MemoryHost, file: &Stored) -> bool
+    ensures { IsTrue result ↔ IsStored host.now file.now }
+{
+    let found = host.scratch(file.site.as_str(), file.name.as_str());
+    match (found, &file.bytes) {
+        (Some(found), Some(bytes)) => found == bytes.as_bytes(),
+        (None, None) => true,
+        _ => false,
+    }
+}
+
+/// Whether a trace is the one that a case says, where it says one.
+pub fn is_traced(trace: &[u8], wanted: &Option<String>) -> bool
+    ensures { IsTrue result → IfSome wanted.now (λ text. trace.now ≡ string_bytes text) }
+{
+    match wanted {
+        Some(text) => trace == text.as_bytes(),
+        None => true,
+    }
+}
+
 /// Whether a call ended as its case says.
 pub fn is_met(case: &Case, ended: &Ended) -> bool
     ensures status { IsTrue result → ended.now.status ≡ case.now.ending.status }
     ensures text { IsTrue result → sink_bytes ended.now.sink ≡ string_bytes case.now.ending.text }
     ensures files { IsTrue result → All (IsHeld ended.now.host) case.now.delivered.items }
+    ensures stored { IsTrue result → All (IsStored ended.now.host) case.now.stored.items }
+    ensures trace { IsTrue result → IfSome case.now.trace (λ text. ended.now.trace.items ≡ string_bytes text) }
 {
     ended.status == case.ending.status
         && ended.sink.bytes() == case.ending.text.as_bytes()
         && case.delivered.iter().all(|file| is_held(&ended.host, file))
+        && case.stored.iter().all(|file| is_stored(&ended.host, file))
+        && is_traced(&ended.trace, &case.trace)
 }

@@ -1,6 +1,6 @@
 //! A case as far as it is read.
 
-use crate::case::{Case, Delivered, Ending, Setup, Weather, add_piece};
+use crate::case::{Case, Delivered, Ending, Setup, Stored, Weather, add_piece, add_scratch};
 use crate::fault::Complaint;
 use crate::header::Header;
 use crate::piece::Piece;
@@ -16,6 +16,8 @@ pub struct Draft {
     pub cut: Option<String>,
     pub ending: Option<Ending>,
     pub delivered: Vec<Delivered>,
+    pub stored: Vec<Stored>,
+    pub trace: Option<String>,
 }
 
 impl Draft {
@@ -28,6 +30,8 @@ impl Draft {
             cut: None,
             ending: None,
             delivered: Vec::new(alloc),
+            stored: Vec::new(alloc),
+            trace: None,
         }
     }
 
@@ -45,19 +49,37 @@ impl Draft {
             Header::Replica(name, form) => {
                 add_piece(alloc, &mut self.setup.replicas, name, Piece { text, form })?
             }
+            Header::Scratch(site, name, form) => {
+                let piece = Piece { text, form };
+                add_scratch(alloc, &mut self.setup.scratch, site, name, piece)?
+            }
             Header::Status(_) if self.ending.is_some() => return Err(Complaint::StatusTwice),
             Header::Status(status) => self.ending = Some(Ending { status, text }),
             Header::Delivered(name) => self.add_delivered(name, Some(text))?,
-            Header::NotDelivered(_) if !text.is_empty() => {
+            Header::NotDelivered(_) | Header::NotStored(_, _) if !text.is_empty() => {
                 return Err(Complaint::TextOfAbsentFile);
             }
             Header::NotDelivered(name) => self.add_delivered(name, None)?,
+            Header::Stored(site, name) => self.add_stored(site, name, Some(text))?,
+            Header::NotStored(site, name) => self.add_stored(site, name, None)?,
+            Header::Trace if self.trace.is_some() => return Err(Complaint::TraceTwice),
+            Header::Trace => self.trace = Some(text),
         }
         Ok(())
     }
 
     fn add_delivered(&mut self, name: String, bytes: Option<String>) -> Result<(), Complaint> {
         self.delivered.push(Delivered { name, bytes })?;
+        Ok(())
+    }
+
+    fn add_stored(
+        &mut self,
+        site: String,
+        name: String,
+        bytes: Option<String>,
+    ) -> Result<(), Complaint> {
+        self.stored.push(Stored { site, name, bytes })?;
         Ok(())
     }
 
@@ -71,6 +93,8 @@ impl Draft {
             cut,
             ending,
             delivered,
+            stored,
+            trace,
         } = self;
         if setup.calls.is_empty() && common.calls.is_empty() {
             return Err(Complaint::NoWords);
@@ -91,6 +115,8 @@ impl Draft {
             cut,
             ending,
             delivered,
+            stored,
+            trace,
         })
     }
 }

@@ -29,7 +29,9 @@ pub enum Complaint {
     NoUtf8,
     #[error("the case has a status already")]
     StatusTwice,
-    #[error("a file that is not delivered has no text")]
+    #[error("the case has a trace already")]
+    TraceTwice,
+    #[error("a file that is not there in the end has no text")]
     TextOfAbsentFile,
     #[error("the case has no words")]
     NoWords,

@@ -10,9 +10,15 @@ use std::alloc::Global;
 pub enum Header {
     Document(String, Form),
     Replica(String, Form),
+    /// A site and a file's name.
+    Scratch(String, String, Form),
     Status(u8),
     Delivered(String),
     NotDelivered(String),
+    /// A site and a file's name.
+    Stored(String, String),
+    NotStored(String, String),
+    Trace,
 }
 
 /// A section as far as it is read.
@@ -78,6 +84,17 @@ fn header_of(alloc: Global, line: &str) -> Result<Header, Complaint> {
         ["status", status] => Ok(Header::Status(status_of(status)?)),
         ["delivered", name] => Ok(Header::Delivered(name_of(alloc, name)?)),
         ["not", "delivered", name] => Ok(Header::NotDelivered(name_of(alloc, name)?)),
+        ["stored", site, name] => {
+            Ok(Header::Stored(name_of(alloc, site)?, name_of(alloc, name)?))
+        }
+        ["not", "stored", site, name] => {
+            Ok(Header::NotStored(name_of(alloc, site)?, name_of(alloc, name)?))
+        }
+        ["trace"] => Ok(Header::Trace),
+        ["scratch", site, name, rest @ ..] => {
+            let site = name_of(alloc, site)?;
+            Ok(Header::Scratch(site, name_of(alloc, name)?, form_of(rest)?))
+        }
         ["replica", name, rest @ ..] => {
             Ok(Header::Replica(name_of(alloc, name)?, form_of(rest)?))
         }

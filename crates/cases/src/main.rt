@@ -1,7 +1,7 @@
 //! The cases of the product: calls of `pegasus_cli::quick` that stand as text files in `data/`.
 //!
 //! Each word names a file of cases. A case's call is made over objects in memory and the shipped
-//! transformations, and has to end with the status, the text and the delivered files that the case
+//! transformations, and has to end with the status, the text, the files and the trace that the case
 //! says. A line tells each case, `ok NAME` or `differs NAME` with what came instead, and a last line
 //! how many there are. The status is 1 where a case differs or a file can't be read.
 #![tactic(auto)]
@@ -10,13 +10,13 @@ mod calling;
 mod case;
 mod comparing;
 mod draft;
-mod failing_tool;
 mod fault;
 mod header;
 mod piece;
 mod reader;
 mod report;
 mod setting;
+mod trace;
 mod words;
 
 use host_files::StreamSink;

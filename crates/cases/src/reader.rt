@@ -1,6 +1,6 @@
 //! Reading a file of cases.
 
-use crate::case::{CaseFile, Setup, add_piece};
+use crate::case::{CaseFile, Setup, add_piece, add_scratch};
 use crate::draft::Draft;
 use crate::fault::{Complaint, FileFault, at_line};
 use crate::header::{Header, Section, words_between};
@@ -102,6 +102,10 @@ impl Reader {
             }
             Header::Replica(name, form) => {
                 add_piece(alloc, &mut common.replicas, name, Piece { text, form })?
+            }
+            Header::Scratch(site, name, form) => {
+                let piece = Piece { text, form };
+                add_scratch(alloc, &mut common.scratch, site, name, piece)?
             }
             _ => return Err(Complaint::SectionOfNoCase),
         }

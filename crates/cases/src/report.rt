@@ -1,8 +1,8 @@
 //! The lines that tell how the cases went.
 
-use crate::calling::{Difference, first_difference};
+use crate::calling::{Difference, Ended, first_difference};
 use crate::case::{Case, Setup};
-use crate::comparing::is_held;
+use crate::comparing::{is_held, is_stored, is_traced};
 use crate::fault::{Complaint, FileFault};
 use crate::reader::parse;
 use outside::{Memory, Word, push_line};
@@ -127,24 +127,60 @@ fn push_difference(
     for file in &case.delivered {
         if !is_held(&ended.host, file) {
             let name = Word::Name(file.name.as_bytes());
-            push_held(alloc, text, name, ended.host.delivered(file.name.as_str()))?;
+            let found = ended.host.delivered(file.name.as_str());
+            push_found(
+                alloc,
+                text,
+                ("  delivered", "  not delivered"),
+                &[name],
+                found,
+            )?;
         }
+    }
+    push_stored(alloc, text, case, ended)
+}
+
+/// Adds the sites' files that are not as the case says, and the trace if it is another one.
+fn push_stored(
+    alloc: Global,
+    text: &mut Vec<u8>,
+    case: &Case,
+    ended: &Ended,
+) -> Result<(), Memory> {
+    for file in &case.stored {
+        if !is_stored(&ended.host, file) {
+            let site = Word::Name(file.site.as_bytes());
+            let name = Word::Name(file.name.as_bytes());
+            let found = ended.host.scratch(file.site.as_str(), file.name.as_str());
+            push_found(
+                alloc,
+                text,
+                ("  stored", "  not stored"),
+                &[site, name],
+                found,
+            )?;
+        }
+    }
+    if !is_traced(&ended.trace, &case.trace) {
+        push_line(alloc, text, "  trace", &[])?;
+        push_quoted(text, &ended.trace)?;
     }
     Ok(())
 }
 
-/// Adds what is delivered under a name.
-fn push_held(
+/// Adds what is found under some names, with the word for it, or the word for nothing.
+fn push_found(
     alloc: Global,
     text: &mut Vec<u8>,
-    name: Word<'_>,
+    (there, absent): (&str, &str),
+    names: &[Word<'_>],
     bytes: Option<&[u8]>,
 ) -> Result<(), Memory> {
     match bytes {
         Some(bytes) => {
-            push_line(alloc, text, "  delivered", &[name])?;
+            push_line(alloc, text, there, names)?;
             push_quoted(text, bytes)
         }
-        None => push_line(alloc, text, "  not delivered", &[name]),
+        None => push_line(alloc, text, absent, names),
     }
 }

@@ -1,0 +1,32 @@
+"""The commands in README and guide with the texts printed after them."""
+import pathlib
+import re
+
+PAGES = ("README.md", "docs/GUIDE.md")
+OF_DOCUMENTS = re.compile(
+    "refused (request|workflow|sites|replicas|transformations|twice|unknown|catalogue|many (jobs|files|sites)) "
+)
+
+
+def blocks(page, command):
+    """The texts printed after `./pegasus COMMAND`: the request, the pattern of a `grep` behind it, and the lines."""
+    found, is_inside = [], False
+    for line in pathlib.Path(page).read_text(encoding="utf-8").splitlines():
+        call = re.fullmatch(rf"    \$ (?:\./pegasus {command} (\S+\.json)(?: \| grep (?:-E )?'?([^']*)'?)?)?(.*)", line)
+        if call:
+            is_inside = bool(call[1]) and not call[3]
+            if is_inside:
+                found.append((call[1], call[2] or "", []))
+        elif not line.startswith("    "):
+            is_inside = False
+        elif is_inside:
+            found[-1][2].append(line[4:])
+    return found
+
+
+def texts(command):
+    """Those of all pages but the refusals of documents, which the models don't know, and requests that aren't there."""
+    for page in PAGES:
+        for request, pattern, lines in blocks(page, command):
+            if pathlib.Path(request).exists() and not OF_DOCUMENTS.match(lines[0]):
+                yield request, pattern, lines

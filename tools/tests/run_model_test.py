@@ -1,0 +1,88 @@
+"""Tests of tools/run-model: against the runs printed in README and guide, and those of the files of cases."""
+import importlib.machinery
+import importlib.util
+import json
+import pathlib
+import re
+import sys
+
+import case_files
+import pages
+
+sys.dont_write_bytecode = True
+LOADER = importlib.machinery.SourceFileLoader("run_model", "tools/run-model")
+model = importlib.util.module_from_spec(importlib.util.spec_from_loader("run_model", LOADER))
+sys.modules["run_model"] = model
+LOADER.exec_module(model)
+printed = model.printed
+WHOLE = 65536
+CATALOGUES = {"replicas": "replicaCatalog", "transformations": "transformationCatalog"}
+
+
+def is_told(case):
+    """Whether it is one call of `alone` that ends with a run, or a refusal of what the documents say together."""
+    is_one = len(case.words) == 1 and re.fullmatch(r"words alone \S+\.json", case.words[0])
+    is_known = not any(line.startswith(("failing fetch", "each")) for line in case.settings)
+    return is_one and is_known and case.status != 3 and not pages.OF_DOCUMENTS.match(case.text)
+
+
+def documents_of(case, request):
+    workflow = json.loads(case.documents[request["workflow"]])
+    found = {"workflow": workflow}
+    for name, inlined in CATALOGUES.items():
+        named = request.get(name)
+        found[name] = (workflow.get(inlined) or {name: []}) if named is None else json.loads(case.documents[named])
+    return found
+
+
+def run(case):
+    """What the model says of a case: the store, the status, and the text as far as the output takes it."""
+    request = json.loads(case.documents[case.words[0].split(" ")[2]])
+    store = model.Store(case.replicas, scratch=dict(case.scratch), failing=case.failing("host"))
+    status, lines = model.run(request, documents_of(case, request), store, case.failing("run"))
+    text = "".join(line + "\n" for line in lines)
+    before = (min(case.failing("write"), default=WHOLE) - 1) * case.number("write takes", WHOLE)
+    taken = min(before, case.number("room", WHOLE))
+    return store, *((7, text[:taken]) if taken < len(text.encode()) else (status, text))
+
+
+def compare(path, case):
+    store, status, text = run(case)
+    assert (case.status, case.text) == (status, text), (path, case.name, status, text)
+    for name, content in case.delivered.items():
+        assert store.delivered.get(name) == content, (path, case.name, name)
+    for place, content in case.stored.items():
+        assert store.scratch.get(place) == content, (path, case.name, place)
+    if case.trace is not None:
+        assert case.trace == "".join(line + "\n" for line in store.trace), (path, case.name, store.trace)
+
+
+def page_run(request, scratch):
+    """The lines of a run in this folder, where something stands at one of the sites or at none."""
+    told = model.planner.load(".", request)
+    store = model.Store(model.Folder("."), scratch=scratch)
+    return model.run(told, model.planner.read_documents(".", told), store)[1]
+
+
+def compare_page(request, pattern, lines):
+    in_use = re.fullmatch("failed scratch (.*)", lines[-1])
+    scratch = {(case_files.name_of(in_use[1]), "left"): b""} if in_use else {}
+    assert [line for line in page_run(request, scratch) if re.search(pattern, line)] == lines, request
+
+
+count = 0
+for file in sorted(pathlib.Path("crates/cases/data").glob("*.cases")):
+    if not file.name.startswith("unreadable"):
+        for found in filter(is_told, case_files.read(file)):
+            compare(file.name, found)
+            count += 1
+assert count >= 80, count
+runs = list(pages.texts("alone"))
+for found in runs:
+    compare_page(*found)
+for request, _, lines in pages.texts("eval"):
+    worth = [line.replace("delivered", "value", 1) for line in page_run(request, {})]
+    assert lines == [line for line in worth if line.startswith(("value ", "done"))], request
+first = "".join(f"    {line}\n" for line in page_run("examples/diamond/request.json", {}))
+assert len(runs) >= 12 and first in pathlib.Path("README.md").read_text(encoding="utf-8"), len(runs)
+print(f"run-model: ok, {len(runs)} runs and {count} cases")
