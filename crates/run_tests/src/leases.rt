@@ -5,8 +5,7 @@ ghost use Rattle.plan_core.specs.Proper.{IsProper};
 ghost use Rattle.plan_core.specs.Words.{retries};
 ghost use Rattle.storage_simulation.specs.Goods.{IsWithinLimits};
 
-use crate::orders::CHAIN_BEFORE_SINGLE;
-use crate::sketches::{DIAMOND_CLEANED, Does, Sketch, plan_of};
+use crate::sketches::{CHAIN_BEFORE_SINGLE, DIAMOND_CLEANED, Does, Sketch, plan_of};
 use crate::storage::is_limited;
 use lease_book::{Book, Next};
 use outside::{Memory, Policy, SiteId, TaskId};

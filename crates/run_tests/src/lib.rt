@@ -4,15 +4,11 @@
 #![tactic(auto)]
 
 #[cfg(test)]
-mod cleans;
-#[cfg(test)]
 mod leases;
 #[cfg(test)]
 mod orders;
 #[cfg(test)]
 mod peaks;
-#[cfg(test)]
-mod plans;
 #[cfg(test)]
 mod records;
 #[cfg(test)]

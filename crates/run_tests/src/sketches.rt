@@ -11,8 +11,6 @@ pub enum Does<'a> {
     Run(u32, &'a [u32]),
     /// A file from its pfn to a site.
     Fetch(u32, u32),
-    /// A file from a site to a site.
-    Move(u32, u32, u32),
     /// A file from a site to its delivery.
     Deliver(u32, u32),
     /// A pair.
@@ -137,11 +135,6 @@ fn kind(alloc: Global, does: &Does<'_>) -> Result<TaskKind, Memory> {
             from: Source::Pfn(Text::copy_of(alloc, "file:///data/f.a")?),
             to: Target::Site(SiteId(*site)),
         }),
-        Does::Move(file, home, site) => Ok(TaskKind::Transfer {
-            file: FileId(*file),
-            from: Source::Site(SiteId(*home)),
-            to: Target::Site(SiteId(*site)),
-        }),
         Does::Deliver(file, home) => Ok(TaskKind::Transfer {
             file: FileId(*file),
             from: Source::Site(SiteId(*home)),
@@ -179,36 +172,8 @@ pub fn plan_of(alloc: Global, sketch: &Sketch<'_>, policy: Policy) -> Result<Pla
     })
 }
 
-pub const ONE_SITE: [(&str, u64); 1] = [("s", 100)];
-
-pub const TWO_SITES: [(&str, u64); 2] = [("s", 100), ("t", 100)];
-
-pub const THREE_FILES: [(&str, Option<u64>); 3] = [
-    ("in", Some(10)),
-    ("mid", Some(10)),
-    ("out", Some(10)),
-];
-
-/// A job makes mid of in, the next one out of mid; out is delivered, and each pair has its Clean.
-pub const CHAIN: Sketch<'static> = Sketch {
-    workflow: "w",
-    sites: &ONE_SITE,
-    files: &THREE_FILES,
-    jobs: &[("a", Some(0), &[0], &[1]), ("b", Some(0), &[1], &[2])],
-    pairs: &[(0, 0), (0, 1), (0, 2)],
-    tasks: &[
-        (Does::Run(0, &[0]), &[0], &[1], &[3]),
-        (Does::Run(0, &[1]), &[1], &[2], &[0]),
-        (Does::Deliver(2, 0), &[2], &[], &[1]),
-        (Does::Fetch(0, 0), &[], &[0], &[]),
-        (Does::Clean(0), &[], &[], &[0, 3]),
-        (Does::Clean(1), &[], &[], &[0, 1]),
-        (Does::Clean(2), &[], &[], &[1, 2]),
-    ],
-};
-
-/// The diamond without its Cleans.
-pub const DIAMOND: Sketch<'static> = Sketch {
+/// The diamond with its Cleans.
+pub const DIAMOND_CLEANED: Sketch<'static> = Sketch {
     workflow: "diamond",
     sites: &[("condorpool", 30)],
     files: &[
@@ -233,18 +198,6 @@ pub const DIAMOND: Sketch<'static> = Sketch {
         (Does::Run(0, &[3]), &[3, 4], &[5], &[1, 2]),
         (Does::Fetch(0, 0), &[], &[0], &[]),
         (Does::Deliver(5, 0), &[5], &[], &[3]),
-    ],
-};
-
-/// The diamond with its Cleans.
-pub const DIAMOND_CLEANED: Sketch<'static> = Sketch {
-    tasks: &[
-        (Does::Run(0, &[0]), &[0], &[1, 2], &[4]),
-        (Does::Run(0, &[1]), &[1], &[3], &[0]),
-        (Does::Run(0, &[2]), &[2], &[4], &[0]),
-        (Does::Run(0, &[3]), &[3, 4], &[5], &[1, 2]),
-        (Does::Fetch(0, 0), &[], &[0], &[]),
-        (Does::Deliver(5, 0), &[5], &[], &[3]),
         (Does::Clean(0), &[], &[], &[0, 4]),
         (Does::Clean(1), &[], &[], &[0, 1]),
         (Does::Clean(2), &[], &[], &[0, 2]),
@@ -252,5 +205,28 @@ pub const DIAMOND_CLEANED: Sketch<'static> = Sketch {
         (Does::Clean(4), &[], &[], &[2, 3]),
         (Does::Clean(5), &[], &[], &[3, 5]),
     ],
-    ..DIAMOND
+};
+
+/// Two jobs in a chain and a single one, at a site of bound 10. The first file is swept in the middle, deliveries have
+/// scores below 0, and the single job comes last.
+pub const CHAIN_BEFORE_SINGLE: Sketch<'static> = Sketch {
+    workflow: "w",
+    sites: &[("pool", 10)],
+    files: &[("a", Some(2)), ("p", Some(6)), ("t", Some(5))],
+    jobs: &[
+        ("A", Some(0), &[], &[0]),
+        ("B", Some(0), &[0], &[1]),
+        ("C", Some(0), &[], &[2]),
+    ],
+    pairs: &[(0, 0), (0, 1), (0, 2)],
+    tasks: &[
+        (Does::Run(0, &[0]), &[], &[0], &[]),
+        (Does::Run(0, &[2]), &[], &[2], &[]),
+        (Does::Run(0, &[1]), &[0], &[1], &[0]),
+        (Does::Deliver(1, 0), &[1], &[], &[2]),
+        (Does::Deliver(2, 0), &[2], &[], &[1]),
+        (Does::Clean(0), &[], &[], &[0, 2]),
+        (Does::Clean(1), &[], &[], &[2, 3]),
+        (Does::Clean(2), &[], &[], &[1, 4]),
+    ],
 };

@@ -1,4 +1,4 @@
-//! Usage and fit of orders at plans that are made by hand.
+//! Usage and fit of the diamond's order, from the start and from a standing under way.
 
 ghost use Rattle.std.specs.Prelude.{◌≡◌, ◌≤◌, ◌^◌, ℕ, [], true};
 ghost use Rattle.plan_core.specs.Words.{declared};
@@ -7,30 +7,24 @@ ghost use Rattle.storage_simulation.specs.Standings.{IsStanding, at_in, held_of,
 ghost use Rattle.storage_simulation.specs.declared.standing.Held.TheVariants.{Nothing};
 ghost use Rattle.storage_simulation.specs.Usage.{IsWithin};
 
-use crate::sketches::{DIAMOND, DIAMOND_CLEANED, Does, Sketch, plan_of, task_ids};
+use crate::sketches::{DIAMOND_CLEANED, plan_of, task_ids};
 use outside::{Items, Memory, Policy, SiteId, TaskId};
 use plan_core::{Plan, check};
 use std::alloc::Global;
 use std::test::Fail;
-use storage_simulation::{Exceeds, Held, Phase, Standing, fits, follows, usage_after};
+use storage_simulation::{Held, Phase, Standing, fits, follows, usage_after};
 
 /// What is held of each pair, how far each task is, and what is held of each task's delivery.
 type Lists = (&'static [Held], &'static [Phase], &'static [Held]);
 
-/// A plan under a bound on the output, a standing, which is the start where none is given, and a list of tasks.
+/// A standing of the diamond, which is the start where none is given, an order from there, and the usage of its site
+/// after each front, the empty one first.
 #[derive(Clone, Copy)]
 struct Case {
     name: &'static str,
-    sketch: Sketch<'static>,
-    output: Option<u64>,
     standing: Option<Lists>,
     order: &'static [u32],
-    /// Whether the list is an order.
-    follows: bool,
-    /// The usages of a site after each front, the empty one first.
-    usages: &'static [(u32, &'static [u64])],
-    /// The site, task, need and bound of the first front that passes a bound.
-    exceeds: Option<(u32, u32, u64, u64)>,
+    usages: &'static [u64],
 }
 
 fn held_size(held: &Held) -> u64
@@ -118,7 +112,7 @@ fn bound_of(plan: &Plan, place: u32) -> u64
 }
 
 /// Whether a standing is within each bound.
-pub fn is_within(plan: &Plan, standing: &Standing) -> bool
+fn is_within(plan: &Plan, standing: &Standing) -> bool
     requires limits { IsWithinLimits plan.now }
     requires standing { IsStanding plan.now standing.now }
     ensures { result ≡ true → IsWithin plan.now (sizes (held_of standing.now)) [] }
@@ -146,8 +140,8 @@ fn standing_of(alloc: Global, plan: &Plan, lists: &Option<Lists>) -> Result<Stan
     }
 }
 
-/// Whether these are the usages of a site after each front.
-fn are_usages(plan: &Plan, standing: &Standing, order: &[TaskId], site: u32, usages: &[u64]) -> bool
+/// Whether these are the usages of the first site after each front.
+fn are_usages(plan: &Plan, standing: &Standing, order: &[TaskId], usages: &[u64]) -> bool
     requires limits { IsWithinLimits plan.now }
     requires standing { IsStanding plan.now standing.now }
 {
@@ -155,80 +149,33 @@ fn are_usages(plan: &Plan, standing: &Standing, order: &[TaskId], site: u32, usa
         return false;
     }
     for (k, usage) in usages.iter().enumerate() {
-        if usage_after(
-            plan,
-            standing,
-            order.get(..k).unwrap_or(order),
-            SiteId(site),
-        ) != *usage
-        {
+        let front = order.get(..k).unwrap_or(order);
+        if usage_after(plan, standing, front, SiteId(0)) != *usage {
             return false;
         }
     }
     true
-}
-
-fn all_usages_are(plan: &Plan, standing: &Standing, order: &[TaskId], case: &Case) -> bool
-    requires limits { IsWithinLimits plan.now }
-    requires standing { IsStanding plan.now standing.now }
-{
-    for (site, usages) in case.usages {
-        if !are_usages(plan, standing, order, *site, usages) {
-            return false;
-        }
-    }
-    true
-}
-
-fn is_as_said(found: &Result<(), Exceeds>, said: &Option<(u32, u32, u64, u64)>) -> bool {
-    match (found, said) {
-        (Ok(()), None) => true,
-        (Err(at), Some((site, task, needed, bound))) => {
-            at.site.0 == *site && at.task.0 == *task && at.needed == *needed && at.bound == *bound
-        }
-        _ => false,
-    }
 }
 
 fn is_right(alloc: Global, case: &Case) -> Result<bool, Memory> {
-    let policy = Policy {
-        retries: 0,
-        fresh: false,
-        output: case.output,
-    };
-    let plan = plan_of(alloc, &case.sketch, policy)?;
+    let plan = plan_of(alloc, &DIAMOND_CLEANED, Policy::plain())?;
     let standing = standing_of(alloc, &plan, &case.standing)?;
     let order = task_ids(alloc, case.order)?;
     let proper = check(alloc, &plan)?;
     if !proper || !is_limited(&plan) || !is_standing(&plan, &standing) {
         return Ok(false);
     }
-    if !all_usages_are(&plan, &standing, &order, case) {
+    if !are_usages(&plan, &standing, &order, case.usages) || !is_within(&plan, &standing) {
         return Ok(false);
     }
     let follows = follows(alloc, &plan, &standing, &order)?;
     if !follows {
-        return Ok(!case.follows);
-    }
-    if !is_within(&plan, &standing) {
         return Ok(false);
     }
-    Ok(case.follows && is_as_said(&fits(&plan, &standing, &order), &case.exceeds))
+    Ok(fits(&plan, &standing, &order).is_ok())
 }
 
 pub const ORDER: &[u32] = &[4, 0, 6, 1, 7, 2, 8, 3, 9, 10, 5, 11];
-
-/// The diamond's order from the start.
-const FROM_START: Case = Case {
-    name: "diamond",
-    sketch: DIAMOND_CLEANED,
-    output: None,
-    standing: None,
-    order: ORDER,
-    follows: true,
-    usages: &[(0, &[0, 10, 30, 20, 30, 20, 30, 20, 30, 20, 10, 10, 0])],
-    exceeds: None,
-};
 
 /// The first pair is stored at 4 bytes, and its task has ended; what the first job makes is reserved, and it runs.
 const UNDER_WAY: Lists = (
@@ -257,250 +204,27 @@ const UNDER_WAY: Lists = (
     &[Held::Nothing; 12],
 );
 
-/// All tasks wait, and the first pair is reserved at 7 bytes.
-const HELD_AGAIN: Lists = (
-    &[
-        Held::Reserved(7),
-        Held::Nothing,
-        Held::Nothing,
-        Held::Nothing,
-        Held::Nothing,
-        Held::Nothing,
-    ],
-    &[Phase::Waits; 12],
-    &[Held::Nothing; 12],
-);
-
-/// The last file is stored at 9 bytes and delivered at 8, and only its Clean waits.
-const DELIVERED: Lists = (
-    &[
-        Held::Nothing,
-        Held::Nothing,
-        Held::Nothing,
-        Held::Nothing,
-        Held::Nothing,
-        Held::Stored(9),
-    ],
-    &[
-        Phase::Ended,
-        Phase::Ended,
-        Phase::Ended,
-        Phase::Ended,
-        Phase::Ended,
-        Phase::Ended,
-        Phase::Ended,
-        Phase::Ended,
-        Phase::Ended,
-        Phase::Ended,
-        Phase::Ended,
-        Phase::Waits,
-    ],
-    &[
-        Held::Nothing,
-        Held::Nothing,
-        Held::Nothing,
-        Held::Nothing,
-        Held::Nothing,
-        Held::Stored(8),
-        Held::Nothing,
-        Held::Nothing,
-        Held::Nothing,
-        Held::Nothing,
-        Held::Nothing,
-        Held::Nothing,
-    ],
-);
-
-/// A file of 6 bytes comes to each of two sites.
-const APART: Sketch<'static> = Sketch {
-    sites: &[("s", 5), ("t", 5)],
-    files: &[("f", Some(6)), ("g", Some(6))],
-    jobs: &[],
-    pairs: &[(0, 1), (1, 0)],
-    tasks: &[
-        (Does::Fetch(0, 1), &[], &[1], &[]),
-        (Does::Fetch(1, 0), &[], &[0], &[]),
-    ],
-    ..DIAMOND
-};
-
-/// A file of 6 bytes comes to a site, goes on to another one, and is swept at both.
-const TWO_SITES: Sketch<'static> = Sketch {
-    sites: &[("s", 6), ("t", 5)],
-    files: &[("f", Some(6))],
-    jobs: &[],
-    pairs: &[(0, 0), (1, 0)],
-    tasks: &[
-        (Does::Fetch(0, 0), &[], &[0], &[]),
-        (Does::Move(0, 0, 1), &[0], &[1], &[0]),
-        (Does::Clean(0), &[], &[], &[0, 1]),
-        (Does::Clean(1), &[], &[], &[1]),
-    ],
-    ..DIAMOND
-};
-
-const ORDERS: [Case; 4] = [
+const CASES: [Case; 2] = [
     Case {
-        name: "a task twice",
-        order: &[4, 0, 4],
-        follows: false,
-        usages: &[(0, &[0, 10, 30, 30])],
-        ..FROM_START
+        name: "diamond",
+        standing: None,
+        order: ORDER,
+        usages: &[0, 10, 30, 20, 30, 20, 30, 20, 30, 20, 10, 10, 0],
     },
-    Case {
-        name: "a parent missing",
-        order: &[4, 1],
-        follows: false,
-        usages: &[],
-        ..FROM_START
-    },
-    Case {
-        name: "a parent later",
-        order: &[0, 4],
-        follows: false,
-        usages: &[],
-        ..FROM_START
-    },
-    Case {
-        name: "a number out of range",
-        order: &[4, 12],
-        follows: false,
-        usages: &[],
-        ..FROM_START
-    },
-];
-
-const STANDINGS: [Case; 3] = [
     Case {
         name: "under way",
         standing: Some(UNDER_WAY),
         order: &[6, 1, 7, 2, 8, 3, 9, 10, 5, 11],
-        usages: &[(0, &[24, 20, 30, 20, 30, 20, 30, 20, 10, 10, 0])],
-        ..FROM_START
-    },
-    Case {
-        name: "held again",
-        standing: Some(HELD_AGAIN),
-        usages: &[(0, &[7, 10, 30, 20, 30, 20, 30, 20, 30, 20, 10, 10, 0])],
-        ..FROM_START
-    },
-    Case {
-        name: "a task that runs",
-        standing: Some(UNDER_WAY),
-        order: &[0],
-        follows: false,
-        usages: &[],
-        ..FROM_START
+        usages: &[24, 20, 30, 20, 30, 20, 30, 20, 10, 10, 0],
     },
 ];
-
-const BOUNDS: [Case; 3] = [
-    FROM_START,
-    Case {
-        name: "the first front past the bound",
-        sketch: Sketch {
-            sites: &[("condorpool", 29)],
-            ..DIAMOND_CLEANED
-        },
-        exceeds: Some((0, 0, 30, 29)),
-        ..FROM_START
-    },
-    Case {
-        name: "no Clean of the first file",
-        order: &[4, 0, 1, 7, 2],
-        usages: &[(0, &[0, 10, 30, 40, 30, 40])],
-        exceeds: Some((0, 1, 40, 30)),
-        ..FROM_START
-    },
-];
-
-const SITES: [Case; 3] = [
-    Case {
-        name: "two sites",
-        sketch: TWO_SITES,
-        order: &[0, 1, 2, 3],
-        usages: &[(0, &[0, 6, 6, 0, 0]), (1, &[0, 0, 6, 6, 0])],
-        exceeds: Some((1, 1, 6, 5)),
-        ..FROM_START
-    },
-    Case {
-        name: "sooner at the second site",
-        sketch: APART,
-        order: &[0, 1],
-        usages: &[(0, &[0, 0, 6]), (1, &[0, 6, 6])],
-        exceeds: Some((1, 0, 6, 5)),
-        ..FROM_START
-    },
-    Case {
-        name: "sooner at the first site",
-        sketch: APART,
-        order: &[1, 0],
-        usages: &[(0, &[0, 6, 6]), (1, &[0, 0, 6])],
-        exceeds: Some((0, 1, 6, 5)),
-        ..FROM_START
-    },
-];
-
-const OUTPUTS: [Case; 3] = [
-    Case {
-        name: "an output of 9",
-        output: Some(9),
-        usages: &[(1, &[0, 0, 0, 0, 0, 0, 0, 0, 0, 0, 0, 10, 10])],
-        exceeds: Some((1, 5, 10, 9)),
-        ..FROM_START
-    },
-    Case {
-        name: "an output of 10",
-        output: Some(10),
-        usages: &[(1, &[0, 0, 0, 0, 0, 0, 0, 0, 0, 0, 0, 10, 10])],
-        ..FROM_START
-    },
-    Case {
-        name: "delivered",
-        output: Some(10),
-        standing: Some(DELIVERED),
-        order: &[11],
-        usages: &[(0, &[9, 0]), (1, &[8, 8])],
-        ..FROM_START
-    },
-];
-
-fn are_right(alloc: Global, cases: &[Case]) -> Result<(), Fail> {
-    for case in cases {
-        if !is_right(alloc, case)? {
-            return Err(Fail::new(case.name));
-        }
-    }
-    Ok(())
-}
-
-fn orders_are_right(alloc: Global) -> Result<(), Fail> {
-    are_right(alloc, &ORDERS)
-}
-
-fn standings_are_right(alloc: Global) -> Result<(), Fail> {
-    are_right(alloc, &STANDINGS)
-}
-
-fn bounds_are_right(alloc: Global) -> Result<(), Fail> {
-    are_right(alloc, &BOUNDS)
-}
-
-fn sites_are_right(alloc: Global) -> Result<(), Fail> {
-    are_right(alloc, &SITES)
-}
-
-fn outputs_are_right(alloc: Global) -> Result<(), Fail> {
-    are_right(alloc, &OUTPUTS)
-}
 
 #[test]
 fn usages_and_fits_are_right(rt: HostRuntime) -> Result<(), Fail> {
-    let alloc = rt.alloc();
-    orders_are_right(alloc)?;
-    standings_are_right(alloc)?;
-    bounds_are_right(alloc)?;
-    sites_are_right(alloc)?;
-    outputs_are_right(alloc)?;
+    for case in &CASES {
+        if !is_right(rt.alloc(), case)? {
+            return Err(Fail::new(case.name));
+        }
+    }
     Ok(())
 }
