@@ -25,8 +25,10 @@ def blocks(page, command):
 
 
 def texts(command):
-    """Those of all pages but the refusals of documents, which the models don't know, and requests that aren't there."""
+    """Those of the examples on all pages but the refusals of documents, which the models don't know, and requests
+    that aren't there."""
     for page in PAGES:
         for request, pattern, lines in blocks(page, command):
-            if pathlib.Path(request).exists() and not OF_DOCUMENTS.match(lines[0]):
+            is_there = request.startswith("examples/") and pathlib.Path(request).exists()
+            if is_there and not OF_DOCUMENTS.match(lines[0]):
                 yield request, pattern, lines
