@@ -15,3 +15,4 @@ pub mod FreshLemmas
 pub mod SumLemmas
 pub mod BookLemmas
 pub mod SizeLemmas
+pub mod OwningLemmas

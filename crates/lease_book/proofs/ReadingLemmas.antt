@@ -35,7 +35,7 @@ turned (Clean w u) s p t = refl
 turned (Fail w u c ns) s p t = refl
 
 -- a task that is granted waits, and a task that is tried again hasn't ended
-grants_waits : (p : Plan) (s : State) (e : Event) (t : ℕ) → IsSoundState p s → Allowed p s e → grants t e ≡ true → s.phase t ≡ Waits
+pub grants_waits : (p : Plan) (s : State) (e : Event) (t : ℕ) → IsSoundState p s → Allowed p s e → grants t e ≡ true → s.phase t ≡ Waits
 grants_waits p s (Grant w u) t sound a h = subst (λ (n : ℕ). s.phase n ≡ Waits) (eqb-true u t h) (is_waiting (s.phase u) (sound.safe.waiting u (choice_in p s u a.2)))
 grants_waits p s (Regrant w u) t sound a h = subst (λ (n : ℕ). s.phase n ≡ Waits) (eqb-true u t h) (is_waiting (s.phase u) (sound.safe.waiting u (fresh_among p s 4 s.rest u a.1.among).2))
 grants_waits p s (Again w u c ns) t sound a h = absurd cc

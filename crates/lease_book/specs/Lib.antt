@@ -4,6 +4,7 @@ pub mod Choice
 pub mod Legal
 pub mod Law
 pub mod Reading
+pub mod Owning
 pub mod Room
 pub mod Book
 -- What arrays show

@@ -1,10 +1,11 @@
 //! What the definitions come to.
 
-ghost use Rattle.std.specs.Prelude.{◌≡◌, ◌≤◌, ◌+◌, ◌<◌, ℕ, List, [], true, false, length, take};
+ghost use Rattle.std.specs.Prelude.{◌≡◌, Decides, ◌≤◌, ◌+◌, ◌<◌, ℕ, List, [], true, false, length, take};
 ghost use Rattle.plan_core.specs.declared.plan.Plan.{Plan};
 ghost use Rattle.plan_core.specs.Numbers.{has};
 ghost use Rattle.plan_core.specs.Proper.{IsProper};
-ghost use Rattle.plan_core.specs.Words.{count_pairs, is_clean};
+ghost use Rattle.plan_core.specs.Words.{count_pairs, is_clean, task_numbers};
+ghost use Rattle.storage_simulation.specs.declared.ordered.Ordered.{Ordered};
 ghost use Rattle.storage_simulation.specs.declared.standing.Held.{Held};
 ghost use Rattle.storage_simulation.specs.Goods.{count_sites, goods, places};
 ghost use Rattle.storage_simulation.specs.Standings.{sizes};
@@ -13,8 +14,9 @@ ghost use Rattle.run_record.specs.declared.entry.Cause.{Cause};
 ghost use Rattle.run_record.specs.Events.{Again, Event, Regrant};
 ghost use Rattle.lease_book.specs.State.{State, after, now, opened};
 ghost use Rattle.lease_book.specs.Choice.{HasNoChoice, HaveParentsEnded, IsChoice, IsFresh};
-ghost use Rattle.lease_book.specs.Legal.{Allowed, Legal};
+ghost use Rattle.lease_book.specs.Legal.{Allowed, IsOpen, Legal};
 ghost use Rattle.lease_book.specs.Law.{FitsFromStart, HasStorageLaws, IsConsistent, IsSafeState, IsSoundState, reserved_at, stored_at};
+ghost use Rattle.lease_book.specs.Owning.{entries_by, is_open, is_open_after};
 ghost use Rattle.lease_book.specs.Reading.{IsPlain, IsPlainlyRead, IsRead};
 ghost use Rattle.lease_book.specs.Room.{entries_room, listed, sizes_room};
 
@@ -29,6 +31,11 @@ pub(crate) fn storage_laws()
     files_are_listed_by_pair();
     steps_fit();
 }
+
+/// The order of every ordered plan fits from the start, and has all tasks.
+pub fn ordered_plans_fit()
+    ensures { (o : Ordered) → FitsFromStart o.plan (task_numbers o.tasks.items) }
+{}
 
 /// An order that fits from the start is Safe, and every allowed entry keeps it so.
 pub fn allowed_entries_keep_safe()
@@ -73,6 +80,14 @@ pub fn entries_are_few()
 /// The state of a Legal record says of each task, of each good and of failures what the list of its entries says.
 pub fn records_read()
     ensures { (p : Plan) (order : List ℕ) (r : List Event) → IsProper p → FitsFromStart p order → Legal p order r → IsRead p r (now p order r) }
+{
+    storage_laws();
+}
+
+/// A worker's own entries tell which tasks are open for it.
+pub fn own_entries_tell_open_tasks()
+    ensures decides { (s : State) (w t : ℕ) → Decides (is_open s w t) (IsOpen s w t) }
+    ensures entries { (p : Plan) (order : List ℕ) (r : List Event) (w t : ℕ) → IsProper p → FitsFromStart p order → Legal p order r → is_open (now p order r) w t ≡ is_open_after t false (entries_by w r) }
 {
     storage_laws();
 }

@@ -21,5 +21,5 @@ invariant_of-result c =
       proper = c.requires.proper;
       kept = kept_open c.args.plan (task_numbers c.args.order.items) c.in_ok-history.history c.in_ok-state.state (c.storage_laws.ensures c.args.plan c.requires.proper) c.requires.limits c.requires.retries c.requires.order c.in_ok-history.ensures.events entries sizes (rw c.as_slice.ensures.value at c.in_ok-state.ensures.state) c.in_ok-state.ensures.room;
       place = c.in_ok-trial.ensures;
-      fresh = c.in_ok-bench.ensures;
+      fresh = c.in_ok-bench.ensures.made_for;
     }
