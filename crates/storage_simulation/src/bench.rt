@@ -1,6 +1,6 @@
 //! What an order is made on.
 
-ghost use Rattle.std.specs.Prelude.{◌≡◌, IfOk};
+ghost use Rattle.std.specs.Prelude.{◌≡◌, [], IfOk};
 ghost use Rattle.plan_core.specs.Proper.{IsProper};
 ghost use Rattle.storage_simulation.specs.Bench.{IsFor};
 ghost use Rattle.storage_simulation.specs.Goods.{IsWithinLimits};
@@ -20,11 +20,12 @@ pub struct Bench {
 }
 
 impl Bench {
-    /// A bench for the orders of a plan.
+    /// A bench for the orders of a plan, on which no task stands yet.
     pub fn new(alloc: Global, plan: &Plan) -> Result<Bench, Memory>
         requires proper { IsProper plan.now }
         requires limits { IsWithinLimits plan.now }
-        ensures { IfOk result (λ b. IsFor plan.now b) }
+        ensures made_for { IfOk result (λ b. IsFor plan.now b) }
+        ensures empty { IfOk result (λ b. b.front.placed.items ≡ []) }
     {
         Ok(Bench {
             front: Front::new(alloc, plan)?,

@@ -1,6 +1,6 @@
 //! The front of an order: the tasks that are placed, and what follows from them.
 
-ghost use Rattle.std.specs.Prelude.{◌≡◌, ◌≤◌, ◌<◌, ◌^◌, ℕ, false, true, get_or, length, replicate, IfOk};
+ghost use Rattle.std.specs.Prelude.{◌≡◌, ◌≤◌, ◌<◌, ◌^◌, ℕ, [], false, true, get_or, length, replicate, IfOk};
 ghost use Rattle.digraph.specs.Adjacency.{lists_of, neighbours};
 ghost use Rattle.digraph.specs.Digraph.{count, edge};
 ghost use Rattle.plan_core.specs.Numbers.{RisesFrom, has};
@@ -81,7 +81,8 @@ impl Front {
     pub(crate) fn new(alloc: Global, plan: &Plan) -> Result<Front, Memory>
         requires proper { IsProper plan.now }
         requires limits { IsWithinLimits plan.now }
-        ensures { IfOk result (λ b. IsFrontFor plan.now b) }
+        ensures made_for { IfOk result (λ b. IsFrontFor plan.now b) }
+        ensures empty { IfOk result (λ b. b.placed.items ≡ []) }
     {
         let tasks = plan.tasks.as_slice().len();
         Ok(Front {
