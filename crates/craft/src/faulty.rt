@@ -1,8 +1,9 @@
 //! A tool that fails at some of its runs.
 
-ghost use Rattle.std.specs.Prelude.{◌≡◌, ◌≤◌, ◌↔◌, ℕ, IsErrOf, true};
+ghost use Rattle.std.specs.Prelude.{◌≡◌, ◌≤◌, ◌↔◌, ℕ, IsErrOf, true, false};
+ghost use Rattle.outside.specs.Counts.{next_count};
 ghost use Rattle.outside.specs.Failing.{calls_made, failing_calls};
-ghost use Rattle.craft.specs.Faulty.{faults_with, runs_to_fail};
+ghost use Rattle.craft.specs.Faulty.{faults_with, runs_failed, runs_to_fail, wrapped};
 
 use outside::{Blob, Failing, Text, Tool, ToolFault};
 use std::alloc::Global;
@@ -20,6 +21,8 @@ impl<T: Tool> Faulty<T> {
     pub fn new(tool: T, failing: Vec<u64>) -> Faulty<T>
         ensures listed { failing_calls (runs_to_fail result) ≡ failing.items }
         ensures runs { calls_made (runs_to_fail result) ≡ 0 }
+        ensures tool { wrapped result ≡ tool }
+        ensures failed { runs_failed result ≡ 0 }
         ensures faults { ⟦<Faulty<T> as Tool>⟧.faults result ≡ faults_with (T.faults tool) 0 }
     {
         Faulty {
@@ -31,7 +34,8 @@ impl<T: Tool> Faulty<T> {
 }
 
 impl<T: Tool> Tool for Faulty<T> {
-    ghost use Rattle.craft.specs.Faulty.{faults_with, runs_to_fail};
+    ghost use Rattle.craft.specs.Faulty.{faults_with, runs_failed, runs_to_fail, wrapped};
+    ghost use Rattle.outside.specs.Counts.{next_count};
     ghost use Rattle.outside.specs.Failing.{IsNextCall, fails_next};
     ghost use Rattle.outside.specs.Tool.{Ran};
 
@@ -59,8 +63,11 @@ impl<T: Tool> Tool for Faulty<T> {
     ) -> Result<Vec<Blob>, ToolFault>
         ensures answer { Ran (T.apply name.now args.now ins.now outs) (⟦<Faulty<T> as Tool>⟧.faults self.old) (⟦<Faulty<T> as Tool>⟧.faults self.new) result }
         ensures faults { ⟦<Faulty<T> as Tool>⟧.faults self.old ≤ ⟦<Faulty<T> as Tool>⟧.faults self.new }
-        // A listed run fails.
+        // A listed run fails, and the wrapped tool isn't asked; any other run is the wrapped tool's.
         ensures listed { fails_next (runs_to_fail self.old) ≡ true → IsErrOf result ToolFault.Failed }
+        ensures one_failed { fails_next (runs_to_fail self.old) ≡ true → (runs_failed self.new ≡ next_count (runs_failed self.old)) × (wrapped self.new ≡ wrapped self.old) }
+        ensures none_failed { fails_next (runs_to_fail self.old) ≡ false → runs_failed self.new ≡ runs_failed self.old }
+        ensures others { fails_next (runs_to_fail self.old) ≡ false → Ran (T.apply name.now args.now ins.now outs) (T.faults (wrapped self.old)) (T.faults (wrapped self.new)) result }
         ensures call { IsNextCall (runs_to_fail self.old) (runs_to_fail self.new) }
     {
         if self.failing.call() {

@@ -1,5 +1,7 @@
 //! A tool that holds its first run back.
 
+ghost use Rattle.std.specs.Prelude.{◌≡◌};
+
 use outside::{Blob, Text, Tool, ToolFault};
 use std::alloc::Global;
 use std::sync::Arc;
@@ -44,7 +46,9 @@ pub struct Holding<T: Tool> {
 
 impl<T: Tool> Holding<T> {
     /// `limit` is how often the held run looks for an answer before it goes on.
-    pub fn new(tool: T, hold: Arc<Hold>, limit: u64) -> Holding<T> {
+    pub fn new(tool: T, hold: Arc<Hold>, limit: u64) -> Holding<T>
+        ensures { ⟦<Holding<T> as Tool>⟧.faults result ≡ T.faults tool }
+    {
         Holding { tool, hold, limit }
     }
 }
