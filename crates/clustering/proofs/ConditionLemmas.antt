@@ -22,7 +22,7 @@ use Rattle.clustering.specs.Singles.{job_numbers}
 use Rattle.clustering.specs.Gathering.{gathered, is_of_part}
 use Rattle.clustering.specs.Runs.{IsGroup}
 use Rattle.clustering.specs.Condition.{AreParts, BeginsKept, IsOnce, IsOrdered, leads, part_of, writes}
-use Rattle.clustering.proofs.SinglesLemmas.{any_turned, distinct, ranked_distinct}
+use Rattle.clustering.proofs.SinglesLemmas.{any_turned, distinct, ranked_few}
 use Rattle.clustering.proofs.GatheredLemmas.{Every, IsPart, Rises, every_as, every_at, gathered_apart, gathered_few, gathered_parts, goes_with, one_part, part_at, rises_after, rises_once}
 
 -- ---- levels rise along edges
@@ -206,7 +206,7 @@ are_parts w kept levels goes js up equal ranked acyclic = record {
   below = λ c j h. kept_below kept j (kept_jobs_ c j h);
   one_part = one_part goes (before levels) (Kept kept) equal ps each (gathered_apart goes js);
   once = λ c. at_or_none IsOnce ps c (every_as (IsPart goes (before levels) (Kept kept) []) IsOnce ps (λ p h. once_split p (part_once goes levels kept p h)) each) (once_split [] tt);
-  few = let one = gathered_few goes js in let two = (ranked_distinct kept levels js ranked).few in omega (arith, one, two);
+  few = let one = gathered_few goes js in let two = ranked_few kept levels js ranked in omega (arith, one, two);
   begins = λ c l. at_each (BeginsKept kept) ps c (every_as (IsPart goes (before levels) (Kept kept) []) (BeginsKept kept) ps begins_ each) l;
   ordered = λ c. at_or_none (IsOrdered w) ps c (every_as (IsPart goes (before levels) (Kept kept) []) (IsOrdered w) ps ordered_ each) (rising_ordered w kept levels [] up tt tt);
   acyclic = acyclic;

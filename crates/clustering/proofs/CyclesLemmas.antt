@@ -24,7 +24,7 @@ use Rattle.clustering.specs.Labels.{holder, holder_from, holder_in, label_at, la
 use Rattle.clustering.specs.Cycles.{other_parts, part_sources, sources_from, unless_part}
 use Rattle.clustering.proofs.ConditionLemmas.{Kept, are_groups, before, parents_are, ranked_keeps, ranked_rises, some_of}
 use Rattle.clustering.proofs.GatheredLemmas.{gathered_apart, gathered_few, gathered_parts, one_part}
-use Rattle.clustering.proofs.SinglesLemmas.{ranked_distinct}
+use Rattle.clustering.proofs.SinglesLemmas.{ranked_few}
 
 -- ---- which part holds a job
 
@@ -269,7 +269,7 @@ label_groups b kept jobs small ranked = are_groups kept b.levels (same_label b) 
 
 pub label_few : (b : Basis) (kept : List Bool) (jobs : List JobId) → length kept ≤ 10000 → IsRanked kept b.levels (job_numbers jobs) → length (labels_of b jobs) ≤ 10000
 unfolding labels_of
-label_few b kept jobs small ranked = let one = gathered_few (same_label b) jobs in let two = (ranked_distinct kept b.levels jobs ranked).few in omega (arith, one, two, small)
+label_few b kept jobs small ranked = let one = gathered_few (same_label b) jobs in let two = ranked_few kept b.levels jobs ranked in omega (arith, one, two, small)
 
 pub label_jobs : (w : Workflow) (g : Links) (b : Basis) (kept : List Bool) (jobs : List JobId) → IsGraphOf w g → length kept ≤ 10000 → length kept ≡ length w.jobs → IsRanked kept b.levels (job_numbers jobs)
     → (k : ℕ) → All (λ (j : JobId). j.0 < length g.parents) (part_of (labels_of b jobs) k)

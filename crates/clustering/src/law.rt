@@ -1,6 +1,6 @@
-//! What the kept jobs in their order and their clusters come to.
+//! What clusters of kept jobs come to.
 
-ghost use Rattle.std.specs.Prelude.{◌≡◌, ◌≤◌, ℕ, Bool, true, List, length, Ok, Option, Some, slice_get};
+ghost use Rattle.std.specs.Prelude.{◌≡◌, ℕ, Bool, true, List, Ok, Option};
 ghost use Rattle.std.specs.List.{list_any};
 ghost use Rattle.outside.specs.declared.numbers.JobId.{JobId};
 ghost use Rattle.outside.specs.declared.numbers.SiteId.{SiteId};
@@ -11,17 +11,10 @@ ghost use Rattle.plan_request.specs.declared.request.ClusterMode.{ClusterMode};
 ghost use Rattle.dependency_graph.specs.Edges.{is_among};
 ghost use Rattle.dependency_graph.specs.Graph.{IsGraphOf, Links};
 ghost use Rattle.dependency_graph.specs.Levels.{AreLevels, is_kept};
-ghost use Rattle.dependency_graph.specs.Ranking.{IsRanked};
 ghost use Rattle.clustering.specs.Basis.{Basis, basis};
 ghost use Rattle.clustering.specs.Clusters.{ClustersAre};
 ghost use Rattle.clustering.specs.Condition.{AreParts};
-ghost use Rattle.clustering.specs.Singles.{AreDistinctJobs, job_numbers};
-
-/// The kept jobs in their order are jobs of the workflow, none stands twice, and each is kept.
-pub fn ranked_jobs_are_distinct()
-    ensures distinct { (kept : List Bool) (levels : List ℕ) (js : List JobId) → IsRanked kept levels (job_numbers js) → AreDistinctJobs (length kept) js }
-    ensures kept { (kept : List Bool) (levels : List ℕ) (js : List JobId) → IsRanked kept levels (job_numbers js) → (n : ℕ) (j : JobId) → slice_get js n ≡ Some j → is_kept kept j.0 ≡ true }
-{}
+ghost use Rattle.clustering.specs.Singles.{job_numbers};
 
 /// Each kept job is in a cluster.
 pub fn kept_jobs_are_clustered()

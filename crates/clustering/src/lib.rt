@@ -21,4 +21,4 @@ mod singles;
 
 pub use clusters::cluster;
 pub use fault::ClusterFault;
-pub use law::{clusters_are_parts, kept_jobs_are_clustered, ranked_jobs_are_distinct};
+pub use law::{clusters_are_parts, kept_jobs_are_clustered};

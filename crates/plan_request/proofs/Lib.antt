@@ -4,3 +4,4 @@ pub mod IndexLemmas
 pub mod FileSizesLemmas
 pub mod StepLemmas
 pub mod LimitsLemmas
+pub mod PolicyLemmas
