@@ -83,8 +83,8 @@ pub fetched_no_tool : (p : Plan) (f : ℕ) (from : Source) (found : Option (Opti
 fetched_no_tool p f from found before now_ Absent why = tt
 fetched_no_tool p f from found before now_ (TooLong k) why = tt
 fetched_no_tool p f from found before now_ (Checksum d) why = tt
-fetched_no_tool p f from found before now_ (Oversize j x k) why = tt
-fetched_no_tool p f from found before now_ (Declined j) why = tt
+fetched_no_tool p f from found before now_ (Oversize j x k) why = absurd why
+fetched_no_tool p f from found before now_ (Declined j) why = absurd why
 fetched_no_tool p f from found before now_ (ToolFailed j) why = absurd why
 fetched_no_tool p f from found before now_ HostFailed why = tt
 fetched_no_tool p f from found before now_ Memory why = tt

@@ -26,7 +26,8 @@ use Rattle.lease_book.specs.State.{State, after}
 use Rattle.site_yard.specs.Changes.{moved}
 use Rattle.site_yard.specs.Ending.{failed_in, fault_of, first_failed, first_fault}
 use Rattle.site_yard.specs.Failures.{fault_in, host_faults, tool_fault_in, tool_faults}
-use Rattle.site_yard.specs.Faults.{AllBelow, AllCarried, HasToolFault, IsCountedFault, worker}
+use Rattle.lease_book.specs.Owning.{worker}
+use Rattle.site_yard.specs.Faults.{AllBelow, AllCarried, HasToolFault, IsCountedFault}
 use Rattle.site_yard.specs.Law.{HasPlanLaws}
 use Rattle.site_yard.specs.Names.{pair_file, pair_site}
 use Rattle.site_yard.specs.Truthful.{HasChecksum, HasSum, IsAtPfn, IsCause, IsDigest, IsLongAs, IsTrue, Truthful, declined, is_over, oversize_among}

@@ -166,8 +166,10 @@ load_adds b q apply o m f0 m0 before now_ w t cause new same laws kept opened_ l
       counted = failed_counted o before now_ (is_tried_again b.plan (state_at b) t cause) w t cause [] (hosts_counted o before now_ w t cause [] later why);
     }
 
-pub load_carried : (b : Book) (q : Plan) (apply : Apply) (o : Option Store) (m : Store) (f0 m0 : ℕ) (before now_ : Counts) (w t : ℕ) (bs : Vec (List ℕ) Global) → q ≡ b.plan → HasBookLaws b → ∥ IsKept apply b.plan b.history.events o m f0 m0 before ∥₁ → IsOpen (state_at b) w t → ReadPairs q (reads q t) o before now_ (Ok bs) → IfSome o (λ s. map (content q (carries apply q m)) (reads q t) ≡ map Some bs.items)
-load_carried b q apply o m f0 m0 before now_ w t bs same laws kept opened_ read =
-    subst (λ p. IfSome o (λ s. map (content p (carries apply p m)) (reads p t) ≡ map Some bs.items)) (sym same)
-    (loads_carried b.plan b.proper laws.plans (task_numbers b.order.items) laws.records apply b.history.events o m f0 m0 before w t bs.items b.kept.legal kept opened_
-    (subst (λ p. IfSome o (λ s. map (at_pair p s) (reads p t) ≡ map Some bs.items)) same read))
+pub load_carried : (b : Book) (q : Plan) (apply : Apply) (o : Option Store) (m : Store) (f0 m0 : ℕ) (before now_ : Counts) (w t : ℕ) (bs : Vec (List ℕ) Global) → q ≡ b.plan → HasBookLaws b → ∥ IsKept apply b.plan b.history.events o m f0 m0 before ∥₁ → IsOpen (state_at b) w t → ReadPairs q (reads q t) o before now_ (Ok bs) → IfSome o (λ s. map (content q (carries apply q m)) (reads q t) ≡ map Some bs.items) × (length bs.items ≡ length (reads q t))
+load_carried b q apply o m f0 m0 before now_ w t bs same laws kept opened_ read = (
+  subst (λ p. IfSome o (λ s. map (content p (carries apply p m)) (reads p t) ≡ map Some bs.items)) (sym same)
+      (loads_carried b.plan b.proper laws.plans (task_numbers b.order.items) laws.records apply b.history.events o m f0 m0 before w t bs.items b.kept.legal kept opened_
+      (subst (λ p. IfSome o (λ s. map (at_pair p s) (reads p t) ≡ map Some bs.items)) same read.0)),
+  read.1,
+)

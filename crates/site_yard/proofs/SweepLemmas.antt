@@ -213,8 +213,8 @@ pub swept_no_tool : (site name : List ℕ) (o n : Option Store) (before now_ : C
 swept_no_tool site name o n before now_ Absent why = tt
 swept_no_tool site name o n before now_ (TooLong k) why = tt
 swept_no_tool site name o n before now_ (Checksum d) why = tt
-swept_no_tool site name o n before now_ (Oversize j f k) why = tt
-swept_no_tool site name o n before now_ (Declined j) why = tt
+swept_no_tool site name o n before now_ (Oversize j f k) why = absurd why
+swept_no_tool site name o n before now_ (Declined j) why = absurd why
 swept_no_tool site name o n before now_ (ToolFailed j) why = absurd why
 swept_no_tool site name o n before now_ HostFailed why = tt
 swept_no_tool site name o n before now_ Memory why = tt

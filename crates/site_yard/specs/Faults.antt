@@ -6,7 +6,8 @@ use Rattle.plan_core.specs.Carried.{Bytes, carried}
 use Rattle.plan_core.specs.Kinds.{carries}
 use Rattle.plan_core.specs.Words.{declared, is_transfer, kind}
 use Rattle.storage_simulation.specs.Goods.{or_zero}
-use Rattle.run_record.specs.Events.{Event, Grant, Arrive, End, Clean, Fail, Again, Regrant}
+use Rattle.run_record.specs.Events.{Event}
+use Rattle.lease_book.specs.Owning.{worker}
 use Rattle.site_yard.specs.declared.ending.RunFault.{RunFault}
 use Rattle.site_yard.specs.declared.ending.RunFault.TheVariants.{ToolFailed, HostFailed, Memory}
 use Rattle.site_yard.specs.Changes.{moved}
@@ -21,16 +22,7 @@ pub record AllCarried (apply : Apply) (told : Bytes → Option Bytes) (p : Plan)
   pub within : (t f : ℕ) → carries p t f ≡ true → is_over (or_zero (declared p f)) (carried apply told p t f) ≡ false
   pub sums : (t : ℕ) → HasChecksum p (carried apply told p t) (kind p t)
 
--- the worker of an entry; the entries are by workers below n
-abbrev pub worker : Event → ℕ
-worker (Grant w t) = w
-worker (Regrant w t) = w
-worker (Arrive w t n) = w
-worker (End w t ns) = w
-worker (Clean w t) = w
-worker (Fail w t cause ns) = w
-worker (Again w t cause ns) = w
-
+-- the entries are by workers below n
 abbrev pub AllBelow : ℕ → List Event → Type 0
 AllBelow n [] = Unit {0}
 AllBelow n (e ∷ r) = (worker e < n) × AllBelow n r

@@ -1,5 +1,5 @@
 -- What the reading of pairs answers, in the host's words alone.
-use Rattle.std.specs.Prelude.{◌≡◌, ℕ, ◌⊎◌, true, List, map, Option, Some, Result, Ok, Err, IfSome, Vec}
+use Rattle.std.specs.Prelude.{◌≡◌, ℕ, ◌⊎◌, true, List, length, map, Option, Some, Result, Ok, Err, IfSome, Vec}
 use Rattle.std.specs.declared.alloc.Global.{Global}
 use Rattle.outside.specs.SiteMap.{pair_at}
 use Rattle.outside.specs.declared.counts.Counts.{Counts}
@@ -32,9 +32,9 @@ ReadPair p q told before now (Err HostFailed) = HaveFaultsRisen before now ⊎ (
 ReadPair p q told before now (Err Memory) = Unit {0}
 ReadPair p q told before now (Err _) = ⊥
 
--- these pairs were read, in order
+-- these pairs were read, in order, one text for each
 abbrev pub ReadPairs : Plan → List ℕ → Option Store → Counts → Counts → Result (Vec (List ℕ) Global) Cause → Type 0
-ReadPairs p qs told before now (Ok blobs) = IfSome told (λ s. map (at_pair p s) qs ≡ map Some blobs.items)
+ReadPairs p qs told before now (Ok blobs) = IfSome told (λ s. map (at_pair p s) qs ≡ map Some blobs.items) × (length blobs.items ≡ length qs)
 ReadPairs p qs told before now (Err HostFailed) = HaveFaultsRisen before now ⊎ (HaveMissesRisen before now × IfSome told (SomeUnfit p qs))
 ReadPairs p qs told before now (Err Memory) = Unit {0}
 ReadPairs p qs told before now (Err _) = ⊥

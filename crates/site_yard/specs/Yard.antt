@@ -23,9 +23,11 @@ use Rattle.site_yard.specs.Truthful.{IsCause, declined}
 use Rattle.site_yard.specs.declared.leased.Leased.{Leased}
 use Rattle.site_yard.specs.declared.leased.Leased.TheVariants as leased
 
--- a cause that isn't the tool's
+-- a cause that isn't the tool's, nor of what it made
 abbrev pub IsNoTool : Cause → Type 0
 IsNoTool (ToolFailed j) = ⊥
+IsNoTool (Declined j) = ⊥
+IsNoTool (Oversize j f n) = ⊥
 IsNoTool _ = Unit {0}
 
 -- one entry more, whose failure the host's counts show
@@ -70,9 +72,10 @@ IsFailure w t (Fail v u c ns) = (v ≡ w) × (u ≡ t) × IsNoTool c × (ns ≡ 
 IsFailure w t (Again v u c ns) = (v ≡ w) × (u ≡ t) × IsNoTool c × (ns ≡ [])
 IsFailure w t _ = ⊥
 
--- what a load answers: where it is told, what the writers of the task's reads carry, and no entry; or a failure
+-- what a load answers: one text for each of the task's reads, where it is told what their writers carry, and no entry;
+-- or a failure
 abbrev pub Loads : Apply → Plan → Store → ℕ → ℕ → List Event → List Event → Option Store → Counts → Counts → Option (Vec (List ℕ) Global) → Type 0
-Loads apply p marked w t r after told before now (Some blobs) = (after ≡ r) × IfSome told (λ s. map (content p (carries apply p marked)) (reads p t) ≡ map Some blobs.items)
+Loads apply p marked w t r after told before now (Some blobs) = (after ≡ r) × IfSome told (λ s. map (content p (carries apply p marked)) (reads p t) ≡ map Some blobs.items) × (length blobs.items ≡ length (reads p t))
 Loads apply p marked w t r after told before now None = Adds r after (IsFailure w t) told before now
 
 -- a cause that a worker tells

@@ -10,6 +10,7 @@
 //! digests, is [`Yard::delivered`] (`specs/Delivered.antt`).
 #![tactic(auto)]
 
+mod chronicle;
 mod completing;
 mod delivered;
 mod ending;
@@ -24,6 +25,7 @@ mod opening;
 mod storing;
 mod yard;
 
+pub use chronicle::{Charter, JournalEntry};
 pub use completing::{complete_records_deliver, empty_records};
 pub use delivered::Delivered;
 pub use ending::RunFault;

@@ -8,10 +8,9 @@ use Rattle.site_yard.proofs.yard.Yard.load.Goals as goal
 
 pub returns-in-Ok-clause-loaded : goal.returns-in-Ok-clause-loaded
 returns-in-Ok-clause-loaded g c =
-    let y = c.args.self.now in (
-      ap (λ b. b.history.events) c.read_inputs.ensures.book,
-      load_carried y.book y.ordered.plan g.T.Tool.apply _ _ y.faults y.misses (g.H.Host.counts y.host) (g.H.Host.counts c.read_inputs.new.self.host) c.args.worker c.args.task.0 c.in-Ok.blobs (sym y.same_plan) (book_laws y.book c.plan_laws.ensures c.record_laws.ensures) y.kept c.requires.open c.in-Ok.ensures.answer,
-    )
+    let y = c.args.self.now in
+    let read = load_carried y.book y.ordered.plan g.T.Tool.apply _ _ y.faults y.misses (g.H.Host.counts y.host) (g.H.Host.counts c.read_inputs.new.self.host) c.args.worker c.args.task.0 c.in-Ok.blobs (sym y.same_plan) (book_laws y.book c.plan_laws.ensures c.record_laws.ensures) y.kept c.requires.open c.in-Ok.ensures.answer in
+    (ap (λ b. b.history.events) c.read_inputs.ensures.book, read.0, read.1)
 
 pub fail-requires-clause-worker : goal.fail-requires-clause-worker
 fail-requires-clause-worker g c = worker_low c.args.self.now.book c.args.worker c.args.task.0 c.requires.open
