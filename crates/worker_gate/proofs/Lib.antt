@@ -4,6 +4,10 @@ mod WorkLemmas
 mod RunLemmas
 mod CarriedLemmas
 mod TaskLemmas
+mod InputsLemmas
 mod TableLemmas
 mod RunningLemmas
 mod ComputingLemmas
+mod TurningLemmas
+mod TendingLemmas
+mod WorkingLemmas

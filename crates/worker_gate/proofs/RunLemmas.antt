@@ -24,18 +24,18 @@ use Rattle.worker_gate.specs.Stepping.{WorksOn}
 use Rattle.worker_gate.proofs.StateLemmas.{first_append, legal_split, now_split, room_after}
 use Rattle.worker_gate.proofs.WorkLemmas.{IsOneRun, consistent_at, rose_both, rose_zero}
 
-nothing_more : (r : List Event) → r ≡ r ++ []
+pub nothing_more : (r : List Event) → r ≡ r ++ []
 nothing_more [] = refl
 nothing_more (e ∷ r) = ap (λ l. e ∷ l) (nothing_more r)
 
-no_faults : tool_faults 0 [] ≡ 0
+pub no_faults : (w : ℕ) → tool_faults w [] ≡ 0
 unfolding tool_faults
-no_faults = refl
+no_faults w = refl
 
-faults_append : (xs ys : List Event) → tool_faults 0 (xs ++ ys) ≡ tool_faults 0 xs + tool_faults 0 ys
+pub faults_append : (w : ℕ) (xs ys : List Event) → tool_faults w (xs ++ ys) ≡ tool_faults w xs + tool_faults w ys
 unfolding tool_faults
-faults_append [] ys = omega arith
-faults_append (e ∷ xs) ys = let rest = faults_append xs ys in omega (arith, rest)
+faults_append w [] ys = omega arith
+faults_append w (e ∷ xs) ys = let rest = faults_append w xs ys in omega (arith, rest)
 
 all_append : (w : ℕ) (xs ys : List Event) → AllBy w xs → AllBy w ys → AllBy w (xs ++ ys)
 all_append w [] ys a b = b
@@ -56,7 +56,7 @@ works_first b x none = record {
   first = tt;
   none_afresh = refl;
   none_open = none;
-  counted = rose_zero _ x no_faults;
+  counted = rose_zero _ x (no_faults 0);
 }
 
 state_over : (a b : Book) (xs : List Event) → IsOneRun a b → b.history.events ≡ a.history.events ++ xs → state_at b ≡ now_from a.plan (state_at a) xs
@@ -78,7 +78,7 @@ works_then a b c x y z same le u v = record {
       (subst (λ p. BeginFirst p (state_at b) v.added) same.plan v.first));
   none_afresh = list_any-append is_afresh u.added v.added ∙ ap (λ q. q || list_any is_afresh v.added) u.none_afresh ∙ v.none_afresh;
   none_open = v.none_open;
-  counted = subst (λ n. RoseBy n x z) (sym (faults_append u.added v.added)) (rose_both _ _ x y z le u.counted v.counted);
+  counted = subst (λ n. RoseBy n x z) (sym (faults_append 0 u.added v.added)) (rose_both _ _ x y z le u.counted v.counted);
 }
 
 legal_here : (a b : Book) (xs : List Event) → IsOneRun a b → b.history.events ≡ a.history.events ++ xs → Legal b.plan (task_numbers b.order.items) b.history.events → LegalFrom a.plan (state_at a) xs

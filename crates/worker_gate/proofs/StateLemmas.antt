@@ -20,7 +20,7 @@ use Rattle.worker_gate.specs.Law.{HasLeaseLaws}
 use Rattle.worker_gate.specs.Stepping.{IsDone}
 use Rattle.worker_gate.proofs.SmallLemmas.{not_none, not_true, put_at, put_off, true_false}
 
-same_number : (t : ℕ) → eqb t t ≡ true
+pub same_number : (t : ℕ) → eqb t t ≡ true
 same_number t = grind arith
 
 -- no task but t is open
@@ -78,14 +78,14 @@ none_after p s t (Fail w u c ns) only h = λ v x o.
 pub none_only : (s : State) (t : ℕ) → NoneOpen s → OnlyOpen t s
 none_only s t none w u o = absurd (none w u o)
 
-pub done_closes : (t : ℕ) (e : Event) → IsDone t e → Closes t e
-done_closes t (Grant w u) h = absurd h
-done_closes t (Regrant w u) h = absurd h
-done_closes t (Clean w u) h = absurd h
-done_closes t (Arrive w u n) h = h.1
-done_closes t (End w u ns) h = h.1
-done_closes t (Fail w u c ns) h = h.1
-done_closes t (Again w u c ns) h = h.1
+pub done_closes : (w t : ℕ) (e : Event) → IsDone w t e → Closes t e
+done_closes w t (Grant v u) h = absurd h
+done_closes w t (Regrant v u) h = absurd h
+done_closes w t (Clean v u) h = absurd h
+done_closes w t (Arrive v u n) h = h.1
+done_closes w t (End v u ns) h = h.1
+done_closes w t (Fail v u c ns) h = h.1
+done_closes w t (Again v u c ns) h = h.1
 
 eqb_same : (t u : ℕ) → eqb t u ≡ true → u ≡ t
 eqb_same t u h = grind (arith, h)

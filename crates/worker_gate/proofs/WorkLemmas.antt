@@ -22,11 +22,11 @@ use Rattle.lease_book.specs.RunState.{IsSame, state_of}
 use Rattle.site_yard.specs.Failures.{RoseBy, tool_fault_in, tool_faults, tool_faults_of}
 use Rattle.site_yard.specs.Yard.{Adds, IsAgain, IsArrival, IsEnding, IsFail, IsFailure, IsNoTool, IsStop, Leases}
 use Rattle.site_yard.specs.declared.leased.Leased.TheVariants as leased
-use Rattle.site_yard.specs.Faults.{worker}
+use Rattle.lease_book.specs.Owning.{worker}
 use Rattle.worker_gate.specs.Alone.{NoneOpen, begun_by, is_afresh}
 use Rattle.worker_gate.specs.Law.{HasLeaseLaws}
 use Rattle.worker_gate.specs.Stepping.{DoesTask, IsDone, WorksOn}
-use Rattle.worker_gate.proofs.StateLemmas.{Closes, OnlyOpen, choice_first, done_closes, granted_only, granted_open, no_fresh, none_after, none_only, none_runs, step_one}
+use Rattle.worker_gate.proofs.StateLemmas.{Closes, OnlyOpen, choice_first, done_closes, granted_only, granted_open, no_fresh, none_after, none_only, none_runs, same_number, step_one}
 
 -- a count that stays
 pub rose_zero : (n a : ℕ) → n ≡ 0 → RoseBy n a a
@@ -39,7 +39,7 @@ pub rose_both : (n m a b c : ℕ) → b ≤ c → RoseBy n a b → RoseBy m b c 
 rose_both n m a b c le x y = λ h. let first = x (omega (arith, le, h)) in let second = y h in omega (arith, first, second)
 
 -- causes that aren't the tool's
-cause_zero : (c : Cause) → IsNoTool c → tool_fault_in c ≡ 0
+pub cause_zero : (c : Cause) → IsNoTool c → tool_fault_in c ≡ 0
 cause_zero why.Absent h = refl
 cause_zero (why.TooLong n) h = refl
 cause_zero (why.Checksum d) h = refl
@@ -49,63 +49,63 @@ cause_zero (why.ToolFailed j) h = absurd h
 cause_zero why.HostFailed h = refl
 cause_zero why.Memory h = refl
 
-stop_no_tool : (p : Plan) (qs : List ℕ) (outs : List (List ℕ)) (c : Cause) (ns : List ℕ) → IsStop p qs outs c ns → IsNoTool c
-stop_no_tool p qs outs why.Absent ns h = absurd h
-stop_no_tool p qs outs (why.TooLong n) ns h = absurd h
-stop_no_tool p qs outs (why.Checksum d) ns h = absurd h
-stop_no_tool p qs outs (why.Oversize j f n) ns h = tt
-stop_no_tool p qs outs (why.Declined j) ns h = absurd h
-stop_no_tool p qs outs (why.ToolFailed j) ns h = absurd h
-stop_no_tool p qs outs why.HostFailed ns h = tt
-stop_no_tool p qs outs why.Memory ns h = tt
+stop_zero : (p : Plan) (qs : List ℕ) (outs : List (List ℕ)) (c : Cause) (ns : List ℕ) → IsStop p qs outs c ns → tool_fault_in c ≡ 0
+stop_zero p qs outs why.Absent ns h = refl
+stop_zero p qs outs (why.TooLong n) ns h = refl
+stop_zero p qs outs (why.Checksum d) ns h = refl
+stop_zero p qs outs (why.Oversize j f n) ns h = refl
+stop_zero p qs outs (why.Declined j) ns h = refl
+stop_zero p qs outs (why.ToolFailed j) ns h = absurd h
+stop_zero p qs outs why.HostFailed ns h = refl
+stop_zero p qs outs why.Memory ns h = refl
 
-if_zero : (b : Bool) (n : ℕ) → n ≡ 0 → cond b n 0 ≡ 0
+pub if_zero : (b : Bool) (n : ℕ) → n ≡ 0 → cond b n 0 ≡ 0
 if_zero true n e = e
 if_zero false n e = refl
 
--- what each call of the yard adds for a task is worker 0's entry after its grant
-does_entry : (r new : List Event) (t a : ℕ) (e : Event) → new ≡ r ++ e ∷ [] → IsDone t e → tool_faults_of 0 e ≡ 0 → DoesTask r new t a a
+-- what a call of the yard adds for a task is the worker's entry after its grant, and no failure of its tool
+pub arrival_done : (w t : ℕ) (e : Event) → IsArrival w t e → IsDone w t e × (tool_faults_of w e ≡ 0)
+arrival_done w t (Grant v u) h = absurd h
+arrival_done w t (Regrant v u) h = absurd h
+arrival_done w t (Clean v u) h = absurd h
+arrival_done w t (End v u ns) h = absurd h
+arrival_done w t (Arrive v u n) h = ((h.0, h.1), refl)
+arrival_done w t (Fail v u c ns) h = ((h.0, h.1), if_zero _ (tool_fault_in c) (cause_zero c h.2))
+arrival_done w t (Again v u c ns) h = ((h.0, h.1), if_zero _ (tool_fault_in c) (cause_zero c h.2))
+
+pub failure_done : (w t : ℕ) (e : Event) → IsFailure w t e → IsDone w t e × (tool_faults_of w e ≡ 0)
+failure_done w t (Grant v u) h = absurd h
+failure_done w t (Regrant v u) h = absurd h
+failure_done w t (Clean v u) h = absurd h
+failure_done w t (End v u ns) h = absurd h
+failure_done w t (Arrive v u n) h = absurd h
+failure_done w t (Fail v u c ns) h = ((h.0, h.1), if_zero _ (tool_fault_in c) (cause_zero c h.2))
+failure_done w t (Again v u c ns) h = ((h.0, h.1), if_zero _ (tool_fault_in c) (cause_zero c h.2))
+
+pub ending_done : (p : Plan) (w t : ℕ) (outs : List (List ℕ)) (e : Event) → IsEnding p w t outs e → IsDone w t e × (tool_faults_of w e ≡ 0)
+ending_done p w t outs (Grant v u) h = absurd h
+ending_done p w t outs (Regrant v u) h = absurd h
+ending_done p w t outs (Clean v u) h = absurd h
+ending_done p w t outs (Arrive v u n) h = absurd h
+ending_done p w t outs (End v u ns) h = ((h.0, h.1), refl)
+ending_done p w t outs (Fail v u c ns) h = ((h.0, h.1), if_zero _ (tool_fault_in c) (stop_zero p (writes p t) outs c ns h.2))
+ending_done p w t outs (Again v u c ns) h = ((h.0, h.1), if_zero _ (tool_fault_in c) (stop_zero p (writes p t) outs c ns h.2))
+
+does_entry : (r new : List Event) (t a : ℕ) (e : Event) → new ≡ r ++ e ∷ [] → IsDone 0 t e → tool_faults_of 0 e ≡ 0 → DoesTask r new t a a
 does_entry r new t a e is done zero_ = record { entry = e; is = is; done = done; counted = rose_zero (tool_faults_of 0 e) a zero_ }
 
-arrival_done : (t : ℕ) (e : Event) → IsArrival 0 t e → IsDone t e × (tool_faults_of 0 e ≡ 0)
-arrival_done t (Grant w u) h = absurd h
-arrival_done t (Regrant w u) h = absurd h
-arrival_done t (Clean w u) h = absurd h
-arrival_done t (End w u ns) h = absurd h
-arrival_done t (Arrive w u n) h = ((h.0, h.1), refl)
-arrival_done t (Fail w u c ns) h = ((h.0, h.1), if_zero _ (tool_fault_in c) (cause_zero c h.2))
-arrival_done t (Again w u c ns) h = ((h.0, h.1), if_zero _ (tool_fault_in c) (cause_zero c h.2))
-
-failure_done : (t : ℕ) (e : Event) → IsFailure 0 t e → IsDone t e × (tool_faults_of 0 e ≡ 0)
-failure_done t (Grant w u) h = absurd h
-failure_done t (Regrant w u) h = absurd h
-failure_done t (Clean w u) h = absurd h
-failure_done t (End w u ns) h = absurd h
-failure_done t (Arrive w u n) h = absurd h
-failure_done t (Fail w u c ns) h = ((h.0, h.1), if_zero _ (tool_fault_in c) (cause_zero c h.2))
-failure_done t (Again w u c ns) h = ((h.0, h.1), if_zero _ (tool_fault_in c) (cause_zero c h.2))
-
-ending_done : (p : Plan) (t : ℕ) (outs : List (List ℕ)) (e : Event) → IsEnding p 0 t outs e → IsDone t e × (tool_faults_of 0 e ≡ 0)
-ending_done p t outs (Grant w u) h = absurd h
-ending_done p t outs (Regrant w u) h = absurd h
-ending_done p t outs (Clean w u) h = absurd h
-ending_done p t outs (Arrive w u n) h = absurd h
-ending_done p t outs (End w u ns) h = ((h.0, h.1), refl)
-ending_done p t outs (Fail w u c ns) h = ((h.0, h.1), if_zero _ (tool_fault_in c) (cause_zero c (stop_no_tool p (writes p t) outs c ns h.2)))
-ending_done p t outs (Again w u c ns) h = ((h.0, h.1), if_zero _ (tool_fault_in c) (cause_zero c (stop_no_tool p (writes p t) outs c ns h.2)))
-
 pub brought : (r new : List Event) (t a : ℕ) (o : Option Store) (before now_ : Counts) → Adds r new (IsArrival 0 t) o before now_ → DoesTask r new t a a
-brought r new t a o before now_ adds = let d = arrival_done t adds.entry adds.kind in does_entry r new t a adds.entry adds.is d.0 d.1
+brought r new t a o before now_ adds = let d = arrival_done 0 t adds.entry adds.kind in does_entry r new t a adds.entry adds.is d.0 d.1
 
 pub unloaded : (r new : List Event) (t a : ℕ) (o : Option Store) (before now_ : Counts) → Adds r new (IsFailure 0 t) o before now_ → DoesTask r new t a a
-unloaded r new t a o before now_ adds = let d = failure_done t adds.entry adds.kind in does_entry r new t a adds.entry adds.is d.0 d.1
+unloaded r new t a o before now_ adds = let d = failure_done 0 t adds.entry adds.kind in does_entry r new t a adds.entry adds.is d.0 d.1
 
-wide : (n a b : ℕ) → n ≡ 0 → a ≤ b → RoseBy n a b
+pub wide : (n a b : ℕ) → n ≡ 0 → a ≤ b → RoseBy n a b
 wide n a b e le = λ h. omega (arith, e, le)
 
 pub ended_task : (p : Plan) (r mid new : List Event) (t a b : ℕ) (outs : List (List ℕ)) (o : Option Store) (before now_ : Counts) → mid ≡ r → a ≤ b → Adds mid new (IsEnding p 0 t outs) o before now_ → DoesTask r new t a b
 ended_task p r mid new t a b outs o before now_ same le adds =
-    let d = ending_done p t outs adds.entry adds.kind in record {
+    let d = ending_done p 0 t outs adds.entry adds.kind in record {
       entry = adds.entry;
       is = adds.is ∙ ap (λ l. l ++ adds.entry ∷ []) same;
       done = d.0;
@@ -113,20 +113,20 @@ ended_task p r mid new t a b outs o before now_ same le adds =
     }
 
 -- the cause that a worker tells
-failed_done : (b : Bool) (t : ℕ) (c : Cause) → IsDone t (cond b (Again 0 t c []) (Fail 0 t c []))
-failed_done true t c = (refl, refl)
-failed_done false t c = (refl, refl)
+pub failed_done : (b : Bool) (w t : ℕ) (c : Cause) → IsDone w t (cond b (Again w t c []) (Fail w t c []))
+failed_done true w t c = (refl, refl)
+failed_done false w t c = (refl, refl)
 
-failed_faults : (b : Bool) (t : ℕ) (c : Cause) → tool_faults_of 0 (cond b (Again 0 t c []) (Fail 0 t c [])) ≡ tool_fault_in c
-failed_faults true t c = refl
-failed_faults false t c = refl
+pub failed_faults : (b : Bool) (w t : ℕ) (c : Cause) → tool_faults_of w (cond b (Again w t c []) (Fail w t c [])) ≡ tool_fault_in c
+failed_faults true w t c = ap (λ (x : Bool). cond x (tool_fault_in c) 0) (same_number w)
+failed_faults false w t c = ap (λ (x : Bool). cond x (tool_fault_in c) 0) (same_number w)
 
 pub faulted : (p : Plan) (s : State) (r mid new : List Event) (t a b : ℕ) (c : Cause) → mid ≡ r → RoseBy (tool_fault_in c) a b → new ≡ mid ++ failure p s 0 t c [] ∷ [] → DoesTask r new t a b
 faulted p s r mid new t a b c same rose is = record {
   entry = failure p s 0 t c [];
   is = is ∙ ap (λ l. l ++ failure p s 0 t c [] ∷ []) same;
-  done = failed_done (is_tried_again p s t c) t c;
-  counted = subst (λ n. RoseBy n a b) (sym (failed_faults (is_tried_again p s t c) t c)) rose;
+  done = failed_done (is_tried_again p s t c) 0 t c;
+  counted = subst (λ n. RoseBy n a b) (sym (failed_faults (is_tried_again p s t c) 0 t c)) rose;
 }
 
 -- how the count of the tool shows a cause that a worker tells
@@ -172,16 +172,16 @@ consistent_at b = subst (IsConsistent b.plan) (same_state (state_of b.state) (st
 longer_by : (r new : List Event) (e : Event) → new ≡ r ++ e ∷ [] → length r < length new
 longer_by r new e is = let l = ap length is in let m = length-append r (e ∷ []) in omega (arith, l, m)
 
-one_fault : (e : Event) → tool_faults 0 (e ∷ []) ≡ tool_faults_of 0 e
+pub one_fault : (w : ℕ) (e : Event) → tool_faults w (e ∷ []) ≡ tool_faults_of w e
 unfolding tool_faults
-one_fault e = omega arith
+one_fault w e = omega arith
 
 two_faults : (e f : Event) → tool_faults 0 (e ∷ f ∷ []) ≡ tool_faults_of 0 e + tool_faults_of 0 f
 unfolding tool_faults
 two_faults e f = omega arith
 
 -- an entry after a grant is worker 0's, and begins nothing
-done_by : (t : ℕ) (e : Event) → IsDone t e → (worker e ≡ 0) × (is_afresh e ≡ false) × ((xs : List ℕ) → begun_by e ≡ take (length (begun_by e)) xs)
+done_by : (t : ℕ) (e : Event) → IsDone 0 t e → (worker e ≡ 0) × (is_afresh e ≡ false) × ((xs : List ℕ) → begun_by e ≡ take (length (begun_by e)) xs)
 done_by t (Grant w u) h = absurd h
 done_by t (Regrant w u) h = absurd h
 done_by t (Clean w u) h = absurd h
@@ -213,7 +213,7 @@ choice_works a b c t x y laws same_b same_c safe none choice is does =
         by_zero = (refl, (by.0, tt));
         first = (choice_first a.plan laws (state_at a) t safe (consistent_at a) none choice, (by.2 _, tt));
         none_afresh = ap (λ z. z || false) by.1;
-        none_open = subst NoneOpen (sym (state_next b c e same_c does.is)) (none_after b.plan (state_at b) t e only (done_closes t e does.done));
+        none_open = subst NoneOpen (sym (state_next b c e same_c does.is)) (none_after b.plan (state_at b) t e only (done_closes 0 t e does.done));
         counted = λ h. let k = does.counted h in omega (arith, two_faults (Grant 0 t) e, k);
       },
       omega (arith, one, two),
@@ -237,7 +237,7 @@ one_works a b t x e same none is closes by fresh first zero_ = (
     first = (first, tt);
     none_afresh = ap (λ z. z || false) fresh;
     none_open = subst NoneOpen (sym (state_next a b e same is)) (none_after a.plan (state_at a) t e (none_only (state_at a) t none) closes);
-    counted = rose_zero _ x (one_fault e ∙ zero_);
+    counted = rose_zero _ x (one_fault 0 e ∙ zero_);
   },
   longer_by a.history.events b.history.events e is,
 )

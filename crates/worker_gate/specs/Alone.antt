@@ -7,7 +7,7 @@ use Rattle.run_record.specs.Events.{Event, Grant, Clean, Regrant}
 use Rattle.lease_book.specs.Legal.{IsComplete, IsOpen}
 use Rattle.lease_book.specs.State.{State, after, now}
 use Rattle.site_yard.specs.Failures.{RoseBy, tool_faults}
-use Rattle.site_yard.specs.Faults.{worker}
+use Rattle.lease_book.specs.Owning.{worker}
 
 -- no task is open, for any worker
 abbrev pub NoneOpen : State → Type 0

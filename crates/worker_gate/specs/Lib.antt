@@ -1,9 +1,13 @@
 -- What the public contract says.
 pub mod Alone
+pub mod Turning
+pub mod Working
+pub mod Inputs
 -- What the laws stand on.
 pub mod Law
 -- What its parts answer.
 pub mod Stepping
+pub mod Tending
 pub mod Computing
 pub mod Running
 pub mod Table

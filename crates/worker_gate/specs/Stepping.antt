@@ -7,19 +7,19 @@ use Rattle.lease_book.specs.State.{State}
 use Rattle.site_yard.specs.Failures.{RoseBy, tool_faults, tool_faults_of}
 use Rattle.worker_gate.specs.Alone.{AllBy, BeginFirst, IsOver, NoneOpen, is_afresh}
 
--- worker 0's entry after the grant of a task
-abbrev pub IsDone : ℕ → Event → Type 0
-IsDone t (Arrive w u n) = (w ≡ 0) × (u ≡ t)
-IsDone t (End w u ns) = (w ≡ 0) × (u ≡ t)
-IsDone t (Fail w u c ns) = (w ≡ 0) × (u ≡ t)
-IsDone t (Again w u c ns) = (w ≡ 0) × (u ≡ t)
-IsDone t _ = ⊥
+-- a worker's entry after the grant of a task
+abbrev pub IsDone : ℕ → ℕ → Event → Type 0
+IsDone w t (Arrive v u n) = (v ≡ w) × (u ≡ t)
+IsDone w t (End v u ns) = (v ≡ w) × (u ≡ t)
+IsDone w t (Fail v u c ns) = (v ≡ w) × (u ≡ t)
+IsDone w t (Again v u c ns) = (v ≡ w) × (u ≡ t)
+IsDone w t _ = ⊥
 
 -- one entry more, which the tool's count shows
 pub record DoesTask (r after : List Event) (t before later : ℕ) : Type 0 where
   pub entry : Event
   pub is : after ≡ r ++ entry ∷ []
-  pub done : IsDone t entry
+  pub done : IsDone 0 t entry
   pub counted : RoseBy (tool_faults_of 0 entry) before later
 
 -- What is added after a record r, whose state is s: worker 0's entries, each of which begins what is left first, and no

@@ -11,6 +11,10 @@ mod law;
 mod running;
 mod stepping;
 mod table;
+mod tending;
+mod turning;
+mod working;
 
 pub use alone::run_alone;
 pub use law::{empty_records_have_none_open, plain_policies_have_no_retries};
+pub use working::work;

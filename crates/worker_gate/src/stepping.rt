@@ -6,6 +6,7 @@ ghost use Rattle.plan_core.specs.Words.{is_run};
 ghost use Rattle.lease_book.specs.Book.{state_at};
 ghost use Rattle.lease_book.specs.Legal.{IsOpen};
 ghost use Rattle.worker_gate.specs.Alone.{NoneOpen};
+ghost use Rattle.worker_gate.specs.Inputs.{AddsOfInputs};
 ghost use Rattle.worker_gate.specs.Stepping.{DoesTask, Steps};
 
 use crate::computing::compute;
@@ -19,6 +20,7 @@ fn run_task<H: Host, T: Tool>(alloc: Global, yard: &mut Yard<H, T>, tool: &mut T
     requires open { IsOpen (state_at yard.old.book) 0 task.0 }
     requires kind { is_run yard.old.ordered.plan task.0 ≡ true }
     ensures does { DoesTask yard.old.book.history.events yard.new.book.history.events task.0 (T.faults tool.old) (T.faults tool.new) }
+    ensures inputs { AddsOfInputs T.apply yard.old.ordered.plan yard.old.book.history.events yard.new.book.history.events }
     ensures tool { T.faults tool.old ≤ T.faults tool.new }
     ensures ordered { yard.new.ordered ≡ yard.old.ordered }
     ensures marked { H.marked yard.new.host ≡ H.marked yard.old.host }
@@ -42,6 +44,7 @@ fn run_task<H: Host, T: Tool>(alloc: Global, yard: &mut Yard<H, T>, tool: &mut T
 fn do_task<H: Host, T: Tool>(alloc: Global, yard: &mut Yard<H, T>, tool: &mut T, task: TaskId)
     requires { IsOpen (state_at yard.old.book) 0 task.0 }
     ensures does { DoesTask yard.old.book.history.events yard.new.book.history.events task.0 (T.faults tool.old) (T.faults tool.new) }
+    ensures inputs { AddsOfInputs T.apply yard.old.ordered.plan yard.old.book.history.events yard.new.book.history.events }
     ensures tool { T.faults tool.old ≤ T.faults tool.new }
     ensures ordered { yard.new.ordered ≡ yard.old.ordered }
     ensures marked { H.marked yard.new.host ≡ H.marked yard.old.host }
@@ -61,6 +64,7 @@ fn do_task<H: Host, T: Tool>(alloc: Global, yard: &mut Yard<H, T>, tool: &mut T,
 pub(crate) fn step<H: Host, T: Tool>(alloc: Global, yard: &mut Yard<H, T>, tool: &mut T) -> bool
     requires { NoneOpen (state_at yard.old.book) }
     ensures steps { Steps yard.old.ordered.plan (state_at yard.old.book) yard.old.book.history.events yard.new.book.history.events (state_at yard.new.book) (T.faults tool.old) (T.faults tool.new) result }
+    ensures inputs { AddsOfInputs T.apply yard.old.ordered.plan yard.old.book.history.events yard.new.book.history.events }
     ensures tool { T.faults tool.old ≤ T.faults tool.new }
     ensures ordered { yard.new.ordered ≡ yard.old.ordered }
     ensures marked { H.marked yard.new.host ≡ H.marked yard.old.host }

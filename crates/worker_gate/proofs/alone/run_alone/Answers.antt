@@ -2,7 +2,9 @@ use Rattle.std.proofs.Common.{refl, sym, ap, subst, ◌∙◌}
 use Rattle.plan_core.specs.Words.{task_numbers}
 use Rattle.lease_book.specs.Book.{state_at}
 use Rattle.worker_gate.specs.Alone.{IsOver}
+use Rattle.worker_gate.specs.Inputs.{AddsOfInputs}
 use Rattle.worker_gate.specs.Stepping.{WorksOn}
+use Rattle.worker_gate.proofs.InputsLemmas.{adds_none, adds_both}
 use Rattle.worker_gate.proofs.RunLemmas.{both_counts, later_both, room_falls_on, same_count, still, works_alone, works_first, works_then}
 use Rattle.worker_gate.proofs.WorkLemmas.{one_run_of}
 use Rattle.worker_gate.proofs.alone.run_alone.Goals as goal
@@ -10,7 +12,7 @@ use Rattle.worker_gate.proofs.alone.run_alone.Goals as goal
 pub loop-alloc-init : goal.loop-alloc-init
 loop-alloc-init g c =
     let x = g.T.Tool.faults c.args.crew.now.tool in
-    (works_first c.args.yard.book x c.requires, same_count x, refl, refl, refl, refl, refl, still (g.H.Host.counts c.args.yard.host))
+    (works_first c.args.yard.book x c.requires, same_count x, refl, refl, refl, refl, refl, still (g.H.Host.counts c.args.yard.host), adds_none g.T.Tool.apply c.args.yard.ordered.plan c.args.yard.book.history.events, refl)
 
 pub loop-alloc-smaller : goal.loop-alloc-smaller
 loop-alloc-smaller g c =
@@ -42,6 +44,8 @@ loop-alloc-preserved g c =
       e.misses ∙ i.5,
       e.tells ∙ i.6,
       later_both (g.H.Host.counts a.host) (g.H.Host.counts b.host) (g.H.Host.counts d.host) i.7 e.later,
+      adds_both g.T.Tool.apply a.ordered.plan a.book.history.events b.book.history.events d.book.history.events i.8 (subst (λ p. AddsOfInputs g.T.Tool.apply p b.book.history.events d.book.history.events) (ap (λ o. o.plan) i.2) e.inputs),
+      i.9,
     )
 
 pub returns-clause-works : goal.returns-clause-works
@@ -57,3 +61,11 @@ returns-clause-works g c =
     rw (e.steps.2)
     (works_alone a.book b.book d.book a.ordered.plan (task_numbers a.ordered.tasks.items) x y (c.lease_laws.ensures a.book.plan a.book.proper) a.same_plan (ap task_numbers a.same_order) before i.0 e.steps.0
     (subst (λ p. IsOver p (state_at b.book)) (sym b.same_plan) e.steps.1))
+
+pub returns-clause-inputs : goal.returns-clause-inputs
+returns-clause-inputs g c =
+    let a = c.args.yard in
+    let b = c.loop-alloc.yard in
+    let i = c.loop-alloc.invariant in
+    let e = c.loop-alloc-test.ensures in
+    rw (e.steps.0) i.8

@@ -3,6 +3,7 @@ use Rattle.std.specs.Prelude.{is_some}
 use Rattle.outside.specs.Counts.{IsLater}
 use Rattle.lease_book.specs.Book.{state_at}
 use Rattle.lease_book.specs.Room.{entries_room}
+use Rattle.worker_gate.specs.Inputs.{AddsOfInputs}
 use Rattle.worker_gate.specs.Stepping.{WorksOn}
 use Rattle.worker_gate.proofs.alone.run_alone.Given as goal
 
@@ -16,6 +17,8 @@ invariant-loop-alloc g l =
     × (l.yard.misses ≡ l.fn.yard.misses)
     × (is_some (g.H.Host.told l.yard.host) ≡ is_some (g.H.Host.told l.fn.yard.host))
     × IsLater (g.H.Host.counts l.fn.yard.host) (g.H.Host.counts l.yard.host)
+    × AddsOfInputs g.T.Tool.apply l.fn.yard.ordered.plan l.fn.yard.book.history.events l.yard.book.history.events
+    × (l.crew.gate ≡ l.initial.crew.gate)
 
 abbrev pub decreases-loop-alloc : goal.decreases-loop-alloc
 decreases-loop-alloc g l = entries_room l.yard.book.plan (state_at l.yard.book)

@@ -1,4 +1,4 @@
-use Rattle.std.proofs.Common.{◌<◌, sym, subst, length}
+use Rattle.std.proofs.Common.{◌<◌, ap, sym, subst, length}
 use Rattle.lease_book.specs.declared.book.Book.{Book}
 use Rattle.lease_book.specs.Book.{state_at}
 use Rattle.lease_book.specs.Law.{IsSafeState}
@@ -6,6 +6,7 @@ use Rattle.site_yard.specs.Yard.{Leases}
 use Rattle.site_yard.specs.declared.leased.Leased.TheVariants as leased
 use Rattle.worker_gate.specs.Stepping.{WorksOn}
 use Rattle.worker_gate.proofs.WorkLemmas.{again_works, failed_works, granted_is_open, granted_works, one_run_of, swept_works}
+use Rattle.worker_gate.proofs.InputsLemmas.{adds_no_entry, fails_so, grants_so, sweeps_so, tries_again_so}
 use Rattle.worker_gate.proofs.stepping.step.Goals as goal
 
 pub do_task-requires : goal.do_task-requires
@@ -62,3 +63,37 @@ returns-in-Again-clause-steps g c =
     subst (λ p. WorksOn p (state_at a.book) a.book.history.events b.book.history.events (state_at b.book) x x × (length a.book.history.events < length b.book.history.events)) a.same_plan
     (again_works a.book b.book c.in-Again.field-0 x (g.H.Host.told a.host) (g.H.Host.counts a.host) (g.H.Host.counts b.host) same c.requires
     (subst (λ p. Leases p (state_at a.book) 0 a.book.history.events b.book.history.events (g.H.Host.told a.host) (g.H.Host.counts a.host) (g.H.Host.counts b.host) (leased.Again c.in-Again.field-0)) (sym a.same_plan) c.in-Again.ensures.leased))
+
+pub returns-in-Granted-clause-inputs : goal.returns-in-Granted-clause-inputs
+returns-in-Granted-clause-inputs g c =
+    let a = c.args.yard.now in
+    let b = c.lease.new.self in
+    grants_so g.T.Tool.apply a.ordered.plan b.ordered.plan (state_at a.book) 0 c.in-Granted.task a.book.history.events b.book.history.events _ (g.H.Host.told a.host) (g.H.Host.counts a.host) (g.H.Host.counts b.host) (ap (λ o. o.plan) c.lease.ensures.ordered) c.in-Granted.ensures.leased c.do_task.ensures.inputs
+
+pub returns-in-Swept-clause-inputs : goal.returns-in-Swept-clause-inputs
+returns-in-Swept-clause-inputs g c =
+    let a = c.args.yard.now in
+    let b = c.lease.new.self in
+    sweeps_so g.T.Tool.apply a.ordered.plan (state_at a.book) 0 c.in-Swept.field-0 a.book.history.events b.book.history.events (g.H.Host.told a.host) (g.H.Host.counts a.host) (g.H.Host.counts b.host) c.in-Swept.ensures.leased
+
+pub returns-in-Failed-clause-inputs : goal.returns-in-Failed-clause-inputs
+returns-in-Failed-clause-inputs g c =
+    let a = c.args.yard.now in
+    let b = c.lease.new.self in
+    fails_so g.T.Tool.apply a.ordered.plan (state_at a.book) 0 c.in-Failed.field-0 a.book.history.events b.book.history.events (g.H.Host.told a.host) (g.H.Host.counts a.host) (g.H.Host.counts b.host) c.in-Failed.ensures.leased
+
+pub returns-in-Again-clause-inputs : goal.returns-in-Again-clause-inputs
+returns-in-Again-clause-inputs g c =
+    let a = c.args.yard.now in
+    let b = c.lease.new.self in
+    tries_again_so g.T.Tool.apply a.ordered.plan (state_at a.book) 0 c.in-Again.field-0 a.book.history.events b.book.history.events (g.H.Host.told a.host) (g.H.Host.counts a.host) (g.H.Host.counts b.host) c.in-Again.ensures.leased
+
+pub returns-in-Done-clause-inputs : goal.returns-in-Done-clause-inputs
+returns-in-Done-clause-inputs g c =
+    let a = c.args.yard.now in
+    adds_no_entry g.T.Tool.apply a.ordered.plan a.book.history.events _ c.in-Done.ensures.leased.1
+
+pub returns-in-Stopped-clause-inputs : goal.returns-in-Stopped-clause-inputs
+returns-in-Stopped-clause-inputs g c =
+    let a = c.args.yard.now in
+    adds_no_entry g.T.Tool.apply a.ordered.plan a.book.history.events _ c.in-Stopped.ensures.leased.1

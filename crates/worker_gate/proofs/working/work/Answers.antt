@@ -1,0 +1,85 @@
+use Rattle.std.proofs.Common.{◌∙◌}
+use Rattle.ruled_lock.specs.Pass.{mine_of, worker_of}
+use Rattle.worker_gate.proofs.WorkingLemmas.{granted_opens, own_does_by, own_finishes_by, own_first, rising, same_as, still_tool}
+use Rattle.worker_gate.proofs.working.work.Goals as goal
+
+pub loop-init : goal.loop-init
+loop-init g c =
+    let old = c.args.pass.now in
+    let e = c.copy_plan-plan.ensures in
+    let x = g.T.Tool.faults c.args.crew.now.tool in
+    (e.of, e.idle, e.same, own_first (worker_of old) (mine_of old) (mine_of c.copy_plan-plan.new.pass) x e.mine e.none_open, still_tool x, e.plan)
+
+pub do_task-requires-clause-open : goal.do_task-requires-clause-open
+do_task-requires-clause-open g c = granted_opens (worker_of c.loop.pass) c.in-Granted.task.0 (mine_of c.loop.pass) (mine_of c.lease.new.pass) c.in-Granted.ensures.leased
+
+pub loop-preserved-in-Granted : goal.loop-preserved-in-Granted
+loop-preserved-in-Granted g c =
+    let old = c.args.pass.now in
+    let here = c.loop.pass in
+    let leased = c.lease.new.pass in
+    let done = c.do_task.new.pass in
+    let i = c.loop.invariant in
+    let l = c.lease.ensures in
+    let d = c.do_task.ensures in
+    let x = g.T.Tool.faults c.args.crew.now.tool in
+    let y = g.T.Tool.faults c.loop.crew.tool in
+    let z = g.T.Tool.faults c.do_task.new.crew.tool in (
+      d.of,
+      d.idle,
+      same_as old here done i.2 (same_as here leased done l.same d.same),
+      own_does_by (worker_of old) (worker_of here) (worker_of leased) c.in-Granted.task.0 (mine_of old) (mine_of here) (mine_of leased) (mine_of done) x y z i.2.worker (l.same.worker ∙ i.2.worker) i.3 c.in-Granted.ensures.leased d.tool d.does,
+      rising x y z i.4 d.tool,
+      i.5,
+    )
+
+pub loop-preserved-in-Swept : goal.loop-preserved-in-Swept
+loop-preserved-in-Swept g c =
+    let old = c.args.pass.now in
+    let here = c.loop.pass in
+    let leased = c.lease.new.pass in
+    let i = c.loop.invariant in
+    let l = c.lease.ensures in
+    let x = g.T.Tool.faults c.args.crew.now.tool in
+    let y = g.T.Tool.faults c.loop.crew.tool in (
+      l.of,
+      l.idle,
+      same_as old here leased i.2 l.same,
+      own_finishes_by (worker_of old) (worker_of here) c.in-Swept.field-0.0 (mine_of old) (mine_of here) (mine_of leased) x y i.2.worker i.3 c.in-Swept.ensures.leased,
+      i.4,
+      i.5,
+    )
+
+pub loop-preserved-in-Failed : goal.loop-preserved-in-Failed
+loop-preserved-in-Failed g c =
+    let old = c.args.pass.now in
+    let here = c.loop.pass in
+    let leased = c.lease.new.pass in
+    let i = c.loop.invariant in
+    let l = c.lease.ensures in
+    let x = g.T.Tool.faults c.args.crew.now.tool in
+    let y = g.T.Tool.faults c.loop.crew.tool in (
+      l.of,
+      l.idle,
+      same_as old here leased i.2 l.same,
+      own_finishes_by (worker_of old) (worker_of here) c.in-Failed.field-0.0 (mine_of old) (mine_of here) (mine_of leased) x y i.2.worker i.3 c.in-Failed.ensures.leased,
+      i.4,
+      i.5,
+    )
+
+pub loop-preserved-in-Again : goal.loop-preserved-in-Again
+loop-preserved-in-Again g c =
+    let old = c.args.pass.now in
+    let here = c.loop.pass in
+    let leased = c.lease.new.pass in
+    let i = c.loop.invariant in
+    let l = c.lease.ensures in
+    let x = g.T.Tool.faults c.args.crew.now.tool in
+    let y = g.T.Tool.faults c.loop.crew.tool in (
+      l.of,
+      l.idle,
+      same_as old here leased i.2 l.same,
+      own_finishes_by (worker_of old) (worker_of here) c.in-Again.field-0.0 (mine_of old) (mine_of here) (mine_of leased) x y i.2.worker i.3 c.in-Again.ensures.leased,
+      i.4,
+      i.5,
+    )

@@ -1,0 +1,70 @@
+-- What a worker's turns at a shared yard leave its pass with.
+use Rattle.std.specs.Prelude.{◌≡◌, ℕ, ◌⊎◌, Bool, true, false, cond, List, [], ◌∷◌, ◌++◌, Option, Some, None, IfSome, Result, Ok, Err, Vec}
+use Rattle.std.specs.declared.alloc.Global.{Global}
+use Rattle.outside.specs.Tool.{Apply}
+use Rattle.outside.specs.declared.memory.Memory.{Memory}
+use Rattle.outside.specs.declared.store.Store.{Store}
+use Rattle.plan_core.specs.declared.plan.Plan.{Plan}
+use Rattle.plan_core.specs.Words.{is_run, task_numbers}
+use Rattle.plan_core.specs.Proper.{IsProper}
+use Rattle.run_record.specs.Events.{Event, Grant, Regrant}
+use Rattle.lease_book.specs.Legal.{IsOpen}
+use Rattle.lease_book.specs.Owning.{is_open_after}
+use Rattle.lease_book.specs.State.{State, now}
+use Rattle.site_yard.specs.declared.chronicle.Charter.{Charter}
+use Rattle.site_yard.specs.declared.leased.Leased.{Leased}
+use Rattle.site_yard.specs.declared.leased.Leased.TheVariants as leased
+use Rattle.worker_gate.specs.Alone.{IsOver}
+use Rattle.worker_gate.specs.Tending.{AreRead, Finishes}
+
+-- the plan of a charter; what the host tells, if it does; the state of a record
+abbrev pub plan_of : Charter → Plan
+plan_of g = g.ordered.plan
+
+abbrev pub told_of : Charter → Option Store
+told_of g = cond g.tells (Some g.marked) None
+
+abbrev pub state_of : Charter → List Event → State
+state_of g r = now g.ordered.plan (task_numbers g.ordered.tasks.items) r
+
+-- no task is open for the worker
+abbrev pub NoneOpenFor : Charter → ℕ → List Event → Type 0
+NoneOpenFor g w r = (t : ℕ) → IsOpen (state_of g r) w t → ⊥
+
+-- by a worker's own entries no task is open for it
+abbrev pub NoneOpenBy : List Event → Type 0
+NoneOpenBy mine = (t : ℕ) → is_open_after t false mine ≡ false
+
+-- all tasks have ended and no Fail stands, or one does; and none is open for the worker
+pub record IsOverFor (g : Charter) (w : ℕ) (r : List Event) : Type 0 where
+  pub over : IsOver (plan_of g) (state_of g r)
+  pub none_open : NoneOpenFor g w r
+
+-- The task is a Run of the charter's plan, and where the host tells the bytes are what it reads.
+pub record IsReadFor (apply : Apply) (g : Option Charter) (t : ℕ) (blobs : List (List ℕ)) : Type 0 where
+  pub charter : Charter
+  pub is : g ≡ Some charter
+  pub proper : IsProper (plan_of charter)
+  pub run : is_run (plan_of charter) t ≡ true
+  pub read : AreRead apply (plan_of charter) charter.marked (told_of charter) t blobs
+
+-- what a lease answers, with the worker's own entries before and after, and the record after
+abbrev pub LeasesOwn : Option Charter → ℕ → List Event → List Event → List Event → Leased → Type 0
+LeasesOwn g w mine after seen (leased.Granted t) = (after ≡ mine ++ Grant w t.0 ∷ []) ⊎ (after ≡ mine ++ Regrant w t.0 ∷ [])
+LeasesOwn g w mine after seen (leased.Swept t) = Finishes w t.0 0 mine after
+LeasesOwn g w mine after seen (leased.Failed t) = Finishes w t.0 0 mine after
+LeasesOwn g w mine after seen (leased.Again t) = Finishes w t.0 0 mine after
+LeasesOwn g w mine after seen leased.NotYet = after ≡ mine
+LeasesOwn g w mine after seen leased.Done = (after ≡ mine) × IfSome g (λ c. IsOverFor c w seen)
+LeasesOwn g w mine after seen leased.Stopped = (after ≡ mine) × IfSome g (λ c. IsOverFor c w seen)
+
+-- what the beginning of a task answers: the bytes that a Run of the charter's plan reads, and no entry; or none, and the
+-- task is done with
+abbrev pub BeginsOwn : Apply → Option Charter → ℕ → ℕ → List Event → List Event → Option (Vec (List ℕ) Global) → Type 0
+BeginsOwn apply g w t mine after (Some blobs) = (after ≡ mine) × IsReadFor apply g t blobs.items
+BeginsOwn apply g w t mine after None = Finishes w t 0 mine after
+
+-- a plan that was copied is that of the charter
+abbrev pub IsPlanOf : Option Charter → Result Plan Memory → Type 0
+IsPlanOf g (Ok p) = IfSome g (λ c. p ≡ plan_of c)
+IsPlanOf g (Err refused) = Unit {0}

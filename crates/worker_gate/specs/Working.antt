@@ -1,0 +1,43 @@
+-- What a worker adds to the record of a yard that several share.
+use Rattle.std.specs.Prelude.{◌≡◌, ℕ, List, [], ◌∷◌, ◌++◌, Result, Ok, Err, Vec}
+use Rattle.std.specs.declared.alloc.Global.{Global}
+use Rattle.outside.specs.Tool.{Apply}
+use Rattle.outside.specs.declared.memory.Memory.{Memory}
+use Rattle.plan_core.specs.declared.plan.Plan.{Plan}
+use Rattle.run_record.specs.declared.entry.Cause.{Cause}
+use Rattle.run_record.specs.declared.entry.Cause.TheVariants as why
+use Rattle.run_record.specs.Events.{Event}
+use Rattle.site_yard.specs.Failures.{RoseBy, tool_faults, tool_faults_of}
+use Rattle.site_yard.specs.declared.chronicle.Charter.{Charter}
+use Rattle.worker_gate.specs.Alone.{IsOver}
+use Rattle.worker_gate.specs.Computing.{Computes}
+use Rattle.worker_gate.specs.Tending.{IsLast}
+use Rattle.worker_gate.specs.Turning.{NoneOpenBy, NoneOpenFor, plan_of, state_of}
+
+-- what the computing of a Run answers by a plan; without one memory was wanted
+abbrev pub ComputesWith : Apply → Result Plan Memory → ℕ → List (List ℕ) → ℕ → ℕ → Result (Vec (List ℕ) Global) Cause → Type 0
+ComputesWith apply (Ok p) t blobs before later made = Computes apply p t blobs before later made
+ComputesWith apply (Err refused) t blobs before later made = (later ≡ before) × (made ≡ Err why.Memory)
+
+-- one entry more, by which the worker is done with the task, and which its tool's count shows
+pub record DoesOwn (w t : ℕ) (mine after : List Event) (before later : ℕ) : Type 0 where
+  pub entry : Event
+  pub is : after ≡ mine ++ entry ∷ []
+  pub last : IsLast w t entry
+  pub counted : RoseBy (tool_faults_of w entry) before later
+
+-- what was added to the worker's own entries, after which no task is open, and which its tool's count shows
+pub record WorksOwn (w : ℕ) (mine after : List Event) (before later : ℕ) : Type 0 where
+  pub added : List Event
+  pub is : after ≡ mine ++ added
+  pub none_open : NoneOpenBy after
+  pub counted : RoseBy (tool_faults w added) before later
+
+-- A worker has worked until the record that it has seen is over: all tasks have ended and no Fail stands, or one does. No
+-- task is open for it. Its tool's count, which was `before`, shows its new entries' failures.
+pub record Works (g : Charter) (w : ℕ) (mine after seen : List Event) (before later : ℕ) : Type 0 where
+  pub added : List Event
+  pub is : after ≡ mine ++ added
+  pub over : IsOver (plan_of g) (state_of g seen)
+  pub none_open : NoneOpenFor g w seen
+  pub counted : RoseBy (tool_faults w added) before later

@@ -1,0 +1,114 @@
+//! The turns of a worker at a yard that several share. In each it makes one call of the yard, which adds one entry at
+//! most.
+
+ghost use Rattle.std.specs.Prelude.{◌≡◌, ◌<◌, IfOk, IfSome, false, true};
+ghost use Rattle.lease_book.specs.Owning.{is_open_after};
+ghost use Rattle.ruled_lock.specs.Lock.{IsOf};
+ghost use Rattle.ruled_lock.specs.Pass.{IsIdle, IsSamePass, charter_of, mine_of, seen_of, worker_of};
+ghost use Rattle.worker_gate.specs.Tending.{Finishes, IsMade, failures_in};
+ghost use Rattle.worker_gate.specs.Turning.{BeginsOwn, IsPlanOf, LeasesOwn, NoneOpenBy, NoneOpenFor, plan_of, told_of};
+
+use crate::tending::{begin_at, finish_at};
+use lease_book::own_entries_tell_open_tasks;
+use outside::{Blob, Host, Memory, TaskId, Tool};
+use plan_core::Plan;
+use ruled_lock::{Pass, RuledLock};
+use run_record::Cause;
+use site_yard::{Leased, Yard};
+use std::alloc::Global;
+use std::sync::Wait;
+
+/// Copies the plan in a first turn.
+pub(crate) fn copy_plan<R: Wait, H: Host, T: Tool>(
+    rt: &R,
+    alloc: Global,
+    lock: &RuledLock<Yard<H, T>>,
+    pass: &mut Pass<Yard<H, T>>,
+) -> Result<Plan, Memory>
+    requires of { IsOf lock.now pass.old }
+    requires idle { IsIdle pass.old }
+    requires none_open { IfSome (charter_of pass.old) (λ g. NoneOpenFor g (worker_of pass.old) (seen_of pass.old)) }
+    ensures of { IsOf lock.now pass.new }
+    ensures idle { IsIdle pass.new }
+    ensures same { IsSamePass pass.old pass.new }
+    ensures mine { mine_of pass.new ≡ mine_of pass.old }
+    ensures none_open { NoneOpenBy (mine_of pass.old) }
+    ensures plan { IsPlanOf (charter_of pass.old) result }
+{
+    // A law for the proof: it does nothing.
+    own_entries_tell_open_tasks();
+    let yard = lock.take(rt, pass);
+    let plan = yard.plan().copy(alloc);
+    lock.give(pass, yard);
+    plan
+}
+
+/// Leases.
+pub(crate) fn lease<R: Wait, H: Host, T: Tool>(
+    rt: &R,
+    alloc: Global,
+    lock: &RuledLock<Yard<H, T>>,
+    pass: &mut Pass<Yard<H, T>>,
+) -> Leased
+    requires of { IsOf lock.now pass.old }
+    requires idle { IsIdle pass.old }
+    requires worker { worker_of pass.old < 16 }
+    requires none_open { NoneOpenBy (mine_of pass.old) }
+    ensures of { IsOf lock.now pass.new }
+    ensures idle { IsIdle pass.new }
+    ensures same { IsSamePass pass.old pass.new }
+    ensures leased { LeasesOwn (charter_of pass.old) (worker_of pass.old) (mine_of pass.old) (mine_of pass.new) (seen_of pass.new) result }
+{
+    own_entries_tell_open_tasks();
+    let mut yard = lock.take(rt, pass);
+    let leased = yard.lease(alloc, pass.worker());
+    lock.give(pass, yard);
+    leased
+}
+
+/// Does a Transfer that is open, or reads what a Run reads.
+pub(crate) fn begin<R: Wait, H: Host, T: Tool>(
+    rt: &R,
+    alloc: Global,
+    lock: &RuledLock<Yard<H, T>>,
+    pass: &mut Pass<Yard<H, T>>,
+    task: TaskId,
+) -> Option<Vec<Blob>>
+    requires of { IsOf lock.now pass.old }
+    requires idle { IsIdle pass.old }
+    requires open { is_open_after task.0 false (mine_of pass.old) ≡ true }
+    ensures of { IsOf lock.now pass.new }
+    ensures idle { IsIdle pass.new }
+    ensures same { IsSamePass pass.old pass.new }
+    ensures begins { BeginsOwn T.apply (charter_of pass.old) (worker_of pass.old) task.0 (mine_of pass.old) (mine_of pass.new) result }
+{
+    own_entries_tell_open_tasks();
+    let mut yard = lock.take(rt, pass);
+    let begun = begin_at(alloc, &mut yard, pass.worker(), task);
+    lock.give(pass, yard);
+    begun
+}
+
+/// Stores what a Run made that is open, or adds why it made nothing.
+pub(crate) fn finish<R: Wait, H: Host, T: Tool>(
+    rt: &R,
+    alloc: Global,
+    lock: &RuledLock<Yard<H, T>>,
+    pass: &mut Pass<Yard<H, T>>,
+    task: TaskId,
+    made: Result<Vec<Blob>, Cause>,
+)
+    requires of { IsOf lock.now pass.old }
+    requires idle { IsIdle pass.old }
+    requires open { is_open_after task.0 false (mine_of pass.old) ≡ true }
+    requires made { IfSome (charter_of pass.old) (λ g. IsMade T.apply (plan_of g) g.marked (told_of g) task.0 made) }
+    ensures of { IsOf lock.now pass.new }
+    ensures idle { IsIdle pass.new }
+    ensures same { IsSamePass pass.old pass.new }
+    ensures finishes { Finishes (worker_of pass.old) task.0 (failures_in made) (mine_of pass.old) (mine_of pass.new) }
+{
+    own_entries_tell_open_tasks();
+    let mut yard = lock.take(rt, pass);
+    finish_at(alloc, &mut yard, pass.worker(), task, made);
+    lock.give(pass, yard);
+}

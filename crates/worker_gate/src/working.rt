@@ -1,0 +1,110 @@
+//! One worker among many.
+
+ghost use Rattle.std.specs.Prelude.{◌≡◌, ◌≤◌, ◌<◌, IfOk, IfSome, false, true};
+ghost use Rattle.plan_core.specs.Proper.{IsProper};
+ghost use Rattle.plan_core.specs.Words.{is_run};
+ghost use Rattle.lease_book.specs.Owning.{is_open_after};
+ghost use Rattle.ruled_lock.specs.Lock.{IsOf};
+ghost use Rattle.ruled_lock.specs.Pass.{IsIdle, IsSamePass, charter_of, mine_of, seen_of, worker_of};
+ghost use Rattle.worker_gate.specs.Turning.{IsPlanOf, NoneOpenFor};
+ghost use Rattle.worker_gate.specs.Working.{ComputesWith, DoesOwn, Works};
+
+use crate::computing::compute;
+use crate::law::runs_carry_what_they_compute;
+use crate::turning::{begin, copy_plan, finish, lease};
+use craft::{Crew, Gate};
+use outside::{Blob, Host, Memory, TaskId, Tool};
+use plan_core::Plan;
+use ruled_lock::{Pass, RuledLock};
+use run_record::Cause;
+use site_yard::{Leased, Yard};
+use std::alloc::Global;
+use std::sync::Wait;
+
+/// What a Run makes of the bytes that it reads, by a worker's copy of the plan, if it has one.
+fn compute_with<T: Tool>(
+    alloc: Global,
+    plan: &Result<Plan, Memory>,
+    task: TaskId,
+    blobs: Vec<Blob>,
+    tool: &mut T,
+) -> Result<Vec<Blob>, Cause>
+    requires proper { IfOk plan.now IsProper }
+    requires run { IfOk plan.now (λ p. is_run p task.0 ≡ true) }
+    ensures answer { ComputesWith T.apply plan.now task.0 blobs.items (T.faults tool.old) (T.faults tool.new) result }
+    ensures tool { T.faults tool.old ≤ T.faults tool.new }
+{
+    match plan {
+        Ok(plan) => compute(alloc, plan, task, blobs, tool),
+        Err(_) => Err(Cause::Memory),
+    }
+}
+
+/// Does what a task says that is open. Its jobs are computed between two turns.
+fn do_task<R: Wait, H: Host, T: Tool, G: Gate>(
+    rt: &R,
+    alloc: Global,
+    lock: &RuledLock<Yard<H, T>>,
+    pass: &mut Pass<Yard<H, T>>,
+    crew: &mut Crew<T, G>,
+    plan: &Result<Plan, Memory>,
+    task: TaskId,
+)
+    requires of { IsOf lock.now pass.old }
+    requires idle { IsIdle pass.old }
+    requires open { is_open_after task.0 false (mine_of pass.old) ≡ true }
+    requires plan { IsPlanOf (charter_of pass.old) plan.now }
+    ensures of { IsOf lock.now pass.new }
+    ensures idle { IsIdle pass.new }
+    ensures same { IsSamePass pass.old pass.new }
+    ensures does { DoesOwn (worker_of pass.old) task.0 (mine_of pass.old) (mine_of pass.new) (T.faults crew.old.tool) (T.faults crew.new.tool) }
+    ensures tool { T.faults crew.old.tool ≤ T.faults crew.new.tool }
+{
+    // A law for the proof: it does nothing.
+    runs_carry_what_they_compute();
+    match begin(rt, alloc, lock, pass, task) {
+        None => {}
+        Some(blobs) => {
+            crew.gate.before(task);
+            let made = compute_with(alloc, plan, task, blobs, &mut crew.tool);
+            finish(rt, alloc, lock, pass, task, made);
+        }
+    }
+}
+
+/// Leases and works until all is done or something failed, its own failure included. Between two of its turns others may
+/// work; where nothing can begin it passes its gate's `idle` and waits for their news. It doesn't promise to end.
+pub fn work<R: Wait, H: Host, T: Tool, G: Gate>(
+    rt: &R,
+    alloc: Global,
+    lock: &RuledLock<Yard<H, T>>,
+    pass: &mut Pass<Yard<H, T>>,
+    crew: &mut Crew<T, G>,
+)
+    requires of { IsOf lock.now pass.old }
+    requires idle { IsIdle pass.old }
+    requires worker { worker_of pass.old < 16 }
+    requires none_open { IfSome (charter_of pass.old) (λ g. NoneOpenFor g (worker_of pass.old) (seen_of pass.old)) }
+    ensures of { IsOf lock.now pass.new }
+    ensures idle { IsIdle pass.new }
+    ensures same { IsSamePass pass.old pass.new }
+    ensures works { IfSome (charter_of pass.old) (λ g. Works g (worker_of pass.old) (mine_of pass.old) (mine_of pass.new) (seen_of pass.new) (T.faults crew.old.tool) (T.faults crew.new.tool)) }
+    ensures tool { T.faults crew.old.tool ≤ T.faults crew.new.tool }
+{
+    let plan = copy_plan(rt, alloc, lock, pass);
+    for _ in rt.forever() {
+        match lease(rt, alloc, lock, pass) {
+            Leased::Granted(task) => do_task(rt, alloc, lock, pass, crew, &plan, task),
+            Leased::Swept(_) => {}
+            Leased::Failed(_) => {}
+            Leased::Again(_) => {}
+            Leased::NotYet => {
+                crew.gate.idle();
+                lock.changed(rt, pass);
+            }
+            Leased::Done => return,
+            Leased::Stopped => return,
+        }
+    }
+    unreachable!()
+}
