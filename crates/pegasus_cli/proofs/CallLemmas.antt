@@ -218,3 +218,8 @@ first_is count (m ∷ ms) first long is = ap count (sym is)
 pub first_set : {A : Type 0} (count : A → ℕ) (crew : List A) (first : A) → length crew ≡ 16 → first_count (map count (slice_set crew 0 first)) ≡ count first
 first_set count [] first long = absurd (omega (arith, long))
 first_set count (m ∷ ms) first long = refl
+
+-- what stays of the first member of a crew stays of all
+pub all_stay : {A B : Type 0} (part : A → B) (crew : List A) (first last : A) → first ≡ get_or crew 0 first → part last ≡ part first → map part (slice_set crew 0 last) ≡ map part crew
+all_stay part [] first last is same = refl
+all_stay part (m ∷ ms) first last is same = ap (λ x. x ∷ map part ms) (same ∙ ap part is)

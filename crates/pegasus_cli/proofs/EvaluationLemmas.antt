@@ -60,12 +60,11 @@ fault_ends w s on (eval_faults.ToolFailed j) (outcomes.Failed (ToolFailed id)) h
 fault_ends w s on fault outcomes.Memory has ev reached h = tt
 fault_ends w s on fault o has ev reached h = absurd h
 
--- the requested files with their values, also after later moments
-pub values_are : (apply : Apply) (known : List ℕ → Bool) (before after later : WorkMoment) (s : Surveyed) (values : Vec (List ℕ) Global) → Evaluated (working apply known before after) s (Ok values)
-    → HasValues (working apply known before later) s (chosen s.survey.workflow values.items)
-values_are apply known before after later s values h = record {
+-- the requested files with their values
+pub values_are : (apply : Apply) (known : List ℕ → Bool) (before after : WorkMoment) (s : Surveyed) (values : Vec (List ℕ) Global) → Evaluated (working apply known before after) s (Ok values)
+    → HasValues (working apply known before after) s (chosen s.survey.workflow values.items)
+values_are apply known before after s values h = record {
   on = h.0;
-  now = after.counts;
   bases = record { from = h.1.from; is = h.1.is; read = h.1.read; tools = h.1.tools; apply = h.1.apply };
   valued = record { defined = h.3; values = chosen_are h.0 s.survey.workflow values.items h.2 };
 }

@@ -7,7 +7,6 @@ pub mod FinishLemmas
 pub mod PlanLemmas
 pub mod RunningLemmas
 pub mod AloneLemmas
-pub mod PolicyLemmas
 pub mod CallLemmas
 pub mod ValueTextLemmas
 pub mod SurveyLemmas

@@ -32,6 +32,7 @@ use Rattle.site_yard.specs.declared.ending.RunFault.{RunFault}
 use Rattle.site_yard.specs.declared.ending.RunFault.TheVariants as faults
 use Rattle.site_yard.specs.declared.opening.OpenFault.{OpenFault}
 use Rattle.worker_gate.specs.Alone.{AllBy, IsOver, NoneOpen, WorksAlone, begun}
+use Rattle.worker_gate.specs.Inputs.{AddsOfInputs, AreOfInputs}
 use Rattle.pegasus_cli.specs.Moments.{Work}
 use Rattle.pegasus_cli.specs.Running.{AnswersEnd, AreDeliveries, HasRun, IsRefusal, IsRunText, IsShown, Prints, Tells, fault_answer, marked_if}
 use Rattle.pegasus_cli.specs.RunText.{run_text}
@@ -132,6 +133,7 @@ pub record IsYardEnd (w : Work) (p : Plan) (order : List ℕ) (r : List Event) (
   pub misses_are : misses ≡ w.before.counts.misses
   pub unused : AreUnused p w.before.told
   pub works : WorksAlone p order [] r w.before.tool w.after.tool
+  pub inputs : AddsOfInputs w.apply p [] r
 
 -- A run whose opening was accepted.
 pub ran : (w : Work) (p : Plan) (order : List ℕ) (r : List Event) (told : Option Store) (marked : Store) (faults misses : ℕ) (text : List ℕ) (a : Outcome) → IsYardEnd w p order r told marked faults misses → HasLaws p order r
@@ -147,6 +149,7 @@ ran w p order r told marked faults misses text a end laws legal agrees counted a
     safe = laws.safe;
     left = laws.left;
     shown = shown_so w p r marked told end.told_is end.tells end.marked_is agrees;
+    inputs = subst (AreOfInputs w.apply p) (sym end.inputs.is) end.inputs.are;
     counted = counted_so p r w.before.told told faults misses w.before.counts.faults w.before.counts.misses w.after.counts end.tells end.faults_are end.misses_are counted;
     tool = subst (λ (es : List Event). RoseBy (tool_faults 0 es) w.before.tool w.after.tool) (sym end.works.is) end.works.counted;
   };
@@ -219,6 +222,7 @@ not_begun w p order opening text a laws told later tool refuses refusal = record
     safe = laws.safe;
     left = laws.left;
     shown = shown_at_start w p told;
+    inputs = tt;
     counted = counted_at_start w.before.told w.before.counts w.after.counts later;
     tool = tool_at_start w.before.tool w.after.tool tool;
   };

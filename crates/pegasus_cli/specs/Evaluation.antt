@@ -46,8 +46,7 @@ pub record IsValued (on : Basis) (s : Survey) (all : List Valued) : Type 0 where
 
 pub record HasValues (w : Work) (s : Surveyed) (all : List Valued) : Type 0 where
   pub on : Basis
-  pub now : Counts
-  pub bases : HasBases w s now on
+  pub bases : HasBases w s w.after.counts on
   pub valued : IsValued on s.survey all
 
 -- the job at a place has this id

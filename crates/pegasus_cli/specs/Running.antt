@@ -22,6 +22,7 @@ use Rattle.site_yard.specs.declared.ending.RunFault.{RunFault}
 use Rattle.site_yard.specs.declared.ending.RunFault.TheVariants as faults
 use Rattle.site_yard.specs.declared.opening.OpenFault.{OpenFault}
 use Rattle.worker_gate.specs.Alone.{NoneOpen, begun}
+use Rattle.worker_gate.specs.Inputs.{AreOfInputs}
 use Rattle.pegasus_cli.specs.Moments.{Work}
 use Rattle.pegasus_cli.specs.RunText.{run_text}
 use Rattle.pegasus_cli.specs.declared.outcome.Outcome.{Outcome}
@@ -47,6 +48,8 @@ pub record IsRun (w : Work) (p : Plan) (order : List ℕ) (r : List Event) : Typ
   pub left : (k s : ℕ) → left_in p (trace_of p (take k r)) s ≤ stored_at p (now p order (take k r)).held s + reserved_at p (now p order (take k r)).held s
   -- the operations are those that the record says, and no others
   pub shown : IsShown w p r
+  -- told or not, what entries say of a Run's jobs and outputs is so of some bytes, one text for each of its reads
+  pub inputs : AreOfInputs w.apply p r
   -- the host's and the tool's counts rose as often as entries lay a failure on them
   pub counted : AreCounted w.before.told w.before.counts.faults w.before.counts.misses w.after.counts r
   pub tool : RoseBy (tool_faults 0 r) w.before.tool w.after.tool

@@ -40,7 +40,8 @@ fn finish<K: Sink>(alloc: Global, out: &mut K, text: Vec<u8>, answer: Outcome) -
     }
 }
 
-/// Does what the words say and writes what came of it; it waits for nobody. It works with the first member of the crew.
+/// Does what the words say and writes what came of it; it waits for nobody, and asks no gate. It works with the
+/// first member of the crew.
 pub fn quick<D: Docs, K: Sink, H: Host, T: Tool, G: Gate>(
     alloc: Global,
     words: &[String],
@@ -56,6 +57,7 @@ pub fn quick<D: Docs, K: Sink, H: Host, T: Tool, G: Gate>(
         IsAnswered (call asked work output) result.0 }
     ensures crew { length result.2.items ≡ 16 }
     ensures others { drop 1 result.2.items ≡ drop 1 crew.items }
+    ensures gates { list_map (λ (c : Crew T G). c.gate) result.2.items ≡ list_map (λ (c : Crew T G). c.gate) crew.items }
 {
     // A law for the proof: it does nothing.
     nothing_else_fails();

@@ -80,6 +80,7 @@ pub(crate) fn work<H: Host, T: Tool, G: Gate>(
     ensures works { (spec_of command).Works (working T.apply T.known (work_moment H.Host host (T.faults crew.old.tool)) (work_moment H.Host result.host (T.faults crew.new.tool)))
         surveyed.now result.worked.text.items result.worked.answer }
     ensures answer { IsAnswer result.worked.answer }
+    ensures gate { crew.new.gate ≡ crew.old.gate }
 {
     let mut host = host;
     match command {

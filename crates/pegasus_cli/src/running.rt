@@ -14,7 +14,7 @@ use crate::commands::{Ran, Worked, at_once};
 use crate::outcome::Outcome;
 use crate::run_text::{empty_text, run_text};
 use craft::{Crew, Gate};
-use lease_book::legal_records_are_safe;
+use lease_book::{legal_records_are_safe, ordered_plans_fit};
 use outside::{Host, Memory, Tool};
 use site_yard::{OpenRefused, RunFault, Yard, opening_fault, what_is_left_is_held};
 use std::alloc::Global;
@@ -107,8 +107,10 @@ pub(crate) fn run_plan<H: Host, T: Tool, G: Gate>(
     ensures ran { ∥ HasRun (working T.apply T.known (work_moment H.Host host (T.faults crew.old.tool)) (work_moment H.Host result.host (T.faults crew.new.tool)))
         ordered.plan (task_numbers ordered.tasks.items) result.worked.text.items result.worked.answer ∥₁ }
     ensures answer { IsAnswer result.worked.answer }
+    ensures gate { crew.new.gate ≡ crew.old.gate }
 {
     // Laws for the proof: they do nothing.
+    ordered_plans_fit();
     legal_records_are_safe();
     what_is_left_is_held();
     match Yard::<H, T>::open(alloc, ordered, host) {

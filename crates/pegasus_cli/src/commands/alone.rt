@@ -18,6 +18,7 @@ use crate::outcome::{Outcome, of_early};
 use crate::running::run_plan;
 use crate::survey::Surveyed;
 use craft::{Crew, Gate};
+use lease_book::ordered_plans_fit;
 use outside::{Host, Memory, Tool};
 use planner::{plan_survey, plans_deliver_requests};
 use site_yard::complete_records_deliver;
@@ -50,8 +51,10 @@ pub(crate) fn work<H: Host, T: Tool, G: Gate>(
     ensures works { alone.Works (working T.apply T.known (work_moment H.Host host (T.faults crew.old.tool)) (work_moment H.Host result.host (T.faults crew.new.tool)))
         surveyed.now result.worked.text.items result.worked.answer }
     ensures answer { IsAnswer result.worked.answer }
+    ensures gate { crew.new.gate ≡ crew.old.gate }
 {
     // Laws for the proof: they do nothing.
+    ordered_plans_fit();
     plans_deliver_requests();
     complete_records_deliver();
     let ordered = match plan_survey(alloc, &surveyed.request, &surveyed.survey, TASK_LIMIT) {

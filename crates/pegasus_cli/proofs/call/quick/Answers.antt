@@ -3,7 +3,7 @@ use Rattle.craft.specs.declared.crew.Crew.{Crew}
 use Rattle.pegasus_cli.specs.declared.outcome.Outcome.{Outcome}
 use Rattle.pegasus_cli.specs.Call.{Ends}
 use Rattle.pegasus_cli.specs.Moments.{sink_moment, writing}
-use Rattle.pegasus_cli.proofs.CallLemmas.{first_is, first_set, stopped_answered, usage_answered, worked_answered}
+use Rattle.pegasus_cli.proofs.CallLemmas.{all_stay, first_is, first_set, stopped_answered, usage_answered, worked_answered}
 use Rattle.pegasus_cli.proofs.call.quick.Goals as goal
 
 pub returns-in_default-clause-answered : goal.returns-in_default-clause-answered
@@ -21,3 +21,7 @@ returns-clause-answered g c =
     let after = first_set count c.args.crew.items c.work-ran.new.crew c.requires in
     rw (before, after) (worked_answered c.nothing_else_fails.ensures.alone _ c.in-Some.command c.in-Some.request.now c.in-Ok.surveyed c.work-ran.result.worked.answer c.finish-outcome-2.result c.work-ran.result.worked.text.items
     (sym c.in-Some.ensures) c.in-Ok.ensures.answer c.work-ran.ensures.works c.finish-outcome-2.ensures)
+
+pub returns-clause-gates : goal.returns-clause-gates
+returns-clause-gates g c =
+    all_stay (λ (m : Crew g.row.T.Denot g.row.G.Denot). m.gate) c.args.crew.items c.index_mut.result.now c.work-ran.new.crew c.index_mut.ensures.value c.work-ran.ensures.gate

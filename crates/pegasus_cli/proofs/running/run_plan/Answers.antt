@@ -2,7 +2,6 @@ use Rattle.std.proofs.Common.{[], ◌∙◌, ap, refl}
 use Rattle.std.proofs.Math.Logic.{∥∥₁_elim, ∥∥₁_map, ∥∥₁_prop}
 use Rattle.std.specs.Prelude.{is_some}
 use Rattle.plan_core.specs.Words.{task_numbers}
-use Rattle.lease_book.proofs.BookLemmas.{order_all}
 use Rattle.pegasus_cli.specs.Moments.{work_moment, working}
 use Rattle.pegasus_cli.proofs.RunningLemmas.{marked_so, not_begun, ran}
 use Rattle.pegasus_cli.proofs.running.run_plan.Goals as goal
@@ -19,7 +18,8 @@ returns-in-Ok-clause-ran g c =
     let answers = rw same at c.end_run.ensures.answers in
     let prints = rw same at c.end_run.ensures.prints in
     let works = rw (c.in-Ok.ensures.ordered, c.in-Ok.ensures.history) at c.run_alone-yard.ensures.works in
-    let fits = order_all p order c.args.ordered.fits c.args.ordered.order in
+    let inputs = rw (c.in-Ok.ensures.ordered, c.in-Ok.ensures.history) at c.run_alone-yard.ensures.inputs in
+    let fits = c.ordered_plans_fit.ensures c.args.ordered in
     let before = work_moment g.H.Host c.args.host (g.T.Tool.faults c.args.crew.now.tool) in
     let after = work_moment g.H.Host y.host (g.T.Tool.faults c.run_alone-yard.new.crew.tool) in
     let w = working g.T.Tool.apply g.T.Tool.known before after in
@@ -33,6 +33,7 @@ returns-in-Ok-clause-ran g c =
       misses_are = c.run_alone-yard.ensures.misses ∙ c.in-Ok.ensures.misses;
       unused = c.in-Ok.ensures.unused;
       works = works;
+      inputs = inputs;
     })
     (record {
       safe = λ n. c.legal_records_are_safe.ensures.always p order r c.requires.proper fits l n;
@@ -44,7 +45,7 @@ pub returns-in-Err-clause-ran : goal.returns-in-Err-clause-ran
 returns-in-Err-clause-ran g c =
     let p = c.args.ordered.plan in
     let order = task_numbers c.args.ordered.tasks.items in
-    let fits = order_all p order c.args.ordered.fits c.args.ordered.order in
+    let fits = c.ordered_plans_fit.ensures c.args.ordered in
     let refusal = rw c.in-Err.ensures.back.0 at c.refuse_run.ensures.refusal in
     let faults = g.T.Tool.faults c.args.crew.now.tool in
     let before = work_moment g.H.Host c.args.host faults in

@@ -1,7 +1,6 @@
 use Rattle.std.proofs.Common.{◌∙◌, ap, sym}
 use Rattle.plan_core.specs.declared.plan.Plan.{Plan}
 use Rattle.plan_core.specs.Words.{task_numbers}
-use Rattle.lease_book.proofs.BookLemmas.{order_all}
 use Rattle.pegasus_cli.specs.Commands.Plan.{task_limit}
 use Rattle.pegasus_cli.specs.KeptTools.{unknown_tool}
 use Rattle.pegasus_cli.specs.Moments.{work_moment, working}
@@ -20,7 +19,7 @@ returns-in-Ok-None-clause-works g c =
     let p = o.plan in
     let order = task_numbers o.tasks.items in
     let proper = c.in-Ok.ensures.proper in
-    let fits = order_all p order o.fits o.order in
+    let fits = c.ordered_plans_fit.ensures o in
     let none = sym c.in-Ok-None.field-0-is ∙ c.in-Ok-None.ensures ∙ ap (λ (q : Plan). unknown_tool g.T.Tool.known q.jobs) c.plan.ensures in
     let before = work_moment g.H.Host c.args.host (g.T.Tool.faults c.args.crew.now.tool) in
     let after = work_moment g.H.Host c.run_plan.result.host (g.T.Tool.faults c.run_plan.new.crew.tool) in
