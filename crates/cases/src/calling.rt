@@ -5,8 +5,8 @@ ghost use Rattle.std.specs.Prelude.{◌≡◌, IfOk, length};
 use crate::case::{Case, CommandLine, Document, Setup, SiteFiles, Weather};
 use crate::comparing::is_met;
 use crate::trace::trace_text;
-use craft::{Crew, Faulty, OpenGate};
-use outside::{Memory, MemoryDocs, MemoryHost, MemorySink};
+use craft::{Crew, Faulty, Gate, OpenGate};
+use outside::{Docs, Host, Memory, MemoryDocs, MemoryHost, MemorySink, Sink, Tool};
 use pegasus_cli::quick;
 use std::alloc::Global;
 use toolbox::Shipped;
@@ -162,11 +162,26 @@ fn prepare(
     })
 }
 
-/// Makes a call. It stands alone, since the clause of `quick` is long.
+/// A call over any objects, since the clause of `quick` is long, and longer where the objects are known.
+fn status_of<D: Docs, K: Sink, H: Host, T: Tool, G: Gate>(
+    alloc: Global,
+    words: &[String],
+    docs: &mut D,
+    sink: &mut K,
+    host: H,
+    crew: Vec<Crew<T, G>>,
+) -> (u8, H)
+    requires { length crew.items ≡ 16 }
+{
+    let (outcome, host, _) = quick(alloc, words, docs, sink, host, crew);
+    (outcome.code(), host)
+}
+
+/// Makes a call.
 fn call(alloc: Global, words: &[String], prepared: Prepared) -> Returned {
     let mut docs = prepared.docs;
     let mut sink = prepared.sink;
-    let (outcome, host, _) = quick(
+    let (status, host) = status_of(
         alloc,
         words,
         &mut docs,
@@ -174,11 +189,7 @@ fn call(alloc: Global, words: &[String], prepared: Prepared) -> Returned {
         prepared.host,
         prepared.crew,
     );
-    Returned {
-        status: outcome.code(),
-        host,
-        sink,
-    }
+    Returned { status, host, sink }
 }
 
 fn with_trace(alloc: Global, returned: Returned) -> Result<Ended, Memory> {

@@ -15,3 +15,5 @@ mod records;
 mod sketches;
 #[cfg(test)]
 mod storage;
+#[cfg(test)]
+mod workers;

@@ -103,7 +103,7 @@ fn jobs(
     for (id, site, inputs, outputs) in rows {
         made.push(PlanJob {
             id: Text::copy_of(alloc, id)?,
-            tool: Text::copy_of(alloc, "t")?,
+            tool: Text::copy_of(alloc, "join")?,
             arguments: Items::new(Vec::new(alloc)),
             inputs: file_ids(alloc, inputs)?,
             outputs: file_ids(alloc, outputs)?,
