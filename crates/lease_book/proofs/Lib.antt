@@ -16,3 +16,4 @@ pub mod SumLemmas
 pub mod BookLemmas
 pub mod SizeLemmas
 pub mod OwningLemmas
+pub mod OverLemmas

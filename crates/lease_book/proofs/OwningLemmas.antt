@@ -83,7 +83,7 @@ opened_by s v u w t o same h = parts (runs (s.phase t)) (eqb (s.holder t) w) (no
 waits_unopened : {P : Type 0} (s : State) (u w t : ℕ) → s.phase u ≡ Waits → eqb u t ≡ true → is_open s w t ≡ true → P
 waits_unopened s u w t waits same h = parts (runs (s.phase t)) (eqb (s.holder t) w) (not (s.failed t)) h (λ a b c. absurd (let k : runs (s.phase t) ≡ false = ap (λ (n : ℕ). runs (s.phase n)) (sym (eqb-true u t same)) ∙ ap runs waits in cc))
 
-chosen_waits : (p : Plan) (s : State) (u : ℕ) → IsConsistent p s → IsChoice p s u → s.phase u ≡ Waits
+pub chosen_waits : (p : Plan) (s : State) (u : ℕ) → IsConsistent p s → IsChoice p s u → s.phase u ≡ Waits
 chosen_waits p s u k choice = is_waiting (s.phase u) (k.sound.safe.waiting u (choice_in p s u choice))
 
 caught_by : (p : Plan) (s : State) (v u w t : ℕ) → IsConsistent p s → MayFail p s v u → eqb u t ≡ true → is_open s w t ≡ true → eqb v w ≡ true

@@ -1,6 +1,6 @@
 //! What the definitions come to.
 
-ghost use Rattle.std.specs.Prelude.{◌≡◌, Decides, ◌≤◌, ◌+◌, ◌<◌, ℕ, List, [], true, false, length, take};
+ghost use Rattle.std.specs.Prelude.{◌≡◌, Decides, ◌≤◌, ◌+◌, ◌<◌, ℕ, List, [], ◌++◌, true, false, length, take};
 ghost use Rattle.plan_core.specs.declared.plan.Plan.{Plan};
 ghost use Rattle.plan_core.specs.Numbers.{has};
 ghost use Rattle.plan_core.specs.Proper.{IsProper};
@@ -14,7 +14,7 @@ ghost use Rattle.run_record.specs.declared.entry.Cause.{Cause};
 ghost use Rattle.run_record.specs.Events.{Again, Event, Regrant};
 ghost use Rattle.lease_book.specs.State.{State, after, now, opened};
 ghost use Rattle.lease_book.specs.Choice.{HasNoChoice, HaveParentsEnded, IsChoice, IsFresh};
-ghost use Rattle.lease_book.specs.Legal.{Allowed, IsOpen, Legal};
+ghost use Rattle.lease_book.specs.Legal.{Allowed, IsComplete, IsOpen, Legal};
 ghost use Rattle.lease_book.specs.Law.{FitsFromStart, HasStorageLaws, IsConsistent, IsSafeState, IsSoundState, reserved_at, stored_at};
 ghost use Rattle.lease_book.specs.Owning.{entries_by, is_open, is_open_after};
 ghost use Rattle.lease_book.specs.Reading.{IsPlain, IsPlainlyRead, IsRead};
@@ -88,6 +88,14 @@ pub fn records_read()
 pub fn own_entries_tell_open_tasks()
     ensures decides { (s : State) (w t : ℕ) → Decides (is_open s w t) (IsOpen s w t) }
     ensures entries { (p : Plan) (order : List ℕ) (r : List Event) (w t : ℕ) → IsProper p → FitsFromStart p order → Legal p order r → is_open (now p order r) w t ≡ is_open_after t false (entries_by w r) }
+{
+    storage_laws();
+}
+
+/// Nothing follows a complete record, and after a Fail one stands in every longer record.
+pub fn over_records_end()
+    ensures complete { (p : Plan) (order : List ℕ) (r more : List Event) → IsProper p → FitsFromStart p order → Legal p order (r ++ more) → IsComplete p (now p order r) → more ≡ [] }
+    ensures failing { (p : Plan) (order : List ℕ) (r more : List Event) → (now p order r).failing ≡ true → (now p order (r ++ more)).failing ≡ true }
 {
     storage_laws();
 }

@@ -27,7 +27,7 @@ mod trial;
 pub use book::Book;
 pub use law::{
     allowed_entries_keep_safe, choice_is_one, entries_are_few, legal_records_are_safe,
-    no_clean_begins_afresh, ordered_plans_fit, own_entries_tell_open_tasks,
+    no_clean_begins_afresh, ordered_plans_fit, over_records_end, own_entries_tell_open_tasks,
     plain_policy_tries_once, records_read,
 };
 pub use leasing::Next;
