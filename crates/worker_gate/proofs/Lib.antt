@@ -11,3 +11,5 @@ mod ComputingLemmas
 mod TurningLemmas
 mod TendingLemmas
 mod WorkingLemmas
+mod HandsLemmas
+mod ManyLemmas

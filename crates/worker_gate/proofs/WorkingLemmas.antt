@@ -153,7 +153,7 @@ own_does w t m0 m m1 m2 x y z own (inr is) le does = grant_does w t m0 m m1 m2 x
 
 pub own_over : (w : ℕ) (g : Option Charter) (m0 m m1 seen : List Event) (x y : ℕ) → WorksOwn w m0 m x y → (m1 ≡ m) × IfSome g (λ c. IsOverFor c w seen) → IfSome g (λ c. Works c w m0 m1 seen x y)
 own_over w None m0 m m1 seen x y own h = tt
-own_over w (Some c) m0 m m1 seen x y own h = record { added = own.added; is = h.0 ∙ own.is; over = h.1.over; none_open = h.1.none_open; counted = own.counted }
+own_over w (Some c) m0 m m1 seen x y own h = record { added = own.added; is = h.0 ∙ own.is; over = h.1.over; none_open = h.1.none_open; none_open_by = λ t. ap (is_open_after t false) h.0 ∙ own.none_open t; counted = own.counted }
 
 -- the same, where the pass that leased has the number v, and the one that did the task u
 pub own_does_by : (w v u t : ℕ) (m0 m m1 m2 : List Event) (x y z : ℕ) → v ≡ w → u ≡ w → WorksOwn w m0 m x y → (m1 ≡ m ++ Grant v t ∷ []) ⊎ (m1 ≡ m ++ Regrant v t ∷ []) → y ≤ z → DoesOwn u t m1 m2 y z → WorksOwn w m0 m2 x z

@@ -2,6 +2,7 @@
 pub mod Alone
 pub mod Turning
 pub mod Working
+pub mod Many
 pub mod Inputs
 -- What the laws stand on.
 pub mod Law
@@ -11,3 +12,4 @@ pub mod Tending
 pub mod Computing
 pub mod Running
 pub mod Table
+pub mod Hands

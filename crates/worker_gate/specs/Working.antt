@@ -34,10 +34,11 @@ pub record WorksOwn (w : ℕ) (mine after : List Event) (before later : ℕ) : T
   pub counted : RoseBy (tool_faults w added) before later
 
 -- A worker has worked until the record that it has seen is over: all tasks have ended and no Fail stands, or one does. No
--- task is open for it. Its tool's count, which was `before`, shows its new entries' failures.
+-- task is open for it, by its own entries too. Its tool's count, which was `before`, shows its new entries' failures.
 pub record Works (g : Charter) (w : ℕ) (mine after seen : List Event) (before later : ℕ) : Type 0 where
   pub added : List Event
   pub is : after ≡ mine ++ added
   pub over : IsOver (plan_of g) (state_of g seen)
   pub none_open : NoneOpenFor g w seen
+  pub none_open_by : NoneOpenBy after
   pub counted : RoseBy (tool_faults w added) before later

@@ -7,7 +7,9 @@
 
 mod alone;
 mod computing;
+mod hands;
 mod law;
+mod many;
 mod running;
 mod stepping;
 mod table;
@@ -17,4 +19,5 @@ mod working;
 
 pub use alone::run_alone;
 pub use law::{empty_records_have_none_open, plain_policies_have_no_retries};
+pub use many::{ManyEnd, run_many};
 pub use working::work;

@@ -1,0 +1,104 @@
+//! All workers over one yard.
+
+ghost use Rattle.std.specs.Prelude.{◌≡◌, ◌≤◌, ◌<◌, [], is_some, length, map, true};
+ghost use Rattle.plan_core.specs.Words.{task_numbers};
+ghost use Rattle.worker_gate.specs.Many.{AreToolsCounted, CanAllWork, CanWork, HasWorked, HaveAllWorked, WorksMany};
+
+use crate::hands::{Hand, deal, gather};
+use crate::working::work;
+use craft::{Crew, Gate};
+use lease_book::{over_records_end, own_entries_tell_open_tasks};
+use outside::{Host, Tool};
+use ruled_lock::{LockRefused, RuledLock};
+use site_yard::Yard;
+use std::alloc::Global;
+use std::sync::Wait;
+use std::thread::{Threads, for_each_mut};
+
+/// What came of a run by several workers.
+#[derive(Drop)]
+pub struct ManyEnd<H: Host, T: Tool, G: Gate> {
+    pub yard: Yard<H, T>,
+    pub crew: Vec<Crew<T, G>>,
+    pub unstarted: bool,
+}
+
+/// Works with a hand's pass and member.
+fn work_hand<R: Wait, H: Host, T: Tool, G: Gate>(
+    rt: &R,
+    alloc: Global,
+    lock: &RuledLock<Yard<H, T>>,
+    hand: &mut Hand<Yard<H, T>, Crew<T, G>>,
+)
+    requires { CanWork lock.now hand.old.pass }
+    ensures { HasWorked lock.now hand.old.pass hand.new.pass (T.faults hand.old.member.tool) (T.faults hand.new.member.tool) }
+{
+    work(rt, alloc, lock, &mut hand.pass, &mut hand.member);
+}
+
+/// Works with all hands, each in a thread of its own.
+fn work_all<R: Threads + Wait + Sync, H: Host + Send, T: Tool + Send, G: Gate + Send>(
+    rt: &R,
+    alloc: Global,
+    lock: &RuledLock<Yard<H, T>>,
+    hands: &mut [Hand<Yard<H, T>, Crew<T, G>>],
+)
+    requires { CanAllWork lock.now hands.old }
+    ensures length { length hands.new ≡ length hands.old }
+    ensures worked { HaveAllWorked lock.now (λ c. T.faults c.tool) hands.old hands.new }
+{
+    for_each_mut(rt, hands, 16, &|_, hand| work_hand(rt, alloc, lock, hand));
+}
+
+/// Works with all members over one yard, member k as worker k, each in a thread of its own, until all is done or something
+/// failed. Where there was no memory to begin, nothing was done. It doesn't promise to end.
+pub fn run_many<R: Threads + Wait + Sync, H: Host + Send, T: Tool + Send, G: Gate + Send>(
+    rt: &R,
+    alloc: Global,
+    yard: Yard<H, T>,
+    crew: Vec<Crew<T, G>>,
+) -> ManyEnd<H, T, G>
+    requires members { (0 < length crew.items) × (length crew.items ≤ 16) }
+    requires empty { yard.book.history.events ≡ [] }
+    ensures ordered { result.yard.ordered ≡ yard.ordered }
+    ensures marked { H.marked result.yard.host ≡ H.marked yard.host }
+    ensures faults { result.yard.faults ≡ yard.faults }
+    ensures misses { result.yard.misses ≡ yard.misses }
+    ensures tells { is_some (H.told result.yard.host) ≡ is_some (H.told yard.host) }
+    ensures members { length result.crew.items ≡ length crew.items }
+    ensures works { WorksMany yard.ordered.plan (task_numbers yard.ordered.tasks.items) (length crew.items) result.unstarted result.yard.book.history.events }
+    ensures tools { AreToolsCounted result.yard.book.history.events (map (λ (c : Crew T G). T.faults c.tool) crew.items) (map (λ (c : Crew T G). T.faults c.tool) result.crew.items) }
+    ensures unstarted { result.unstarted ≡ true → (result.yard.book.history.events ≡ []) × (result.crew.items ≡ crew.items) }
+{
+    // Laws for the proof: they do nothing.
+    over_records_end();
+    own_entries_tell_open_tasks();
+    let mut crew = crew;
+    let Ok(mut hands) = Vec::with_capacity(alloc, crew.len()) else {
+        return ManyEnd {
+            yard,
+            crew,
+            unstarted: true,
+        };
+    };
+    match RuledLock::new(alloc, yard, crew.len() as u32) {
+        Ok((lock, first)) => {
+            deal(alloc, &lock, first, &mut crew, &mut hands);
+            work_all(rt, alloc, &lock, hands.as_mut_slice());
+            let pass = gather(&lock, hands, &mut crew);
+            ManyEnd {
+                yard: lock.close(pass),
+                crew,
+                unstarted: false,
+            }
+        }
+        Err(LockRefused { value }) => {
+            hands.destroy_empty();
+            ManyEnd {
+                yard: value,
+                crew,
+                unstarted: true,
+            }
+        }
+    }
+}
