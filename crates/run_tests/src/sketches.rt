@@ -56,7 +56,7 @@ fn files(alloc: Global, rows: &[(&str, Option<u64>)]) -> Result<Items<PlanFile>,
     Ok(Items::new(made))
 }
 
-fn file_ids(alloc: Global, numbers: &[u32]) -> Result<Items<FileId>, Memory> {
+pub fn file_ids(alloc: Global, numbers: &[u32]) -> Result<Items<FileId>, Memory> {
     let mut made = Vec::new(alloc);
     for number in numbers {
         made.push(FileId(*number))?;
@@ -64,7 +64,7 @@ fn file_ids(alloc: Global, numbers: &[u32]) -> Result<Items<FileId>, Memory> {
     Ok(Items::new(made))
 }
 
-fn pair_ids(alloc: Global, numbers: &[u32]) -> Result<Items<PairId>, Memory> {
+pub fn pair_ids(alloc: Global, numbers: &[u32]) -> Result<Items<PairId>, Memory> {
     let mut made = Vec::new(alloc);
     for number in numbers {
         made.push(PairId(*number))?;
@@ -80,7 +80,7 @@ pub fn task_ids(alloc: Global, numbers: &[u32]) -> Result<Vec<TaskId>, Memory> {
     Ok(made)
 }
 
-fn job_ids(alloc: Global, numbers: &[u32]) -> Result<Items<JobId>, Memory> {
+pub fn job_ids(alloc: Global, numbers: &[u32]) -> Result<Items<JobId>, Memory> {
     let mut made = Vec::new(alloc);
     for number in numbers {
         made.push(JobId(*number))?;
