@@ -1,9 +1,11 @@
 -- What a step adds, as the bytes that were read have it.
 use Rattle.std.proofs.Common.{◌≡◌, ℕ, Bool, true, false, cond, inl, inr, List, [], ◌∷◌, ◌++◌, length, refl, sym, ap, subst, ◌∙◌, append_assoc}
-use Rattle.std.specs.Prelude.{Option, Vec, Ok, Err}
+use Rattle.std.specs.Prelude.{IfSome, Option, Some, None, Result, Vec, Ok, Err}
+use Rattle.std.proofs.lemmas.List.{append_cancel_left}
 use Rattle.std.specs.declared.alloc.Global.{Global}
 use Rattle.outside.specs.Tool.{Apply}
 use Rattle.outside.specs.declared.counts.Counts.{Counts}
+use Rattle.outside.specs.declared.memory.Memory.{Memory}
 use Rattle.outside.specs.declared.numbers.TaskId.{TaskId}
 use Rattle.outside.specs.declared.store.Store.{Store}
 use Rattle.plan_core.specs.declared.plan.Plan.{Plan}
@@ -12,11 +14,17 @@ use Rattle.run_record.specs.declared.entry.Cause.{Cause}
 use Rattle.run_record.specs.declared.entry.Cause.TheVariants as why
 use Rattle.run_record.specs.Events.{Event, Grant, Arrive, End, Clean, Fail, Again, Regrant}
 use Rattle.lease_book.specs.Book.{failure, is_tried_again}
+use Rattle.lease_book.specs.Owning.{worker}
 use Rattle.lease_book.specs.State.{State}
-use Rattle.site_yard.specs.Yard.{Adds, IsAgain, IsArrival, IsEnding, IsFail, IsFailure, IsNoTool, IsStop, Leases}
+use Rattle.ruled_lock.specs.Chronicle.{AddsAtMostOne, GrowsAlike}
+use Rattle.site_yard.specs.Yard.{Adds, IsAgain, IsArrival, IsEnding, IsFail, IsFailure, IsNoTool, IsStop, Leases, Loads}
+use Rattle.site_yard.specs.declared.chronicle.Charter.{Charter}
+use Rattle.site_yard.specs.declared.leased.Leased.{Leased}
 use Rattle.site_yard.specs.declared.leased.Leased.TheVariants as leased
 use Rattle.worker_gate.specs.Computing.{Computes}
-use Rattle.worker_gate.specs.Inputs.{AddsOfInputs, AreOfInputs, IsCauseOfInputs, IsOfInputs, Makes}
+use Rattle.worker_gate.specs.Inputs.{AddsOfInputs, AreOfInputs, IsCauseOfInputs, IsMadeOf, IsOfInputs, Makes}
+use Rattle.worker_gate.specs.Turning.{IsPlanOf, IsReadFor, plan_of}
+use Rattle.worker_gate.specs.Working.{ComputesWith}
 
 -- causes that aren't the tool's, nor of what it made
 no_cause : (apply : Apply) (p : Plan) (t : ℕ) (c : Cause) → IsNoTool c → IsCauseOfInputs apply p t c
@@ -161,3 +169,80 @@ tries_again_so apply p s w t r new o before now_ leases = one_more apply p r new
 
 pub adds_no_entry : (apply : Apply) (p : Plan) (r new : List Event) → new ≡ r → AddsOfInputs apply p r new
 adds_no_entry apply p r new is = subst (AddsOfInputs apply p r) (sym is) (adds_none apply p r)
+
+-- the calls of a yard in a turn
+pub leases_so : (apply : Apply) (p : Plan) (s : State) (w : ℕ) (r new : List Event) (o : Option Store) (before now_ : Counts) (x : Leased) → Leases p s w r new o before now_ x → AddsOfInputs apply p r new
+leases_so apply p s w r new o before now_ (leased.Granted t) h = elim h.1 [
+  | inl choice ↦ one_more apply p r new (Grant w t.0) choice.1 tt
+  | inr fresh ↦ one_more apply p r new (Regrant w t.0) fresh.1 tt
+]
+leases_so apply p s w r new o before now_ (leased.Swept t) h = sweeps_so apply p s w t r new o before now_ h
+leases_so apply p s w r new o before now_ (leased.Failed t) h = fails_so apply p s w t r new o before now_ h
+leases_so apply p s w r new o before now_ (leased.Again t) h = tries_again_so apply p s w t r new o before now_ h
+leases_so apply p s w r new o before now_ leased.Done h = adds_no_entry apply p r new h.1
+leases_so apply p s w r new o before now_ leased.Stopped h = adds_no_entry apply p r new h.1
+leases_so apply p s w r new o before now_ leased.NotYet h = adds_no_entry apply p r new h.4
+
+pub loads_so : (apply : Apply) (p : Plan) (m : Store) (w t : ℕ) (r new : List Event) (o : Option Store) (before now_ : Counts) (x : Option (Vec (List ℕ) Global)) → Loads apply p m w t r new o before now_ x → AddsOfInputs apply p r new
+loads_so apply p m w t r new o before now_ (Some blobs) h = adds_no_entry apply p r new h.0
+loads_so apply p m w t r new o before now_ None h = loads_none_so apply p r new w t o before now_ h
+
+pub loads_many : (apply : Apply) (p : Plan) (m : Store) (w t : ℕ) (r new : List Event) (o : Option Store) (before now_ : Counts) (x : Option (Vec (List ℕ) Global)) → Loads apply p m w t r new o before now_ x → IfSome x (λ blobs. length blobs.items ≡ length (reads p t))
+loads_many apply p m w t r new o before now_ (Some blobs) h = h.2
+loads_many apply p m w t r new o before now_ None h = tt
+
+pub stored_so : (apply : Apply) (p : Plan) (r new : List Event) (w t : ℕ) (outs : Vec (List ℕ) Global) (made : Result (Vec (List ℕ) Global) Cause) (o : Option Store) (before now_ : Counts) → made ≡ Ok outs → IsMadeOf apply p t made → Adds r new (IsEnding p w t outs.items) o before now_ → AddsOfInputs apply p r new
+stored_so apply p r new w t outs made o before now_ is so adds =
+    let of = subst (IsMadeOf apply p t) is so in one_more apply p r new adds.entry adds.is (ending_is apply p w t of.blobs outs.items adds.entry of.many of.holds adds.kind)
+
+pub faulted_so : (apply : Apply) (p : Plan) (s : State) (r new : List Event) (w t : ℕ) (c : Cause) (made : Result (Vec (List ℕ) Global) Cause) → made ≡ Err c → IsMadeOf apply p t made → new ≡ r ++ failure p s w t c [] ∷ [] → AddsOfInputs apply p r new
+faulted_so apply p s r new w t c made is so added = one_more apply p r new (failure p s w t c []) added (failed_is apply p (is_tried_again p s t c) w t c (subst (IsMadeOf apply p t) is so))
+
+-- what a worker's own entries gain in it
+only_one : (apply : Apply) (p : Plan) (xs : List Event) (e : Event) → xs ≡ e ∷ [] → AreOfInputs apply p xs → IsOfInputs apply p e
+only_one apply p xs e is are = (subst (AreOfInputs apply p) is are).0
+
+own_adds : (apply : Apply) (p : Plan) (w : ℕ) (r next mine after_ : List Event) → AddsAtMostOne worker w r next → GrowsAlike r next mine after_ → AddsOfInputs apply p r next → AddsOfInputs apply p mine after_
+own_adds apply p w r next mine after_ (inl same) grow adds = adds_no_entry apply p mine after_ (grow.0 same)
+own_adds apply p w r next mine after_ (inr more) grow adds =
+    one_more apply p mine after_ more.0 (grow.1 more.0 more.2) (only_one apply p adds.added more.0 (append_cancel_left r adds.added (more.0 ∷ []) (sym adds.is ∙ more.2)) adds.are)
+
+pub inputs_turn : (apply : Apply) (c : Charter) (g : Option Charter) (v : ℕ) (taken r next mine mid after_ : List Event) → g ≡ Some c → taken ≡ r → mid ≡ mine → AddsAtMostOne worker v r next → GrowsAlike taken next mid after_ → AddsOfInputs apply c.ordered.plan r next → IfSome g (λ d. AddsOfInputs apply (plan_of d) mine after_)
+inputs_turn apply c g v taken r next mine mid after_ is took middle adds grow so =
+    subst (λ (k : Option Charter). IfSome k (λ d. AddsOfInputs apply (plan_of d) mine after_)) (sym is)
+    (subst (λ (l : List Event). AddsOfInputs apply c.ordered.plan l after_) middle (own_adds apply c.ordered.plan v r next mid after_ adds (subst (λ (l : List Event). GrowsAlike l next mid after_) took grow) so))
+
+pub many_turn : (c : Charter) (g : Option Charter) (t : ℕ) (x : Option (Vec (List ℕ) Global)) → g ≡ Some c → IfSome x (λ blobs. length blobs.items ≡ length (reads c.ordered.plan t)) → IfSome x (λ blobs. IfSome g (λ d. length blobs.items ≡ length (reads (plan_of d) t)))
+many_turn c g t None is h = tt
+many_turn c g t (Some blobs) is h = subst (λ (k : Option Charter). IfSome k (λ d. length blobs.items ≡ length (reads (plan_of d) t))) (sym is) h
+
+pub made_turn : (apply : Apply) (c : Charter) (g : Option Charter) (t : ℕ) (made : Result (Vec (List ℕ) Global) Cause) → g ≡ Some c → IfSome g (λ d. IsMadeOf apply (plan_of d) t made) → IsMadeOf apply c.ordered.plan t made
+made_turn apply c g t made is h = subst (λ (k : Option Charter). IfSome k (λ d. IsMadeOf apply (plan_of d) t made)) is h
+
+-- what computing makes
+computed_is : (apply : Apply) (p : Plan) (t : ℕ) (blobs : List (List ℕ)) (x y : ℕ) (made : Result (Vec (List ℕ) Global) Cause) → length blobs ≡ length (reads p t) → Computes apply p t blobs x y made → IsMadeOf apply p t made
+computed_is apply p t blobs x y (Ok outs) many h = record { blobs = blobs; many = many; holds = h }
+computed_is apply p t blobs x y (Err c) many h = cause_is apply p t blobs x y c many h
+
+pub made_so : (apply : Apply) (g h : Option Charter) (plan : Result Plan Memory) (t : ℕ) (blobs : List (List ℕ)) (x y : ℕ) (made : Result (Vec (List ℕ) Global) Cause) → h ≡ g → IsPlanOf g plan → IsReadFor apply g t blobs → IfSome g (λ d. length blobs ≡ length (reads (plan_of d) t)) → ComputesWith apply plan t blobs x y made → IfSome h (λ d. IsMadeOf apply (plan_of d) t made)
+made_so apply g h plan t blobs x y made same of read many computes =
+    subst (λ (k : Option Charter). IfSome k (λ d. IsMadeOf apply (plan_of d) t made)) (sym (same ∙ read.is)) (by plan of computes)
+  where
+    there : length blobs ≡ length (reads (plan_of read.charter) t)
+    there = subst (λ (k : Option Charter). IfSome k (λ d. length blobs ≡ length (reads (plan_of d) t))) read.is many
+
+    by : (q : Result Plan Memory) → IsPlanOf g q → ComputesWith apply q t blobs x y made → IsMadeOf apply (plan_of read.charter) t made
+    by (Ok p) here is = computed_is apply (plan_of read.charter) t blobs x y made there (subst (λ (k : Plan). Computes apply k t blobs x y made) (subst (λ (k : Option Charter). IfSome k (λ d. p ≡ plan_of d)) read.is here) is)
+    by (Err refused) here is = subst (IsMadeOf apply (plan_of read.charter) t) (sym is.1) tt
+
+-- and then more
+pub own_both : (apply : Apply) (g h : Option Charter) (m0 m1 m2 : List Event) → h ≡ g → IfSome g (λ d. AddsOfInputs apply (plan_of d) m0 m1) → IfSome h (λ d. AddsOfInputs apply (plan_of d) m1 m2) → IfSome g (λ d. AddsOfInputs apply (plan_of d) m0 m2)
+own_both apply g h m0 m1 m2 same a b = by g a (subst (λ (k : Option Charter). IfSome k (λ d. AddsOfInputs apply (plan_of d) m1 m2)) same b)
+  where
+    by : (k : Option Charter) → IfSome k (λ d. AddsOfInputs apply (plan_of d) m0 m1) → IfSome k (λ d. AddsOfInputs apply (plan_of d) m1 m2) → IfSome k (λ d. AddsOfInputs apply (plan_of d) m0 m2)
+    by None u v = tt
+    by (Some d) u v = adds_both apply (plan_of d) m0 m1 m2 u v
+
+pub own_none : (apply : Apply) (g : Option Charter) (m0 m1 : List Event) → m1 ≡ m0 → IfSome g (λ d. AddsOfInputs apply (plan_of d) m0 m1)
+own_none apply None m0 m1 same = tt
+own_none apply (Some d) m0 m1 same = adds_no_entry apply (plan_of d) m0 m1 same

@@ -6,6 +6,7 @@ use Rattle.std.proofs.Math.Logic.{∥∥₁_elim}
 use Rattle.std.proofs.lemmas.List.{get_or-map, length-map, take_at}
 use mathlib.Core.Bool.{Bool-set}
 use mathlib.Core.List.{IsPrefix}
+use Rattle.outside.specs.Tool.{Apply}
 use Rattle.outside.specs.declared.store.Store.{Store}
 use Rattle.storage_simulation.specs.declared.ordered.Ordered.{Ordered}
 use Rattle.plan_core.specs.declared.plan.Plan.{Plan}
@@ -27,6 +28,7 @@ use Rattle.site_yard.specs.Faults.{AllBelow}
 use Rattle.site_yard.specs.declared.chronicle.Charter.{Charter}
 use Rattle.worker_gate.specs.Alone.{IsOver, NoneOpen}
 use Rattle.worker_gate.specs.Hands.{AreDealt, AreReady, IsDealt, IsGathered, count_at, member_of, own_list}
+use Rattle.worker_gate.specs.Inputs.{AddsOfInputs, AreOfInputs}
 use Rattle.worker_gate.specs.Many.{AreToolsCounted, CanAllWork, HasWorked, HaveAllWorked, WorksMany}
 use Rattle.worker_gate.specs.Turning.{NoneOpenBy, NoneOpenFor, plan_of, state_of}
 use Rattle.worker_gate.specs.Working.{Works}
@@ -146,8 +148,8 @@ many_at own tells ends fails b g n seen plan order none others front over =
 
 -- each hand
 module _ {C : Type 0} {h : _} where
-  worked_at : (lock : RuledLock C Charter Event) (g : Charter) (k count : ℕ) (p q : Pass C Charter Event h) (before later : ℕ) → IsDealt lock (Some g) [] k count p → HasWorked lock p q before later → Works g k [] (mine_of q) (seen_of q) before later
-  worked_at lock g k count p q before later dealt worked =
+  worked_at : (apply : Apply) (lock : RuledLock C Charter Event) (g : Charter) (k count : ℕ) (p q : Pass C Charter Event h) (before later : ℕ) → IsDealt lock (Some g) [] k count p → HasWorked apply lock p q before later → Works g k [] (mine_of q) (seen_of q) before later
+  worked_at apply lock g k count p q before later dealt worked =
       subst (λ (m : List Event). Works g k m (mine_of q) (seen_of q) before later) dealt.new.mine
       (subst (λ (w : ℕ). Works g w (mine_of p) (mine_of q) (seen_of q) before later) dealt.new.number
       (subst (λ (c : Option Charter). IfSome c (λ x. Works x (worker_of p) (mine_of p) (mine_of q) (seen_of q) before later)) dealt.new.charter_is worked.works))
@@ -165,8 +167,8 @@ module _ {C M : Type 0} {h : _} where
         none_open = subst (λ (c : Option Charter). IfSome c (λ y. NoneOpenFor y (worker_of (get_or hs k d).pass) (seen_of (get_or hs k d).pass))) (sym x.new.charter_is) (subst (NoneOpenFor g (worker_of (get_or hs k d).pass)) (sym x.new.seen_is) (λ t o. absurd (let r = o.runs in cc)));
       }
 
-  pub all_ready : (lock : RuledLock C Charter Event) (g : Charter) (n : ℕ) (faults : M → ℕ) (hs news : List (Hand C M Charter Event h)) → n ≡ length hs → length news ≡ length hs → AreDealt lock (Some g) [] n hs → HaveAllWorked lock faults hs news → AreReady lock news
-  all_ready lock g n faults hs news members same dealt worked k d l =
+  pub all_ready : (apply : Apply) (lock : RuledLock C Charter Event) (g : Charter) (n : ℕ) (faults : M → ℕ) (hs news : List (Hand C M Charter Event h)) → n ≡ length hs → length news ≡ length hs → AreDealt lock (Some g) [] n hs → HaveAllWorked apply lock faults hs news → AreReady lock news
+  all_ready apply lock g n faults hs news members same dealt worked k d l =
       let there : k < length hs = omega (arith, l, same) in
       let x = dealt k d there in
       let w = worked k d there in record {
@@ -189,8 +191,8 @@ module _ {C M : Type 0} {h : _} where
       ∙ list_at hs (base + 1) (λ i e m. let it : worker_of (get_or hs i e).pass ≡ base + suc i = numbers (suc i) e (omega (arith, m)) in omega (arith, it)) j d (omega (arith, l))
 
   -- the entries of worker k are its pass's own
-  own_at_end : (lock : RuledLock C Charter Event) (g : Charter) (n : ℕ) (faults : M → ℕ) (hs news : List (Hand C M Charter Event h)) (p : Pass C Charter Event h) (r : List Event) → length news ≡ length hs → AreDealt lock (Some g) [] n hs → HaveAllWorked lock faults hs news → IsGathered news p → ((k : ℕ) → items_of worker k r ≡ list_of k (lists_of p)) → (k : ℕ) (d : Hand C M Charter Event h) → k < length hs → entries_by k r ≡ mine_of (get_or news k d).pass
-  own_at_end lock g n faults hs news p r same dealt worked gathered items k d l =
+  own_at_end : (apply : Apply) (lock : RuledLock C Charter Event) (g : Charter) (n : ℕ) (faults : M → ℕ) (hs news : List (Hand C M Charter Event h)) (p : Pass C Charter Event h) (r : List Event) → length news ≡ length hs → AreDealt lock (Some g) [] n hs → HaveAllWorked apply lock faults hs news → IsGathered news p → ((k : ℕ) → items_of worker k r ≡ list_of k (lists_of p)) → (k : ℕ) (d : Hand C M Charter Event h) → k < length hs → entries_by k r ≡ mine_of (get_or news k d).pass
+  own_at_end apply lock g n faults hs news p r same dealt worked gathered items k d l =
       items k
       ∙ ap (list_of k) gathered.lists
       ∙ ap (λ (m : ℕ). list_of m (map own_list news)) (let e : k ≡ 0 + k = omega arith in e)
@@ -199,26 +201,26 @@ module _ {C M : Type 0} {h : _} where
       numbers : (j : ℕ) (e : Hand C M Charter Event h) → j < length news → worker_of (get_or news j e).pass ≡ 0 + j
       numbers j e m = let there : j < length hs = omega (arith, m, same) in (worked j e there).same.worker ∙ (dealt j e there).new.number ∙ (let z : j ≡ 0 + j = omega arith in z)
 
-  pub charter_back : (lock : RuledLock C Charter Event) (g c : Charter) (n : ℕ) (faults : M → ℕ) (hs news : List (Hand C M Charter Event h)) (p : Pass C Charter Event h) → 0 < length hs → AreDealt lock (Some g) [] n hs → HaveAllWorked lock faults hs news → IsGathered news p → charter_of p ≡ Some c → c ≡ g
-  charter_back lock g c n faults hs news p some dealt worked gathered is =
+  pub charter_back : (apply : Apply) (lock : RuledLock C Charter Event) (g c : Charter) (n : ℕ) (faults : M → ℕ) (hs news : List (Hand C M Charter Event h)) (p : Pass C Charter Event h) → 0 < length hs → AreDealt lock (Some g) [] n hs → HaveAllWorked apply lock faults hs news → IsGathered news p → charter_of p ≡ Some c → c ≡ g
+  charter_back apply lock g c n faults hs news p some dealt worked gathered is =
       let d = some_element hs some in same_some c g (sym is ∙ gathered.charter d ∙ (worked 0 d some).same.charter ∙ (dealt 0 d some).new.charter_is)
 
-  pub many_done : OwnLaw → OpenLaw → EndLaw → FailLaw → (lock : RuledLock C Charter Event) (g : Charter) (b : Book) (n : ℕ) (faults : M → ℕ) (hs news : List (Hand C M Charter Event h)) (p : Pass C Charter Event h) → b.plan ≡ g.ordered.plan → b.order.items ≡ g.ordered.tasks.items → n ≡ length hs → 0 < length hs → length news ≡ length hs → AreDealt lock (Some g) [] n hs → HaveAllWorked lock faults hs news → IsGathered news p
+  pub many_done : OwnLaw → OpenLaw → EndLaw → FailLaw → (apply : Apply) (lock : RuledLock C Charter Event) (g : Charter) (b : Book) (n : ℕ) (faults : M → ℕ) (hs news : List (Hand C M Charter Event h)) (p : Pass C Charter Event h) → b.plan ≡ g.ordered.plan → b.order.items ≡ g.ordered.tasks.items → n ≡ length hs → 0 < length hs → length news ≡ length hs → AreDealt lock (Some g) [] n hs → HaveAllWorked apply lock faults hs news → IsGathered news p
       → IsPrefix (seen_of p) b.history.events → ((k : ℕ) → items_of worker k b.history.events ≡ list_of k (lists_of p)) → ((k : ℕ) → count_of p ≤ k → items_of worker k b.history.events ≡ []) → WorksMany g.ordered.plan (task_numbers g.ordered.tasks.items) n false b.history.events
-  many_done own tells ends fails lock g b n faults hs news p plan order members some same dealt worked gathered front items others =
+  many_done own tells ends fails apply lock g b n faults hs news p plan order members some same dealt worked gathered front items others =
       let d = some_element hs some in
       many_at own tells ends fails b g n (seen_of (get_or news 0 d).pass) plan order
-      (λ k l t. let there : k < length hs = omega (arith, l, members) in ap (is_open_after t false) (own_at_end lock g n faults hs news p b.history.events same dealt worked gathered items k d there) ∙ (at k d there).none_open_by t)
+      (λ k l t. let there : k < length hs = omega (arith, l, members) in ap (is_open_after t false) (own_at_end apply lock g n faults hs news p b.history.events same dealt worked gathered items k d there) ∙ (at k d there).none_open_by t)
       (λ k l. others k (let a = ap length gathered.lists in let e = length-map news own_list in let w = gathered.whole in omega (arith, a, e, w, same, members, l)))
       (prefix_trans (seen_of (get_or news 0 d).pass) (seen_of p) b.history.events (gathered.seen d) front)
       (at 0 d some).over
     where
       at : (k : ℕ) (d : Hand C M Charter Event h) → k < length hs → Works g k [] (mine_of (get_or news k d).pass) (seen_of (get_or news k d).pass) (faults (get_or hs k d).member) (faults (get_or news k d).member)
-      at k d l = worked_at lock g k (count_at n k) (get_or hs k d).pass (get_or news k d).pass (faults (get_or hs k d).member) (faults (get_or news k d).member) (dealt k d l) (worked k d l)
+      at k d l = worked_at apply lock g k (count_at n k) (get_or hs k d).pass (get_or news k d).pass (faults (get_or hs k d).member) (faults (get_or news k d).member) (dealt k d l) (worked k d l)
 
   -- the tools' counts
-  pub many_counted : (lock : RuledLock C Charter Event) (g : Charter) (n : ℕ) (faults : M → ℕ) (hs news : List (Hand C M Charter Event h)) (p : Pass C Charter Event h) (r : List Event) (before after : List M) → map member_of hs ≡ before → after ≡ map member_of news → length news ≡ length hs → AreDealt lock (Some g) [] n hs → HaveAllWorked lock faults hs news → IsGathered news p → ((k : ℕ) → items_of worker k r ≡ list_of k (lists_of p)) → AreToolsCounted r (map faults before) (map faults after)
-  many_counted lock g n faults hs news p r before after was is same dealt worked gathered items = record { each = counted }
+  pub many_counted : (apply : Apply) (lock : RuledLock C Charter Event) (g : Charter) (n : ℕ) (faults : M → ℕ) (hs news : List (Hand C M Charter Event h)) (p : Pass C Charter Event h) (r : List Event) (before after : List M) → map member_of hs ≡ before → after ≡ map member_of news → length news ≡ length hs → AreDealt lock (Some g) [] n hs → HaveAllWorked apply lock faults hs news → IsGathered news p → ((k : ℕ) → items_of worker k r ≡ list_of k (lists_of p)) → AreToolsCounted r (map faults before) (map faults after)
+  many_counted apply lock g n faults hs news p r before after was is same dealt worked gathered items = record { each = counted }
     where
       here : (ms : List M) (xs : List (Hand C M Charter Event h)) → ms ≡ map member_of xs → (k : ℕ) (d : Hand C M Charter Event h) → k < length xs → get_or (map faults ms) k 0 ≡ faults (get_or xs k d).member
       here ms xs e k d l =
@@ -234,11 +236,43 @@ module _ {C M : Type 0} {h : _} where
           let there : k < length hs = (let a = length-map before faults in let e = ap length was in let f = length-map hs member_of in omega (arith, l, a, e, f)) in
           let d = some_element hs (omega (arith, there)) in
           let w = worked k d there in
-          let done = worked_at lock g k (count_at n k) (get_or hs k d).pass (get_or news k d).pass (faults (get_or hs k d).member) (faults (get_or news k d).member) (dealt k d there) w in
-          let own : tool_faults k r ≡ tool_faults k done.added = faults_own k r ∙ ap (tool_faults k) (own_at_end lock g n faults hs news p r same dealt worked gathered items k d there ∙ done.is) in
+          let done = worked_at apply lock g k (count_at n k) (get_or hs k d).pass (get_or news k d).pass (faults (get_or hs k d).member) (faults (get_or news k d).member) (dealt k d there) w in
+          let own : tool_faults k r ≡ tool_faults k done.added = faults_own k r ∙ ap (tool_faults k) (own_at_end apply lock g n faults hs news p r same dealt worked gathered items k d there ∙ done.is) in
           rose k (get_or (map faults before) k 0) (get_or (map faults after) k 0) (faults (get_or hs k d).member) (faults (get_or news k d).member) (here before hs (sym was) k d there) (here after news is k d (omega (arith, there, same))) w.tool (subst (λ (m : ℕ). RoseBy m (faults (get_or hs k d).member) (faults (get_or news k d).member)) (sym own) done.counted)
 
+-- entries are so of some bytes where each worker's are
+all_inputs : (apply : Apply) (p : Plan) (n : ℕ) (r : List Event) → AllBelow n r → ((k : ℕ) → k < n → AreOfInputs apply p (entries_by k r)) → AreOfInputs apply p r
+all_inputs apply p n [] below each = tt
+all_inputs apply p n (e ∷ r) below each = (
+  (its (eqb (worker e) (worker e)) (same_number (worker e)) (each (worker e) below.0)).0,
+  all_inputs apply p n r below.1 (λ k l. rest (eqb (worker e) k) k (each k l)),
+)
+  where
+    its : (b : Bool) → b ≡ true → AreOfInputs apply p (cond b (e ∷ entries_by (worker e) r) (entries_by (worker e) r)) → AreOfInputs apply p (e ∷ entries_by (worker e) r)
+    its true is h = h
+    its false is h = absurd (cc is)
+
+    rest : (b : Bool) (k : ℕ) → AreOfInputs apply p (cond b (e ∷ entries_by k r) (entries_by k r)) → AreOfInputs apply p (entries_by k r)
+    rest true k h = h.1
+    rest false k h = h
+
+module _ {C M : Type 0} {h : _} where
+  pub many_inputs : (apply : Apply) (lock : RuledLock C Charter Event) (g : Charter) (n : ℕ) (faults : M → ℕ) (hs news : List (Hand C M Charter Event h)) (p : Pass C Charter Event h) (r : List Event) → n ≡ length hs → length news ≡ length hs → AreDealt lock (Some g) [] n hs → HaveAllWorked apply lock faults hs news → IsGathered news p → ((k : ℕ) → items_of worker k r ≡ list_of k (lists_of p)) → AllBelow n r → AreOfInputs apply g.ordered.plan r
+  many_inputs apply lock g n faults hs news p r members same dealt worked gathered items below = all_inputs apply g.ordered.plan n r below own
+    where
+      own : (k : ℕ) → k < n → AreOfInputs apply g.ordered.plan (entries_by k r)
+      own k l =
+          let there : k < length hs = omega (arith, l, members) in
+          let d = some_element hs (omega (arith, there)) in
+          let x = dealt k d there in
+          let so = subst (λ (c : Option Charter). IfSome c (λ y. AddsOfInputs apply (plan_of y) (mine_of (get_or hs k d).pass) (mine_of (get_or news k d).pass))) x.new.charter_is (worked k d there).inputs in
+          let from = subst (λ (m : List Event). AddsOfInputs apply g.ordered.plan m (mine_of (get_or news k d).pass)) x.new.mine so in
+          subst (AreOfInputs apply g.ordered.plan) (sym (own_at_end apply lock g n faults hs news p r same dealt worked gathered items k d there ∙ from.is)) from.are
+
 -- a run that was not begun
+pub no_inputs : (apply : Apply) (p : Plan) (r : List Event) → r ≡ [] → AreOfInputs apply p r
+no_inputs apply p r none = subst (AreOfInputs apply p) (sym none) tt
+
 pub not_begun : (p : Plan) (order : List ℕ) (n : ℕ) (unstarted : Bool) (r : List Event) → unstarted ≡ true → r ≡ [] → WorksMany p order n unstarted r
 not_begun p order n unstarted r is none =
     subst (λ (b : Bool). WorksMany p order n b r) (sym is) (subst (WorksMany p order n true) (sym none) (record { below = tt; none_open = λ w t o. absurd (let e = o.runs in cc); over = λ e. absurd (cc e) }))

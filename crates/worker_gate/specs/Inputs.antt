@@ -1,5 +1,6 @@
 -- What entries say of the bytes that a Run read, told or not.
-use Rattle.std.specs.Prelude.{◌≡◌, ℕ, List, [], ◌∷◌, ◌++◌, length, map, Some, None}
+use Rattle.std.specs.Prelude.{◌≡◌, ℕ, List, [], ◌∷◌, ◌++◌, length, map, Some, None, Result, Ok, Err, Vec}
+use Rattle.std.specs.declared.alloc.Global.{Global}
 use Rattle.outside.specs.Tool.{Apply}
 use Rattle.plan_core.specs.declared.plan.Plan.{Plan}
 use Rattle.plan_core.specs.Words.{reads, writes}
@@ -30,6 +31,11 @@ abbrev pub IsCauseOfInputs : Apply → Plan → ℕ → Cause → Type 0
 IsCauseOfInputs apply p t (Declined j) = OfInputs p t (λ blobs. first_declined apply p t blobs ≡ Some j.0)
 IsCauseOfInputs apply p t (Oversize j f n) = OfOutputs apply p t (λ outs. (q : ℕ) × IsFirstPast p (writes p t) outs q n × (pair_file p q ≡ f.0))
 IsCauseOfInputs apply p t _ = Unit {0}
+
+-- what was made of a Run's reads, or why nothing was, is so of some such bytes
+abbrev pub IsMadeOf : Apply → Plan → ℕ → Result (Vec (List ℕ) Global) Cause → Type 0
+IsMadeOf apply p t (Ok outs) = OfInputs p t (λ blobs. Makes apply p t blobs outs.items)
+IsMadeOf apply p t (Err cause) = IsCauseOfInputs apply p t cause
 
 -- the sizes of an End are the lengths of all outputs, none too long
 abbrev pub IsOfInputs : Apply → Plan → Event → Type 0

@@ -1,5 +1,6 @@
 -- What several workers leave of a yard.
 use Rattle.std.specs.Prelude.{◌≡◌, ℕ, ◌≤◌, ◌<◌, Bool, false, List, length, get_or, IfSome}
+use Rattle.outside.specs.Tool.{Apply}
 use Rattle.plan_core.specs.declared.plan.Plan.{Plan}
 use Rattle.run_record.specs.Events.{Event}
 use Rattle.lease_book.specs.State.{now}
@@ -12,7 +13,8 @@ use Rattle.site_yard.specs.Faults.{AllBelow}
 use Rattle.site_yard.specs.declared.chronicle.Charter.{Charter}
 use Rattle.worker_gate.specs.declared.hands.Hand.{Hand}
 use Rattle.worker_gate.specs.Alone.{IsOver, NoneOpen}
-use Rattle.worker_gate.specs.Turning.{NoneOpenFor}
+use Rattle.worker_gate.specs.Inputs.{AddsOfInputs}
+use Rattle.worker_gate.specs.Turning.{NoneOpenFor, plan_of}
 use Rattle.worker_gate.specs.Working.{Works}
 
 -- The record of n workers: every entry is by a worker below n, and no task is open. Unless it was not begun, all tasks
@@ -35,11 +37,12 @@ module _ {C : Type 0} {g : _} where
     pub none_open : IfSome (charter_of p) (λ c. NoneOpenFor c (worker_of p) (seen_of p))
 
   -- the pass p is q after the work, and the tool's count, which was `before`, shows it
-  pub record HasWorked (lock : RuledLock C Charter Event) (p q : Pass C Charter Event g) (before later : ℕ) : Type 0 where
+  pub record HasWorked (apply : Apply) (lock : RuledLock C Charter Event) (p q : Pass C Charter Event g) (before later : ℕ) : Type 0 where
     pub of : IsOf lock q
     pub idle : IsIdle q
     pub same : IsSamePass p q
     pub works : IfSome (charter_of p) (λ c. Works c (worker_of p) (mine_of p) (mine_of q) (seen_of q) before later)
+    pub inputs : IfSome (charter_of p) (λ c. AddsOfInputs apply (plan_of c) (mine_of p) (mine_of q))
     pub tool : before ≤ later
 
 -- the same of each hand
@@ -47,5 +50,5 @@ module _ {C M : Type 0} {g : _} where
   abbrev pub CanAllWork : RuledLock C Charter Event → List (Hand C M Charter Event g) → Type 0
   CanAllWork lock hs = (k : ℕ) (d : Hand C M Charter Event g) → k < length hs → CanWork lock (get_or hs k d).pass
 
-  abbrev pub HaveAllWorked : RuledLock C Charter Event → (M → ℕ) → List (Hand C M Charter Event g) → List (Hand C M Charter Event g) → Type 0
-  HaveAllWorked lock faults hs after = (k : ℕ) (d : Hand C M Charter Event g) → k < length hs → HasWorked lock (get_or hs k d).pass (get_or after k d).pass (faults (get_or hs k d).member) (faults (get_or after k d).member)
+  abbrev pub HaveAllWorked : Apply → RuledLock C Charter Event → (M → ℕ) → List (Hand C M Charter Event g) → List (Hand C M Charter Event g) → Type 0
+  HaveAllWorked apply lock faults hs after = (k : ℕ) (d : Hand C M Charter Event g) → k < length hs → HasWorked apply lock (get_or hs k d).pass (get_or after k d).pass (faults (get_or hs k d).member) (faults (get_or after k d).member)

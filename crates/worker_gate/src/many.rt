@@ -2,6 +2,7 @@
 
 ghost use Rattle.std.specs.Prelude.{◌≡◌, ◌≤◌, ◌<◌, [], is_some, length, map, true};
 ghost use Rattle.plan_core.specs.Words.{task_numbers};
+ghost use Rattle.worker_gate.specs.Inputs.{AreOfInputs};
 ghost use Rattle.worker_gate.specs.Many.{AreToolsCounted, CanAllWork, CanWork, HasWorked, HaveAllWorked, WorksMany};
 
 use crate::hands::{Hand, deal, gather};
@@ -31,7 +32,7 @@ fn work_hand<R: Wait, H: Host, T: Tool, G: Gate>(
     hand: &mut Hand<Yard<H, T>, Crew<T, G>>,
 )
     requires { CanWork lock.now hand.old.pass }
-    ensures { HasWorked lock.now hand.old.pass hand.new.pass (T.faults hand.old.member.tool) (T.faults hand.new.member.tool) }
+    ensures { HasWorked T.apply lock.now hand.old.pass hand.new.pass (T.faults hand.old.member.tool) (T.faults hand.new.member.tool) }
 {
     work(rt, alloc, lock, &mut hand.pass, &mut hand.member);
 }
@@ -45,7 +46,7 @@ fn work_all<R: Threads + Wait + Sync, H: Host + Send, T: Tool + Send, G: Gate + 
 )
     requires { CanAllWork lock.now hands.old }
     ensures length { length hands.new ≡ length hands.old }
-    ensures worked { HaveAllWorked lock.now (λ c. T.faults c.tool) hands.old hands.new }
+    ensures worked { HaveAllWorked T.apply lock.now (λ c. T.faults c.tool) hands.old hands.new }
 {
     for_each_mut(rt, hands, 16, &|_, hand| work_hand(rt, alloc, lock, hand));
 }
@@ -68,6 +69,7 @@ pub fn run_many<R: Threads + Wait + Sync, H: Host + Send, T: Tool + Send, G: Gat
     ensures members { length result.crew.items ≡ length crew.items }
     ensures works { WorksMany yard.ordered.plan (task_numbers yard.ordered.tasks.items) (length crew.items) result.unstarted result.yard.book.history.events }
     ensures tools { AreToolsCounted result.yard.book.history.events (map (λ (c : Crew T G). T.faults c.tool) crew.items) (map (λ (c : Crew T G). T.faults c.tool) result.crew.items) }
+    ensures inputs { AreOfInputs T.apply yard.ordered.plan result.yard.book.history.events }
     ensures unstarted { result.unstarted ≡ true → (result.yard.book.history.events ≡ []) × (result.crew.items ≡ crew.items) }
 {
     // Laws for the proof: they do nothing.

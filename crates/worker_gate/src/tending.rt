@@ -1,8 +1,10 @@
 //! One task at a yard, as the worker that it is open for does it: what it reads, and what comes of it.
 
-ghost use Rattle.std.specs.Prelude.{◌≡◌, is_some};
+ghost use Rattle.std.specs.Prelude.{◌≡◌, IfSome, is_some, length};
+ghost use Rattle.plan_core.specs.Words.{reads};
 ghost use Rattle.lease_book.specs.Book.{state_at};
 ghost use Rattle.lease_book.specs.Legal.{IsOpen};
+ghost use Rattle.worker_gate.specs.Inputs.{AddsOfInputs, IsMadeOf};
 ghost use Rattle.worker_gate.specs.Tending.{Begins, Finishes, IsMade, failures_in};
 
 use outside::{Blob, Host, TaskId, Tool};
@@ -19,6 +21,8 @@ pub(crate) fn begin_at<H: Host, T: Tool>(
 ) -> Option<Vec<Blob>>
     requires { IsOpen (state_at yard.old.book) worker task.0 }
     ensures begins { Begins T.apply yard.old.ordered.plan (H.marked yard.old.host) (H.told yard.old.host) worker task.0 yard.old.book.history.events yard.new.book.history.events result }
+    ensures many { IfSome result (λ blobs. length blobs.items ≡ length (reads yard.old.ordered.plan task.0)) }
+    ensures inputs { AddsOfInputs T.apply yard.old.ordered.plan yard.old.book.history.events yard.new.book.history.events }
     ensures ordered { yard.new.ordered ≡ yard.old.ordered }
     ensures marked { H.marked yard.new.host ≡ H.marked yard.old.host }
     ensures faults { yard.new.faults ≡ yard.old.faults }
@@ -43,7 +47,9 @@ pub(crate) fn finish_at<H: Host, T: Tool>(
 )
     requires open { IsOpen (state_at yard.old.book) worker task.0 }
     requires made { IsMade T.apply yard.old.ordered.plan (H.marked yard.old.host) (H.told yard.old.host) task.0 made }
+    requires inputs { IsMadeOf T.apply yard.old.ordered.plan task.0 made }
     ensures finishes { Finishes worker task.0 (failures_in made) yard.old.book.history.events yard.new.book.history.events }
+    ensures inputs { AddsOfInputs T.apply yard.old.ordered.plan yard.old.book.history.events yard.new.book.history.events }
     ensures ordered { yard.new.ordered ≡ yard.old.ordered }
     ensures marked { H.marked yard.new.host ≡ H.marked yard.old.host }
     ensures faults { yard.new.faults ≡ yard.old.faults }

@@ -1,10 +1,12 @@
 //! The turns of a worker at a yard that several share. In each it makes one call of the yard, which adds one entry at
 //! most.
 
-ghost use Rattle.std.specs.Prelude.{◌≡◌, ◌<◌, IfOk, IfSome, false, true};
+ghost use Rattle.std.specs.Prelude.{◌≡◌, ◌<◌, IfOk, IfSome, false, length, true};
+ghost use Rattle.plan_core.specs.Words.{reads};
 ghost use Rattle.lease_book.specs.Owning.{is_open_after};
 ghost use Rattle.ruled_lock.specs.Lock.{IsOf};
 ghost use Rattle.ruled_lock.specs.Pass.{IsIdle, IsSamePass, charter_of, mine_of, seen_of, worker_of};
+ghost use Rattle.worker_gate.specs.Inputs.{AddsOfInputs, IsMadeOf};
 ghost use Rattle.worker_gate.specs.Tending.{Finishes, IsMade, failures_in};
 ghost use Rattle.worker_gate.specs.Turning.{BeginsOwn, IsPlanOf, LeasesOwn, NoneOpenBy, NoneOpenFor, plan_of, told_of};
 
@@ -58,6 +60,7 @@ pub(crate) fn lease<R: Wait, H: Host, T: Tool>(
     ensures idle { IsIdle pass.new }
     ensures same { IsSamePass pass.old pass.new }
     ensures leased { LeasesOwn (charter_of pass.old) (worker_of pass.old) (mine_of pass.old) (mine_of pass.new) (seen_of pass.new) result }
+    ensures inputs { IfSome (charter_of pass.old) (λ g. AddsOfInputs T.apply (plan_of g) (mine_of pass.old) (mine_of pass.new)) }
 {
     own_entries_tell_open_tasks();
     let mut yard = lock.take(rt, pass);
@@ -81,6 +84,8 @@ pub(crate) fn begin<R: Wait, H: Host, T: Tool>(
     ensures idle { IsIdle pass.new }
     ensures same { IsSamePass pass.old pass.new }
     ensures begins { BeginsOwn T.apply (charter_of pass.old) (worker_of pass.old) task.0 (mine_of pass.old) (mine_of pass.new) result }
+    ensures many { IfSome result (λ blobs. IfSome (charter_of pass.old) (λ g. length blobs.items ≡ length (reads (plan_of g) task.0))) }
+    ensures inputs { IfSome (charter_of pass.old) (λ g. AddsOfInputs T.apply (plan_of g) (mine_of pass.old) (mine_of pass.new)) }
 {
     own_entries_tell_open_tasks();
     let mut yard = lock.take(rt, pass);
@@ -102,10 +107,12 @@ pub(crate) fn finish<R: Wait, H: Host, T: Tool>(
     requires idle { IsIdle pass.old }
     requires open { is_open_after task.0 false (mine_of pass.old) ≡ true }
     requires made { IfSome (charter_of pass.old) (λ g. IsMade T.apply (plan_of g) g.marked (told_of g) task.0 made) }
+    requires inputs { IfSome (charter_of pass.old) (λ g. IsMadeOf T.apply (plan_of g) task.0 made) }
     ensures of { IsOf lock.now pass.new }
     ensures idle { IsIdle pass.new }
     ensures same { IsSamePass pass.old pass.new }
     ensures finishes { Finishes (worker_of pass.old) task.0 (failures_in made) (mine_of pass.old) (mine_of pass.new) }
+    ensures inputs { IfSome (charter_of pass.old) (λ g. AddsOfInputs T.apply (plan_of g) (mine_of pass.old) (mine_of pass.new)) }
 {
     own_entries_tell_open_tasks();
     let mut yard = lock.take(rt, pass);

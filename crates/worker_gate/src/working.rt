@@ -6,7 +6,8 @@ ghost use Rattle.plan_core.specs.Words.{is_run};
 ghost use Rattle.lease_book.specs.Owning.{is_open_after};
 ghost use Rattle.ruled_lock.specs.Lock.{IsOf};
 ghost use Rattle.ruled_lock.specs.Pass.{IsIdle, IsSamePass, charter_of, mine_of, seen_of, worker_of};
-ghost use Rattle.worker_gate.specs.Turning.{IsPlanOf, NoneOpenFor};
+ghost use Rattle.worker_gate.specs.Inputs.{AddsOfInputs};
+ghost use Rattle.worker_gate.specs.Turning.{IsPlanOf, NoneOpenFor, plan_of};
 ghost use Rattle.worker_gate.specs.Working.{ComputesWith, DoesOwn, Works};
 
 use crate::computing::compute;
@@ -58,6 +59,7 @@ fn do_task<R: Wait, H: Host, T: Tool, G: Gate>(
     ensures idle { IsIdle pass.new }
     ensures same { IsSamePass pass.old pass.new }
     ensures does { DoesOwn (worker_of pass.old) task.0 (mine_of pass.old) (mine_of pass.new) (T.faults crew.old.tool) (T.faults crew.new.tool) }
+    ensures inputs { IfSome (charter_of pass.old) (λ g. AddsOfInputs T.apply (plan_of g) (mine_of pass.old) (mine_of pass.new)) }
     ensures tool { T.faults crew.old.tool ≤ T.faults crew.new.tool }
 {
     // A law for the proof: it does nothing.
@@ -89,6 +91,7 @@ pub fn work<R: Wait, H: Host, T: Tool, G: Gate>(
     ensures idle { IsIdle pass.new }
     ensures same { IsSamePass pass.old pass.new }
     ensures works { IfSome (charter_of pass.old) (λ g. Works g (worker_of pass.old) (mine_of pass.old) (mine_of pass.new) (seen_of pass.new) (T.faults crew.old.tool) (T.faults crew.new.tool)) }
+    ensures inputs { IfSome (charter_of pass.old) (λ g. AddsOfInputs T.apply (plan_of g) (mine_of pass.old) (mine_of pass.new)) }
     ensures tool { T.faults crew.old.tool ≤ T.faults crew.new.tool }
 {
     let plan = copy_plan(rt, alloc, lock, pass);

@@ -3,7 +3,7 @@ use Rattle.std.specs.Prelude.{is_some}
 use Rattle.ruled_lock.specs.Pass.{charter_of}
 use Rattle.worker_gate.specs.Hands.{AreReady, member_of}
 use Rattle.worker_gate.specs.Many.{CanAllWork, HaveAllWorked}
-use Rattle.worker_gate.proofs.ManyLemmas.{all_ready, can_all, charter_back, charter_with, dealt_as, dealt_many, lent, many_counted, many_done, none_counted}
+use Rattle.worker_gate.proofs.ManyLemmas.{all_ready, can_all, charter_back, charter_with, dealt_as, dealt_many, lent, many_counted, many_done, many_inputs, no_inputs, none_counted}
 use Rattle.worker_gate.proofs.many.run_many.Given as given
 use Rattle.worker_gate.proofs.many.run_many.Goals as goal
 
@@ -38,8 +38,8 @@ gather-pass-requires-clause-hands g c =
     let many = dealt_many member_of hs c.args.crew.items c.deal.ensures.members in
     let same = c.work_all.ensures.length ∙ ap length c.as_mut_slice.ensures.value in
     subst (AreReady lock) (lent c.deal.new.hands.len news hs (c.work_all.ensures.length ∙ c.as_mut_slice.ensures.len))
-    (all_ready lock there n (λ m. g.T.Tool.faults m.tool) hs news many same (dealt_as lock there n first hs p.charter_is p.seen_is c.deal.ensures.dealt)
-    (subst (λ l. HaveAllWorked lock (λ m. g.T.Tool.faults m.tool) l news) c.as_mut_slice.ensures.value c.work_all.ensures.worked))
+    (all_ready g.T.Tool.apply lock there n (λ m. g.T.Tool.faults m.tool) hs news many same (dealt_as lock there n first hs p.charter_is p.seen_is c.deal.ensures.dealt)
+    (subst (λ l. HaveAllWorked g.T.Tool.apply lock (λ m. g.T.Tool.faults m.tool) l news) c.as_mut_slice.ensures.value c.work_all.ensures.worked))
 
 pub gather-pass-requires-clause-room : goal.gather-pass-requires-clause-room
 gather-pass-requires-clause-room g c =
@@ -65,9 +65,9 @@ back g c =
     let all = take c.deal.new.hands.len (news ++ drop (length news) hs) in
     let n = length c.args.crew.items in
     let many = dealt_many member_of hs c.args.crew.items c.deal.ensures.members in
-    charter_back lock there here n (λ m. g.T.Tool.faults m.tool) hs all c.gather-pass.result (omega (arith, many, c.requires.members.0))
+    charter_back g.T.Tool.apply lock there here n (λ m. g.T.Tool.faults m.tool) hs all c.gather-pass.result (omega (arith, many, c.requires.members.0))
     (dealt_as lock there n first hs p.charter_is p.seen_is c.deal.ensures.dealt)
-    (subst (HaveAllWorked lock (λ m. g.T.Tool.faults m.tool) hs) (lent c.deal.new.hands.len news hs (c.work_all.ensures.length ∙ c.as_mut_slice.ensures.len)) (subst (λ l. HaveAllWorked lock (λ m. g.T.Tool.faults m.tool) l news) c.as_mut_slice.ensures.value c.work_all.ensures.worked))
+    (subst (HaveAllWorked g.T.Tool.apply lock (λ m. g.T.Tool.faults m.tool) hs) (lent c.deal.new.hands.len news hs (c.work_all.ensures.length ∙ c.as_mut_slice.ensures.len)) (subst (λ l. HaveAllWorked g.T.Tool.apply lock (λ m. g.T.Tool.faults m.tool) l news) c.as_mut_slice.ensures.value c.work_all.ensures.worked))
     c.gather-pass.ensures.gathered c.close.ensures.charter
 
 pub returns-in-Ok-new-clause-ordered : goal.returns-in-Ok-new-clause-ordered
@@ -111,10 +111,10 @@ returns-in-Ok-new-clause-works g c =
     let many = dealt_many member_of hs c.args.crew.items c.deal.ensures.members in
     let whole = lent c.deal.new.hands.len news hs (c.work_all.ensures.length ∙ c.as_mut_slice.ensures.len) in
     let same = sym (ap length whole) ∙ c.work_all.ensures.length ∙ ap length c.as_mut_slice.ensures.value in
-    many_done c.own_entries_tell_open_tasks.ensures.entries c.own_entries_tell_open_tasks.ensures.decides c.over_records_end.ensures.complete c.over_records_end.ensures.failing
+    many_done c.own_entries_tell_open_tasks.ensures.entries c.own_entries_tell_open_tasks.ensures.decides c.over_records_end.ensures.complete c.over_records_end.ensures.failing g.T.Tool.apply
     lock there z.book n (λ m. g.T.Tool.faults m.tool) hs all c.gather-pass.result (z.same_plan ∙ ap (λ x. x.ordered.plan) (back g c)) (z.same_order ∙ ap (λ x. x.ordered.tasks.items) (back g c)) many (omega (arith, many, c.requires.members.0)) same
     (dealt_as lock there n first hs p.charter_is p.seen_is c.deal.ensures.dealt)
-    (subst (HaveAllWorked lock (λ m. g.T.Tool.faults m.tool) hs) whole (subst (λ l. HaveAllWorked lock (λ m. g.T.Tool.faults m.tool) l news) c.as_mut_slice.ensures.value c.work_all.ensures.worked))
+    (subst (HaveAllWorked g.T.Tool.apply lock (λ m. g.T.Tool.faults m.tool) hs) whole (subst (λ l. HaveAllWorked g.T.Tool.apply lock (λ m. g.T.Tool.faults m.tool) l news) c.as_mut_slice.ensures.value c.work_all.ensures.worked))
     c.gather-pass.ensures.gathered c.close.ensures.seen c.close.ensures.items c.close.ensures.others
 
 pub returns-in-Ok-new-clause-tools : goal.returns-in-Ok-new-clause-tools
@@ -131,7 +131,33 @@ returns-in-Ok-new-clause-tools g c =
     let n = length c.args.crew.items in
     let whole = lent c.deal.new.hands.len news hs (c.work_all.ensures.length ∙ c.as_mut_slice.ensures.len) in
     let same = sym (ap length whole) ∙ c.work_all.ensures.length ∙ ap length c.as_mut_slice.ensures.value in
-    many_counted lock there n (λ m. g.T.Tool.faults m.tool) hs all c.gather-pass.result z.book.history.events c.args.crew.items c.gather-pass.new.crew.items c.deal.ensures.members c.gather-pass.ensures.members same
+    many_counted g.T.Tool.apply lock there n (λ m. g.T.Tool.faults m.tool) hs all c.gather-pass.result z.book.history.events c.args.crew.items c.gather-pass.new.crew.items c.deal.ensures.members c.gather-pass.ensures.members same
     (dealt_as lock there n first hs p.charter_is p.seen_is c.deal.ensures.dealt)
-    (subst (HaveAllWorked lock (λ m. g.T.Tool.faults m.tool) hs) whole (subst (λ l. HaveAllWorked lock (λ m. g.T.Tool.faults m.tool) l news) c.as_mut_slice.ensures.value c.work_all.ensures.worked))
+    (subst (HaveAllWorked g.T.Tool.apply lock (λ m. g.T.Tool.faults m.tool) hs) whole (subst (λ l. HaveAllWorked g.T.Tool.apply lock (λ m. g.T.Tool.faults m.tool) l news) c.as_mut_slice.ensures.value c.work_all.ensures.worked))
     c.gather-pass.ensures.gathered c.close.ensures.items
+
+pub returns-in_default-clause-inputs : goal.returns-in_default-clause-inputs
+returns-in_default-clause-inputs g c = no_inputs g.T.Tool.apply c.args.yard.ordered.plan c.args.yard.book.history.events c.requires.empty
+
+pub returns-in-Err-clause-inputs : goal.returns-in-Err-clause-inputs
+returns-in-Err-clause-inputs g c = no_inputs g.T.Tool.apply c.args.yard.ordered.plan c.in-Err.field-0.value.book.history.events (ap (λ y. y.book.history.events) c.in-Err.ensures.refused ∙ c.requires.empty)
+
+pub returns-in-Ok-new-clause-inputs : goal.returns-in-Ok-new-clause-inputs
+returns-in-Ok-new-clause-inputs g c =
+    let y = c.args.yard in
+    let z = c.close.result in
+    let there = charter_with y.ordered (g.H.Host.marked y.host) (is_some (g.H.Host.told y.host)) y.faults y.misses in
+    let first = c.in-Ok-new.first in
+    let lock = c.in-Ok-new.lock in
+    let p = c.in-Ok-new.ensures.pass in
+    let hs = c.deal.new.hands.items in
+    let news = c.work_all.new.hands in
+    let all = take c.deal.new.hands.len (news ++ drop (length news) hs) in
+    let n = length c.args.crew.items in
+    let many = dealt_many member_of hs c.args.crew.items c.deal.ensures.members in
+    let whole = lent c.deal.new.hands.len news hs (c.work_all.ensures.length ∙ c.as_mut_slice.ensures.len) in
+    let same = sym (ap length whole) ∙ c.work_all.ensures.length ∙ ap length c.as_mut_slice.ensures.value in
+    many_inputs g.T.Tool.apply lock there n (λ m. g.T.Tool.faults m.tool) hs all c.gather-pass.result z.book.history.events many same
+    (dealt_as lock there n first hs p.charter_is p.seen_is c.deal.ensures.dealt)
+    (subst (HaveAllWorked g.T.Tool.apply lock (λ m. g.T.Tool.faults m.tool) hs) whole (subst (λ l. HaveAllWorked g.T.Tool.apply lock (λ m. g.T.Tool.faults m.tool) l news) c.as_mut_slice.ensures.value c.work_all.ensures.worked))
+    c.gather-pass.ensures.gathered c.close.ensures.items (returns-in-Ok-new-clause-works g c).below

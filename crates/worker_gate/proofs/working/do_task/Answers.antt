@@ -1,6 +1,7 @@
 use Rattle.std.proofs.Common.{◌∙◌}
 use Rattle.ruled_lock.specs.Pass.{charter_of, mine_of, worker_of}
 use Rattle.worker_gate.specs.Tending.{failures_in}
+use Rattle.worker_gate.proofs.InputsLemmas.{made_so, own_both}
 use Rattle.worker_gate.proofs.WorkingLemmas.{does_made_by, does_none, made_of, made_rose, plan_proper, plan_run, same_as}
 use Rattle.worker_gate.proofs.working.do_task.Goals as goal
 
@@ -30,3 +31,13 @@ returns-in-Some-clause-does g c =
 
 pub returns-in-Some-clause-same : goal.returns-in-Some-clause-same
 returns-in-Some-clause-same g c = same_as c.args.pass.now c.begin.new.pass c.finish.new.pass c.in-Some.ensures.same c.finish.ensures.same
+
+pub finish-requires-clause-inputs : goal.finish-requires-clause-inputs
+finish-requires-clause-inputs g c =
+    made_so g.T.Tool.apply (charter_of c.args.pass.now) (charter_of c.begin.new.pass) c.args.plan.now c.args.task.0 c.in-Some.blobs.items (g.T.Tool.faults c.args.crew.now.tool) (g.T.Tool.faults c.compute_with-made.new.tool) c.compute_with-made.result c.in-Some.ensures.same.charter c.requires.plan c.in-Some.ensures.begins.1 c.in-Some.ensures.many c.compute_with-made.ensures.answer
+
+pub returns-in-Some-clause-inputs : goal.returns-in-Some-clause-inputs
+returns-in-Some-clause-inputs g c =
+    let old = c.args.pass.now in
+    let mid = c.begin.new.pass in
+    own_both g.T.Tool.apply (charter_of old) (charter_of mid) (mine_of old) (mine_of mid) (mine_of c.finish.new.pass) c.in-Some.ensures.same.charter c.in-Some.ensures.inputs c.finish.ensures.inputs

@@ -1,6 +1,7 @@
 use Rattle.std.proofs.Common.{◌∙◌}
-use Rattle.ruled_lock.specs.Pass.{mine_of, worker_of}
-use Rattle.worker_gate.proofs.WorkingLemmas.{granted_opens, own_does_by, own_finishes_by, own_first, rising, same_as, still_tool}
+use Rattle.ruled_lock.specs.Pass.{charter_of, mine_of, worker_of}
+use Rattle.worker_gate.proofs.InputsLemmas.{own_both, own_none}
+use Rattle.worker_gate.proofs.WorkingLemmas.{granted_opens, own_does_by, own_finishes_by, own_first, own_same, rising, same_as, still_tool}
 use Rattle.worker_gate.proofs.working.work.Goals as goal
 
 pub loop-init : goal.loop-init
@@ -8,7 +9,7 @@ loop-init g c =
     let old = c.args.pass.now in
     let e = c.copy_plan-plan.ensures in
     let x = g.T.Tool.faults c.args.crew.now.tool in
-    (e.of, e.idle, e.same, own_first (worker_of old) (mine_of old) (mine_of c.copy_plan-plan.new.pass) x e.mine e.none_open, still_tool x, e.plan)
+    (e.of, e.idle, e.same, own_first (worker_of old) (mine_of old) (mine_of c.copy_plan-plan.new.pass) x e.mine e.none_open, still_tool x, e.plan, own_none g.T.Tool.apply (charter_of old) (mine_of old) (mine_of c.copy_plan-plan.new.pass) e.mine)
 
 pub do_task-requires-clause-open : goal.do_task-requires-clause-open
 do_task-requires-clause-open g c = granted_opens (worker_of c.loop.pass) c.in-Granted.task.0 (mine_of c.loop.pass) (mine_of c.lease.new.pass) c.in-Granted.ensures.leased
@@ -31,6 +32,7 @@ loop-preserved-in-Granted g c =
       own_does_by (worker_of old) (worker_of here) (worker_of leased) c.in-Granted.task.0 (mine_of old) (mine_of here) (mine_of leased) (mine_of done) x y z i.2.worker (l.same.worker ∙ i.2.worker) i.3 c.in-Granted.ensures.leased d.tool d.does,
       rising x y z i.4 d.tool,
       i.5,
+      own_both g.T.Tool.apply (charter_of old) (charter_of leased) (mine_of old) (mine_of leased) (mine_of done) (l.same.charter ∙ i.2.charter) (own_both g.T.Tool.apply (charter_of old) (charter_of here) (mine_of old) (mine_of here) (mine_of leased) i.2.charter i.6 l.inputs) d.inputs,
     )
 
 pub loop-preserved-in-Swept : goal.loop-preserved-in-Swept
@@ -48,6 +50,7 @@ loop-preserved-in-Swept g c =
       own_finishes_by (worker_of old) (worker_of here) c.in-Swept.field-0.0 (mine_of old) (mine_of here) (mine_of leased) x y i.2.worker i.3 c.in-Swept.ensures.leased,
       i.4,
       i.5,
+      own_both g.T.Tool.apply (charter_of old) (charter_of here) (mine_of old) (mine_of here) (mine_of leased) i.2.charter i.6 l.inputs,
     )
 
 pub loop-preserved-in-Failed : goal.loop-preserved-in-Failed
@@ -65,6 +68,7 @@ loop-preserved-in-Failed g c =
       own_finishes_by (worker_of old) (worker_of here) c.in-Failed.field-0.0 (mine_of old) (mine_of here) (mine_of leased) x y i.2.worker i.3 c.in-Failed.ensures.leased,
       i.4,
       i.5,
+      own_both g.T.Tool.apply (charter_of old) (charter_of here) (mine_of old) (mine_of here) (mine_of leased) i.2.charter i.6 l.inputs,
     )
 
 pub loop-preserved-in-Again : goal.loop-preserved-in-Again
@@ -82,4 +86,17 @@ loop-preserved-in-Again g c =
       own_finishes_by (worker_of old) (worker_of here) c.in-Again.field-0.0 (mine_of old) (mine_of here) (mine_of leased) x y i.2.worker i.3 c.in-Again.ensures.leased,
       i.4,
       i.5,
+      own_both g.T.Tool.apply (charter_of old) (charter_of here) (mine_of old) (mine_of here) (mine_of leased) i.2.charter i.6 l.inputs,
     )
+
+pub returns-in-Done-clause-inputs : goal.returns-in-Done-clause-inputs
+returns-in-Done-clause-inputs g c =
+    let old = c.args.pass.now in
+    let here = c.loop.pass in
+    own_both g.T.Tool.apply (charter_of old) (charter_of here) (mine_of old) (mine_of here) (mine_of c.lease.new.pass) c.loop.invariant.2.charter c.loop.invariant.6 c.lease.ensures.inputs
+
+pub returns-in-Stopped-clause-inputs : goal.returns-in-Stopped-clause-inputs
+returns-in-Stopped-clause-inputs g c =
+    let old = c.args.pass.now in
+    let here = c.loop.pass in
+    own_both g.T.Tool.apply (charter_of old) (charter_of here) (mine_of old) (mine_of here) (mine_of c.lease.new.pass) c.loop.invariant.2.charter c.loop.invariant.6 c.lease.ensures.inputs

@@ -1,7 +1,9 @@
 use Rattle.std.proofs.Common.{◌≡◌, ◌≤◌}
+use Rattle.std.specs.Prelude.{IfSome}
 use Rattle.ruled_lock.specs.Lock.{IsOf}
 use Rattle.ruled_lock.specs.Pass.{IsIdle, IsSamePass, charter_of, mine_of, worker_of}
-use Rattle.worker_gate.specs.Turning.{IsPlanOf}
+use Rattle.worker_gate.specs.Inputs.{AddsOfInputs}
+use Rattle.worker_gate.specs.Turning.{IsPlanOf, plan_of}
 use Rattle.worker_gate.specs.Working.{WorksOwn}
 use Rattle.worker_gate.proofs.working.work.Given as goal
 
@@ -13,3 +15,4 @@ invariant-loop g l =
     × WorksOwn (worker_of l.fn.pass) (mine_of l.fn.pass) (mine_of l.pass) (g.T.Tool.faults l.fn.crew.tool) (g.T.Tool.faults l.crew.tool)
     × (g.T.Tool.faults l.fn.crew.tool ≤ g.T.Tool.faults l.crew.tool)
     × IsPlanOf (charter_of l.fn.pass) l.plan
+    × IfSome (charter_of l.fn.pass) (λ c. AddsOfInputs g.T.Tool.apply (plan_of c) (mine_of l.fn.pass) (mine_of l.pass))
