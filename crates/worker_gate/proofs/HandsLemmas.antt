@@ -1,15 +1,14 @@
 -- Lists of hands, hand by hand.
-use Rattle.std.proofs.Common.{◌≡◌, ℕ, zero, suc, ◌+◌, ◌<◌, ◌≤◌, List, [], ◌∷◌, ◌++◌, length, map, get_or, take, drop, refl, sym, ap, subst, ◌∙◌, arith, append_assoc, length-append}
+use Rattle.std.proofs.Common.{◌≡◌, ℕ, zero, suc, ◌+◌, ◌<◌, List, [], ◌∷◌, ◌++◌, length, map, get_or, drop, sym, ap, subst, ◌∙◌, arith, append_assoc}
 use Rattle.std.specs.Prelude.{Option}
-use Rattle.std.proofs.lemmas.List.{append-nil, length-map, map-append}
+use Rattle.std.proofs.lemmas.List.{length-map, map-append}
 use mathlib.Core.List.{IsPrefix}
 use Rattle.ruled_lock.specs.declared.pass.Pass.{Pass}
 use Rattle.ruled_lock.specs.declared.lock.RuledLock.{RuledLock}
 use Rattle.ruled_lock.specs.Lock.{IsOf}
 use Rattle.ruled_lock.specs.Pass.{IsIdle, IsNewPass, charter_of, count_of, joined_of, lists_of, mine_of, seen_of, worker_of}
-use Rattle.ruled_lock.proofs.ListLemmas.{prefix_self, prefix_trans}
 use Rattle.worker_gate.specs.declared.hands.Hand.{Hand}
-use Rattle.worker_gate.specs.Hands.{AreDealt, AreOthers, AreReady, AreReadyToJoin, IsDealt, IsGathered, IsReady, count_at, member_of, own_list}
+use Rattle.worker_gate.specs.Hands.{AreDealt, AreOthers, AreReady, AreReadyToJoin, IsDealt, IsGathered, IsReady, member_of, own_list}
 
 -- the first element and the rest
 pub first_and_rest : {X : Type 0} (xs ys : List X) (x : X) → 0 < length xs → x ≡ get_or xs 0 x → ys ≡ drop 1 xs → xs ≡ x ∷ ys

@@ -15,18 +15,18 @@ use Rattle.plan_core.specs.Words.{task_numbers}
 use Rattle.run_record.specs.Events.{Event, Grant, Arrive, End, Clean, Fail, Again, Regrant}
 use Rattle.lease_book.specs.declared.book.Book.{Book}
 use Rattle.lease_book.specs.Law.{FitsFromStart}
-use Rattle.lease_book.specs.Legal.{IsComplete, IsOpen, Legal}
+use Rattle.lease_book.specs.Legal.{IsComplete, Legal}
 use Rattle.lease_book.specs.Owning.{entries_by, is_open, is_open_after, worker}
-use Rattle.lease_book.specs.State.{State, now}
+use Rattle.lease_book.specs.State.{now}
 use Rattle.ruled_lock.specs.Chronicle.{items_of, list_of}
-use Rattle.ruled_lock.specs.Pass.{charter_of, count_of, joined_of, lists_of, mine_of, seen_of, worker_of}
+use Rattle.ruled_lock.specs.Pass.{charter_of, count_of, lists_of, mine_of, seen_of, worker_of}
 use Rattle.ruled_lock.specs.declared.lock.RuledLock.{RuledLock}
 use Rattle.ruled_lock.specs.declared.pass.Pass.{Pass}
 use Rattle.ruled_lock.proofs.ListLemmas.{prefix_trans}
 use Rattle.site_yard.specs.Failures.{RoseBy, tool_fault_in, tool_faults, tool_faults_of}
 use Rattle.site_yard.specs.Faults.{AllBelow}
 use Rattle.site_yard.specs.declared.chronicle.Charter.{Charter}
-use Rattle.worker_gate.specs.Alone.{IsOver, NoneOpen}
+use Rattle.worker_gate.specs.Alone.{IsOver}
 use Rattle.worker_gate.specs.Hands.{AreDealt, AreReady, IsDealt, IsGathered, count_at, member_of, own_list}
 use Rattle.worker_gate.specs.Inputs.{AddsOfInputs, AreOfInputs}
 use Rattle.worker_gate.specs.Many.{AreToolsCounted, CanAllWork, HasWorked, HaveAllWorked, WorksMany}

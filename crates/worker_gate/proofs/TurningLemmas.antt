@@ -1,5 +1,5 @@
 -- What a worker's own entries say of what is open for it, from turn to turn.
-use Rattle.std.proofs.Common.{◌≡◌, ℕ, ◌||◌, ◌&&◌, Bool, true, false, cond, eqb, eqb-true, inl, inr, List, [], ◌∷◌, ◌++◌, refl, sym, ap, subst, ◌∙◌, append_assoc}
+use Rattle.std.proofs.Common.{◌≡◌, ℕ, ◌||◌, ◌&&◌, Bool, true, false, cond, eqb, inl, inr, List, [], ◌∷◌, ◌++◌, refl, sym, ap, subst, ◌∙◌}
 use Rattle.std.specs.Prelude.{Decides, IfOk, IfSome, Option, Some, None, Result, Ok, Err, Vec, is_some, map, not}
 use Rattle.std.specs.declared.alloc.Global.{Global}
 use Rattle.std.proofs.Math.Logic.{∥∥₁_elim}
@@ -12,7 +12,7 @@ use Rattle.outside.specs.declared.numbers.TaskId.{TaskId}
 use Rattle.outside.specs.declared.store.Store.{Store}
 use Rattle.plan_core.specs.declared.plan.Plan.{Plan}
 use Rattle.plan_core.specs.Proper.{IsProper}
-use Rattle.plan_core.specs.Words.{is_run, reads, task_numbers}
+use Rattle.plan_core.specs.Words.{reads, task_numbers}
 use Rattle.run_record.specs.declared.entry.Cause.{Cause}
 use Rattle.run_record.specs.Events.{Event, Grant, Arrive, End, Clean, Fail, Again, Regrant}
 use Rattle.storage_simulation.specs.declared.ordered.Ordered.{Ordered}
@@ -32,7 +32,7 @@ use Rattle.site_yard.specs.Failures.{tool_fault_in, tool_faults_of}
 use Rattle.worker_gate.specs.Alone.{IsOver}
 use Rattle.worker_gate.specs.Stepping.{IsDone}
 use Rattle.worker_gate.specs.Tending.{Begins, Finishes, IsLast, IsMade}
-use Rattle.worker_gate.specs.Turning.{BeginsOwn, IsOverFor, IsPlanOf, IsReadFor, LeasesOwn, NoneOpenBy, NoneOpenFor, plan_of, state_of, told_of}
+use Rattle.worker_gate.specs.Turning.{BeginsOwn, IsOverFor, IsPlanOf, LeasesOwn, NoneOpenBy, NoneOpenFor, plan_of, state_of, told_of}
 use Rattle.worker_gate.proofs.StateLemmas.{same_number}
 use Rattle.worker_gate.proofs.WorkLemmas.{cause_zero, if_zero}
 

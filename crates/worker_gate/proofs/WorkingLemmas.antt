@@ -1,11 +1,10 @@
 -- What a worker among many has added, from task to task.
-use Rattle.std.proofs.Common.{◌≡◌, ℕ, ◌+◌, ◌≤◌, Bool, true, false, cond, inl, inr, List, [], ◌∷◌, ◌++◌, length, map, refl, sym, ap, subst, ◌∙◌, arith, append_assoc}
+use Rattle.std.proofs.Common.{◌≡◌, ℕ, ◌+◌, ◌≤◌, true, false, inl, inr, List, [], ◌∷◌, ◌++◌, map, refl, sym, ap, subst, ◌∙◌, arith, append_assoc}
 use Rattle.std.specs.Prelude.{◌⊎◌, Option, Some, None, IfOk, IfSome, Result, Ok, Err, Vec}
 use Rattle.std.specs.declared.alloc.Global.{Global}
 use Rattle.std.specs.FinMap as files
 use Rattle.outside.specs.Tool.{Apply}
 use Rattle.outside.specs.declared.memory.Memory.{Memory}
-use Rattle.outside.specs.declared.numbers.TaskId.{TaskId}
 use Rattle.outside.specs.declared.store.Store.{Store}
 use Rattle.plan_core.specs.declared.plan.Plan.{Plan}
 use Rattle.plan_core.specs.Carried.{Bytes, carried}
@@ -18,13 +17,12 @@ use Rattle.lease_book.specs.Legal.{CauseFits}
 use Rattle.lease_book.specs.Owning.{is_open_after}
 use Rattle.ruled_lock.specs.Pass.{IsSamePass}
 use Rattle.ruled_lock.specs.declared.pass.Pass.{Pass}
-use Rattle.site_yard.specs.Failures.{RoseBy, tool_fault_in, tool_faults, tool_faults_of}
+use Rattle.site_yard.specs.Failures.{RoseBy, tool_faults, tool_faults_of}
 use Rattle.site_yard.specs.Yard.{IsTold, IsWorkers, content}
 use Rattle.site_yard.specs.declared.chronicle.Charter.{Charter}
-use Rattle.site_yard.specs.declared.leased.Leased.TheVariants as leased
 use Rattle.worker_gate.specs.Computing.{Computes, IsComputed}
-use Rattle.worker_gate.specs.Tending.{Finishes, IsLast, IsMade, failures_in}
-use Rattle.worker_gate.specs.Turning.{IsOverFor, IsPlanOf, IsReadFor, LeasesOwn, NoneOpenBy, plan_of, told_of}
+use Rattle.worker_gate.specs.Tending.{Finishes, IsMade, failures_in}
+use Rattle.worker_gate.specs.Turning.{IsOverFor, IsPlanOf, IsReadFor, NoneOpenBy, plan_of, told_of}
 use Rattle.worker_gate.specs.Working.{ComputesWith, DoesOwn, Works, WorksOwn}
 use Rattle.worker_gate.proofs.RunLemmas.{faults_append, no_faults, nothing_more}
 use Rattle.worker_gate.proofs.TaskLemmas.{cause_rose, cause_told, outputs_carried, outputs_many}

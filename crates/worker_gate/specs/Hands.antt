@@ -1,5 +1,5 @@
 -- Workers' passes, each with what the worker works with.
-use Rattle.std.specs.Prelude.{◌≡◌, ℕ, zero, suc, ◌+◌, ◌<◌, List, [], ◌∷◌, length, map, get_or, Option}
+use Rattle.std.specs.Prelude.{◌≡◌, ℕ, zero, suc, ◌<◌, List, [], length, map, get_or, Option}
 use mathlib.Core.List.{IsPrefix}
 use Rattle.ruled_lock.specs.declared.pass.Pass.{Pass}
 use Rattle.ruled_lock.specs.declared.lock.RuledLock.{RuledLock}

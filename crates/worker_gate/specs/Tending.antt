@@ -6,7 +6,7 @@ use Rattle.outside.specs.declared.store.Store.{Store}
 use Rattle.plan_core.specs.declared.plan.Plan.{Plan}
 use Rattle.plan_core.specs.Words.{is_run, reads, writes}
 use Rattle.run_record.specs.declared.entry.Cause.{Cause}
-use Rattle.run_record.specs.Events.{Event, Grant, Arrive, End, Clean, Fail, Again, Regrant}
+use Rattle.run_record.specs.Events.{Event, Arrive, End, Clean, Fail, Again}
 use Rattle.lease_book.specs.Legal.{CauseFits}
 use Rattle.site_yard.specs.Changes.{carries}
 use Rattle.site_yard.specs.Failures.{tool_fault_in, tool_faults_of}

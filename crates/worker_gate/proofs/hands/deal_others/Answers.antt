@@ -1,4 +1,4 @@
-use Rattle.std.proofs.Common.{◌≡◌, ◌+◌, ◌∙◌, refl, sym, ap, arith, length}
+use Rattle.std.proofs.Common.{◌+◌, ◌∙◌, arith, length}
 use Rattle.ruled_lock.specs.Pass.{charter_of, count_of, seen_of}
 use Rattle.worker_gate.specs.declared.hands.Hand.{Hand}
 use Rattle.worker_gate.proofs.HandsLemmas.{first_and_rest, members_more, others_more, still_first}

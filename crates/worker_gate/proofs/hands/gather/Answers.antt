@@ -1,4 +1,3 @@
-use Rattle.std.proofs.Common.{◌≡◌, ◌∙◌, refl, sym, ap, arith, length}
 use Rattle.worker_gate.proofs.HandsLemmas.{first_and_rest, gathered, others_of}
 use Rattle.worker_gate.proofs.hands.gather.Goals as goal
 

@@ -1,4 +1,4 @@
-use Rattle.std.proofs.Common.{◌≡◌, ◌∙◌, refl, sym, ap, arith, length, map, ◌++◌}
+use Rattle.std.proofs.Common.{◌∙◌, arith, map, ◌++◌}
 use Rattle.ruled_lock.specs.Pass.{joined_of, seen_of}
 use Rattle.ruled_lock.proofs.ListLemmas.{prefix_trans}
 use Rattle.worker_gate.specs.Hands.{member_of, own_list}

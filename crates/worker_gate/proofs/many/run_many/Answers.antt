@@ -1,6 +1,5 @@
-use Rattle.std.proofs.Common.{◌≡◌, ◌≤◌, ◌+◌, ◌++◌, ◌∙◌, length, map, take, drop, refl, sym, ap, subst, arith}
+use Rattle.std.proofs.Common.{◌≡◌, ◌++◌, ◌∙◌, length, map, take, drop, sym, ap, subst, arith}
 use Rattle.std.specs.Prelude.{is_some}
-use Rattle.ruled_lock.specs.Pass.{charter_of}
 use Rattle.worker_gate.specs.Hands.{AreReady, member_of}
 use Rattle.worker_gate.specs.Many.{CanAllWork, HaveAllWorked}
 use Rattle.worker_gate.proofs.ManyLemmas.{all_ready, can_all, charter_back, charter_with, dealt_as, dealt_many, lent, many_counted, many_done, many_inputs, no_inputs, none_counted}

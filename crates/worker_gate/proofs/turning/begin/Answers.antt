@@ -1,7 +1,6 @@
-use Rattle.std.proofs.Common.{◌≡◌, ◌∙◌, refl, sym}
+use Rattle.std.proofs.Common.{◌∙◌, refl}
 use Rattle.std.specs.Prelude.{is_some}
 use Rattle.ruled_lock.specs.Pass.{charter_of, mine_of, taken_of, worker_of}
-use Rattle.lease_book.specs.Book.{state_at}
 use Rattle.worker_gate.proofs.InputsLemmas.{inputs_turn, many_turn}
 use Rattle.worker_gate.proofs.TurningLemmas.{adds_there, begin_adds, begin_turn, charter_kept, open_there}
 use Rattle.worker_gate.proofs.turning.begin.Goals as goal

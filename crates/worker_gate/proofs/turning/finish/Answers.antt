@@ -1,4 +1,4 @@
-use Rattle.std.proofs.Common.{◌≡◌, ◌∙◌, refl, sym}
+use Rattle.std.proofs.Common.{◌∙◌, refl}
 use Rattle.std.specs.Prelude.{is_some}
 use Rattle.ruled_lock.specs.Pass.{charter_of, mine_of, taken_of, worker_of}
 use Rattle.worker_gate.specs.Tending.{failures_in}

@@ -1,4 +1,4 @@
-use Rattle.std.proofs.Common.{◌≡◌, ◌∙◌, sym}
+use Rattle.std.proofs.Common.{◌∙◌}
 use Rattle.std.specs.Prelude.{is_some}
 use Rattle.ruled_lock.specs.Pass.{charter_of, mine_of, seen_of, taken_of, worker_of}
 use Rattle.lease_book.specs.Book.{state_at}

@@ -1,4 +1,3 @@
-use Rattle.std.proofs.Common.{◌∙◌}
 use Rattle.ruled_lock.specs.Pass.{charter_of, mine_of, worker_of}
 use Rattle.worker_gate.specs.Tending.{failures_in}
 use Rattle.worker_gate.proofs.InputsLemmas.{made_so, own_both}

@@ -1,7 +1,7 @@
 use Rattle.std.proofs.Common.{◌∙◌}
 use Rattle.ruled_lock.specs.Pass.{charter_of, mine_of, worker_of}
 use Rattle.worker_gate.proofs.InputsLemmas.{own_both, own_none}
-use Rattle.worker_gate.proofs.WorkingLemmas.{granted_opens, own_does_by, own_finishes_by, own_first, own_same, rising, same_as, still_tool}
+use Rattle.worker_gate.proofs.WorkingLemmas.{granted_opens, own_does_by, own_finishes_by, own_first, rising, same_as, still_tool}
 use Rattle.worker_gate.proofs.working.work.Goals as goal
 
 pub loop-init : goal.loop-init

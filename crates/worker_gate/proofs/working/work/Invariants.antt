@@ -1,4 +1,4 @@
-use Rattle.std.proofs.Common.{◌≡◌, ◌≤◌}
+use Rattle.std.proofs.Common.{◌≤◌}
 use Rattle.std.specs.Prelude.{IfSome}
 use Rattle.ruled_lock.specs.Lock.{IsOf}
 use Rattle.ruled_lock.specs.Pass.{IsIdle, IsSamePass, charter_of, mine_of, worker_of}
