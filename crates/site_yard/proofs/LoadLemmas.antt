@@ -1,5 +1,5 @@
 -- What a load reads, and the failure that it adds.
-use Rattle.std.proofs.Common.{◌≡◌, ℕ, zero, suc, ◌≤◌, ◌<◌, inl, inr, Bool, true, false, List, [], ◌∷◌, ◌++◌, map, length, get_or, refl, sym, ap, ◌∙◌, subst, nat_eq, arith}
+use Rattle.std.proofs.Common.{◌≡◌, ℕ, zero, suc, ◌+◌, ◌≤◌, ◌<◌, inl, inr, Bool, true, false, List, [], ◌∷◌, ◌++◌, map, length, get_or, take, refl, sym, ap, ◌∙◌, subst, nat_eq, arith}
 use Rattle.std.specs.Prelude.{Option, Some, None, option_map, IfSome, Ok, Err, Vec}
 use Rattle.std.specs.declared.alloc.Global.{Global}
 use Rattle.std.proofs.Math.Logic.{∥∥₁_map, ∥∥₁_elim}
@@ -28,6 +28,7 @@ use Rattle.site_yard.specs.Law.{HasPlanLaws, HasRecordLaws}
 use Rattle.site_yard.specs.Loading.{ReadPair, ReadPairs, SomeUnfit, at_pair, pair_limit}
 use Rattle.site_yard.specs.Moving.{IsUnfit}
 use Rattle.site_yard.specs.Names.{pair_file, pair_site}
+use Rattle.site_yard.specs.Storing.{AreWithin}
 use Rattle.site_yard.specs.Truthful.{AreSizes}
 use Rattle.site_yard.specs.Yard.{Adds, IsFailure, IsNoTool, content}
 use Rattle.site_yard.proofs.AgreesLemmas.{HasBookLaws}
@@ -46,6 +47,37 @@ nth_in (q ∷ qs) (suc k) x h = or_right (nat_eq q.0 (get_or qs k x).0) (has (pa
 some_unfit : (p : Plan) (qs : List ℕ) (q : ℕ) (o : Option Store) → has qs q ≡ true → IfSome o (λ s. IsUnfit (pair_limit p q) (at_pair p s q)) → IfSome o (SomeUnfit p qs)
 some_unfit p qs q None h f = tt
 some_unfit p qs q (Some s) h f = (q, h, f)
+
+-- one text more within its declared size
+within_and : (p : Plan) (qs : List PairId) (bs : List (List ℕ)) (k : ℕ) (x : PairId) (b : List ℕ) → k < length qs → length bs ≡ k → AreWithin p (pair_numbers (take k qs)) bs → length b ≤ pair_limit p (get_or qs k x).0 → AreWithin p (pair_numbers (take (suc k) qs)) (bs ++ b ∷ [])
+within_and p [] bs k x b less same all small = absurd (omega (arith, less))
+within_and p (q ∷ qs) [] zero x b less same all small = (small, tt)
+within_and p (q ∷ qs) [] (suc k) x b less same all small = absurd (omega (arith, same))
+within_and p (q ∷ qs) (d ∷ bs) zero x b less same all small = absurd (omega (arith, same))
+within_and p (q ∷ qs) (d ∷ bs) (suc k) x b less same all small = (all.0, within_and p qs bs k x b (omega (arith, less)) (omega (arith, same)) all.1 small)
+
+one_more : (k : ℕ) → suc k ≡ k + 1
+one_more k = omega arith
+
+pub text_more : (p : Plan) (qs : List PairId) (bs : List (List ℕ)) (k : ℕ) (x : PairId) (b : List ℕ) → k < length qs → length bs ≡ k → AreWithin p (pair_numbers (take k qs)) bs → length b ≤ pair_limit p (get_or qs k x).0 → AreWithin p (pair_numbers (take (k + 1) qs)) (bs ++ b ∷ [])
+text_more p qs bs k x b less same all small = subst (λ n. AreWithin p (pair_numbers (take n qs)) (bs ++ b ∷ [])) (one_more k) (within_and p qs bs k x b less same all small)
+
+-- one pair more that was read
+read_and : (f : ℕ → Option (List ℕ)) (qs : List PairId) (k : ℕ) (x : PairId) → k < length qs → map f (pair_numbers (take (suc k) qs)) ≡ map f (pair_numbers (take k qs)) ++ f (get_or qs k x).0 ∷ []
+read_and f [] k x less = absurd (omega (arith, less))
+read_and f (q ∷ qs) zero x less = refl
+read_and f (q ∷ qs) (suc k) x less = ap (λ l. f q.0 ∷ l) (read_and f qs k x (omega (arith, less)))
+
+some_and : (bs : List (List ℕ)) (b : List ℕ) → map (λ (z : List ℕ). Some z) (bs ++ b ∷ []) ≡ map (λ (z : List ℕ). Some z) bs ++ Some b ∷ []
+some_and [] b = refl
+some_and (c ∷ bs) b = ap (λ l. Some c ∷ l) (some_and bs b)
+
+pub told_more : (p : Plan) (o n : Option Store) (qs : List PairId) (bs : List (List ℕ)) (k : ℕ) (x : PairId) (b : List ℕ) → k < length qs → n ≡ o → IfSome o (λ s. map (at_pair p s) (pair_numbers (take k qs)) ≡ map Some bs) → IfSome n (λ s. at_pair p s (get_or qs k x).0 ≡ Some b) → IfSome o (λ s. map (at_pair p s) (pair_numbers (take (k + 1) qs)) ≡ map Some (bs ++ b ∷ []))
+told_more p None n qs bs k x b less same told here = tt
+told_more p (Some s) n qs bs k x b less same told here =
+    let now_here = subst (λ z. IfSome z (λ s. at_pair p s (get_or qs k x).0 ≡ Some b)) same here in
+    subst (λ m. map (at_pair p s) (pair_numbers (take m qs)) ≡ map Some (bs ++ b ∷ [])) (one_more k)
+    (read_and (at_pair p s) qs k x less ∙ ap (λ l. l ++ at_pair p s (get_or qs k x).0 ∷ []) told ∙ ap (λ z. map (λ (y : List ℕ). Some y) bs ++ z ∷ []) now_here ∙ sym (some_and bs b))
 
 pub rose_from : (a b c : ℕ) → a ≤ b → Rose b c → Rose a c
 rose_from a b c h r = omega (arith, h, r)

@@ -1,9 +1,10 @@
 //! The bytes that a task reads at its site.
 
-ghost use Rattle.std.specs.Prelude.{◌≡◌};
+ghost use Rattle.std.specs.Prelude.{◌≡◌, ◌≤◌, IfOk, length};
 ghost use Rattle.outside.specs.Counts.{IsLater};
 ghost use Rattle.plan_core.specs.Words.{pair_numbers, reads};
-ghost use Rattle.site_yard.specs.Loading.{ReadPair, ReadPairs};
+ghost use Rattle.site_yard.specs.Loading.{ReadPair, ReadPairs, pair_limit};
+ghost use Rattle.site_yard.specs.Storing.{AreWithin};
 
 use crate::moving::scratch_cause;
 use crate::names::{pair_file_name, pair_limit, pair_site_name};
@@ -14,6 +15,7 @@ use std::alloc::Global;
 
 fn read_pair<H: Host>(plan: &Plan, host: &mut H, alloc: Global, pair: PairId) -> Result<Blob, Cause>
     ensures answer { ReadPair plan.now pair.0 (H.told host.old) (H.counts host.old) (H.counts host.new) result }
+    ensures within { IfOk result (λ bytes. length bytes ≤ pair_limit plan.now pair.0) }
     ensures told { H.told host.new ≡ H.told host.old }
     ensures marked { H.marked host.new ≡ H.marked host.old }
     ensures later { IsLater (H.counts host.old) (H.counts host.new) }
@@ -37,6 +39,7 @@ fn read_pairs<H: Host>(
     pairs: &[PairId],
 ) -> Result<Vec<Blob>, Cause>
     ensures answer { ReadPairs plan.now (pair_numbers pairs.now) (H.told host.old) (H.counts host.old) (H.counts host.new) result }
+    ensures within { IfOk result (λ blobs. AreWithin plan.now (pair_numbers pairs.now) blobs.items) }
     ensures told { H.told host.new ≡ H.told host.old }
     ensures marked { H.marked host.new ≡ H.marked host.old }
     ensures later { IsLater (H.counts host.old) (H.counts host.new) }
@@ -63,6 +66,7 @@ pub(crate) fn load_inputs<H: Host>(
     task: TaskId,
 ) -> Result<Vec<Blob>, Cause>
     ensures answer { ReadPairs plan.now (reads plan.now task.0) (H.told host.old) (H.counts host.old) (H.counts host.new) result }
+    ensures within { IfOk result (λ blobs. AreWithin plan.now (reads plan.now task.0) blobs.items) }
     ensures told { H.told host.new ≡ H.told host.old }
     ensures marked { H.marked host.new ≡ H.marked host.old }
     ensures later { IsLater (H.counts host.old) (H.counts host.new) }

@@ -189,6 +189,7 @@ impl<H: Host, T: Tool> Yard<H, T> {
     /// Reads what a task reads, in order, and adds nothing.
     fn read_inputs(&mut self, alloc: Global, task: TaskId) -> Result<Vec<Blob>, Cause>
         ensures answer { ReadPairs self.old.ordered.plan (reads self.old.ordered.plan task.0) (H.told self.old.host) (H.counts self.old.host) (H.counts self.new.host) result }
+        ensures within { IfOk result (λ blobs. AreWithin self.old.ordered.plan (reads self.old.ordered.plan task.0) blobs.items) }
         ensures told { H.told self.new.host ≡ H.told self.old.host }
         ensures ordered { self.new.ordered ≡ self.old.ordered }
         ensures book { self.new.book ≡ self.old.book }
@@ -205,6 +206,7 @@ impl<H: Host, T: Tool> Yard<H, T> {
     pub fn load(&mut self, alloc: Global, worker: u32, task: TaskId) -> Option<Vec<Blob>>
         requires open { IsOpen (state_at self.old.book) worker task.0 }
         ensures loaded { Loads T.apply self.old.ordered.plan (H.marked self.old.host) worker task.0 self.old.book.history.events self.new.book.history.events (H.told self.old.host) (H.counts self.old.host) (H.counts self.new.host) result }
+        ensures within { IfSome result (λ blobs. AreWithin self.old.ordered.plan (reads self.old.ordered.plan task.0) blobs.items) }
         ensures told { H.told self.new.host ≡ H.told self.old.host }
         ensures ordered { self.new.ordered ≡ self.old.ordered }
         ensures later { IsLater (H.counts self.old.host) (H.counts self.new.host) }

@@ -3,6 +3,7 @@ use Rattle.std.specs.Prelude.{Some, IfSome}
 use Rattle.outside.specs.Counts.{IsLater}
 use Rattle.plan_core.specs.Words.{pair_numbers}
 use Rattle.site_yard.specs.Loading.{at_pair}
+use Rattle.site_yard.specs.Storing.{AreWithin}
 use Rattle.site_yard.proofs.loading.read_pairs.Given as goal
 
 abbrev pub invariant-loop-k : goal.invariant-loop-k
@@ -11,3 +12,4 @@ invariant-loop-k g l =
     × IsLater (g.H.Host.counts l.initial.host) (g.H.Host.counts l.host)
     × IfSome (g.H.Host.told l.initial.host) (λ s. map (at_pair l.plan s) (pair_numbers (take l.k l.pairs)) ≡ map Some l.blobs.items)
     × (length l.blobs.items ≡ l.k)
+    × AreWithin l.plan (pair_numbers (take l.k l.pairs)) l.blobs.items
