@@ -1,236 +1,38 @@
 -- The answers of `alone`.
-use Rattle.std.proofs.Common.{◌≡◌, ◌⊎◌, ℕ, ◌-◌, ◌^◌, ◌≤◌, ◌<◌, true, List, [], refl, sym, ap, subst, ◌∙◌, inl, inr, arith}
+use Rattle.std.proofs.Common.{◌≡◌, ◌⊎◌, ℕ, ◌<◌, zero, suc, List, inl, inr, arith}
 use Rattle.std.proofs.Math.Logic.{∥∥₁_elim, ∥∥₁_map}
-use Rattle.std.proofs.lemmas.Bool.{cases_lt}
-use Rattle.std.specs.Prelude.{Option, Some, None, IfSome, MatchOption}
-use Rattle.std.specs.FinMap as files
 use Rattle.outside.specs.Counts.{Rose}
-use Rattle.outside.specs.Policy.{plain}
-use Rattle.outside.specs.SiteMap.{IsEmptyAt}
-use Rattle.outside.specs.Tool.{Apply}
 use Rattle.outside.specs.declared.numbers.TaskId.{TaskId}
-use Rattle.outside.specs.declared.policy.Policy.{Policy}
-use Rattle.outside.specs.declared.store.Store.{Store}
 use Rattle.plan_core.specs.declared.plan.Plan.{Plan}
-use Rattle.plan_core.specs.declared.plan.PlanJob.{PlanJob}
-use Rattle.plan_core.specs.declared.plan.TaskKind.{TaskKind}
-use Rattle.plan_core.specs.declared.plan.TaskKind.TheVariants.{Clean, Run, Transfer}
-use Rattle.plan_core.specs.declared.plan.Target.TheVariants.{Delivery, Site}
-use Rattle.plan_core.specs.Carried.{Bytes, carried}
-use Rattle.plan_core.specs.Kinds.{kind_carries}
-use Rattle.plan_core.specs.Proper.{IsProper}
-use Rattle.plan_core.specs.Words.{delivers, kind, kind_delivers, retries, task_numbers}
-use Rattle.lease_book.specs.Legal.{IsComplete, Legal}
-use Rattle.lease_book.specs.State.{now}
-use Rattle.storage_simulation.specs.Ordering.{IsOrder, at_start}
-use Rattle.run_record.specs.Events.{Event}
-use Rattle.planner.specs.Deliveries.{DeliversRequests, IsNamed, IsRequested}
+use Rattle.plan_core.specs.Words.{task_numbers}
+use Rattle.planner.specs.Deliveries.{DeliversRequests}
 use Rattle.planner.specs.Meaning.{MeansWorkflow}
-use Rattle.planner.specs.Planning.{CannotPlan, IsPlanOf}
-use Rattle.planner.specs.declared.plan_fault.PlanFault.{PlanFault}
-use Rattle.planner.specs.declared.plan_fault.PlanFault.TheVariants as plan_faults
-use Rattle.site_yard.specs.Changes.{carries}
-use Rattle.site_yard.specs.Ending.{first_fault}
-use Rattle.site_yard.specs.Failures.{AreCounted, RoseBy, host_faults, tool_faults}
-use Rattle.site_yard.specs.Faults.{AllBelow, AllCarried, IsCountedFault}
-use Rattle.site_yard.specs.Law.{Agrees, IsDeliveryOf}
-use Rattle.site_yard.specs.Names.{file_name, lfn_in, site_name}
-use Rattle.site_yard.specs.Opening.{Refuses, fault_of_opening}
-use Rattle.site_yard.specs.Places.{is_delivered}
-use Rattle.site_yard.specs.Truthful.{Truthful}
-use Rattle.site_yard.specs.declared.ending.RunFault.{RunFault}
-use Rattle.site_yard.specs.declared.ending.RunFault.TheVariants as faults
-use Rattle.site_yard.specs.declared.opening.OpenFault.{OpenFault}
-use Rattle.site_yard.specs.declared.opening.OpenFault.TheVariants as openings
 use Rattle.pegasus_cli.specs.Call.{IsDoneOrMemory}
-use Rattle.pegasus_cli.specs.Commands.Alone.{AllDelivered, CanRun, CanRunPlan, DeliversRequested, HasRunPlan, RefusedAs, RunsAlone, lfn, replicas_of}
-use Rattle.pegasus_cli.specs.Commands.Plan.{task_limit}
-use Rattle.pegasus_cli.specs.Course.{plan_answer}
-use Rattle.pegasus_cli.specs.KeptTools.{unknown_tool}
-use Rattle.pegasus_cli.specs.Moments.{Work}
-use Rattle.pegasus_cli.specs.Outcome.{outcome_of}
-use Rattle.pegasus_cli.specs.Running.{HasRun, IsRun, IsShown, IsTold, IsUnopened, Tells}
+use Rattle.pegasus_cli.specs.Commands.Alone.{HasRunFirst, RunsAlone}
+use Rattle.pegasus_cli.specs.Moments.{Work, count_of, first_tool}
+use Rattle.pegasus_cli.specs.PlanRun.{CanRun, IsReady}
+use Rattle.pegasus_cli.specs.Running.{HasRunAlone}
 use Rattle.pegasus_cli.specs.declared.outcome.Outcome.{Outcome}
 use Rattle.pegasus_cli.specs.declared.outcome.Outcome.TheVariants as outcomes
 use Rattle.pegasus_cli.specs.declared.survey.Surveyed.{Surveyed}
-use Rattle.pegasus_cli.proofs.PlanLemmas.{no_usage}
+use Rattle.pegasus_cli.proofs.PlanRunLemmas.{HasDeliveryLaws, NothingElseFails, done_prop, no_prop, run_finishes, run_is, unrun_finishes, unrun_no_usage}
 
--- ---- what is delivered
-
--- what complete records have delivered, and what others may have
-pub record HasDeliveryLaws (p : Plan) (order : List ℕ) : Type 0 where
-  pub complete : (r : List Event) → Legal p order r → IsComplete p (now p order r) → (t f : ℕ) → delivers p t f ≡ true → is_delivered p r f ≡ true
-  pub only : (r : List Event) (f : ℕ) → is_delivered p r f ≡ true → (t : ℕ) × (delivers p t f ≡ true)
-
-named_in : (s : Surveyed) (p : Plan) (f : ℕ) → IsNamed s.survey p f → file_name p f ≡ lfn s.survey f
-unfolding file_name
-named_in s p f named = ap lfn_in named.is ∙ named.named
-
-carried_if_delivered : (jobs : List PlanJob) (k : Option TaskKind) (f : ℕ) → kind_delivers k f ≡ true → kind_carries jobs k f ≡ true
-carried_if_delivered jobs None f h = absurd cc
-carried_if_delivered jobs (Some (Transfer g from Delivery)) f h = h
-carried_if_delivered jobs (Some (Transfer g from (Site a))) f h = absurd cc
-carried_if_delivered jobs (Some (Run a js)) f h = absurd cc
-carried_if_delivered jobs (Some (Clean q)) f h = absurd cc
-
-delivered_so : (w : Work) (s : Surveyed) (p : Plan) (order : List ℕ) (r : List Event) (m new : Store) → HasDeliveryLaws p order → DeliversRequests s.request s.survey p → MeansWorkflow s.request s.survey p → Agrees w.apply p r m new → DeliversRequested w s p r m new
-delivered_so w s p order r m new laws requests means agrees = record {
-  requested = λ f h. (asked f h, name_is f h);
-  carried = λ f h. at f h;
-  valued = λ honest f h. let d = at f h in d.2 ∙ means w.apply (replicas_of m) honest d.0 f (carried_if_delivered p.jobs (kind p d.0) f d.1);
-  others = λ name none. agrees.undelivered name (λ f h e. none f h (sym (name_is f h) ∙ e));
-}
-  where
-    asked : (f : ℕ) → is_delivered p r f ≡ true → IsRequested s.survey f
-    asked f h = requests.requested f (laws.only r f h)
-
-    name_is : (f : ℕ) → is_delivered p r f ≡ true → file_name p f ≡ lfn s.survey f
-    name_is f h = named_in s p f (requests.named f (asked f h).in_range)
-
-    at : (f : ℕ) → is_delivered p r f ≡ true → IsDeliveryOf p (carries w.apply p m) f (files.get new.delivered (lfn s.survey f))
-    at f h = subst (λ (n : List ℕ). IsDeliveryOf p (carries w.apply p m) f (files.get new.delivered n)) (name_is f h) (agrees.delivered f h)
-
-all_delivered : (w : Work) (s : Surveyed) (p : Plan) (order : List ℕ) (r : List Event) (a : Outcome) → HasDeliveryLaws p order → DeliversRequests s.request s.survey p → Legal p order r → Tells w p order r a → AllDelivered s p r a
-all_delivered w s p order r outcomes.Done laws requests legal tells = λ f asked. let task = requests.delivered f asked in laws.complete r legal tells.1 task.0 f task.1
-all_delivered w s p order r a laws requests legal tells = tt
-
-shown_delivers : (w : Work) (s : Surveyed) (p : Plan) (order : List ℕ) (r : List Event) → HasDeliveryLaws p order → DeliversRequests s.request s.survey p → MeansWorkflow s.request s.survey p → IsShown w p r
-    → IfSome w.before.told (λ m. IfSome w.after.told (λ new. DeliversRequested w s p r m new))
-shown_delivers w s p order r laws requests means shown = by w.before.told w.after.told shown
-  where
-    by : (old new : Option Store) → IfSome old (λ m. MatchOption new ⊥ (λ x. Agrees w.apply p r m x)) → IfSome old (λ m. IfSome new (λ x. DeliversRequested w s p r m x))
-    by None new h = tt
-    by (Some m) None h = tt
-    by (Some m) (Some x) h = delivered_so w s p order r m x laws requests means h
-
--- ---- the answers
-
-pub few_retries : (p : Plan) → p.policy ≡ plain → retries p ≤ 10
-unfolding retries
-few_retries p is = let none : p.policy.retries ≡ 0 = ap (λ (x : Policy). x.retries) is in omega (arith, none)
-
--- A plan was run.
-pub run_is : (w : Work) (s : Surveyed) (p : Plan) (order : List TaskId) (text : List ℕ) (a : Outcome) → IsPlanOf s.request s.survey task_limit p → IsOrder p at_start (task_numbers order) → IsProper p → s.request.policy ≡ plain
-    → unknown_tool w.known p.jobs ≡ None → HasDeliveryLaws p (task_numbers order) → DeliversRequests s.request s.survey p → MeansWorkflow s.request s.survey p → ∥ HasRun w p (task_numbers order) text a ∥₁ → RunsAlone w s text a
-run_is w s p order text a planned order_is proper policy tools laws requests means run = inr (∥∥₁_map run (λ (h : HasRun w p (task_numbers order) text a). record {
-  plan = p;
-  order = order;
-  planned = planned;
-  order_is = order_is;
-  proper = proper;
-  plain = requests.policy ∙ policy;
-  tools = tools;
-  ran = h;
-  delivers = shown_delivers w s p (task_numbers order) h.r laws requests means h.run.shown;
-  complete = all_delivered w s p (task_numbers order) h.r a laws requests h.run.legal h.tells;
+-- A plan was run by the first member of the crew.
+pub alone_is : (w : Work) (s : Surveyed) (p : Plan) (order : List TaskId) (text : List ℕ) (a : Outcome) → IsReady w.known s p order → HasDeliveryLaws p (task_numbers order) → DeliversRequests s.request s.survey p → MeansWorkflow s.request s.survey p
+    → ∥ HasRunAlone w p (task_numbers order) text a ∥₁ → RunsAlone w s text a
+alone_is w s p order text a ready laws requests means run = inr (∥∥₁_map run (λ (h : HasRunAlone w p (task_numbers order) text a). record {
+  planned = run_is w (first_tool w) 1 s p order text a ready laws requests means h.ran;
+  in_order = h.in_order;
 }))
 
-refused_as : (w : Work) (s : Surveyed) (fault : PlanFault) → CannotPlan s.request s.survey task_limit fault → RefusedAs w s (outcome_of (plan_answer fault))
-refused_as w s plan_faults.Memory h = tt
-refused_as w s (plan_faults.Exceeds site task needed bound) h = inl (record { fault = plan_faults.Exceeds site task needed bound; comes = h; answers = refl })
-refused_as w s fault h = inl (record { fault = fault; comes = h; answers = refl })
-
--- Planning has a fault.
-pub refused_is : (w : Work) (s : Surveyed) (fault : PlanFault) (text : List ℕ) (a : Outcome) → CannotPlan s.request s.survey task_limit fault → a ≡ outcome_of (plan_answer fault) → w.after ≡ w.before → text ≡ [] → RunsAlone w s text a
-refused_is w s fault text a h is same none = inl (record { refused = subst (RefusedAs w s) (sym is) (refused_as w s fault h); untouched = same; no_text = none })
-
--- A kept job's tool isn't known.
-pub lacking_is : (w : Work) (s : Surveyed) (p : Plan) (order : List TaskId) (fault : PlanFault) (text : List ℕ) (a : Outcome) → IsPlanOf s.request s.survey task_limit p → IsOrder p at_start (task_numbers order)
-    → unknown_tool w.known p.jobs ≡ Some fault → a ≡ outcomes.Refused fault → w.after ≡ w.before → text ≡ [] → RunsAlone w s text a
-lacking_is w s p order fault text a planned order_is first is same none = inl (record {
-  refused = subst (RefusedAs w s) (sym is) (inr (record { plan = p; order = order; planned = planned; order_is = order_is; fault = fault; first = first; answers = refl }));
-  untouched = same;
-  no_text = none;
-})
-
--- There was no memory.
-pub short_is : (w : Work) (s : Surveyed) (text : List ℕ) (a : Outcome) → a ≡ outcomes.Memory → w.after ≡ w.before → text ≡ [] → RunsAlone w s text a
-short_is w s text a is same none = inl (record { refused = subst (RefusedAs w s) (sym is) tt; untouched = same; no_text = none })
-
--- ---- what keeps it from Done
-
-abbrev pub NothingElseFails : Type 0
-NothingElseFails = (apply : Apply) (told : Bytes → Option Bytes) (p : Plan) (order : List ℕ) (r : List Event) (fault : RunFault) → IsProper p → Legal p order r → Truthful apply told p (carried apply told p) r → AllCarried apply told p → AllBelow 1 r
-    → first_fault p r ≡ Some fault → IsCountedFault (1 ≤ tool_faults 0 r) r fault
-
-rose_by : (n before now_ : ℕ) → 1 ≤ n → RoseBy n before now_ → Rose before now_
-rose_by n before now_ some rose = by (cases_lt now_ (2 ^ 64 - 1))
-  where
-    by : (now_ < 2 ^ 64 - 1) ⊎ (2 ^ 64 - 1 ≤ now_) → Rose before now_
-    by (inl l) = let more = rose l in grind (arith, more, some)
-    by (inr l) = grind (arith, l)
-
-shows_truth : (w : Work) (p : Plan) (r : List Event) (m : Store) → w.before.told ≡ Some m → IsShown w p r → Truthful w.apply (replicas_of m) p (carried w.apply (replicas_of m) p) r
-shows_truth w p r m told shown = by w.after.told (subst (λ (o : Option Store). IfSome o (λ x. MatchOption w.after.told ⊥ (λ s. Agrees w.apply p r x s))) told shown)
-  where
-    by : (new : Option Store) → MatchOption new ⊥ (λ s. Agrees w.apply p r m s) → Truthful w.apply (replicas_of m) p (carried w.apply (replicas_of m) p) r
-    by None h = absurd h
-    by (Some s) h = h.truthful
-
--- no opening of empty sites is refused but for a counted failure, or want of memory
-no_refusal : (w : Work) (p : Plan) (fault : RunFault) → CanRunPlan w p → (Rose w.before.counts.faults w.after.counts.faults → ⊥) → IsUnopened w p fault → fault ≡ faults.Memory
-no_refusal w p fault can still h = by h.opening h.refuses h.fault_is
-  where
-    by : (opening : OpenFault) → Refuses p w.before.told w.before.counts w.after.counts opening → fault ≡ fault_of_opening p opening → fault ≡ faults.Memory
-    by (openings.ScratchInUse x) refuses is =
-        let used = subst (λ (o : Option Store). IfSome o (λ s. IsEmptyAt s.scratch (site_name p x.0) → ⊥)) can.told refuses.2.1 in
-        let unused = subst (λ (o : Option Store). IfSome o (λ s. IsEmptyAt s.scratch (site_name p x.0))) can.told (can.unused x.0 refuses.0 refuses.2.0) in
-        absurd (used unused)
-    by openings.HostFailed refuses is = absurd (still refuses)
-    by openings.Memory refuses is = is
-
-counted_told : (w : Work) (r : List Event) (m : Store) → w.before.told ≡ Some m → AreCounted w.before.told w.before.counts.faults w.before.counts.misses w.after.counts r → RoseBy (host_faults r) w.before.counts.faults w.after.counts.faults
-counted_told w r m told counted = subst (λ (o : Option Store). AreCounted o w.before.counts.faults w.before.counts.misses w.after.counts r) told counted
-
-no_fail : (law : NothingElseFails) (w : Work) (p : Plan) (order : List ℕ) (r : List Event) (fault : RunFault) → IsProper p → CanRunPlan w p → IsRun w p order r → first_fault p r ≡ Some fault
-    → (Rose w.before.counts.faults w.after.counts.faults → ⊥) → (Rose w.before.tool w.after.tool → ⊥) → fault ≡ faults.Memory
-no_fail law w p order r fault proper can run first host tool =
-    by fault (law w.apply (replicas_of can.store) p order r fault proper run.legal (shows_truth w p r can.store can.told run.shown) can.carried run.alone first)
-  where
-    by : (f : RunFault) → IsCountedFault (1 ≤ tool_faults 0 r) r f → f ≡ faults.Memory
-    by (faults.HostFailed None) h = absurd h
-    by (faults.HostFailed (Some t)) h = absurd (host (rose_by (host_faults r) _ _ h (counted_told w r can.store can.told run.counted)))
-    by (faults.ToolFailed id) h = absurd (tool (rose_by (tool_faults 0 r) _ _ h run.tool))
-    by faults.Memory h = refl
-    by f h = absurd h
-
-run_finishes : (law : NothingElseFails) (w : Work) (s : Surveyed) (text : List ℕ) (a : Outcome) → HasRunPlan w s text a → CanRun w s → (Rose w.before.counts.faults w.after.counts.faults → ⊥) → (Rose w.before.tool w.after.tool → ⊥) → IsDoneOrMemory a
-run_finishes law w s text a h can host tool = by a h.ran.tells
-  where
-    plan_can : CanRunPlan w h.plan
-    plan_can = can.plan h.plan h.planned
-
-    by : (a : Outcome) → Tells w h.plan (task_numbers h.order) h.ran.r a → IsDoneOrMemory a
-    by outcomes.Done tells = tt
-    by outcomes.Memory tells = tt
-    by (outcomes.Failed fault) (told, inl first) = absurd (not_told fault told (no_fail law w h.plan (task_numbers h.order) h.ran.r fault h.proper plan_can h.ran.run first.1 host tool))
-      where
-        not_told : (f : RunFault) → IsTold f → f ≡ faults.Memory → ⊥
-        not_told f told is = subst IsTold is told
-    by (outcomes.Failed fault) (told, inr refused) = absurd (subst IsTold (no_refusal w h.plan fault plan_can host refused.1) told)
-    by a tells = absurd tells
-
-unrun_finishes : (w : Work) (s : Surveyed) (a : Outcome) → RefusedAs w s a → CanRun w s → IsDoneOrMemory a
-unrun_finishes w s outcomes.Memory h can = tt
-unrun_finishes w s a (inl h) can = subst IsDoneOrMemory (sym (h.answers ∙ ap (λ (f : PlanFault). outcome_of (plan_answer f)) (can.no_fault h.fault h.comes))) tt
-unrun_finishes w s a (inr h) can = absurd (let clash : ◌≡◌ {A = Option PlanFault} None (Some h.fault) = sym (can.plan h.plan h.planned).tools ∙ h.first in cc)
-
-answer_prop : (a : Outcome) → IsProp (IsDoneOrMemory a)
-answer_prop outcomes.Done = λ x y. refl
-answer_prop outcomes.Memory = λ x y. refl
-answer_prop a = λ x y. absurd x
+first_still : (w : Work) → (Rose w.before.tool w.after.tool → ⊥) → (k : ℕ) → k < 1 → Rose (count_of (first_tool w).before k) (count_of (first_tool w).after k) → ⊥
+first_still w still zero l rose = still rose
+first_still w still (suc k) l rose = absurd (omega (arith, l))
 
 pub alone_finishes : (law : NothingElseFails) (w : Work) (s : Surveyed) (text : List ℕ) (a : Outcome) → RunsAlone w s text a → CanRun w s → (Rose w.before.counts.faults w.after.counts.faults → ⊥) → (Rose w.before.tool w.after.tool → ⊥) → IsDoneOrMemory a
 alone_finishes law w s text a (inl h) can host tool = unrun_finishes w s a h.refused can
-alone_finishes law w s text a (inr h) can host tool = ∥∥₁_elim h (answer_prop a) (λ (k : HasRunPlan w s text a). run_finishes law w s text a k can host tool)
+alone_finishes law w s text a (inr h) can host tool = ∥∥₁_elim h (done_prop a) (λ (k : HasRunFirst w s text a). run_finishes law w (first_tool w) 1 s text a k.planned can host (first_still w tool))
 
 pub alone_is_no_usage : (w : Work) (s : Surveyed) (text : List ℕ) → RunsAlone w s text outcomes.Usage → ⊥
-alone_is_no_usage w s text (inl h) = by h.refused
-  where
-    by : RefusedAs w s outcomes.Usage → ⊥
-    by (inl r) = no_usage r.fault r.answers
-    by (inr r) = (let clash : ◌≡◌ {A = Outcome} outcomes.Usage (outcomes.Refused r.fault) = r.answers in absurd cc)
-alone_is_no_usage w s text (inr h) = ∥∥₁_elim h no_prop (λ (k : HasRunPlan w s text outcomes.Usage). k.ran.tells)
-  where
-    no_prop : IsProp ⊥
-    no_prop = λ x y. absurd x
+alone_is_no_usage w s text (inl h) = unrun_no_usage w.known s h.refused
+alone_is_no_usage w s text (inr h) = ∥∥₁_elim h no_prop (λ (k : HasRunFirst w s text outcomes.Usage). k.planned.ran.tells)

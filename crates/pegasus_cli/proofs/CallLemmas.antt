@@ -24,18 +24,21 @@ use Rattle.pegasus_cli.specs.declared.outcome.Outcome.{Outcome}
 use Rattle.pegasus_cli.specs.declared.outcome.Outcome.TheVariants as outcomes
 use Rattle.planner.specs.declared.plan_fault.PlanFault.TheVariants as plan
 use Rattle.planner.specs.declared.inputs.Survey.{Survey}
-use Rattle.pegasus_cli.specs.Call.{Ends, HasWorked, IsAnswer, IsAnswered, IsDoneOrMemory, IsStopped, IsUsage, MayFinish, NoneRose}
+use Rattle.pegasus_cli.specs.Call.{Ends, GoesOnWith, HasNotWorked, HasWorked, IsAnswer, IsAnswered, IsDoneOrMemory, IsEarly, IsStopped, IsUsage, MayFinish, NoneRose}
 use Rattle.pegasus_cli.specs.Commands.{spec_of}
 use Rattle.pegasus_cli.specs.Commands.Eval.{Says as eval_says}
+use Rattle.pegasus_cli.specs.Commands.Run.{RunsMany}
 use Rattle.pegasus_cli.specs.Commands.Check.{Says}
 use Rattle.pegasus_cli.specs.Course.{ButMemory, Gives, HasFailed, IsStep, documents, plan_answer, read_from}
-use Rattle.pegasus_cli.specs.Moments.{Call, DocsMoment, Output, Work, first_count}
+use Rattle.pegasus_cli.specs.Moments.{Asked, Call, DocsMoment, Output, Tools, Work, count_of, first_count}
 use Rattle.pegasus_cli.specs.Outcome.{line_of, outcome_of}
 use Rattle.pegasus_cli.specs.Survey.{GoesOn, IsSurveyed, Stops}
 use Rattle.pegasus_cli.specs.declared.survey.Surveyed.{Surveyed}
 use Rattle.pegasus_cli.specs.Words.{command as command_of}
 use Rattle.pegasus_cli.proofs.CourseLemmas.{result_again, told_gives}
-use Rattle.pegasus_cli.proofs.AloneLemmas.{NothingElseFails, alone_finishes, alone_is_no_usage}
+use Rattle.pegasus_cli.proofs.AloneLemmas.{alone_finishes, alone_is_no_usage}
+use Rattle.pegasus_cli.proofs.PlanRunLemmas.{NothingElseFails}
+use Rattle.pegasus_cli.proofs.RunLemmas.{many_finishes, many_is_no_usage}
 use Rattle.pegasus_cli.proofs.FinishLemmas.{eval_finishes}
 use Rattle.pegasus_cli.proofs.PlanLemmas.{plan_finishes, plan_is_no_usage}
 
@@ -60,16 +63,6 @@ ends_done : (o : Output) (text : List ℕ) (a x : Outcome) → Ends o text a x �
 ends_done o text a outcomes.Memory e h still = tt
 ends_done o text a outcomes.SinkFailed e h still = absurd (still e.0)
 ends_done o text a x e h still = subst IsDoneOrMemory (sym e.0) h
-
--- The words are no command.
-pub usage_answered : (c : Call) (outcome : Outcome) (text : List ℕ) → command_of c.asked.words ≡ None → c.asked.after ≡ c.asked.before → c.work.after ≡ c.work.before → text ≡ [] → Ends c.output text outcomes.Usage outcome → IsAnswered c outcome
-usage_answered c outcome text none not_asked untouched no_text ends = record {
-  answer = outcomes.Usage;
-  text = text;
-  came = inl (record { no_command = none; answers = refl; not_asked = not_asked; untouched = untouched; no_text = no_text });
-  ends = ends;
-  completes = λ may still. absurd (no_command (command_of c.asked.words) (may.command, may.request) may.is_command none);
-}
 
 -- told documents give what they read, where no fault was counted
 told_step : (name : List ℕ) (before after : DocsMoment) (files : Files) (requested : Requested) (r : Result Requested Early) → before.told ≡ Some files → read_from files (documents name) ≡ Ok requested → (Rose before.counts.faults after.counts.faults → ⊥)
@@ -130,47 +123,66 @@ stops_short c e may still (inr h) =
 of_memory : (e : Early) → e ≡ early.Memory → IsDoneOrMemory (outcome_of e)
 of_memory e h = subst (λ z. IsDoneOrMemory (outcome_of z)) (sym h) tt
 
--- The documents ended the call.
-pub stopped_answered : (c : Call) (k : Command) (request : List ℕ) (e : Early) (outcome : Outcome) (text : List ℕ) → command_of c.asked.words ≡ Some (k, request) → Stops request c.asked.before c.asked.after e → c.work.after ≡ c.work.before → text ≡ []
-    → Ends c.output text (outcome_of e) outcome → IsAnswered c outcome
-stopped_answered c k request e outcome text is stops untouched no_text ends = record {
-  answer = outcome_of e;
+-- what ended a call early, where nothing keeps it from Done
+early_done : (c : Call) (a : Outcome) → IsEarly c.asked a → MayFinish c → NoneRose c → IsDoneOrMemory a
+early_done c a (inl usage) may still = absurd (no_command (command_of c.asked.words) (may.command, may.request) may.is_command usage.no_command)
+early_done c a (inr stopped) may still =
+    let same = same_command (command_of c.asked.words) (stopped.command, stopped.request) (may.command, may.request) stopped.is_command may.is_command in
+    let mine = subst (λ (r : List ℕ). Stops r c.asked.before c.asked.after stopped.early) (ap (λ (x : Command × List ℕ). x.1) same) stopped.stops in
+    subst IsDoneOrMemory (sym stopped.answers) (of_memory stopped.early (stops_short c stopped.early may still mine))
+
+-- The words or the documents ended the call.
+pub early_answered : (c : Call) (a outcome : Outcome) (text : List ℕ) → IsEarly c.asked a → c.work.after ≡ c.work.before → c.tools.after ≡ c.tools.before → text ≡ [] → Ends c.output text a outcome → IsAnswered c outcome
+early_answered c a outcome text early untouched unused no_text ends = record {
+  answer = a;
   text = text;
-  came = inr (inl (record { command = k; request = request; is_command = is; early = e; stops = stops; answers = refl; untouched = untouched; no_text = no_text }));
+  came = inl (record { early = early; untouched = untouched; unused = unused; no_text = no_text });
   ends = ends;
-  completes = λ may still.
-      let same = same_command (command_of c.asked.words) (k, request) (may.command, may.request) is may.is_command in
-      let mine = subst (λ (r : List ℕ). Stops r c.asked.before c.asked.after e) (ap (λ (x : Command × List ℕ). x.1) same) stops in
-      ends_done c.output text (outcome_of e) outcome ends (of_memory e (stops_short c e may still mine)) still.sink;
+  completes = λ may still. ends_done c.output text a outcome ends (early_done c a early may still) still.sink;
 }
+
+-- what a call is told of its words and its documents
+pub usage_is : (a : Asked) (answer : Outcome) → command_of a.words ≡ None → a.after ≡ a.before → answer ≡ outcomes.Usage → IsEarly a answer
+usage_is a answer none not_asked is = inl (record { no_command = none; answers = is; not_asked = not_asked })
+
+pub stopped_is : (a : Asked) (answer : Outcome) (k : Command) (request : List ℕ) (e : Early) → command_of a.words ≡ Some (k, request) → Stops request a.before a.after e → answer ≡ outcome_of e → IsEarly a answer
+stopped_is a answer k request e is stops answers = inr (record { command = k; request = request; is_command = is; early = e; stops = stops; answers = answers })
+
+pub goes_on_with : (a : Asked) (k : Command) (request : List ℕ) (s : Surveyed) → command_of a.words ≡ Some (k, request) → GoesOn request a.before a.after s → GoesOnWith a k s
+goes_on_with a k request s is goes_on = record { request = request; is_command = is; goes_on = goes_on }
 
 check_finishes : (s : Survey) (text : List ℕ) (a : Outcome) → Says s text a → IsDoneOrMemory a
 check_finishes s text outcomes.Done h = tt
 check_finishes s text outcomes.Memory h = tt
 check_finishes s text a h = absurd h
 
-finishes : (law : NothingElseFails) (k : Command) (w : Work) (s : Surveyed) (text : List ℕ) (a : Outcome) → (spec_of k).Works w s text a → (spec_of k).CanFinish w s → (Rose w.before.counts.faults w.after.counts.faults → ⊥) → (Rose w.before.tool w.after.tool → ⊥) → IsDoneOrMemory a
-finishes law commands.Check w s text a works can host tool = check_finishes s.survey text a works.says
-finishes law commands.Plan w s text a works can host tool = plan_finishes s text a works.says can
-finishes law commands.Eval w s text a works can host tool = eval_finishes w s text a works.says can host tool
-finishes law commands.Alone w s text a works can host tool = alone_finishes law w s text a works can host tool
+finishes : (law : NothingElseFails) (k : Command) (w : Work) (t : Tools) (s : Surveyed) (text : List ℕ) (a : Outcome) → (spec_of k).Works w t s text a → (spec_of k).CanFinish w s → (Rose w.before.counts.faults w.after.counts.faults → ⊥) → (Rose w.before.tool w.after.tool → ⊥)
+    → ((j : ℕ) → Rose (count_of t.before j) (count_of t.after j) → ⊥) → IsDoneOrMemory a
+finishes law commands.Check w t s text a works can host tool tools = check_finishes s.survey text a works.says
+finishes law commands.Plan w t s text a works can host tool tools = plan_finishes s text a works.says can
+finishes law commands.Eval w t s text a works can host tool tools = eval_finishes w s text a works.says can host tool
+finishes law commands.Alone w t s text a works can host tool tools = alone_finishes law w s text a works can host tool
+finishes law (commands.Run n) w t s text a works can host tool tools = many_finishes law n w t s text a works can host tools
 
 -- The command did its work.
-pub worked_answered : (law : NothingElseFails) (c : Call) (k : Command) (request : List ℕ) (s : Surveyed) (answer outcome : Outcome) (text : List ℕ) → command_of c.asked.words ≡ Some (k, request) → GoesOn request c.asked.before c.asked.after s → (spec_of k).Works c.work s text answer
-    → Ends c.output text answer outcome → IsAnswered c outcome
-worked_answered law c k request s answer outcome text is goes_on works ends = record {
+pub worked_answered : (law : NothingElseFails) (c : Call) (k : Command) (s : Surveyed) (answer outcome : Outcome) (text : List ℕ) → GoesOnWith c.asked k s → (spec_of k).Works c.work c.tools s text answer → Ends c.output text answer outcome → IsAnswered c outcome
+worked_answered law c k s answer outcome text goes_on works ends = record {
   answer = answer;
   text = text;
-  came = inr (inr (record { command = k; request = request; is_command = is; surveyed = s; goes_on = goes_on; works = works }));
+  came = inr (record { command = k; surveyed = s; goes_on = goes_on; works = works });
   ends = ends;
   completes = λ may still.
-      let same = same_command (command_of c.asked.words) (may.command, may.request) (k, request) may.is_command is in
-      let mine = subst (λ (r : List ℕ). GoesOn r c.asked.before c.asked.after s) (ap (λ (x : Command × List ℕ). x.1) (sym same)) goes_on in
+      let same = same_command (command_of c.asked.words) (may.command, may.request) (k, goes_on.request) may.is_command goes_on.is_command in
+      let mine = subst (λ (r : List ℕ). GoesOn r c.asked.before c.asked.after s) (ap (λ (x : Command × List ℕ). x.1) (sym same)) goes_on.goes_on in
       let came = came_as mine.requested may.requested (told_step may.request c.asked.before c.asked.after may.files may.requested (Ok mine.requested) may.told may.reads still.docs mine.came) in
       let surveyed = subst (λ (x : Requested). IsSurveyed x s) came mine.surveyed in
       let can = subst (λ (x : Command). (spec_of x).CanFinish c.work s) (ap (λ (x : Command × List ℕ). x.0) same) (may.can_finish s surveyed) in
-      ends_done c.output text answer outcome ends (finishes law k c.work s text answer works can still.host still.tool) still.sink;
+      ends_done c.output text answer outcome ends (finishes law k c.work c.tools s text answer works can still.host still.tool still.tools) still.sink;
 }
+
+-- A run by n workers did its work.
+pub many_answered : (law : NothingElseFails) (c : Call) (k : Command) (n : ℕ) (s : Surveyed) (answer outcome : Outcome) (text : List ℕ) → GoesOnWith c.asked k s → k ≡ commands.Run n → RunsMany n c.work c.tools s text answer → Ends c.output text answer outcome → IsAnswered c outcome
+many_answered law c k n s answer outcome text goes_on is works ends = worked_answered law c (commands.Run n) s answer outcome text (subst (λ (x : Command). GoesOnWith c.asked x s) is goes_on) works ends
 
 check_is_no_usage : (s : Survey) (text : List ℕ) → Says s text outcomes.Usage → ⊥
 check_is_no_usage s text h = h
@@ -178,11 +190,12 @@ check_is_no_usage s text h = h
 eval_is_no_usage : (w : Work) (s : Surveyed) (text : List ℕ) → eval_says w s text outcomes.Usage → ⊥
 eval_is_no_usage w s text h = h.0
 
-work_is_no_usage : (k : Command) (w : Work) (s : Surveyed) (text : List ℕ) → (spec_of k).Works w s text outcomes.Usage → ⊥
-work_is_no_usage commands.Check w s text h = check_is_no_usage s.survey text h.says
-work_is_no_usage commands.Plan w s text h = plan_is_no_usage s text h.says
-work_is_no_usage commands.Eval w s text h = eval_is_no_usage w s text h.says
-work_is_no_usage commands.Alone w s text h = alone_is_no_usage w s text h
+work_is_no_usage : (k : Command) (w : Work) (t : Tools) (s : Surveyed) (text : List ℕ) → (spec_of k).Works w t s text outcomes.Usage → ⊥
+work_is_no_usage commands.Check w t s text h = check_is_no_usage s.survey text h.says
+work_is_no_usage commands.Plan w t s text h = plan_is_no_usage s text h.says
+work_is_no_usage commands.Eval w t s text h = eval_is_no_usage w s text h.says
+work_is_no_usage commands.Alone w t s text h = alone_is_no_usage w s text h
+work_is_no_usage (commands.Run n) w t s text h = many_is_no_usage n w t s text h
 
 early_is_no_usage : (e : Early) → outcomes.Usage ≡ outcome_of e → ⊥
 early_is_no_usage early.Memory h = (let clash : ◌≡◌ {A = Outcome} outcomes.Usage outcomes.Memory = h in absurd cc)
@@ -196,19 +209,25 @@ early_is_no_usage (early.Exceeds s t n b) h = (let clash : ◌≡◌ {A = Outcom
 pub usage_is_no_command : (c : Call) → IsAnswered c outcomes.Usage → command_of c.asked.words ≡ None
 usage_is_no_command c answered = came_so answered.came
   where
-    came_so : IsUsage c answered.text answered.answer ⊎ (IsStopped c answered.text answered.answer ⊎ HasWorked c answered.text answered.answer) → command_of c.asked.words ≡ None
-    came_so (inl usage) = usage.no_command
-    came_so (inr (inl stopped)) = absurd (early_is_no_usage stopped.early (answered.ends.0 ∙ stopped.answers))
-    came_so (inr (inr worked)) = absurd (work_is_no_usage worked.command c.work worked.surveyed answered.text (subst ((spec_of worked.command).Works c.work worked.surveyed answered.text) (sym answered.ends.0) worked.works))
+    came_so : HasNotWorked c answered.text answered.answer ⊎ HasWorked c answered.text answered.answer → command_of c.asked.words ≡ None
+    came_so (inl none) = early_so none.early
+      where
+        early_so : IsEarly c.asked answered.answer → command_of c.asked.words ≡ None
+        early_so (inl usage) = usage.no_command
+        early_so (inr stopped) = absurd (early_is_no_usage stopped.early (answered.ends.0 ∙ stopped.answers))
+    came_so (inr worked) = absurd (work_is_no_usage worked.command c.work c.tools worked.surveyed answered.text (subst ((spec_of worked.command).Works c.work c.tools worked.surveyed answered.text) (sym answered.ends.0) worked.works))
 
 -- Where the words are no command, the answer is Usage.
 pub no_command_is_usage : (c : Call) (outcome : Outcome) → command_of c.asked.words ≡ None → (answered : IsAnswered c outcome) → answered.answer ≡ outcomes.Usage
 no_command_is_usage c outcome none answered = came_so answered.came
   where
-    came_so : IsUsage c answered.text answered.answer ⊎ (IsStopped c answered.text answered.answer ⊎ HasWorked c answered.text answered.answer) → answered.answer ≡ outcomes.Usage
-    came_so (inl usage) = usage.answers
-    came_so (inr (inl stopped)) = absurd (no_command (command_of c.asked.words) (stopped.command, stopped.request) stopped.is_command none)
-    came_so (inr (inr worked)) = absurd (no_command (command_of c.asked.words) (worked.command, worked.request) worked.is_command none)
+    came_so : HasNotWorked c answered.text answered.answer ⊎ HasWorked c answered.text answered.answer → answered.answer ≡ outcomes.Usage
+    came_so (inl not) = early_so not.early
+      where
+        early_so : IsEarly c.asked answered.answer → answered.answer ≡ outcomes.Usage
+        early_so (inl usage) = usage.answers
+        early_so (inr stopped) = absurd (no_command (command_of c.asked.words) (stopped.command, stopped.request) stopped.is_command none)
+    came_so (inr worked) = absurd (no_command (command_of c.asked.words) (worked.command, worked.goes_on.request) worked.goes_on.is_command none)
 
 -- the count of the first member of a crew, before and after it worked
 pub first_is : {A : Type 0} (count : A → ℕ) (crew : List A) (first : A) → length crew ≡ 16 → first ≡ get_or crew 0 first → first_count (map count crew) ≡ count first

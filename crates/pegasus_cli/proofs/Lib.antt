@@ -6,7 +6,13 @@ pub mod EvaluationLemmas
 pub mod FinishLemmas
 pub mod PlanLemmas
 pub mod RunningLemmas
+pub mod PlanRunLemmas
 pub mod AloneLemmas
+pub mod RunLemmas
+pub mod RunningManyLemmas
+pub mod MembersLemmas
+pub mod WordsLemmas
+pub mod HeadlineLemmas
 pub mod CallLemmas
 pub mod ValueTextLemmas
 pub mod SurveyLemmas

@@ -1,5 +1,5 @@
 -- A run of a plan: what its yard's record, its host and its tool say of it.
-use Rattle.std.proofs.Common.{◌≡◌, ◌⊎◌, ℕ, ◌+◌, ◌≤◌, true, List, [], ◌∷◌, length, take, refl, sym, ap, subst, ◌∙◌, inl, inr, arith}
+use Rattle.std.proofs.Common.{◌≡◌, ◌⊎◌, ℕ, ◌+◌, ◌≤◌, ◌<◌, zero, suc, true, List, [], ◌∷◌, length, take, refl, sym, ap, subst, ◌∙◌, inl, inr, arith}
 use Rattle.std.specs.Prelude.{Option, Some, None, Result, Ok, Err, IfOk, IfSome, MatchOption, is_some}
 use Rattle.std.proofs.lemmas.List.{append-nil}
 use Rattle.outside.specs.Counts.{IsLater}
@@ -33,8 +33,8 @@ use Rattle.site_yard.specs.declared.ending.RunFault.TheVariants as faults
 use Rattle.site_yard.specs.declared.opening.OpenFault.{OpenFault}
 use Rattle.worker_gate.specs.Alone.{AllBy, IsOver, NoneOpen, WorksAlone, begun}
 use Rattle.worker_gate.specs.Inputs.{AddsOfInputs, AreOfInputs}
-use Rattle.pegasus_cli.specs.Moments.{Work}
-use Rattle.pegasus_cli.specs.Running.{AnswersEnd, AreDeliveries, HasRun, IsRefusal, IsRunText, IsShown, Prints, Tells, fault_answer, marked_if}
+use Rattle.pegasus_cli.specs.Moments.{Tools, Work, count_of, first_tool}
+use Rattle.pegasus_cli.specs.Running.{AnswersEnd, AreDeliveries, HasRun, HasRunAlone, IsRefusal, IsRun, IsRunText, IsShown, Prints, Tells, fault_answer, marked_if}
 use Rattle.pegasus_cli.specs.RunText.{run_text}
 use Rattle.pegasus_cli.specs.declared.outcome.Outcome.{Outcome}
 use Rattle.pegasus_cli.specs.declared.outcome.Outcome.TheVariants as outcomes
@@ -124,8 +124,53 @@ pub marked_so : (o : Option Store) (m n : Store) → n ≡ m → IfSome o (λ s.
 marked_so None m n same h = tt
 marked_so (Some s) m n same h = same ∙ h
 
--- What a yard shows at the end of its run.
-pub record IsYardEnd (w : Work) (p : Plan) (order : List ℕ) (r : List Event) (told : Option Store) (marked : Store) (faults misses : ℕ) : Type 0 where
+-- What a yard shows at the end of a run by n workers.
+pub record IsYardEnd (w : Work) (t : Tools) (n : ℕ) (p : Plan) (order : List ℕ) (r : List Event) (told : Option Store) (marked : Store) (faults misses : ℕ) : Type 0 where
+  pub told_is : w.after.told ≡ told
+  pub tells : is_some told ≡ is_some w.before.told
+  pub marked_is : IfSome w.before.told (λ s. marked ≡ s)
+  pub faults_are : faults ≡ w.before.counts.faults
+  pub misses_are : misses ≡ w.before.counts.misses
+  pub unused : AreUnused p w.before.told
+  pub below : AllBelow n r
+  pub over : (r ≡ []) ⊎ IsOver p (now p order r)
+  pub none_open : NoneOpen (now p order r)
+  pub inputs : AreOfInputs w.apply p r
+  pub tools : (k : ℕ) → k < n → RoseBy (tool_faults k r) (count_of t.before k) (count_of t.after k)
+
+run_so : (w : Work) (t : Tools) (n : ℕ) (p : Plan) (order : List ℕ) (r : List Event) (told : Option Store) (marked : Store) (faults misses : ℕ) → IsYardEnd w t n p order r told marked faults misses → HasLaws p order r → Legal p order r
+    → IfSome told (Agrees w.apply p r marked) → AreCounted told faults misses w.after.counts r → IsRun w t n p order r
+run_so w t n p order r told marked faults misses end laws legal agrees counted = record {
+  legal = legal;
+  below = end.below;
+  over = end.over;
+  none_open = end.none_open;
+  safe = laws.safe;
+  left = laws.left;
+  shown = shown_so w p r marked told end.told_is end.tells end.marked_is agrees;
+  inputs = end.inputs;
+  counted = counted_so p r w.before.told told faults misses w.before.counts.faults w.before.counts.misses w.after.counts end.tells end.faults_are end.misses_are counted;
+  tools = end.tools;
+}
+
+-- A run whose opening was accepted.
+pub ran : (w : Work) (t : Tools) (n : ℕ) (p : Plan) (order : List ℕ) (r : List Event) (told : Option Store) (marked : Store) (faults misses : ℕ) (text : List ℕ) (a : Outcome) → IsYardEnd w t n p order r told marked faults misses → HasLaws p order r
+    → Legal p order r → IfSome told (Agrees w.apply p r marked) → AreCounted told faults misses w.after.counts r → AnswersEnd p order r a → Prints w.apply p r (marked_if told marked) text a → HasRun w t n p order text a
+ran w t n p order r told marked faults misses text a end laws legal agrees counted answers prints = record {
+  r = r;
+  run = run_so w t n p order r told marked faults misses end laws legal agrees counted;
+  tells = tells_so w p order r a end.unused answers;
+  prints = prints_so w p r told marked text a end.tells end.marked_is prints;
+}
+
+-- ---- one worker alone
+
+first_rose : (w : Work) (r added : List Event) → r ≡ added → RoseBy (tool_faults 0 added) w.before.tool w.after.tool → (k : ℕ) → k < 1 → RoseBy (tool_faults k r) (count_of (first_tool w).before k) (count_of (first_tool w).after k)
+first_rose w r added is rose zero l = subst (λ (es : List Event). RoseBy (tool_faults 0 es) w.before.tool w.after.tool) (sym is) rose
+first_rose w r added is rose (suc k) l = absurd (omega (arith, l))
+
+-- What a yard shows at the end of a run by one worker alone.
+pub record IsAloneEnd (w : Work) (p : Plan) (order : List ℕ) (r : List Event) (told : Option Store) (marked : Store) (faults misses : ℕ) : Type 0 where
   pub told_is : w.after.told ≡ told
   pub tells : is_some told ≡ is_some w.before.told
   pub marked_is : IfSome w.before.told (λ s. marked ≡ s)
@@ -135,26 +180,32 @@ pub record IsYardEnd (w : Work) (p : Plan) (order : List ℕ) (r : List Event) (
   pub works : WorksAlone p order [] r w.before.tool w.after.tool
   pub inputs : AddsOfInputs w.apply p [] r
 
--- A run whose opening was accepted.
-pub ran : (w : Work) (p : Plan) (order : List ℕ) (r : List Event) (told : Option Store) (marked : Store) (faults misses : ℕ) (text : List ℕ) (a : Outcome) → IsYardEnd w p order r told marked faults misses → HasLaws p order r
-    → Legal p order r → IfSome told (Agrees w.apply p r marked) → AreCounted told faults misses w.after.counts r → AnswersEnd p order r a → Prints w.apply p r (marked_if told marked) text a → HasRun w p order text a
-ran w p order r told marked faults misses text a end laws legal agrees counted answers prints = record {
-  r = r;
-  run = record {
-    legal = legal;
-    alone = subst (AllBelow 1) (sym end.works.is) (below_one end.works.added end.works.by_zero);
-    over = inr end.works.over;
-    none_open = end.works.none_open;
-    in_order = λ none. subst (λ (es : List Event). begun es ≡ take (length (begun es)) order) (sym end.works.is) (end.works.in_order none);
-    safe = laws.safe;
-    left = laws.left;
-    shown = shown_so w p r marked told end.told_is end.tells end.marked_is agrees;
-    inputs = subst (AreOfInputs w.apply p) (sym end.inputs.is) end.inputs.are;
-    counted = counted_so p r w.before.told told faults misses w.before.counts.faults w.before.counts.misses w.after.counts end.tells end.faults_are end.misses_are counted;
-    tool = subst (λ (es : List Event). RoseBy (tool_faults 0 es) w.before.tool w.after.tool) (sym end.works.is) end.works.counted;
+of_all : (w : Work) (p : Plan) (order : List ℕ) (r : List Event) (told : Option Store) (marked : Store) (faults misses : ℕ) → IsAloneEnd w p order r told marked faults misses → IsYardEnd w (first_tool w) 1 p order r told marked faults misses
+of_all w p order r told marked faults misses end = record {
+  told_is = end.told_is;
+  tells = end.tells;
+  marked_is = end.marked_is;
+  faults_are = end.faults_are;
+  misses_are = end.misses_are;
+  unused = end.unused;
+  below = subst (AllBelow 1) (sym end.works.is) (below_one end.works.added end.works.by_zero);
+  over = inr end.works.over;
+  none_open = end.works.none_open;
+  inputs = subst (AreOfInputs w.apply p) (sym end.inputs.is) end.inputs.are;
+  tools = first_rose w r end.works.added end.works.is end.works.counted;
+}
+
+-- A run by one worker whose opening was accepted.
+pub ran_alone : (w : Work) (p : Plan) (order : List ℕ) (r : List Event) (told : Option Store) (marked : Store) (faults misses : ℕ) (text : List ℕ) (a : Outcome) → IsAloneEnd w p order r told marked faults misses → HasLaws p order r
+    → Legal p order r → IfSome told (Agrees w.apply p r marked) → AreCounted told faults misses w.after.counts r → AnswersEnd p order r a → Prints w.apply p r (marked_if told marked) text a → HasRunAlone w p order text a
+ran_alone w p order r told marked faults misses text a end laws legal agrees counted answers prints = record {
+  ran = record {
+    r = r;
+    run = run_so w (first_tool w) 1 p order r told marked faults misses (of_all w p order r told marked faults misses end) laws legal agrees counted;
+    tells = tells_so w p order r a end.unused answers;
+    prints = prints_so w p r told marked text a end.tells end.marked_is prints;
   };
-  tells = tells_so w p order r a end.unused answers;
-  prints = prints_so w p r told marked text a end.tells end.marked_is prints;
+  in_order = λ none. subst (λ (es : List Event). begun es ≡ take (length (begun es)) order) (sym end.works.is) (end.works.in_order none);
 }
 
 -- ---- a refused opening
@@ -184,9 +235,9 @@ unfolding host_faults host_misses
 counted_at_start None before after later = λ l m. omega (arith, later.faults, later.misses)
 counted_at_start (Some s) before after later = λ l. omega (arith, later.faults)
 
-tool_at_start : (before after : ℕ) → before ≡ after → RoseBy (tool_faults 0 []) before after
+tool_at_start : (k before after : ℕ) → before ≡ after → RoseBy (tool_faults k []) before after
 unfolding tool_faults
-tool_at_start before after same = λ l. omega (arith, same)
+tool_at_start k before after same = λ l. omega (arith, same)
 
 refusal_tells : (w : Work) (p : Plan) (order : List ℕ) (opening : OpenFault) (a : Outcome) → Refuses p w.before.told w.before.counts w.after.counts opening → (a ≡ outcomes.Memory) ⊎ (a ≡ fault_answer (fault_of_opening p opening)) → Tells w p order [] a
 refusal_tells w p order opening a refuses (inl e) = subst (Tells w p order []) (sym e) tt
@@ -208,24 +259,38 @@ refusal_prints w p text outcomes.Memory h = tt
 refusal_prints w p text a (inl e) = subst (Prints w.apply p [] w.before.told text) (sym e) tt
 refusal_prints w p text a (inr e) = record { delivered = []; are = no_deliveries w.apply p w.before.told; text_is = e }
 
+empty_run : (w : Work) (t : Tools) (n : ℕ) (p : Plan) (order : List ℕ) → HasLaws p order [] → w.after.told ≡ w.before.told → IsLater w.before.counts w.after.counts → t.after ≡ t.before → IsRun w t n p order []
+empty_run w t n p order laws told later tools = record {
+  legal = tt;
+  below = tt;
+  over = inl refl;
+  none_open = none_open order;
+  safe = laws.safe;
+  left = laws.left;
+  shown = shown_at_start w p told;
+  inputs = tt;
+  counted = counted_at_start w.before.told w.before.counts w.after.counts later;
+  tools = λ k l. tool_at_start k (count_of t.before k) (count_of t.after k) (ap (λ (c : List ℕ). count_of c k) (sym tools));
+}
+
 -- A run that was not begun.
-pub not_begun : (w : Work) (p : Plan) (order : List ℕ) (opening : OpenFault) (text : List ℕ) (a : Outcome) → HasLaws p order [] → w.after.told ≡ w.before.told → IsLater w.before.counts w.after.counts → w.before.tool ≡ w.after.tool
-    → Refuses p w.before.told w.before.counts w.after.counts opening → IsRefusal p opening text a → HasRun w p order text a
-not_begun w p order opening text a laws told later tool refuses refusal = record {
+pub not_begun : (w : Work) (t : Tools) (n : ℕ) (p : Plan) (order : List ℕ) (opening : OpenFault) (text : List ℕ) (a : Outcome) → HasLaws p order [] → w.after.told ≡ w.before.told → IsLater w.before.counts w.after.counts → t.after ≡ t.before
+    → Refuses p w.before.told w.before.counts w.after.counts opening → IsRefusal p opening text a → HasRun w t n p order text a
+not_begun w t n p order opening text a laws told later tools refuses refusal = record {
   r = [];
-  run = record {
-    legal = tt;
-    alone = tt;
-    over = inl refl;
-    none_open = none_open order;
-    in_order = λ none. refl;
-    safe = laws.safe;
-    left = laws.left;
-    shown = shown_at_start w p told;
-    inputs = tt;
-    counted = counted_at_start w.before.told w.before.counts w.after.counts later;
-    tool = tool_at_start w.before.tool w.after.tool tool;
-  };
+  run = empty_run w t n p order laws told later tools;
   tells = refusal_tells w p order opening a refuses refusal.answers;
   prints = refusal_prints w p text a refusal.says;
+}
+
+pub not_begun_alone : (w : Work) (p : Plan) (order : List ℕ) (opening : OpenFault) (text : List ℕ) (a : Outcome) → HasLaws p order [] → w.after.told ≡ w.before.told → IsLater w.before.counts w.after.counts → w.after.tool ≡ w.before.tool
+    → Refuses p w.before.told w.before.counts w.after.counts opening → IsRefusal p opening text a → HasRunAlone w p order text a
+not_begun_alone w p order opening text a laws told later tool refuses refusal = record {
+  ran = record {
+    r = [];
+    run = empty_run w (first_tool w) 1 p order laws told later (ap (λ (n : ℕ). n ∷ []) tool);
+    tells = refusal_tells w p order opening a refuses refusal.answers;
+    prints = refusal_prints w p text a refusal.says;
+  };
+  in_order = λ none. refl;
 }

@@ -15,38 +15,49 @@ use Rattle.pegasus_cli.specs.declared.outcome.Outcome.TheVariants as outcomes
 use Rattle.pegasus_cli.specs.declared.survey.Surveyed.{Surveyed}
 use Rattle.pegasus_cli.specs.Commands.{spec_of}
 use Rattle.pegasus_cli.specs.Course.{documents, read_from}
-use Rattle.pegasus_cli.specs.Moments.{Call, Output}
+use Rattle.pegasus_cli.specs.Moments.{Asked, Call, Output, count_of}
 use Rattle.pegasus_cli.specs.Outcome.{line_of, outcome_of}
 use Rattle.pegasus_cli.specs.Survey.{GoesOn, IsSurveyed, Stops}
 use Rattle.pegasus_cli.specs.Words.{command as command_of}
 
--- The words are no command: nothing was asked for, and nothing was done.
-pub record IsUsage (c : Call) (text : List ℕ) (answer : Outcome) : Type 0 where
-  pub no_command : command_of c.asked.words ≡ None
+-- The words are no command: nothing was asked for.
+pub record IsUsage (a : Asked) (answer : Outcome) : Type 0 where
+  pub no_command : command_of a.words ≡ None
   pub answers : answer ≡ outcomes.Usage
-  pub not_asked : c.asked.after ≡ c.asked.before
-  pub untouched : c.work.after ≡ c.work.before
-  pub no_text : text ≡ []
+  pub not_asked : a.after ≡ a.before
 
--- The documents ended the call: nothing was done.
-pub record IsStopped (c : Call) (text : List ℕ) (answer : Outcome) : Type 0 where
+-- The documents ended the call.
+pub record IsStopped (a : Asked) (answer : Outcome) : Type 0 where
   pub command : Command
   pub request : List ℕ
-  pub is_command : command_of c.asked.words ≡ Some (command, request)
+  pub is_command : command_of a.words ≡ Some (command, request)
   pub early : Early
-  pub stops : Stops request c.asked.before c.asked.after early
+  pub stops : Stops request a.before a.after early
   pub answers : answer ≡ outcome_of early
+
+-- what ended a call before its work
+abbrev pub IsEarly : Asked → Outcome → Type 0
+IsEarly a answer = IsUsage a answer ⊎ IsStopped a answer
+
+-- Then nothing was done.
+pub record HasNotWorked (c : Call) (text : List ℕ) (answer : Outcome) : Type 0 where
+  pub early : IsEarly c.asked answer
   pub untouched : c.work.after ≡ c.work.before
+  pub unused : c.tools.after ≡ c.tools.before
   pub no_text : text ≡ []
+
+-- The words are a command, and the documents let it go on.
+pub record GoesOnWith (a : Asked) (command : Command) (surveyed : Surveyed) : Type 0 where
+  pub request : List ℕ
+  pub is_command : command_of a.words ≡ Some (command, request)
+  pub goes_on : GoesOn request a.before a.after surveyed
 
 -- The call went on with the documents, and the command did its work.
 pub record HasWorked (c : Call) (text : List ℕ) (answer : Outcome) : Type 0 where
   pub command : Command
-  pub request : List ℕ
-  pub is_command : command_of c.asked.words ≡ Some (command, request)
   pub surveyed : Surveyed
-  pub goes_on : GoesOn request c.asked.before c.asked.after surveyed
-  pub works : (spec_of command).Works c.work surveyed text answer
+  pub goes_on : GoesOnWith c.asked command surveyed
+  pub works : (spec_of command).Works c.work c.tools surveyed text answer
 
 -- What was written: the text and the answer's line; a prefix of them where the sink failed; nothing at want of memory.
 abbrev pub Ends : Output → List ℕ → Outcome → Outcome → Type 0
@@ -59,6 +70,7 @@ pub record NoneRose (c : Call) : Type 0 where
   pub docs : Rose c.asked.before.counts.faults c.asked.after.counts.faults → ⊥
   pub host : Rose c.work.before.counts.faults c.work.after.counts.faults → ⊥
   pub tool : Rose c.work.before.tool c.work.after.tool → ⊥
+  pub tools : (k : ℕ) → Rose (count_of c.tools.before k) (count_of c.tools.after k) → ⊥
   pub sink : Rose c.output.before.faults c.output.after.faults → ⊥
 
 -- Told documents go on with a sound workflow, and nothing in it keeps their command from Done.
@@ -86,7 +98,7 @@ pub record IsAnswered (c : Call) (outcome : Outcome) : Type 0 where
   pub answer : Outcome
   pub text : List ℕ
   -- how it came
-  pub came : IsUsage c text answer ⊎ (IsStopped c text answer ⊎ HasWorked c text answer)
+  pub came : HasNotWorked c text answer ⊎ HasWorked c text answer
   -- how the call ended
   pub ends : Ends c.output text answer outcome
   -- what may finish does, where no count of faults rose, or memory runs out

@@ -12,6 +12,8 @@ pub mod JobTools
 pub mod Bases
 pub mod ValueText
 pub mod KeptTools
+pub mod Headline
+pub mod PlanRun
 pub mod Running
 pub mod RunText
 pub mod CheckText

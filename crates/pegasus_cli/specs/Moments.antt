@@ -1,5 +1,5 @@
 -- What the objects of a call show before and after it.
-use Rattle.std.specs.Prelude.{ℕ, Bool, List, [], ◌∷◌, Option}
+use Rattle.std.specs.Prelude.{ℕ, Bool, List, [], ◌∷◌, get_or, Option}
 use Rattle.outside.specs.FileMap.{Files}
 use Rattle.outside.specs.Tool.{Apply}
 use Rattle.outside.specs.declared.counts.Counts.{Counts}
@@ -37,6 +37,11 @@ pub record Work : Type 0 where
   pub before : WorkMoment
   pub after : WorkMoment
 
+-- how often the tool of each member of the crew has failed, in order, before and after
+pub record Tools : Type 0 where
+  pub before : List ℕ
+  pub after : List ℕ
+
 -- where it is written
 pub record Output : Type 0 where
   pub before : SinkMoment
@@ -45,6 +50,7 @@ pub record Output : Type 0 where
 pub record Call : Type 0 where
   pub asked : Asked
   pub work : Work
+  pub tools : Tools
   pub output : Output
 
 -- the moments of these objects, by their bounds' ghost members
@@ -57,7 +63,10 @@ work_moment g h tool = record { told = g.told h; counts = g.counts h; tool = too
 abbrev pub sink_moment : {K : Type 0} → sink.Ghosts K → K → SinkMoment
 sink_moment g k = record { written = g.written k; faults = g.faults k }
 
--- the count of the first member of a crew
+-- the count of a member of a crew, and of its first
+abbrev pub count_of : List ℕ → ℕ → ℕ
+count_of counts k = get_or counts k 0
+
 abbrev pub first_count : List ℕ → ℕ
 first_count [] = 0
 first_count (n ∷ ns) = n
@@ -69,8 +78,15 @@ asking words before after = record { words = words; before = before; after = aft
 abbrev pub working : Apply → (List ℕ → Bool) → WorkMoment → WorkMoment → Work
 working apply known before after = record { apply = apply; known = known; before = before; after = after }
 
+abbrev pub counting : List ℕ → List ℕ → Tools
+counting before after = record { before = before; after = after }
+
+-- those of a crew of its first member alone
+abbrev pub first_tool : Work → Tools
+first_tool w = counting (w.before.tool ∷ []) (w.after.tool ∷ [])
+
 abbrev pub writing : SinkMoment → SinkMoment → Output
 writing before after = record { before = before; after = after }
 
-abbrev pub call : Asked → Work → Output → Call
-call asked work output = record { asked = asked; work = work; output = output }
+abbrev pub call : Asked → Work → Tools → Output → Call
+call asked work tools output = record { asked = asked; work = work; tools = tools; output = output }

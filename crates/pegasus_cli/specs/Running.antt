@@ -1,5 +1,5 @@
--- A run of a plan by one worker: what its one record says, what the host and the tool show of it, and how the answer and the text are read off it.
-use Rattle.std.specs.Prelude.{◌≡◌, ◌⊎◌, ℕ, ◌+◌, ◌≤◌, true, List, [], length, take, option_map, Option, Some, IfSome, MatchOption}
+-- A run of a plan by workers: what its one record says, what the host and the tools show of it, and how the answer and the text are read off it.
+use Rattle.std.specs.Prelude.{◌≡◌, ◌⊎◌, ℕ, ◌+◌, ◌≤◌, ◌<◌, true, List, [], length, take, option_map, Option, Some, IfSome, MatchOption}
 use Rattle.outside.specs.declared.store.Store.{Store}
 use Rattle.outside.specs.Tool.{Apply}
 use Rattle.plan_core.specs.declared.plan.Plan.{Plan}
@@ -23,7 +23,7 @@ use Rattle.site_yard.specs.declared.ending.RunFault.TheVariants as faults
 use Rattle.site_yard.specs.declared.opening.OpenFault.{OpenFault}
 use Rattle.worker_gate.specs.Alone.{NoneOpen, begun}
 use Rattle.worker_gate.specs.Inputs.{AreOfInputs}
-use Rattle.pegasus_cli.specs.Moments.{Work}
+use Rattle.pegasus_cli.specs.Moments.{Tools, Work, count_of, first_tool}
 use Rattle.pegasus_cli.specs.RunText.{run_text}
 use Rattle.pegasus_cli.specs.declared.outcome.Outcome.{Outcome}
 use Rattle.pegasus_cli.specs.declared.outcome.Outcome.TheVariants as outcomes
@@ -32,16 +32,14 @@ use Rattle.pegasus_cli.specs.declared.outcome.Outcome.TheVariants as outcomes
 abbrev pub IsShown : Work → Plan → List Event → Type 0
 IsShown w p r = IfSome w.before.told (λ m. MatchOption w.after.told ⊥ (λ s. Agrees w.apply p r m s))
 
--- Of a run, whatever its answer: r is its one record.
-pub record IsRun (w : Work) (p : Plan) (order : List ℕ) (r : List Event) : Type 0 where
-  -- each entry is allowed after those before it, and worker 0's
+-- Of a run by n workers, whatever its answer: r is its one record.
+pub record IsRun (w : Work) (t : Tools) (n : ℕ) (p : Plan) (order : List ℕ) (r : List Event) : Type 0 where
+  -- each entry is allowed after those before it, and by one of the workers
   pub legal : Legal p order r
-  pub alone : AllBelow 1 r
+  pub below : AllBelow n r
   -- nothing was begun, or all was done, or something failed; and no task is open
   pub over : (r ≡ []) ⊎ (IsComplete p (now p order r) ⊎ ((now p order r).failing ≡ true))
   pub none_open : NoneOpen (now p order r)
-  -- where nothing is tried again, tasks are begun in the kept order
-  pub in_order : retries p ≡ 0 → begun r ≡ take (length (begun r)) order
   -- after every entry each site is within its bound, and the kept order would finish what is left within every bound
   pub safe : (k : ℕ) → IsSafeState p (now p order (take k r))
   -- and what the operations have left at a site is no more than is stored and reserved there
@@ -50,9 +48,9 @@ pub record IsRun (w : Work) (p : Plan) (order : List ℕ) (r : List Event) : Typ
   pub shown : IsShown w p r
   -- told or not, what entries say of a Run's jobs and outputs is so of some bytes, one text for each of its reads
   pub inputs : AreOfInputs w.apply p r
-  -- the host's and the tool's counts rose as often as entries lay a failure on them
+  -- the host's count rose as often as entries lay a failure on it, and each worker's tool's as often as that worker's do
   pub counted : AreCounted w.before.told w.before.counts.faults w.before.counts.misses w.after.counts r
-  pub tool : RoseBy (tool_faults 0 r) w.before.tool w.after.tool
+  pub tools : (k : ℕ) → k < n → RoseBy (tool_faults k r) (count_of t.before k) (count_of t.after k)
 
 -- the sites that the plan uses were empty
 abbrev pub IsOpened : Work → Plan → Type 0
@@ -99,12 +97,18 @@ abbrev pub Prints : Apply → Plan → List Event → Option Store → List ℕ 
 Prints apply p r told text outcomes.Memory = Unit {0}
 Prints apply p r told text _ = IsRunText apply p r told text
 
--- A run with its answer and its text.
-pub record HasRun (w : Work) (p : Plan) (order : List ℕ) (text : List ℕ) (answer : Outcome) : Type 0 where
+-- A run by n workers with its answer and its text.
+pub record HasRun (w : Work) (t : Tools) (n : ℕ) (p : Plan) (order : List ℕ) (text : List ℕ) (answer : Outcome) : Type 0 where
   pub r : List Event
-  pub run : IsRun w p order r
+  pub run : IsRun w t n p order r
   pub tells : Tells w p order r answer
   pub prints : Prints w.apply p r w.before.told text answer
+
+-- A run by one worker alone.
+pub record HasRunAlone (w : Work) (p : Plan) (order : List ℕ) (text : List ℕ) (answer : Outcome) : Type 0 where
+  pub ran : HasRun w (first_tool w) 1 p order text answer
+  -- where nothing is tried again, tasks are begun in the kept order
+  pub in_order : retries p ≡ 0 → begun ran.r ≡ take (length (begun ran.r)) order
 
 -- ---- the end of a run
 

@@ -1,6 +1,6 @@
 //! The commands.
 
-ghost use Rattle.std.specs.Prelude.{◌≡◌, [], Ok};
+ghost use Rattle.std.specs.Prelude.{◌≡◌, [], Ok, false};
 ghost use Rattle.outside.specs.Policy.{plain};
 ghost use Rattle.workflow_core.specs.WellFormed.{IsWellFormed};
 ghost use Rattle.dependency_graph.specs.Graph.{IsGraphOf};
@@ -8,18 +8,21 @@ ghost use Rattle.plan_request.specs.Limits.{IsWithinLimits};
 ghost use Rattle.plan_request.specs.Reader.{execute_checked};
 ghost use Rattle.pegasus_cli.specs.Call.{IsAnswer};
 ghost use Rattle.pegasus_cli.specs.Commands.{spec_of};
-ghost use Rattle.pegasus_cli.specs.Moments.{work_moment, working};
+ghost use Rattle.pegasus_cli.specs.Moments.{Tools, work_moment, working};
 ghost use Rattle.pegasus_cli.specs.Survey.{PlansMeanWorkflow};
+ghost use Rattle.pegasus_cli.specs.Words.{starts_threads};
 
 mod alone;
 mod check;
 mod eval;
 mod plan;
+mod run;
 
 use crate::outcome::Outcome;
 use crate::survey::Surveyed;
 use craft::{Crew, Gate};
 use outside::{Host, Tool};
+pub(crate) use run::work as run_by_many;
 use std::alloc::Global;
 
 /// The most tasks that a plan may have.
@@ -36,6 +39,8 @@ pub enum Command {
     Eval,
     /// Plans the workflow and runs the plan with one worker.
     Alone,
+    /// Plans the workflow and runs the plan with so many workers, each in a thread of its own.
+    Run(u32),
 }
 
 /// How a command's work ended, and the text before the answer's line.
@@ -63,7 +68,7 @@ pub(crate) struct Ran<H> {
     pub(crate) host: H,
 }
 
-/// The work of a command over what the documents gave.
+/// The work of a command that starts no thread, over what the documents gave.
 pub(crate) fn work<H: Host, T: Tool, G: Gate>(
     alloc: Global,
     command: Command,
@@ -77,8 +82,9 @@ pub(crate) fn work<H: Host, T: Tool, G: Gate>(
     requires limits { IsWithinLimits surveyed.now.request }
     requires policy { surveyed.now.request.policy ≡ plain }
     requires means { PlansMeanWorkflow surveyed.now }
-    ensures works { (spec_of command).Works (working T.apply T.known (work_moment H.Host host (T.faults crew.old.tool)) (work_moment H.Host result.host (T.faults crew.new.tool)))
-        surveyed.now result.worked.text.items result.worked.answer }
+    requires no_threads { starts_threads command ≡ false }
+    ensures works { (t : Tools) → (spec_of command).Works (working T.apply T.known (work_moment H.Host host (T.faults crew.old.tool)) (work_moment H.Host result.host (T.faults crew.new.tool)))
+        t surveyed.now result.worked.text.items result.worked.answer }
     ensures answer { IsAnswer result.worked.answer }
     ensures gate { crew.new.gate ≡ crew.old.gate }
 {
@@ -97,5 +103,6 @@ pub(crate) fn work<H: Host, T: Tool, G: Gate>(
             Ran { worked, host }
         }
         Command::Alone => alone::work(alloc, surveyed, host, crew),
+        Command::Run(_) => unreachable!(),
     }
 }

@@ -1,4 +1,4 @@
-//! A run of a plan by one worker.
+//! A run of a plan by one worker, and how a run ends.
 
 ghost use Rattle.std.specs.Prelude.{◌≡◌, ◌≤◌, ◌⊎◌, IfOk, true};
 ghost use Rattle.plan_core.specs.Proper.{IsProper};
@@ -8,7 +8,7 @@ ghost use Rattle.lease_book.specs.Book.{state_at};
 ghost use Rattle.lease_book.specs.Legal.{IsComplete};
 ghost use Rattle.pegasus_cli.specs.Call.{IsAnswer};
 ghost use Rattle.pegasus_cli.specs.Moments.{work_moment, working};
-ghost use Rattle.pegasus_cli.specs.Running.{AnswersEnd, HasRun, IsRefusal, IsRunText, Prints, fault_answer, marked_if};
+ghost use Rattle.pegasus_cli.specs.Running.{AnswersEnd, HasRunAlone, IsRefusal, IsRunText, Prints, fault_answer, marked_if};
 
 use crate::commands::{Ran, Worked, at_once};
 use crate::outcome::Outcome;
@@ -53,7 +53,7 @@ fn text_of<H: Host, T: Tool>(alloc: Global, yard: &Yard<H, T>) -> Result<Vec<u8>
 }
 
 /// The answer and the text of a run that is over, and its host.
-fn end_run<H: Host, T: Tool>(alloc: Global, yard: Yard<H, T>) -> Ran<H>
+pub(crate) fn end_run<H: Host, T: Tool>(alloc: Global, yard: Yard<H, T>) -> Ran<H>
     requires over { IsComplete yard.ordered.plan (state_at yard.book) ⊎ ((state_at yard.book).failing ≡ true) }
     ensures answers { AnswersEnd yard.ordered.plan (task_numbers yard.ordered.tasks.items) yard.book.history.events result.worked.answer }
     ensures prints { Prints T.apply yard.ordered.plan yard.book.history.events (marked_if (H.told yard.host) (H.marked yard.host)) result.worked.text.items result.worked.answer }
@@ -76,7 +76,7 @@ fn end_run<H: Host, T: Tool>(alloc: Global, yard: Yard<H, T>) -> Ran<H>
 }
 
 /// The answer and the text of a run whose opening was refused, and its host.
-fn refuse_run<H: Host>(alloc: Global, refused: OpenRefused<H>) -> Ran<H>
+pub(crate) fn refuse_run<H: Host>(alloc: Global, refused: OpenRefused<H>) -> Ran<H>
     ensures refusal { IsRefusal refused.ordered.plan refused.fault result.worked.text.items result.worked.answer }
     ensures host { result.host ≡ refused.host }
     ensures answer { IsAnswer result.worked.answer }
@@ -104,7 +104,7 @@ pub(crate) fn run_plan<H: Host, T: Tool, G: Gate>(
     requires proper { IsProper ordered.plan }
     requires limits { IsWithinLimits ordered.plan }
     requires retries { retries ordered.plan ≤ 10 }
-    ensures ran { ∥ HasRun (working T.apply T.known (work_moment H.Host host (T.faults crew.old.tool)) (work_moment H.Host result.host (T.faults crew.new.tool)))
+    ensures ran { ∥ HasRunAlone (working T.apply T.known (work_moment H.Host host (T.faults crew.old.tool)) (work_moment H.Host result.host (T.faults crew.new.tool)))
         ordered.plan (task_numbers ordered.tasks.items) result.worked.text.items result.worked.answer ∥₁ }
     ensures answer { IsAnswer result.worked.answer }
     ensures gate { crew.new.gate ≡ crew.old.gate }

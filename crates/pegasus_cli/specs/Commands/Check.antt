@@ -18,4 +18,4 @@ pub record Checks (w : Work) (s : Surveyed) (text : List ℕ) (answer : Outcome)
   pub says : Says s.survey text answer
 
 abbrev pub check : CommandSpec
-check = record { Works = Checks; CanFinish = λ w s. Unit {0} }
+check = record { Works = λ w t. Checks w; CanFinish = λ w s. Unit {0} }

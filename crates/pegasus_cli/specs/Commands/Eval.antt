@@ -20,4 +20,4 @@ pub record Evaluates (w : Work) (s : Surveyed) (text : List ℕ) (answer : Outco
   pub says : Says w s text answer
 
 abbrev pub eval : CommandSpec
-eval = record { Works = Evaluates; CanFinish = AllDefined }
+eval = record { Works = λ w t. Evaluates w; CanFinish = AllDefined }

@@ -63,4 +63,4 @@ abbrev pub HasNoFault : Surveyed → Type 0
 HasNoFault s = (fault : PlanFault) → CannotPlan s.request s.survey task_limit fault → fault ≡ plan_faults.Memory
 
 abbrev pub plan : CommandSpec
-plan = record { Works = Plans; CanFinish = λ w s. HasNoFault s }
+plan = record { Works = λ w t. Plans w; CanFinish = λ w s. HasNoFault s }

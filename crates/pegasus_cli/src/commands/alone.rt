@@ -1,40 +1,26 @@
 //! `alone`.
 
-ghost use Rattle.std.specs.Prelude.{◌≡◌, [], Ok};
+ghost use Rattle.std.specs.Prelude.{◌≡◌, Ok};
 ghost use Rattle.outside.specs.Policy.{plain};
 ghost use Rattle.workflow_core.specs.WellFormed.{IsWellFormed};
 ghost use Rattle.dependency_graph.specs.Graph.{IsGraphOf};
 ghost use Rattle.plan_request.specs.Limits.{IsWithinLimits};
 ghost use Rattle.plan_request.specs.Reader.{execute_checked};
 ghost use Rattle.pegasus_cli.specs.Call.{IsAnswer};
-ghost use Rattle.pegasus_cli.specs.Commands.Alone.{alone};
+ghost use Rattle.pegasus_cli.specs.Commands.Alone.{RunsAlone};
 ghost use Rattle.pegasus_cli.specs.Moments.{work_moment, working};
 ghost use Rattle.pegasus_cli.specs.Survey.{PlansMeanWorkflow};
 
-use crate::commands::{Ran, TASK_LIMIT, at_once};
-use crate::course::of_plan_fault;
-use crate::kept_tools::unknown_tool;
-use crate::outcome::{Outcome, of_early};
+use crate::commands::Ran;
+use crate::plan_run::{ready_plan, unrun};
 use crate::running::run_plan;
 use crate::survey::Surveyed;
 use craft::{Crew, Gate};
 use lease_book::ordered_plans_fit;
-use outside::{Host, Memory, Tool};
-use planner::{plan_survey, plans_deliver_requests};
+use outside::{Host, Tool};
+use planner::plans_deliver_requests;
 use site_yard::complete_records_deliver;
 use std::alloc::Global;
-
-/// Nothing was run.
-fn unrun<H: Host>(alloc: Global, answer: Outcome, host: H) -> Ran<H>
-    ensures answer { result.worked.answer ≡ answer }
-    ensures text { result.worked.text.items ≡ [] }
-    ensures host { result.host ≡ host }
-{
-    Ran {
-        worked: at_once(alloc, answer),
-        host,
-    }
-}
 
 pub(crate) fn work<H: Host, T: Tool, G: Gate>(
     alloc: Global,
@@ -48,7 +34,7 @@ pub(crate) fn work<H: Host, T: Tool, G: Gate>(
     requires limits { IsWithinLimits surveyed.now.request }
     requires policy { surveyed.now.request.policy ≡ plain }
     requires means { PlansMeanWorkflow surveyed.now }
-    ensures works { alone.Works (working T.apply T.known (work_moment H.Host host (T.faults crew.old.tool)) (work_moment H.Host result.host (T.faults crew.new.tool)))
+    ensures works { RunsAlone (working T.apply T.known (work_moment H.Host host (T.faults crew.old.tool)) (work_moment H.Host result.host (T.faults crew.new.tool)))
         surveyed.now result.worked.text.items result.worked.answer }
     ensures answer { IsAnswer result.worked.answer }
     ensures gate { crew.new.gate ≡ crew.old.gate }
@@ -57,13 +43,8 @@ pub(crate) fn work<H: Host, T: Tool, G: Gate>(
     ordered_plans_fit();
     plans_deliver_requests();
     complete_records_deliver();
-    let ordered = match plan_survey(alloc, &surveyed.request, &surveyed.survey, TASK_LIMIT) {
-        Ok(ordered) => ordered,
-        Err(fault) => return unrun(alloc, of_early(of_plan_fault(fault)), host),
-    };
-    match unknown_tool(alloc, ordered.plan(), &crew.tool) {
-        Ok(None) => run_plan(alloc, ordered, host, crew),
-        Ok(Some(fault)) => unrun(alloc, Outcome::Refused(fault), host),
-        Err(Memory) => unrun(alloc, Outcome::Memory, host),
+    match ready_plan(alloc, surveyed, &crew.tool) {
+        Ok(ordered) => run_plan(alloc, ordered, host, crew),
+        Err(answer) => unrun(alloc, answer, host),
     }
 }

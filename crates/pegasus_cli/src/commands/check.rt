@@ -1,7 +1,7 @@
 //! `check`.
 
 ghost use Rattle.pegasus_cli.specs.Call.{IsAnswer};
-ghost use Rattle.pegasus_cli.specs.Commands.Check.{check};
+ghost use Rattle.pegasus_cli.specs.Commands.Check.{Checks};
 ghost use Rattle.pegasus_cli.specs.Moments.{work_moment, working};
 
 use crate::check_text::check_text;
@@ -17,7 +17,7 @@ pub(crate) fn work<H: Host, T: Tool>(
     _host: &mut H,
     _tool: &mut T,
 ) -> Worked
-    ensures works { check.Works (working T.apply T.known (work_moment H.Host _host.old (T.faults _tool.old)) (work_moment H.Host _host.new (T.faults _tool.new)))
+    ensures works { Checks (working T.apply T.known (work_moment H.Host _host.old (T.faults _tool.old)) (work_moment H.Host _host.new (T.faults _tool.new)))
         surveyed.now result.text.items result.answer }
     ensures answer { IsAnswer result.answer }
 {

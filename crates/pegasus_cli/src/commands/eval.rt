@@ -4,7 +4,7 @@ ghost use Rattle.std.specs.Prelude.{◌≡◌, []};
 ghost use Rattle.workflow_core.specs.WellFormed.{IsWellFormed};
 ghost use Rattle.dependency_graph.specs.Graph.{IsGraphOf};
 ghost use Rattle.pegasus_cli.specs.Call.{IsAnswer};
-ghost use Rattle.pegasus_cli.specs.Commands.Eval.{eval};
+ghost use Rattle.pegasus_cli.specs.Commands.Eval.{Evaluates};
 ghost use Rattle.pegasus_cli.specs.Moments.{work_moment, working};
 
 use crate::commands::{Worked, at_once};
@@ -23,7 +23,7 @@ pub(crate) fn work<H: Host, T: Tool>(
 ) -> Worked
     requires well_formed { IsWellFormed surveyed.now.survey.workflow }
     requires graph { IsGraphOf surveyed.now.survey.workflow surveyed.now.survey.graph }
-    ensures works { eval.Works (working T.apply T.known (work_moment H.Host host.old (T.faults tool.old)) (work_moment H.Host host.new (T.faults tool.new)))
+    ensures works { Evaluates (working T.apply T.known (work_moment H.Host host.old (T.faults tool.old)) (work_moment H.Host host.new (T.faults tool.new)))
         surveyed.now result.text.items result.answer }
     ensures answer { IsAnswer result.answer }
 {

@@ -6,7 +6,7 @@ ghost use Rattle.dependency_graph.specs.Graph.{IsGraphOf};
 ghost use Rattle.plan_request.specs.Limits.{IsWithinLimits};
 ghost use Rattle.plan_request.specs.Reader.{execute_checked};
 ghost use Rattle.pegasus_cli.specs.Call.{IsAnswer};
-ghost use Rattle.pegasus_cli.specs.Commands.Plan.{ArePeaks, IsTextOf, plan};
+ghost use Rattle.pegasus_cli.specs.Commands.Plan.{ArePeaks, IsTextOf, Plans};
 ghost use Rattle.pegasus_cli.specs.Moments.{work_moment, working};
 
 use crate::commands::{TASK_LIMIT, Worked, at_once};
@@ -52,7 +52,7 @@ pub(crate) fn work<H: Host, T: Tool>(
     requires graph { IsGraphOf surveyed.now.survey.workflow surveyed.now.survey.graph }
     requires sites { execute_checked surveyed.now.request.execute ≡ Ok tt }
     requires limits { IsWithinLimits surveyed.now.request }
-    ensures works { plan.Works (working T.apply T.known (work_moment H.Host _host.old (T.faults _tool.old)) (work_moment H.Host _host.new (T.faults _tool.new)))
+    ensures works { Plans (working T.apply T.known (work_moment H.Host _host.old (T.faults _tool.old)) (work_moment H.Host _host.new (T.faults _tool.new)))
         surveyed.now result.text.items result.answer }
     ensures answer { IsAnswer result.answer }
 {

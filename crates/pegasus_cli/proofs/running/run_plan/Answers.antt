@@ -3,7 +3,7 @@ use Rattle.std.proofs.Math.Logic.{∥∥₁_elim, ∥∥₁_map, ∥∥₁_prop}
 use Rattle.std.specs.Prelude.{is_some}
 use Rattle.plan_core.specs.Words.{task_numbers}
 use Rattle.pegasus_cli.specs.Moments.{work_moment, working}
-use Rattle.pegasus_cli.proofs.RunningLemmas.{marked_so, not_begun, ran}
+use Rattle.pegasus_cli.proofs.RunningLemmas.{marked_so, not_begun_alone, ran_alone}
 use Rattle.pegasus_cli.proofs.running.run_plan.Goals as goal
 
 pub returns-in-Ok-clause-ran : goal.returns-in-Ok-clause-ran
@@ -12,6 +12,8 @@ returns-in-Ok-clause-ran g c =
     let order = task_numbers c.args.ordered.tasks.items in
     let y = c.run_alone-yard.result in
     let r = y.book.history.events in
+    let text = c.end_run.result.worked.text.items in
+    let answer = c.end_run.result.worked.answer in
     let same = c.run_alone-yard.ensures.ordered ∙ c.in-Ok.ensures.ordered in
     let legal = rw same at c.agrees.ensures.legal in
     let shows = rw same at c.agrees.ensures.shows in
@@ -24,7 +26,7 @@ returns-in-Ok-clause-ran g c =
     let after = work_moment g.H.Host y.host (g.T.Tool.faults c.run_alone-yard.new.crew.tool) in
     let w = working g.T.Tool.apply g.T.Tool.known before after in
     rw c.end_run.ensures.host (∥∥₁_elim legal ∥∥₁_prop (λ l. ∥∥₁_elim shows ∥∥₁_prop (λ s. ∥∥₁_map c.agrees.ensures.counted (λ k.
-    ran w p order r (g.H.Host.told y.host) (g.H.Host.marked y.host) y.faults y.misses c.end_run.result.worked.text.items c.end_run.result.worked.answer
+    ran_alone w p order r (g.H.Host.told y.host) (g.H.Host.marked y.host) y.faults y.misses text answer
     (record {
       told_is = refl;
       tells = c.run_alone-yard.ensures.tells ∙ ap is_some c.in-Ok.ensures.told;
@@ -51,7 +53,7 @@ returns-in-Err-clause-ran g c =
     let before = work_moment g.H.Host c.args.host faults in
     let after = work_moment g.H.Host c.in-Err.refused.host faults in
     let w = working g.T.Tool.apply g.T.Tool.known before after in
-    rw c.refuse_run.ensures.host (∣ not_begun w p order c.in-Err.refused.fault c.refuse_run.result.worked.text.items c.refuse_run.result.worked.answer
+    rw c.refuse_run.ensures.host (∣ not_begun_alone w p order c.in-Err.refused.fault c.refuse_run.result.worked.text.items c.refuse_run.result.worked.answer
     (record {
       safe = λ n. c.legal_records_are_safe.ensures.always p order [] c.requires.proper fits tt n;
       left = λ n site. c.what_is_left_is_held.ensures p order [] c.requires.proper fits tt n site;

@@ -1,0 +1,80 @@
+-- What a run by several workers comes to that ended Done, in whatever order they worked.
+use Rattle.std.specs.Prelude.{◌≡◌, ℕ, ◌+◌, ◌≤◌, ◌<◌, ◌++◌, List, [], take, Option, Some, is_some, true, IfSome, MatchOption}
+use Rattle.std.specs.FinMap as files
+use Rattle.std.specs.Io.KnownBytes.{Appends}
+use Rattle.outside.specs.FileMap.{Files}
+use Rattle.outside.specs.declared.numbers.TaskId.{TaskId}
+use Rattle.outside.specs.declared.store.Store.{Store}
+use Rattle.plan_core.specs.declared.plan.Plan.{Plan}
+use Rattle.plan_core.specs.Words.{task_numbers}
+use Rattle.storage_simulation.specs.Goods.{place_bound, places}
+use Rattle.storage_simulation.specs.Ordering.{IsOrder, at_start}
+use Rattle.planner.specs.Deliveries.{IsRequested}
+use Rattle.planner.specs.Planning.{IsPlanOf}
+use Rattle.run_record.specs.Events.{Event}
+use Rattle.lease_book.specs.Choice.{Safe}
+use Rattle.lease_book.specs.Law.{reserved_at, stored_at}
+use Rattle.lease_book.specs.Legal.{IsComplete, Legal}
+use Rattle.lease_book.specs.State.{State, now}
+use Rattle.site_yard.specs.Changes.{carries}
+use Rattle.site_yard.specs.Faults.{AllBelow}
+use Rattle.site_yard.specs.Law.{IsDeliveryOf}
+use Rattle.site_yard.specs.Leaving.{left_in}
+use Rattle.site_yard.specs.Trace.{trace_of}
+use Rattle.pegasus_cli.specs.Call.{GoesOnWith}
+use Rattle.pegasus_cli.specs.Commands.Plan.{task_limit}
+use Rattle.pegasus_cli.specs.Moments.{Call, Work}
+use Rattle.pegasus_cli.specs.Outcome.{line_of}
+use Rattle.pegasus_cli.specs.PlanRun.{AreHonestIn, lfn, value_in}
+use Rattle.pegasus_cli.specs.Running.{IsRunText}
+use Rattle.pegasus_cli.specs.Words.{command}
+use Rattle.pegasus_cli.specs.declared.commands.Command.TheVariants.{Run}
+use Rattle.pegasus_cli.specs.declared.outcome.Outcome.{Outcome}
+use Rattle.pegasus_cli.specs.declared.outcome.Outcome.TheVariants.{Done}
+use Rattle.pegasus_cli.specs.declared.survey.Surveyed.{Surveyed}
+
+-- Each requested file stands at its name with content of which this holds, and every other name is as it was.
+pub record AreSet (s : Surveyed) (Holds : ℕ → Option (List ℕ) → Type 0) (old new : Files) : Type 0 where
+  pub each : (f : ℕ) → IsRequested s.survey f → is_some (files.get new (lfn s.survey f)) ≡ true × Holds f (files.get new (lfn s.survey f))
+  pub others : (name : List ℕ) → ((f : ℕ) → IsRequested s.survey f → lfn s.survey f ≡ name → ⊥) → files.get new name ≡ files.get old name
+
+-- the host told what it held, still tells, and of the two stores this holds
+abbrev pub IsTold : Work → (Store → Store → Type 0) → Type 0
+IsTold w Holds = IfSome w.before.told (λ old. MatchOption w.after.told ⊥ (λ new. Holds old new))
+
+pub record Headline (w : Work) (workers : ℕ) (s : Surveyed) (text : List ℕ) : Type 0 where
+  -- the plan and the order that are stated for the documents, and the run's one record
+  pub plan : Plan
+  pub order : List TaskId
+  pub history : List Event
+  pub planned : IsPlanOf s.request s.survey task_limit plan
+  pub ordered : IsOrder plan at_start (task_numbers order)
+  -- each entry is allowed after those before it, and by one of the workers; in the end all tasks have ended, and none failed
+  pub legal : Legal plan (task_numbers order) history
+  pub by_workers : AllBelow workers history
+  pub complete : IsComplete plan (now plan (task_numbers order) history)
+  -- this record is the one that is printed, with what was delivered
+  pub printed : IsRunText w.apply plan history w.before.told text
+  -- the host's operations are those that it names, and no others
+  pub operations : IsTold w (λ old new. new.trace ≡ old.trace ++ trace_of plan history)
+  -- after every entry each place's reserved and stored bytes are within its bound
+  pub within : (k q : ℕ) → q < places plan → let held = (now plan (task_numbers order) (take k history)).held in stored_at plan held q + reserved_at plan held q ≤ place_bound plan q
+  -- so are the bytes that the operations so far leave there
+  pub left : (k q : ℕ) → let held = (now plan (task_numbers order) (take k history)).held in left_in plan (trace_of plan (take k history)) q ≤ stored_at plan held q + reserved_at plan held q
+  -- and the kept order would finish all remaining tasks within every bound
+  pub safe : (k : ℕ) → Safe plan (now plan (task_numbers order) (take k history))
+  -- each requested file is delivered as its delivery carries it, and as its value where the replicas are honest; nothing else is
+  pub carried : IsTold w (λ old new. AreSet s (IsDeliveryOf plan (carries w.apply plan old)) old.delivered new.delivered)
+  pub valued : IsTold w (λ old new. AreHonestIn w s old → AreSet s (λ f content. content ≡ value_in w s old f) old.delivered new.delivered)
+
+-- The words are a run's by so many workers, and it ended Done: of the documents that were read, and of the text that was
+-- written before the line of the answer, all this holds.
+pub record EndsSo (c : Call) (workers : ℕ) : Type 0 where
+  pub surveyed : Surveyed
+  pub read : GoesOnWith c.asked (Run workers) surveyed
+  pub text : List ℕ
+  pub written : Appends c.output.before.written c.output.after.written (text ++ line_of Done)
+  pub headline : Headline c.work workers surveyed text
+
+abbrev pub HoldsOf : Call → Outcome → Type 0
+HoldsOf c outcome = (workers : ℕ) (request : List ℕ) → command c.asked.words ≡ Some (Run workers, request) → outcome ≡ Done → ∥ EndsSo c workers ∥₁

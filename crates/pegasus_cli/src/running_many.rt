@@ -1,0 +1,91 @@
+//! A run of a plan by several workers.
+
+ghost use Rattle.std.specs.Prelude.{◌≡◌, ◌<◌, ◌≤◌, ◌⊎◌, false, length, map as list_map, true};
+ghost use Rattle.craft.specs.declared.crew.Crew.{Crew};
+ghost use Rattle.plan_core.specs.Proper.{IsProper};
+ghost use Rattle.plan_core.specs.Words.{retries, task_numbers};
+ghost use Rattle.storage_simulation.specs.Goods.{IsWithinLimits};
+ghost use Rattle.lease_book.specs.Book.{state_at};
+ghost use Rattle.lease_book.specs.Legal.{IsComplete};
+ghost use Rattle.pegasus_cli.specs.Call.{IsAnswer};
+ghost use Rattle.pegasus_cli.specs.Moments.{counting, first_count, work_moment, working};
+ghost use Rattle.pegasus_cli.specs.Running.{AnswersEnd, HasRun, Prints, marked_if};
+
+use crate::commands::{Ran, at_once};
+use crate::outcome::Outcome;
+use crate::running::{end_run, refuse_run};
+use craft::{Crew, Gate};
+use lease_book::{legal_records_are_safe, ordered_plans_fit};
+use outside::{Host, Tool};
+use site_yard::{Yard, what_is_left_is_held};
+use std::alloc::Global;
+use std::sync::Wait;
+use std::thread::Threads;
+use storage_simulation::Ordered;
+use worker_gate::{ManyEnd, run_many};
+
+/// What came of a run, and its members.
+pub(crate) struct RanBy<H: Host, T: Tool, G: Gate> {
+    pub(crate) ran: Ran<H>,
+    pub(crate) members: Vec<Crew<T, G>>,
+}
+
+/// The answer and the text of a run that is over, or that there was no memory to begin, and its host.
+fn end_many<H: Host, T: Tool>(alloc: Global, yard: Yard<H, T>, unstarted: bool) -> Ran<H>
+    requires over { unstarted ≡ false → IsComplete yard.ordered.plan (state_at yard.book) ⊎ ((state_at yard.book).failing ≡ true) }
+    ensures answers { AnswersEnd yard.ordered.plan (task_numbers yard.ordered.tasks.items) yard.book.history.events result.worked.answer }
+    ensures prints { Prints T.apply yard.ordered.plan yard.book.history.events (marked_if (H.told yard.host) (H.marked yard.host)) result.worked.text.items result.worked.answer }
+    ensures host { result.host ≡ yard.host }
+    ensures answer { IsAnswer result.worked.answer }
+{
+    if unstarted {
+        return Ran {
+            worked: at_once(alloc, Outcome::Memory),
+            host: yard.into_host(),
+        };
+    }
+    end_run(alloc, yard)
+}
+
+/// Runs a plan with its order, with a worker for each member.
+pub(crate) fn run_plan_by<R: Threads + Wait + Sync, H: Host + Send, T: Tool + Send, G: Gate + Send>(
+    rt: &R,
+    alloc: Global,
+    ordered: Ordered,
+    host: H,
+    members: Vec<Crew<T, G>>,
+) -> RanBy<H, T, G>
+    requires proper { IsProper ordered.plan }
+    requires limits { IsWithinLimits ordered.plan }
+    requires retries { retries ordered.plan ≤ 10 }
+    requires members { (0 < length members.items) × (length members.items ≤ 16) }
+    ensures ran { let before = list_map (λ (c : Crew T G). T.faults c.tool) members.items in
+        let after = list_map (λ (c : Crew T G). T.faults c.tool) result.members.items in
+        ∥ HasRun (working T.apply T.known (work_moment H.Host host (first_count before)) (work_moment H.Host result.ran.host (first_count after)))
+        (counting before after) (length members.items) ordered.plan (task_numbers ordered.tasks.items) result.ran.worked.text.items result.ran.worked.answer ∥₁ }
+    ensures answer { IsAnswer result.ran.worked.answer }
+    ensures members { length result.members.items ≡ length members.items }
+{
+    // Laws for the proof: they do nothing.
+    ordered_plans_fit();
+    legal_records_are_safe();
+    what_is_left_is_held();
+    match Yard::<H, T>::open(alloc, ordered, host) {
+        Ok(yard) => {
+            let end = run_many(rt, alloc, yard, members);
+            let ManyEnd {
+                yard,
+                crew: members,
+                unstarted,
+            } = end;
+            // What holds of every yard, for the proof.
+            yard.agrees();
+            let ran = end_many(alloc, yard, unstarted);
+            RanBy { ran, members }
+        }
+        Err(refused) => RanBy {
+            ran: refuse_run(alloc, refused),
+            members,
+        },
+    }
+}

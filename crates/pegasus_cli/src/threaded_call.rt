@@ -1,0 +1,117 @@
+//! The call that the program makes.
+
+ghost use Rattle.std.specs.Prelude.{◌≡◌, ◌<◌, ◌≤◌, drop, false, length, map as list_map, string_bytes, true};
+ghost use Rattle.craft.specs.declared.crew.Crew.{Crew};
+ghost use Rattle.pegasus_cli.specs.Call.{IsAnswered};
+ghost use Rattle.pegasus_cli.specs.Headline.{HoldsOf};
+ghost use Rattle.pegasus_cli.specs.Moments.{asking, call, counting, docs_moment, first_count, sink_moment, work_moment, working, writing};
+ghost use Rattle.pegasus_cli.specs.Words.{HasWorkers, is_threaded};
+ghost use Rattle.pegasus_cli.specs.declared.commands.Command.TheVariants.{Run};
+
+use crate::call::{finish, prepare, quick};
+use crate::commands::{Command, run_by_many};
+use crate::outcome::Outcome;
+use crate::words::threaded;
+use craft::{Crew, Gate};
+use outside::{Docs, Host, Sink, Tool};
+use site_yard::nothing_else_fails;
+use std::alloc::Global;
+use std::sync::Wait;
+use std::thread::Threads;
+
+/// How many workers a run is to have.
+fn workers_of(command: Command) -> u32
+    requires { HasWorkers command }
+    ensures is { command ≡ Run result }
+    ensures few { (0 < result) × (result ≤ 16) }
+{
+    match command {
+        Command::Run(workers) => workers,
+        _ => unreachable!(),
+    }
+}
+
+/// Does what the words of a run say, with as many members of the crew as there are to be workers.
+fn run_words<
+    R: Threads + Wait + Sync,
+    D: Docs,
+    K: Sink,
+    H: Host + Send,
+    T: Tool + Send,
+    G: Gate + Send,
+>(
+    rt: &R,
+    alloc: Global,
+    words: &[String],
+    docs: &mut D,
+    out: &mut K,
+    host: H,
+    crew: Vec<Crew<T, G>>,
+) -> (Outcome, H, Vec<Crew<T, G>>)
+    requires crew { length crew.items ≡ 16 }
+    requires words { is_threaded (list_map string_bytes words.now) ≡ true }
+    ensures answered { let asked = asking (list_map string_bytes words.now) (docs_moment D.Docs docs.old) (docs_moment D.Docs docs.new) in
+        let before = list_map (λ (c : Crew T G). T.faults c.tool) crew.items in
+        let after = list_map (λ (c : Crew T G). T.faults c.tool) result.2.items in
+        let work = working T.apply T.known (work_moment H.Host host (first_count before)) (work_moment H.Host result.1 (first_count after)) in
+        let output = writing (sink_moment K.Sink out.old) (sink_moment K.Sink out.new) in
+        IsAnswered (call asked work (counting before after) output) result.0 }
+    ensures crew { length result.2.items ≡ 16 }
+{
+    // A law for the proof: it does nothing.
+    nothing_else_fails();
+    let mut crew = crew;
+    let going = match prepare(alloc, words, docs) {
+        Ok(going) => going,
+        Err(answer) => {
+            let outcome = finish(alloc, out, Vec::new(alloc), answer);
+            return (outcome, host, crew);
+        }
+    };
+    let workers = workers_of(going.command);
+    let ran = run_by_many(rt, alloc, workers, &going.surveyed, host, &mut crew);
+    let outcome = finish(alloc, out, ran.worked.text, ran.worked.answer);
+    (outcome, ran.host, crew)
+}
+
+/// Does what the words say and writes what came of it. A run starts a thread for each worker and joins them all before
+/// it returns; it doesn't promise to end. All other words are those of [`quick`].
+pub fn pegasus<
+    R: Threads + Wait + Sync,
+    D: Docs,
+    K: Sink,
+    H: Host + Send,
+    T: Tool + Send,
+    G: Gate + Send,
+>(
+    rt: &R,
+    alloc: Global,
+    words: &[String],
+    docs: &mut D,
+    out: &mut K,
+    host: H,
+    crew: Vec<Crew<T, G>>,
+) -> (Outcome, H, Vec<Crew<T, G>>)
+    requires { length crew.items ≡ 16 }
+    ensures answered { let asked = asking (list_map string_bytes words.now) (docs_moment D.Docs docs.old) (docs_moment D.Docs docs.new) in
+        let before = list_map (λ (c : Crew T G). T.faults c.tool) crew.items in
+        let after = list_map (λ (c : Crew T G). T.faults c.tool) result.2.items in
+        let work = working T.apply T.known (work_moment H.Host host (first_count before)) (work_moment H.Host result.1 (first_count after)) in
+        let output = writing (sink_moment K.Sink out.old) (sink_moment K.Sink out.new) in
+        IsAnswered (call asked work (counting before after) output) result.0 }
+    ensures headline { let asked = asking (list_map string_bytes words.now) (docs_moment D.Docs docs.old) (docs_moment D.Docs docs.new) in
+        let before = list_map (λ (c : Crew T G). T.faults c.tool) crew.items in
+        let after = list_map (λ (c : Crew T G). T.faults c.tool) result.2.items in
+        let work = working T.apply T.known (work_moment H.Host host (first_count before)) (work_moment H.Host result.1 (first_count after)) in
+        let output = writing (sink_moment K.Sink out.old) (sink_moment K.Sink out.new) in
+        HoldsOf (call asked work (counting before after) output) result.0 }
+    ensures crew { length result.2.items ≡ 16 }
+    ensures others { is_threaded (list_map string_bytes words.now) ≡ false → drop 1 result.2.items ≡ drop 1 crew.items }
+    ensures gates { is_threaded (list_map string_bytes words.now) ≡ false → list_map (λ (c : Crew T G). c.gate) result.2.items ≡ list_map (λ (c : Crew T G). c.gate) crew.items }
+{
+    if threaded(words) {
+        run_words(rt, alloc, words, docs, out, host, crew)
+    } else {
+        quick(alloc, words, docs, out, host, crew)
+    }
+}
