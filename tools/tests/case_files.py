@@ -17,6 +17,7 @@ class Case:
     scratch: dict = field(default_factory=dict)
     status: int | None = None
     text: str = ""
+    is_after_record: bool = False
     delivered: dict = field(default_factory=dict)
     stored: dict = field(default_factory=dict)
     trace: str | None = None
@@ -50,6 +51,8 @@ def add_section(case, head, text):
     match head.split(" "):
         case ["status", status]:
             case.status, case.text = int(status), text
+        case ["status", status, "after", "the", "record"]:
+            case.status, case.text, case.is_after_record = int(status), text, True
         case ["delivered", name]:
             case.delivered[name_of(name)] = text.encode()
         case ["not", "delivered", name]:

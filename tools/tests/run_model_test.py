@@ -20,10 +20,10 @@ CATALOGUES = {"replicas": "replicaCatalog", "transformations": "transformationCa
 
 
 def is_told(case):
-    """Whether it is one call of `alone` that ends with a run, or a refusal of what the documents say together."""
-    is_one = len(case.words) == 1 and re.fullmatch(r"words alone \S+\.json", case.words[0])
+    """Whether its calls of `alone` or `run` end with a run, or a refusal of what the documents say together."""
+    is_one = all(re.fullmatch(r"words alone \S+\.json|words run .*\.json.*", words) for words in case.words)
     is_known = not any(line.startswith(("failing fetch", "each")) for line in case.settings)
-    return is_one and is_known and case.status != 3 and not pages.OF_DOCUMENTS.match(case.text)
+    return is_one and is_known and case.status not in (2, 3) and not pages.OF_DOCUMENTS.match(case.text)
 
 
 def documents_of(case, request):
@@ -37,7 +37,8 @@ def documents_of(case, request):
 
 def run(case):
     """What the model says of a case: the store, the status, and the text as far as the output takes it."""
-    request = json.loads(case.documents[case.words[0].split(" ")[2]])
+    name = next(word for word in case.words[0].split(" ") if word.endswith(".json"))
+    request = json.loads(case.documents[name])
     store = model.Store(case.replicas, scratch=dict(case.scratch), failing=case.failing("host"))
     status, lines = model.run(request, documents_of(case, request), store, case.failing("run"))
     text = "".join(line + "\n" for line in lines)
@@ -48,6 +49,8 @@ def run(case):
 
 def compare(path, case):
     store, status, text = run(case)
+    if case.is_after_record:
+        text = text.split("\nclosed\n", 1)[1]
     assert (case.status, case.text) == (status, text), (path, case.name, status, text)
     for name, content in case.delivered.items():
         assert store.delivered.get(name) == content, (path, case.name, name)

@@ -1,11 +1,22 @@
 -- What a call leaves, against what its case says.
-use Rattle.std.specs.Prelude.{◌≡◌, option_map, string_bytes}
+use Rattle.std.specs.Prelude.{◌≡◌, ℕ, List, option_map, string_bytes}
 use Rattle.std.specs.FinMap as map
 use Rattle.outside.specs.MemoryHost.{host_store}
 use Rattle.outside.specs.declared.memory_host.MemoryHost.{MemoryHost}
 use Rattle.outside.specs.SiteMap.{pair_at}
 use Rattle.cases.specs.declared.case.Delivered.{Delivered}
+use Rattle.cases.specs.declared.case.Ending.{Ending}
+use Rattle.cases.specs.declared.case.Part.{Part}
+use Rattle.cases.specs.declared.case.Part.TheVariants.{Whole, AfterRecord}
 use Rattle.cases.specs.declared.case.Stored.{Stored}
+
+-- What was written is the text, or a part of it is.
+abbrev pub IsWritten : List ℕ → List ℕ → Part → Type 0
+IsWritten written text Whole = written ≡ text
+IsWritten written text AfterRecord = Unit {0}
+
+abbrev pub IsWrittenAs : List ℕ → Ending → Type 0
+IsWrittenAs written ending = IsWritten written (string_bytes ending.text) ending.part
 
 -- What is delivered under the file's name is these bytes, or nothing where there are none.
 abbrev pub IsHeld : MemoryHost → Delivered → Type 0

@@ -5,10 +5,13 @@ ghost use Rattle.std.specs.Prelude.{◌≡◌, IfOk, length};
 use crate::case::{Case, CommandLine, Document, Setup, SiteFiles, Weather};
 use crate::comparing::is_met;
 use crate::trace::trace_text;
-use craft::{Crew, Faulty, Gate, OpenGate};
+use craft::{Crew, Faulty, Gate, Hold, Holding, OpenGate};
 use outside::{Docs, Host, Memory, MemoryDocs, MemoryHost, MemorySink, Sink, Tool};
-use pegasus_cli::quick;
+use pegasus_cli::pegasus;
 use std::alloc::Global;
+use std::sync::atomic::Ordering;
+use std::sync::{Arc, Wait};
+use std::thread::Threads;
 use toolbox::Shipped;
 
 /// A document or a replica under its name.
@@ -33,7 +36,7 @@ struct Found<'a> {
     scratch: Vec<GivenAt<'a>>,
 }
 
-type Member = Crew<Faulty<Shipped>, OpenGate>;
+type Member = Crew<Holding<Faulty<Shipped>>, OpenGate>;
 
 /// What a call is given.
 #[derive(Drop)]
@@ -42,6 +45,7 @@ struct Prepared {
     sink: MemorySink,
     host: MemoryHost,
     crew: Vec<Member>,
+    hold: Arc<Hold>,
     ghost all: { length crew.items ≡ 16 },
 }
 
@@ -51,6 +55,7 @@ struct Returned {
     status: u8,
     host: MemoryHost,
     sink: MemorySink,
+    held_out: bool,
 }
 
 /// What a call left.
@@ -59,6 +64,8 @@ pub struct Ended {
     pub status: u8,
     pub host: MemoryHost,
     pub sink: MemorySink,
+    /// Whether the first run of a tool was held until its limit.
+    pub held_out: bool,
     /// What the host did, as text.
     pub trace: Vec<u8>,
 }
@@ -133,14 +140,20 @@ fn host(alloc: Global, failing: &[u64], found: &Found<'_>) -> Result<MemoryHost,
     Ok(host)
 }
 
-/// As many members as the program has, of whose tools these runs fail.
-fn crew_of(alloc: Global, failing: &[u64]) -> Result<Vec<Member>, Memory>
+/// As many members as the program has, of whose tools these runs fail, and of all of which the first run is held.
+fn crew_of(
+    alloc: Global,
+    failing: &[u64],
+    hold: &Arc<Hold>,
+    limit: u64,
+) -> Result<Vec<Member>, Memory>
     ensures { IfOk result (λ crew. length crew.items ≡ 16) }
 {
     let mut crew = Vec::new(alloc);
     for member in 0..16_usize {
+        let tool = Faulty::new(Shipped::new(), Vec::from_slice(alloc, failing)?);
         crew.push(Crew {
-            tool: Faulty::new(Shipped::new(), Vec::from_slice(alloc, failing)?),
+            tool: Holding::new(tool, hold.clone()?, limit),
             gate: OpenGate,
         })?;
     }
@@ -154,16 +167,27 @@ fn prepare(
     cut: Option<(&str, usize)>,
 ) -> Result<Prepared, Memory> {
     let writes = Vec::from_slice(alloc, &weather.writes)?;
+    let hold = Arc::new(alloc, Hold::new())?;
+    let limit = weather.held.unwrap_or(0);
     Ok(Prepared {
         docs: documents(alloc, &weather.fetches, &found.documents, cut)?,
         sink: MemorySink::new(alloc, weather.room, weather.taken, writes)?,
         host: host(alloc, &weather.host_calls, found)?,
-        crew: crew_of(alloc, &weather.runs)?,
+        crew: crew_of(alloc, &weather.runs, &hold, limit)?,
+        hold,
     })
 }
 
-/// A call over any objects, since the clause of `quick` is long, and longer where the objects are known.
-fn status_of<D: Docs, K: Sink, H: Host, T: Tool, G: Gate>(
+/// A call over any objects, since the clauses of `pegasus` are long, and longer where the objects are known.
+fn status_of<
+    R: Threads + Wait + Sync,
+    D: Docs,
+    K: Sink,
+    H: Host + Send,
+    T: Tool + Send,
+    G: Gate + Send,
+>(
+    rt: &R,
     alloc: Global,
     words: &[String],
     docs: &mut D,
@@ -173,15 +197,21 @@ fn status_of<D: Docs, K: Sink, H: Host, T: Tool, G: Gate>(
 ) -> (u8, H)
     requires { length crew.items ≡ 16 }
 {
-    let (outcome, host, _) = quick(alloc, words, docs, sink, host, crew);
+    let (outcome, host, _) = pegasus(rt, alloc, words, docs, sink, host, crew);
     (outcome.code(), host)
 }
 
 /// Makes a call.
-fn call(alloc: Global, words: &[String], prepared: Prepared) -> Returned {
+fn call<R: Threads + Wait + Sync>(
+    rt: &R,
+    alloc: Global,
+    words: &[String],
+    prepared: Prepared,
+) -> Returned {
     let mut docs = prepared.docs;
     let mut sink = prepared.sink;
     let (status, host) = status_of(
+        rt,
         alloc,
         words,
         &mut docs,
@@ -189,7 +219,13 @@ fn call(alloc: Global, words: &[String], prepared: Prepared) -> Returned {
         prepared.host,
         prepared.crew,
     );
-    Returned { status, host, sink }
+    let held_out = prepared.hold.spent.load(Ordering::SeqCst) != 0;
+    Returned {
+        status,
+        host,
+        sink,
+        held_out,
+    }
 }
 
 fn with_trace(alloc: Global, returned: Returned) -> Result<Ended, Memory> {
@@ -198,6 +234,7 @@ fn with_trace(alloc: Global, returned: Returned) -> Result<Ended, Memory> {
         status: returned.status,
         host: returned.host,
         sink: returned.sink,
+        held_out: returned.held_out,
         trace,
     })
 }
@@ -215,18 +252,19 @@ fn length_of(given: &[Given<'_>], name: &str) -> usize {
 
 /// Makes one of the calls, over each shorter front where the case says so, up to the first that
 /// ends otherwise.
-fn try_call<'a>(
+fn try_call<'a, R: Threads + Wait + Sync>(
+    rt: &R,
     alloc: Global,
     case: &Case,
     found: &Found<'_>,
     line: &'a CommandLine,
 ) -> Result<Option<Difference<'a>>, Memory> {
     let Some(name) = &case.cut else {
-        return try_once(alloc, case, found, line, None);
+        return try_once(rt, alloc, case, found, line, None);
     };
     let name = name.as_str();
     for end in 0..length_of(&found.documents, name) {
-        let difference = try_once(alloc, case, found, line, Some((name, end)))?;
+        let difference = try_once(rt, alloc, case, found, line, Some((name, end)))?;
         if difference.is_some() {
             return Ok(difference);
         }
@@ -234,7 +272,8 @@ fn try_call<'a>(
     Ok(None)
 }
 
-fn try_once<'a>(
+fn try_once<'a, R: Threads + Wait + Sync>(
+    rt: &R,
     alloc: Global,
     case: &Case,
     found: &Found<'_>,
@@ -242,7 +281,7 @@ fn try_once<'a>(
     cut: Option<(&str, usize)>,
 ) -> Result<Option<Difference<'a>>, Memory> {
     let prepared = prepare(alloc, &case.weather, found, cut)?;
-    let ended = with_trace(alloc, call(alloc, &line.words, prepared))?;
+    let ended = with_trace(alloc, call(rt, alloc, &line.words, prepared))?;
     if is_met(case, &ended) {
         return Ok(None);
     }
@@ -255,7 +294,8 @@ fn try_once<'a>(
 }
 
 /// The first of a case's calls that ends otherwise than the case says.
-pub fn first_difference<'a>(
+pub fn first_difference<'a, R: Threads + Wait + Sync>(
+    rt: &R,
     alloc: Global,
     common: &'a Setup,
     case: &'a Case,
@@ -277,7 +317,7 @@ pub fn first_difference<'a>(
         &case.setup.calls
     };
     for line in calls {
-        let difference = try_call(alloc, case, &found, line)?;
+        let difference = try_call(rt, alloc, case, &found, line)?;
         if difference.is_some() {
             return Ok(difference);
         }

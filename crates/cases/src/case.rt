@@ -109,6 +109,8 @@ pub struct Weather {
     /// Calls of the host.
     pub host_calls: Vec<u64>,
     pub runs: Vec<u64>,
+    /// How often the first run of a tool looks whether another one was answered before it goes on, where it is held.
+    pub held: Option<u64>,
     /// How many bytes a write takes at most.
     pub taken: usize,
     /// How many bytes the output takes in all.
@@ -124,10 +126,19 @@ impl Weather {
             writes: Vec::new(alloc),
             host_calls: Vec::new(alloc),
             runs: Vec::new(alloc),
+            held: None,
             taken: 65_536,
             room: 65_536,
         }
     }
+}
+
+/// Which part of what a call writes a case says.
+#[derive(Clone, Copy, Debug, PartialEq, Eq)]
+pub enum Part {
+    Whole,
+    /// What follows the last line of a record. Of a run by several workers the record differs from call to call.
+    AfterRecord,
 }
 
 /// What a call has to end with.
@@ -135,6 +146,7 @@ impl Weather {
 pub struct Ending {
     pub status: u8,
     pub text: String,
+    pub part: Part,
 }
 
 /// What is delivered under a name in the end: these bytes, or nothing.

@@ -2,10 +2,10 @@
 
 ghost use Rattle.std.specs.Prelude.{◌≡◌, ◌↔◌, IfSome, IsTrue, string_bytes, All};
 ghost use Rattle.outside.specs.MemorySink.{sink_bytes};
-ghost use Rattle.cases.specs.Comparing.{IsHeld, IsStored};
+ghost use Rattle.cases.specs.Comparing.{IsHeld, IsStored, IsWrittenAs};
 
 use crate::calling::Ended;
-use crate::case::{Case, Delivered, Stored};
+use crate::case::{Case, Delivered, Ending, Part, Stored};
 use outside::MemoryHost;
 
 /// Whether the host holds the bytes, or nothing where there are none.
@@ -41,16 +41,30 @@ pub fn is_traced(trace: &[u8], wanted: &Option<String>) -> bool
     }
 }
 
+/// Whether what was written is what a case says of it.
+pub fn is_written(written: &[u8], ending: &Ending) -> bool
+    ensures { IsTrue result → IsWrittenAs written.now ending.now }
+{
+    match ending.part {
+        Part::Whole => written == ending.text.as_bytes(),
+        Part::AfterRecord => match written.strip_suffix(ending.text.as_bytes()) {
+            Some(record) => record.ends_with(b"\nclosed\n"),
+            None => false,
+        },
+    }
+}
+
 /// Whether a call ended as its case says.
 pub fn is_met(case: &Case, ended: &Ended) -> bool
     ensures status { IsTrue result → ended.now.status ≡ case.now.ending.status }
-    ensures text { IsTrue result → sink_bytes ended.now.sink ≡ string_bytes case.now.ending.text }
+    ensures text { IsTrue result → IsWrittenAs (sink_bytes ended.now.sink) case.now.ending }
     ensures files { IsTrue result → All (IsHeld ended.now.host) case.now.delivered.items }
     ensures stored { IsTrue result → All (IsStored ended.now.host) case.now.stored.items }
     ensures trace { IsTrue result → IfSome case.now.trace (λ text. ended.now.trace.items ≡ string_bytes text) }
 {
     ended.status == case.ending.status
-        && ended.sink.bytes() == case.ending.text.as_bytes()
+        && is_written(ended.sink.bytes(), &case.ending)
+        && !(ended.held_out && case.weather.held.is_some())
         && case.delivered.iter().all(|file| is_held(&ended.host, file))
         && case.stored.iter().all(|file| is_stored(&ended.host, file))
         && is_traced(&ended.trace, &case.trace)

@@ -1,6 +1,6 @@
 //! A case as far as it is read.
 
-use crate::case::{Case, Delivered, Ending, Setup, Stored, Weather, add_piece, add_scratch};
+use crate::case::{Case, Delivered, Ending, Part, Setup, Stored, Weather, add_piece, add_scratch};
 use crate::fault::Complaint;
 use crate::header::Header;
 use crate::piece::Piece;
@@ -53,8 +53,8 @@ impl Draft {
                 let piece = Piece { text, form };
                 add_scratch(alloc, &mut self.setup.scratch, site, name, piece)?
             }
-            Header::Status(_) if self.ending.is_some() => return Err(Complaint::StatusTwice),
-            Header::Status(status) => self.ending = Some(Ending { status, text }),
+            Header::Status(status) => self.end(status, text, Part::Whole)?,
+            Header::StatusAfterRecord(status) => self.end(status, text, Part::AfterRecord)?,
             Header::Delivered(name) => self.add_delivered(name, Some(text))?,
             Header::NotDelivered(_) | Header::NotStored(_, _) if !text.is_empty() => {
                 return Err(Complaint::TextOfAbsentFile);
@@ -65,6 +65,14 @@ impl Draft {
             Header::Trace if self.trace.is_some() => return Err(Complaint::TraceTwice),
             Header::Trace => self.trace = Some(text),
         }
+        Ok(())
+    }
+
+    fn end(&mut self, status: u8, text: String, part: Part) -> Result<(), Complaint> {
+        if self.ending.is_some() {
+            return Err(Complaint::StatusTwice);
+        }
+        self.ending = Some(Ending { status, text, part });
         Ok(())
     }
 

@@ -13,6 +13,8 @@ pub enum Header {
     /// A site and a file's name.
     Scratch(String, String, Form),
     Status(u8),
+    /// The text is that after the record alone.
+    StatusAfterRecord(u8),
     Delivered(String),
     NotDelivered(String),
     /// A site and a file's name.
@@ -82,6 +84,9 @@ fn header_of(alloc: Global, line: &str) -> Result<Header, Complaint> {
     }
     match words.as_slice() {
         ["status", status] => Ok(Header::Status(status_of(status)?)),
+        ["status", status, "after", "the", "record"] => {
+            Ok(Header::StatusAfterRecord(status_of(status)?))
+        }
         ["delivered", name] => Ok(Header::Delivered(name_of(alloc, name)?)),
         ["not", "delivered", name] => Ok(Header::NotDelivered(name_of(alloc, name)?)),
         ["stored", site, name] => {

@@ -1,4 +1,4 @@
-//! The cases of the product: calls of `pegasus_cli::quick` that stand as text files in `data/`.
+//! The cases of the product: calls of `pegasus_cli::pegasus` that stand as text files in `data/`.
 //!
 //! Each word names a file of cases. A case's call is made over objects in memory and the shipped
 //! transformations, and has to end with the status, the text, the files and the trace that the case
@@ -34,7 +34,7 @@ fn main(rt: HostRuntime) -> ExitCode {
     let mut report = Report::new(alloc);
     for file in &files {
         let text = fs::read_to_string(&rt, file.as_str());
-        match report.add_file(alloc, file.as_str(), text.ok()) {
+        match report.add_file(&rt, alloc, file.as_str(), text.ok()) {
             Ok(()) => {}
             Err(Memory) => return ExitCode::from(Outcome::Memory.code()),
         }

@@ -8,6 +8,8 @@ use crate::reader::parse;
 use outside::{Memory, Word, push_line};
 use std::alloc::Global;
 use std::collections::BTreeSet;
+use std::sync::Wait;
+use std::thread::Threads;
 
 /// What has been told so far.
 #[derive(Drop)]
@@ -31,8 +33,9 @@ impl Report {
     }
 
     /// Tells the cases of a file, and then those that can't be read.
-    pub fn add_file(
+    pub fn add_file<R: Threads + Wait + Sync>(
         &mut self,
+        rt: &R,
         alloc: Global,
         file: &str,
         text: Option<String>,
@@ -43,7 +46,7 @@ impl Report {
         };
         let read = parse(alloc, text.as_str(), &mut self.names)?;
         for case in &read.cases {
-            self.add_case(alloc, &read.common, case)?;
+            self.add_case(rt, alloc, &read.common, case)?;
         }
         for fault in &read.faults {
             self.add_fault(alloc, file, *fault)?;
@@ -63,9 +66,15 @@ impl Report {
         )
     }
 
-    fn add_case(&mut self, alloc: Global, common: &Setup, case: &Case) -> Result<(), Memory> {
+    fn add_case<R: Threads + Wait + Sync>(
+        &mut self,
+        rt: &R,
+        alloc: Global,
+        common: &Setup,
+        case: &Case,
+    ) -> Result<(), Memory> {
         self.cases = self.cases.saturating_add(1);
-        let difference = first_difference(alloc, common, case)?;
+        let difference = first_difference(rt, alloc, common, case)?;
         let verdict = if difference.is_some() {
             "differs"
         } else {
@@ -124,6 +133,9 @@ fn push_difference(
     let status = Word::Number(u64::from(ended.status));
     push_line(alloc, text, "  status", &[status])?;
     push_quoted(text, ended.sink.bytes())?;
+    if ended.held_out && case.weather.held.is_some() {
+        push_line(alloc, text, "  held to its limit", &[])?;
+    }
     for file in &case.delivered {
         if !is_held(&ended.host, file) {
             let name = Word::Name(file.name.as_bytes());

@@ -6,6 +6,9 @@ use crate::fault::Complaint;
 use crate::words::{name_of, number_of, words_of};
 use std::alloc::Global;
 
+/// How often a held run looks whether another one was answered: for some seconds.
+const HELD_LOOKS: u64 = 1_000_000_000;
+
 /// Adds the call of a line of words; tells whether it is one.
 pub fn add_words(alloc: Global, setup: &mut Setup, line: &str) -> Result<bool, Complaint> {
     let words = if line == "words" {
@@ -22,6 +25,10 @@ pub fn add_words(alloc: Global, setup: &mut Setup, line: &str) -> Result<bool, C
 
 /// Adds a line that is no line of words.
 pub fn add_setting(alloc: Global, draft: &mut Draft, line: &str) -> Result<(), Complaint> {
+    if line == "first run held" {
+        draft.weather.held = Some(HELD_LOOKS);
+        return Ok(());
+    }
     let Some((setting, word)) = line.rsplit_once(' ') else {
         return Err(Complaint::UnknownSetting);
     };

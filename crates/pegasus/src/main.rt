@@ -1,4 +1,4 @@
-//! The command line `pegasus`: `pegasus_cli::quick` over files of the user's folder, standard output, a
+//! The command line `pegasus`: `pegasus_cli::pegasus` over files of the user's folder, standard output, a
 //! store of folders and the shipped tools. What it does is said in the contract of that call.
 #![tactic(auto)]
 
@@ -7,7 +7,7 @@ ghost use Rattle.std.specs.Prelude.{◌≡◌, IfOk, length};
 use craft::{Crew, OpenGate};
 use host_files::{FolderDocs, FolderHost, StreamSink};
 use outside::Memory;
-use pegasus_cli::{Outcome, quick, user_words};
+use pegasus_cli::{Outcome, pegasus, user_words};
 use std::alloc::Global;
 use std::process::ExitCode;
 use std::{env, io};
@@ -38,6 +38,6 @@ fn main(rt: HostRuntime) -> ExitCode {
     let mut out = StreamSink::new(io::writer(&rt));
     let host = FolderHost::new(rt);
     let mut docs = FolderDocs::new(rt);
-    let (outcome, _, _) = quick(alloc, &words, &mut docs, &mut out, host, crew);
+    let (outcome, _, _) = pegasus(&rt, alloc, &words, &mut docs, &mut out, host, crew);
     ExitCode::from(outcome.code())
 }
