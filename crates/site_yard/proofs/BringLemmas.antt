@@ -23,7 +23,7 @@ use Rattle.lease_book.specs.State.{State, after, holder_after, now, now_from, op
 use Rattle.site_yard.specs.Law.{HasPlanLaws}
 use Rattle.site_yard.specs.Names.{pair_file}
 use Rattle.site_yard.specs.Moving.{Fetched, Moved, placing}
-use Rattle.site_yard.specs.Yard.{IsArrival, IsNoTool}
+use Rattle.site_yard.specs.Yard.{IsArrival, NamesNoJob}
 use Rattle.site_yard.proofs.MoveLemmas.{failed}
 use Rattle.site_yard.proofs.PlanLemmas.{transfer_writes, written_below}
 use Rattle.site_yard.proofs.SuitsLemmas.{good_of}
@@ -79,17 +79,17 @@ made_size p proper laws t g f from Delivery e h =
 pub arrive_allowed : (p : Plan) (order : List ℕ) (r : List Event) (w t n : ℕ) (f : FileId) (from : Source) (to : Target) → IsProper p → HasPlanLaws p → w < 16 → IsOpen (now p order r) w t → kind p t ≡ Some (Transfer f from to) → n ≤ or_zero (declared p f.0) → Allowed p (now p order r) (Arrive w t n)
 arrive_allowed p order r w t n f from to proper laws low opened_ e small = (low, ap is_transfer_kind e, opened_, λ g h. subst (λ z. n ≤ z) (sym (made_size p proper laws t g f from to e h)) small)
 
-pub fetched_no_tool : (p : Plan) (f : ℕ) (from : Source) (found : Option (Option (List ℕ))) (before now_ : Counts) (cause : Cause) → Fetched p f from found before now_ (Err cause) → IsNoTool cause
-fetched_no_tool p f from found before now_ Absent why = tt
-fetched_no_tool p f from found before now_ (TooLong k) why = tt
-fetched_no_tool p f from found before now_ (Checksum d) why = tt
-fetched_no_tool p f from found before now_ (Oversize j x k) why = absurd why
-fetched_no_tool p f from found before now_ (Declined j) why = absurd why
-fetched_no_tool p f from found before now_ (ToolFailed j) why = absurd why
-fetched_no_tool p f from found before now_ HostFailed why = tt
-fetched_no_tool p f from found before now_ Memory why = tt
+pub fetched_names_no_job : (p : Plan) (f : ℕ) (from : Source) (found : Option (Option (List ℕ))) (before now_ : Counts) (cause : Cause) → Fetched p f from found before now_ (Err cause) → NamesNoJob cause
+fetched_names_no_job p f from found before now_ Absent why = tt
+fetched_names_no_job p f from found before now_ (TooLong k) why = tt
+fetched_names_no_job p f from found before now_ (Checksum d) why = tt
+fetched_names_no_job p f from found before now_ (Oversize j x k) why = absurd why
+fetched_names_no_job p f from found before now_ (Declined j) why = absurd why
+fetched_names_no_job p f from found before now_ (ToolFailed j) why = absurd why
+fetched_names_no_job p f from found before now_ HostFailed why = tt
+fetched_names_no_job p f from found before now_ Memory why = tt
 
-pub failed_arrival : (b : Bool) (w t : ℕ) (cause : Cause) (ns : List ℕ) → IsNoTool cause → IsArrival w t (failed b w t cause ns)
+pub failed_arrival : (b : Bool) (w t : ℕ) (cause : Cause) (ns : List ℕ) → NamesNoJob cause → IsArrival w t (failed b w t cause ns)
 failed_arrival true w t cause ns h = (refl, refl, h)
 failed_arrival false w t cause ns h = (refl, refl, h)
 

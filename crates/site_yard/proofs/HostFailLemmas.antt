@@ -19,7 +19,7 @@ use Rattle.site_yard.specs.Failures.{IsCounted}
 use Rattle.site_yard.specs.Kept.{IsKept}
 use Rattle.site_yard.specs.Moving.{HaveFaultsRisen, HaveMissesRisen}
 use Rattle.site_yard.specs.Truthful.{AreSizes, IsCause, IsTrue}
-use Rattle.site_yard.specs.Yard.{IsNoTool, IsTold, IsWorkers}
+use Rattle.site_yard.specs.Yard.{NamesNoJob, IsTold, IsWorkers}
 use Rattle.site_yard.proofs.KeptLemmas.{keeps}
 use Rattle.site_yard.proofs.MoveLemmas.{failed, failed_changes, failed_counted, failed_true, host_counted, no_sizes, rose_none, unchanged}
 
@@ -35,9 +35,9 @@ pub hosts_fits : (p : Plan) (o : Option Store) (before now : Counts) (t : ℕ) (
 hosts_fits p o before now t cause ns published (inl why) = subst (λ z. CauseFits p t z ns) (sym why.0) published
 hosts_fits p o before now t cause ns published (inr e) = subst (λ z. CauseFits p t z ns) (sym e) published
 
-pub hosts_no_tool : (o : Option Store) (before now : Counts) (cause : Cause) → IsHosts o before now cause → IsNoTool cause
-hosts_no_tool o before now cause (inl why) = subst IsNoTool (sym why.0) tt
-hosts_no_tool o before now cause (inr e) = subst IsNoTool (sym e) tt
+pub hosts_name_no_job : (o : Option Store) (before now : Counts) (cause : Cause) → IsHosts o before now cause → NamesNoJob cause
+hosts_name_no_job o before now cause (inl why) = subst NamesNoJob (sym why.0) tt
+hosts_name_no_job o before now cause (inr e) = subst NamesNoJob (sym e) tt
 
 hosts_true : (apply : Apply) (told : List ℕ → Option (List ℕ)) (p : Plan) (c : ℕ → ℕ → Option (List ℕ)) (o : Option Store) (before now : Counts) (t : ℕ) (cause : Cause) → IsHosts o before now cause → IsCause apply told p c t cause
 hosts_true apply told p c o before now t cause (inl why) = subst (IsCause apply told p c t) (sym why.0) tt

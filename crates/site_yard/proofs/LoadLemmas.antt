@@ -30,9 +30,9 @@ use Rattle.site_yard.specs.Moving.{IsUnfit}
 use Rattle.site_yard.specs.Names.{pair_file, pair_site}
 use Rattle.site_yard.specs.Storing.{AreWithin}
 use Rattle.site_yard.specs.Truthful.{AreSizes}
-use Rattle.site_yard.specs.Yard.{Adds, IsFailure, IsNoTool, content}
+use Rattle.site_yard.specs.Yard.{Adds, IsFailure, NamesNoJob, content}
 use Rattle.site_yard.proofs.AgreesLemmas.{HasBookLaws}
-use Rattle.site_yard.proofs.HostFailLemmas.{IsHosts, hosts_counted, hosts_fits, hosts_keeps, hosts_no_tool}
+use Rattle.site_yard.proofs.HostFailLemmas.{IsHosts, hosts_counted, hosts_fits, hosts_keeps, hosts_name_no_job}
 use Rattle.site_yard.proofs.MoveLemmas.{failed, failed_counted, no_prop, no_sizes, none_published, unchanged, unfit}
 use Rattle.site_yard.proofs.PlanLemmas.{stored_is, written_file}
 use Rattle.site_yard.proofs.SourceLemmas.{read_kept}
@@ -183,7 +183,7 @@ load_fails b q apply o n m f0 m0 before now_ w t cause same laws kept opened_ to
     some_sizes None = tt
     some_sizes (Some s) = no_sizes b.plan (carries apply b.plan m) t
 
-failed_failure : (b : Bool) (w t : ℕ) (cause : Cause) → IsNoTool cause → IsFailure w t (failed b w t cause [])
+failed_failure : (b : Bool) (w t : ℕ) (cause : Cause) → NamesNoJob cause → IsFailure w t (failed b w t cause [])
 failed_failure true w t cause h = (refl, refl, h, refl)
 failed_failure false w t cause h = (refl, refl, h, refl)
 
@@ -194,7 +194,7 @@ load_adds b q apply o m f0 m0 before now_ w t cause new same laws kept opened_ l
     record {
       entry = failure b.plan (state_at b) w t cause [];
       is = is;
-      kind = failed_failure (is_tried_again b.plan (state_at b) t cause) w t cause (hosts_no_tool o before now_ cause why);
+      kind = failed_failure (is_tried_again b.plan (state_at b) t cause) w t cause (hosts_name_no_job o before now_ cause why);
       counted = failed_counted o before now_ (is_tried_again b.plan (state_at b) t cause) w t cause [] (hosts_counted o before now_ w t cause [] later why);
     }
 

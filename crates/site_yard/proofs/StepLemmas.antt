@@ -29,14 +29,14 @@ use Rattle.site_yard.proofs.AgreesLemmas.{HasBookLaws}
 use Rattle.site_yard.specs.Leased.{failed_as}
 use Rattle.site_yard.specs.Moving.{HaveMissesRisen, MovedBy, SweptAway}
 use Rattle.site_yard.specs.Names.{pair_file_name, pair_site_name}
-use Rattle.site_yard.specs.Yard.{Adds, IsArrival, IsNoTool, Leases}
+use Rattle.site_yard.specs.Yard.{Adds, IsArrival, NamesNoJob, Leases}
 use Rattle.site_yard.specs.declared.delivered.Delivered.{Delivered}
 use Rattle.site_yard.specs.declared.leased.Leased.{Leased}
-use Rattle.site_yard.proofs.BringLemmas.{arrive_allowed, failed_arrival, fetched_no_tool, last_is, moved_tells, open_worker}
+use Rattle.site_yard.proofs.BringLemmas.{arrive_allowed, failed_arrival, fetched_names_no_job, last_is, moved_tells, open_worker}
 use Rattle.site_yard.proofs.DeliveryListLemmas.{list_keeps, list_length}
 use Rattle.site_yard.proofs.DeliveryRoomLemmas.{is_delivered, room_for}
 use Rattle.site_yard.proofs.MoveLemmas.{arrive_keeps, fail_keeps, failed, failed_counted, fetched_counted, fetched_fits, never_unfit}
-use Rattle.site_yard.proofs.SweepLemmas.{clean_is, clean_keeps, never_absent, next_clean, sweep_counted, sweep_fails, swept_no_tool}
+use Rattle.site_yard.proofs.SweepLemmas.{clean_is, clean_keeps, never_absent, next_clean, sweep_counted, sweep_fails, swept_names_no_job}
 
 pub worker_low : (b : Book) (w t : ℕ) → IsOpen (state_at b) w t → w < 16
 worker_low b w t opened_ = ∥∥₁_elim b.kept.legal (hlevel le_prop) (λ l. open_worker b.plan (task_numbers b.order.items) b.history.events w t l opened_)
@@ -93,7 +93,7 @@ pub bring_adds : (b : Book) (q : Plan) (apply : Apply) (o n : Option Store) (m :
 bring_adds b q apply o n m f0 m0 before now_ w t cause new same laws kept opened_ later by is = record {
   entry = failure b.plan (state_at b) w t cause [];
   is = is;
-  kind = failed_arrival (is_tried_again b.plan (state_at b) t cause) w t cause [] (fetched_no_tool q by.file.0 by.from _ before now_ cause by.moved.0);
+  kind = failed_arrival (is_tried_again b.plan (state_at b) t cause) w t cause [] (fetched_names_no_job q by.file.0 by.from _ before now_ cause by.moved.0);
   counted = failed_counted o before now_ (is_tried_again b.plan (state_at b) t cause) w t cause [] (bring_counted b q apply o n m f0 m0 before now_ w t cause same laws kept opened_ later by);
 }
 
@@ -116,7 +116,7 @@ sweep_stops b q apply o n m f0 m0 before now_ w t x cause same laws kept choice 
     (subst (λ p. SweptAway (pair_site_name p x.0) (pair_file_name p x.0) o n before now_ (Err cause)) same by)
 
 -- the answer after a failure names the entry
-failure_answers : (p : Plan) (b : Bool) (w : ℕ) (t : TaskId) (cause : Cause) (r new : List Event) (o : Option Store) (before now_ : Counts) (s : State) → IsChoice p s t.0 → is_clean p t.0 ≡ true → IsCounted o before now_ (Fail w t.0 cause []) → IsNoTool cause → new ≡ r ++ failed b w t.0 cause [] ∷ [] → Leases p s w r new o before now_ (failed_as t (Some (failed b w t.0 cause [])))
+failure_answers : (p : Plan) (b : Bool) (w : ℕ) (t : TaskId) (cause : Cause) (r new : List Event) (o : Option Store) (before now_ : Counts) (s : State) → IsChoice p s t.0 → is_clean p t.0 ≡ true → IsCounted o before now_ (Fail w t.0 cause []) → NamesNoJob cause → new ≡ r ++ failed b w t.0 cause [] ∷ [] → Leases p s w r new o before now_ (failed_as t (Some (failed b w t.0 cause [])))
 failure_answers p true w t cause r new o before now_ s choice clean counted kind_is is = (choice, clean, record { entry = Again w t.0 cause []; is = is; kind = (refl, refl, kind_is); counted = failed_counted o before now_ true w t.0 cause [] counted })
 failure_answers p false w t cause r new o before now_ s choice clean counted kind_is is = (choice, clean, record { entry = Fail w t.0 cause []; is = is; kind = (refl, refl, kind_is); counted = counted })
 
@@ -126,7 +126,7 @@ sweep_answers b q apply o n m f0 m0 before now_ w t x cause new answer same laws
     subst (Leases b.plan (state_at b) w b.history.events new o before now_) (sym (said ∙ ap (λ (l : List Event). failed_as t (slice_get l (length l - 1))) is ∙ ap (failed_as t) (last_is b.history.events (failure b.plan (state_at b) w t.0 cause []))))
     (failure_answers b.plan (is_tried_again b.plan (state_at b) t.0 cause) w t cause b.history.events new o before now_ (state_at b) choice (clean_is b.plan t.0 x e)
     (sweep_shows b q apply o n m f0 m0 before now_ w t.0 x cause same laws kept choice e later by)
-    (swept_no_tool (pair_site_name q x.0) (pair_file_name q x.0) o n before now_ cause by) is)
+    (swept_names_no_job (pair_site_name q x.0) (pair_file_name q x.0) o n before now_ cause by) is)
 
 -- nothing was done yet
 empty_kept : (apply : Apply) (p : Plan) (o : Option Store) (m : Store) (before now_ : Counts) → IfSome o (λ s. m ≡ s) → IsLater before now_ → IsKept apply p [] o m before.faults before.misses now_

@@ -39,7 +39,7 @@ use Rattle.site_yard.specs.Moving.{SweptAway}
 use Rattle.site_yard.specs.Names.{pair_file_name, pair_site_name}
 use Rattle.site_yard.specs.Places.{is_swept}
 use Rattle.site_yard.specs.Truthful.{IsCause}
-use Rattle.site_yard.specs.Yard.{IsNoTool}
+use Rattle.site_yard.specs.Yard.{NamesNoJob}
 use Rattle.site_yard.proofs.FollowLemmas.{choice_after, is_read, not_true, sound_here}
 use Rattle.site_yard.proofs.HoldsLemmas.{swept_below}
 use Rattle.site_yard.proofs.KeptLemmas.{kept_more, keeps}
@@ -209,15 +209,15 @@ sweep_fits p site name o n before now_ t (ToolFailed j) why = absurd why
 sweep_fits p site name o n before now_ t HostFailed why = none_published p t
 sweep_fits p site name o n before now_ t Memory why = none_published p t
 
-pub swept_no_tool : (site name : List ℕ) (o n : Option Store) (before now_ : Counts) (cause : Cause) → SweptAway site name o n before now_ (Err cause) → IsNoTool cause
-swept_no_tool site name o n before now_ Absent why = tt
-swept_no_tool site name o n before now_ (TooLong k) why = tt
-swept_no_tool site name o n before now_ (Checksum d) why = tt
-swept_no_tool site name o n before now_ (Oversize j f k) why = absurd why
-swept_no_tool site name o n before now_ (Declined j) why = absurd why
-swept_no_tool site name o n before now_ (ToolFailed j) why = absurd why
-swept_no_tool site name o n before now_ HostFailed why = tt
-swept_no_tool site name o n before now_ Memory why = tt
+pub swept_names_no_job : (site name : List ℕ) (o n : Option Store) (before now_ : Counts) (cause : Cause) → SweptAway site name o n before now_ (Err cause) → NamesNoJob cause
+swept_names_no_job site name o n before now_ Absent why = tt
+swept_names_no_job site name o n before now_ (TooLong k) why = tt
+swept_names_no_job site name o n before now_ (Checksum d) why = tt
+swept_names_no_job site name o n before now_ (Oversize j f k) why = absurd why
+swept_names_no_job site name o n before now_ (Declined j) why = absurd why
+swept_names_no_job site name o n before now_ (ToolFailed j) why = absurd why
+swept_names_no_job site name o n before now_ HostFailed why = tt
+swept_names_no_job site name o n before now_ Memory why = tt
 
 pub sweep_fails : (apply : Apply) (p : Plan) (r : List Event) (o n : Option Store) (m : Store) (f0 m0 : ℕ) (before now_ : Counts) (b : Bool) (w t q : ℕ) (cause : Cause) → ∥ IsKept apply p r o m f0 m0 before ∥₁ → IsCounted o before now_ (Fail w t cause [])
     → SweptAway (pair_site_name p q) (pair_file_name p q) o n before now_ (Err cause) → ∥ IsKept apply p (r ++ failed b w t cause [] ∷ []) n m f0 m0 now_ ∥₁

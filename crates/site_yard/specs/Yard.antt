@@ -23,12 +23,12 @@ use Rattle.site_yard.specs.Truthful.{IsCause, declined}
 use Rattle.site_yard.specs.declared.leased.Leased.{Leased}
 use Rattle.site_yard.specs.declared.leased.Leased.TheVariants as leased
 
--- a cause that isn't the tool's, nor of what it made
-abbrev pub IsNoTool : Cause → Type 0
-IsNoTool (ToolFailed j) = ⊥
-IsNoTool (Declined j) = ⊥
-IsNoTool (Oversize j f n) = ⊥
-IsNoTool _ = Unit {0}
+-- a cause that isn't laid on one of a Run's jobs
+abbrev pub NamesNoJob : Cause → Type 0
+NamesNoJob (ToolFailed j) = ⊥
+NamesNoJob (Declined j) = ⊥
+NamesNoJob (Oversize j f n) = ⊥
+NamesNoJob _ = Unit {0}
 
 -- one entry more, whose failure the host's counts show
 pub record Adds (r after : List Event) (IsKind : Event → Type 0) (told : Option Store) (before now : Counts) : Type 0 where
@@ -40,16 +40,16 @@ pub record Adds (r after : List Event) (IsKind : Event → Type 0) (told : Optio
 -- an Arrive of the task by the worker, or a failure
 abbrev pub IsArrival : ℕ → ℕ → Event → Type 0
 IsArrival w t (Arrive v u n) = (v ≡ w) × (u ≡ t)
-IsArrival w t (Fail v u c ns) = (v ≡ w) × (u ≡ t) × IsNoTool c
-IsArrival w t (Again v u c ns) = (v ≡ w) × (u ≡ t) × IsNoTool c
+IsArrival w t (Fail v u c ns) = (v ≡ w) × (u ≡ t) × NamesNoJob c
+IsArrival w t (Again v u c ns) = (v ≡ w) × (u ≡ t) × NamesNoJob c
 IsArrival w t _ = ⊥
 
 abbrev pub IsFail : ℕ → ℕ → Event → Type 0
-IsFail w t (Fail v u c ns) = (v ≡ w) × (u ≡ t) × IsNoTool c
+IsFail w t (Fail v u c ns) = (v ≡ w) × (u ≡ t) × NamesNoJob c
 IsFail w t _ = ⊥
 
 abbrev pub IsAgain : ℕ → ℕ → Event → Type 0
-IsAgain w t (Again v u c ns) = (v ≡ w) × (u ≡ t) × IsNoTool c
+IsAgain w t (Again v u c ns) = (v ≡ w) × (u ≡ t) × NamesNoJob c
 IsAgain w t _ = ⊥
 
 -- what a lease answers
@@ -68,8 +68,8 @@ content p c q = stored p c (pair_site p q) (pair_file p q)
 
 -- a failure of the task by the worker, before anything was published
 abbrev pub IsFailure : ℕ → ℕ → Event → Type 0
-IsFailure w t (Fail v u c ns) = (v ≡ w) × (u ≡ t) × IsNoTool c × (ns ≡ [])
-IsFailure w t (Again v u c ns) = (v ≡ w) × (u ≡ t) × IsNoTool c × (ns ≡ [])
+IsFailure w t (Fail v u c ns) = (v ≡ w) × (u ≡ t) × NamesNoJob c × (ns ≡ [])
+IsFailure w t (Again v u c ns) = (v ≡ w) × (u ≡ t) × NamesNoJob c × (ns ≡ [])
 IsFailure w t _ = ⊥
 
 -- what a load answers: one text for each of the task's reads, where it is told what their writers carry, and no entry;

@@ -19,11 +19,11 @@ pub enum Leased {
 }
 
 /// The answer after a failure, by the entry that it added.
-pub(crate) fn failed(record: &Record, task: TaskId) -> Leased
-    requires { 0 < length record.now.events }
-    ensures { result ≡ failed_as task (slice_get record.now.events (length record.now.events - 1)) }
+pub(crate) fn failed(history: &Record, task: TaskId) -> Leased
+    requires { 0 < length history.now.events }
+    ensures { result ≡ failed_as task (slice_get history.now.events (length history.now.events - 1)) }
 {
-    match record.entry(record.len() - 1) {
+    match history.entry(history.len() - 1) {
         Entry::Again { .. } => Leased::Again(task),
         _ => Leased::Failed(task),
     }

@@ -17,7 +17,7 @@ use Rattle.lease_book.specs.Book.{failure, is_tried_again}
 use Rattle.lease_book.specs.Owning.{worker}
 use Rattle.lease_book.specs.State.{State}
 use Rattle.ruled_lock.specs.Chronicle.{AddsAtMostOne, GrowsAlike}
-use Rattle.site_yard.specs.Yard.{Adds, IsAgain, IsArrival, IsEnding, IsFail, IsFailure, IsNoTool, IsStop, Leases, Loads}
+use Rattle.site_yard.specs.Yard.{Adds, IsAgain, IsArrival, IsEnding, IsFail, IsFailure, NamesNoJob, IsStop, Leases, Loads}
 use Rattle.site_yard.specs.declared.chronicle.Charter.{Charter}
 use Rattle.site_yard.specs.declared.leased.Leased.{Leased}
 use Rattle.site_yard.specs.declared.leased.Leased.TheVariants as leased
@@ -27,7 +27,7 @@ use Rattle.worker_gate.specs.Turning.{IsPlanOf, IsReadFor, plan_of}
 use Rattle.worker_gate.specs.Working.{ComputesWith}
 
 -- causes that aren't the tool's, nor of what it made
-no_cause : (apply : Apply) (p : Plan) (t : ℕ) (c : Cause) → IsNoTool c → IsCauseOfInputs apply p t c
+no_cause : (apply : Apply) (p : Plan) (t : ℕ) (c : Cause) → NamesNoJob c → IsCauseOfInputs apply p t c
 no_cause apply p t why.Absent h = tt
 no_cause apply p t (why.TooLong n) h = tt
 no_cause apply p t (why.Checksum d) h = tt

@@ -20,7 +20,7 @@ use Rattle.lease_book.specs.Legal.{IsOpen}
 use Rattle.lease_book.specs.State.{State, after, now, opened}
 use Rattle.lease_book.specs.RunState.{IsSame, state_of}
 use Rattle.site_yard.specs.Failures.{RoseBy, tool_fault_in, tool_faults, tool_faults_of}
-use Rattle.site_yard.specs.Yard.{Adds, IsAgain, IsArrival, IsEnding, IsFail, IsFailure, IsNoTool, IsStop, Leases}
+use Rattle.site_yard.specs.Yard.{Adds, IsAgain, IsArrival, IsEnding, IsFail, IsFailure, NamesNoJob, IsStop, Leases}
 use Rattle.site_yard.specs.declared.leased.Leased.TheVariants as leased
 use Rattle.lease_book.specs.Owning.{worker}
 use Rattle.worker_gate.specs.Alone.{NoneOpen, begun_by, is_afresh}
@@ -39,7 +39,7 @@ pub rose_both : (n m a b c : ℕ) → b ≤ c → RoseBy n a b → RoseBy m b c 
 rose_both n m a b c le x y = λ h. let first = x (omega (arith, le, h)) in let second = y h in omega (arith, first, second)
 
 -- causes that aren't the tool's
-pub cause_zero : (c : Cause) → IsNoTool c → tool_fault_in c ≡ 0
+pub cause_zero : (c : Cause) → NamesNoJob c → tool_fault_in c ≡ 0
 cause_zero why.Absent h = refl
 cause_zero (why.TooLong n) h = refl
 cause_zero (why.Checksum d) h = refl

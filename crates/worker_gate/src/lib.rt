@@ -1,8 +1,11 @@
 //! Workers over a yard.
 //!
-//! [`run_alone`] is one worker: it leases and works until all is done or something failed. What it adds to the record
-//! is in `specs/Alone.antt`. What the jobs of a Run make of the bytes that were read is in `specs/Computing.antt`, told
-//! or not; that this is what the Run carries, where it is told, follows by `law.rt`.
+//! [`run_many`] lets up to sixteen workers share a yard by a `RuledLock`, each in a thread of its own, and joins them all
+//! (`specs/Many.antt`); [`work`] is one of them (`specs/Working.antt`), and does each of its steps in a turn of the lock
+//! (`specs/Turning.antt`). [`run_alone`] is one worker that has the yard to itself and waits for nobody
+//! (`specs/Alone.antt`). What the jobs of a Run make of the bytes that were read is in `specs/Computing.antt`, told or not;
+//! that this is what the Run carries, where it is told, follows by `law.rt`. What an entry says of it is in
+//! `specs/Inputs.antt`.
 #![tactic(auto)]
 
 mod alone;
