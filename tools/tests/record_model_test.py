@@ -1,0 +1,80 @@
+"""Tests of tools/record-model: records of the diamond, right and wrong."""
+import importlib.machinery
+import importlib.util
+import pathlib
+import re
+import subprocess
+import sys
+
+sys.dont_write_bytecode = True
+LOADER = importlib.machinery.SourceFileLoader("record_model", "tools/record-model")
+model = importlib.util.module_from_spec(importlib.util.spec_from_loader("record_model", LOADER))
+sys.modules["record_model"] = model
+LOADER.exec_module(model)
+
+PLAN = subprocess.run([sys.executable, "tools/plan-model", "examples/diamond/request.json"], capture_output=True, text=True, check=True).stdout
+PRINTED = re.search(r"    record 1\n(.*?)    closed\n", pathlib.Path("README.md").read_text(encoding="utf-8"), re.DOTALL)
+RUN = [line.strip() for line in PRINTED[1].splitlines()]
+
+# Task 1 runs and task 2 is ready. At 36 a first job that made less leaves room for it.
+WAITS = ["grant 0 4", "arrive 0 4 10", "grant 0 0", "end 0 0 10 10", "clean 0 6", "grant 0 1"]
+LEAVES = ["grant 0 4", "arrive 0 4 10", "grant 0 0", "end 0 0 4 10", "clean 0 6", "grant 0 1"]
+
+
+def with_bound(bound):
+    return PLAN.replace("condorpool 30", f"condorpool {bound}")
+
+
+def judged(entries, plan=PLAN, workers=16):
+    return model.judge(plan, "".join(line + "\n" for line in ["record 1", *entries, "closed", "done"]), workers)
+
+
+def swapped(one, other):
+    entries = list(RUN)
+    entries[one], entries[other] = entries[other], entries[one]
+    return entries
+
+
+def after(count, *more):
+    return [*RUN[:count], *more]
+
+
+VERDICTS = [
+    (judged(RUN), "complete"),
+    (judged([]), "legal"),
+    (judged(RUN[:2]), "legal"),
+    (judged(swapped(7, 8)), "illegal 7"),
+    (judged(WAITS), "legal"),
+    (judged([*WAITS, "grant 1 2"]), "illegal 6"),
+    (judged([*WAITS, "grant 1 2"], with_bound(40)), "legal"),
+    (judged([*LEAVES, "grant 1 2"], with_bound(36)), "legal"),
+    (judged([*WAITS, "grant 1 2"], with_bound(36)), "illegal 6"),
+    (judged(after(1, "arrive 1 4 8")), "illegal 1"),
+    (judged(after(1, "arrive 0 4 11")), "illegal 1"),
+    (judged(after(1, "end 0 4 8")), "illegal 1"),
+    (judged(after(1, "grant 0 4")), "illegal 1"),
+    (judged(after(3, "end 0 0 4")), "illegal 3"),
+    (judged(after(0, "grant 0 0")), "illegal 0"),
+    (judged(after(0, "clean 0 6")), "illegal 0"),
+    (judged(after(0, "grant 3 4"), workers=3), "illegal 0"),
+    (judged(after(1, "fail 0 4 absent")), "legal"),
+    (judged(after(1, "fail 0 4 absent", "grant 0 0")), "illegal 2"),
+    (judged(after(1, "fail 0 4 absent", "fail 0 4 absent")), "illegal 2"),
+    (judged(after(1, "fail 0 4 toolong 10")), "illegal 1"),
+    (judged(after(1, "fail 0 4 toolong 11")), "legal"),
+    (judged(after(1, "fail 0 4 declined 0")), "illegal 1"),
+    (judged(after(3, "fail 0 0 declined 0")), "legal"),
+    (judged(after(3, "fail 0 0 declined 1")), "illegal 3"),
+    (judged(after(3, "fail 0 0 absent")), "illegal 3"),
+    (judged(after(3, "fail 0 0 oversize 0 1 11")), "legal"),
+    (judged(after(3, "fail 0 0 oversize 0 3 11")), "illegal 3"),
+    (judged(after(3, "fail 0 0 hostfailed 10")), "legal"),
+    (judged(after(3, "fail 0 0 hostfailed 11")), "illegal 3"),
+    (judged(after(3, "fail 0 0 memory 1 1 1")), "illegal 3"),
+    (judged(after(4, "fail 0 6 hostfailed")), "legal"),
+    (judged(after(4, "fail 0 7 hostfailed")), "illegal 4"),
+]
+
+for place, (verdict, expected) in enumerate(VERDICTS):
+    assert verdict == expected, (place, verdict, expected)
+print(f"record-model: ok, {len(VERDICTS)} records")
