@@ -24,7 +24,7 @@ use Rattle.pegasus_cli.specs.declared.outcome.Outcome.{Outcome}
 use Rattle.pegasus_cli.specs.declared.outcome.Outcome.TheVariants as outcomes
 use Rattle.planner.specs.declared.plan_fault.PlanFault.TheVariants as plan
 use Rattle.planner.specs.declared.inputs.Survey.{Survey}
-use Rattle.pegasus_cli.specs.Call.{Ends, GoesOnWith, HasNotWorked, HasWorked, IsAnswer, IsAnswered, IsDoneOrMemory, IsEarly, IsStopped, IsUsage, MayFinish, NoneRose}
+use Rattle.pegasus_cli.specs.Call.{Ends, GoesOnWith, HasNotWorked, HasWorked, IsAnswer, IsAnswered, IsDoneOrMemory, IsEarly, MayFinish, NoneRose}
 use Rattle.pegasus_cli.specs.Commands.{spec_of}
 use Rattle.pegasus_cli.specs.Commands.Eval.{Says as eval_says}
 use Rattle.pegasus_cli.specs.Commands.Run.{RunsMany}

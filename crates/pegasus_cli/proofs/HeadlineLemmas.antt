@@ -1,26 +1,22 @@
 -- What the clause of a call comes to for a run that ended Done.
-use Rattle.std.proofs.Common.{◌≡◌, ◌⊎◌, ℕ, ◌+◌, ◌≤◌, ◌<◌, ◌++◌, Bool, true, List, [], ◌∷◌, take, refl, sym, ap, subst, ◌∙◌, inl, inr, arith}
-use Rattle.std.proofs.Math.Logic.{∥∥₁_elim, ∥∥₁_map, ∥∥₁_prop}
-use Rattle.std.specs.Prelude.{Option, Some, None, IfSome, MatchOption, is_some}
-use Rattle.std.specs.FinMap as files
+use Rattle.std.proofs.Common.{◌≡◌, ◌⊎◌, ℕ, ◌+◌, ◌++◌, Bool, List, sym, ap, subst, inl, inr}
+use Rattle.std.proofs.Math.Logic.{∥∥₁_map}
+use Rattle.std.specs.Prelude.{Option, Some, None, IfSome, MatchOption}
 use Rattle.std.specs.Io.KnownBytes.{Appends}
 use Rattle.outside.specs.declared.store.Store.{Store}
 use Rattle.plan_core.specs.declared.plan.Plan.{Plan}
-use Rattle.plan_core.specs.Words.{task_numbers}
-use Rattle.planner.specs.Deliveries.{IsRequested}
 use Rattle.run_record.specs.Events.{Event}
 use Rattle.site_yard.specs.Changes.{carries}
 use Rattle.site_yard.specs.Law.{Agrees, IsDeliveryOf}
-use Rattle.site_yard.specs.Places.{is_delivered}
 use Rattle.site_yard.specs.Trace.{trace_of}
-use Rattle.pegasus_cli.specs.Call.{Ends, GoesOnWith, HasNotWorked, HasWorked, IsAnswered, IsEarly}
+use Rattle.pegasus_cli.specs.Call.{Ends, HasNotWorked, HasWorked, IsAnswered, IsEarly}
 use Rattle.pegasus_cli.specs.Commands.{spec_of}
 use Rattle.pegasus_cli.specs.Commands.Run.{RunsMany}
 use Rattle.pegasus_cli.specs.Headline.{AreSet, EndsSo, Headline, HoldsOf, IsTold}
 use Rattle.pegasus_cli.specs.Course.{plan_answer}
 use Rattle.pegasus_cli.specs.Moments.{Call, Tools, Work}
 use Rattle.pegasus_cli.specs.Outcome.{line_of, outcome_of}
-use Rattle.pegasus_cli.specs.PlanRun.{AllDelivered, AreHonestIn, DeliversRequested, HasRunPlan, RefusedAs, lfn, value_in}
+use Rattle.pegasus_cli.specs.PlanRun.{AllDelivered, AreHonestIn, DeliversRequested, HasRunPlan, RefusedAs, value_in}
 use Rattle.pegasus_cli.specs.Running.{IsShown}
 use Rattle.pegasus_cli.specs.Survey.{GoesOn}
 use Rattle.pegasus_cli.specs.Words.{command as command_of}

@@ -1,5 +1,6 @@
 -- The counts of a crew, and of the members that are taken out of it.
-use Rattle.std.proofs.Common.{◌≡◌, ℕ, zero, suc, ◌<◌, ◌≤◌, ◌++◌, List, [], ◌∷◌, length, map, take, refl, ap, ◌∙◌, arith}
+use Rattle.std.proofs.Common.{◌≡◌, ℕ, zero, suc, ◌<◌, ◌≤◌, ◌++◌, List, [], ◌∷◌, length, map, take, drop, refl, ap, ◌∙◌, arith}
+use Rattle.std.proofs.lemmas.Slice.{drop-append-drop}
 use Rattle.pegasus_cli.specs.Moments.{first_count}
 
 pub map_both : {A B : Type 0} (f : A → B) (xs ys : List A) → map f (xs ++ ys) ≡ map f xs ++ map f ys
@@ -19,3 +20,7 @@ length_taken (suc n) (x ∷ xs) l = ap suc (length_taken n xs (omega (arith, l))
 
 pub taken_many : {A : Type 0} (crew members : List A) (n : ℕ) → members ≡ take n crew → length crew ≡ 16 → n ≤ 16 → length members ≡ n
 taken_many crew members n is long few = ap length is ∙ length_taken n crew (omega (arith, long, few))
+
+-- those that weren't taken out are as they were, once those that were are put back
+pub others_stay : {A : Type 0} (n : ℕ) (crew new back members : List A) → new ≡ back ++ drop n crew → length back ≡ length members → length members ≡ n → drop n new ≡ drop n crew
+others_stay n crew new back members is backs many = ap (drop n) is ∙ drop-append-drop n crew back n (omega arith) (backs ∙ many)

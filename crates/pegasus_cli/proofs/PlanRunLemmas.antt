@@ -1,6 +1,5 @@
 -- A run of a plan of the documents: what it delivers, and what keeps it from Done.
 use Rattle.std.proofs.Common.{◌≡◌, ◌⊎◌, ℕ, ◌-◌, ◌^◌, ◌≤◌, ◌<◌, Bool, true, List, [], refl, sym, ap, subst, ◌∙◌, inl, inr, arith}
-use Rattle.std.proofs.Math.Logic.{∥∥₁_elim, ∥∥₁_map}
 use Rattle.std.proofs.lemmas.Bool.{cases_lt}
 use Rattle.std.specs.Prelude.{Option, Some, None, IfSome, MatchOption}
 use Rattle.std.specs.FinMap as files
@@ -22,11 +21,10 @@ use Rattle.plan_core.specs.Proper.{IsProper}
 use Rattle.plan_core.specs.Words.{delivers, kind, kind_delivers, retries, task_numbers}
 use Rattle.lease_book.specs.Legal.{IsComplete, Legal}
 use Rattle.lease_book.specs.State.{now}
-use Rattle.storage_simulation.specs.Ordering.{IsOrder, at_start}
 use Rattle.run_record.specs.Events.{Event}
 use Rattle.planner.specs.Deliveries.{DeliversRequests, IsNamed, IsRequested}
 use Rattle.planner.specs.Meaning.{MeansWorkflow}
-use Rattle.planner.specs.Planning.{CannotPlan, IsPlanOf}
+use Rattle.planner.specs.Planning.{CannotPlan}
 use Rattle.planner.specs.declared.plan_fault.PlanFault.{PlanFault}
 use Rattle.planner.specs.declared.plan_fault.PlanFault.TheVariants as plan_faults
 use Rattle.site_yard.specs.Changes.{carries}
@@ -43,10 +41,9 @@ use Rattle.site_yard.specs.declared.ending.RunFault.TheVariants as faults
 use Rattle.site_yard.specs.declared.opening.OpenFault.{OpenFault}
 use Rattle.site_yard.specs.declared.opening.OpenFault.TheVariants as openings
 use Rattle.pegasus_cli.specs.Call.{IsDoneOrMemory}
-use Rattle.pegasus_cli.specs.PlanRun.{AllDelivered, CanRun, CanRunPlan, DeliversRequested, HasRunPlan, IsReady, IsUnrun, LacksTool, Readies, RefusedAs, lfn, replicas_of}
+use Rattle.pegasus_cli.specs.PlanRun.{AllDelivered, CanRun, CanRunPlan, DeliversRequested, HasRunPlan, IsReady, IsUnrun, RefusedAs, lfn, replicas_of}
 use Rattle.pegasus_cli.specs.Commands.Plan.{task_limit}
 use Rattle.pegasus_cli.specs.Course.{plan_answer}
-use Rattle.pegasus_cli.specs.KeptTools.{unknown_tool}
 use Rattle.pegasus_cli.specs.Moments.{Tools, Work, count_of}
 use Rattle.pegasus_cli.specs.Outcome.{outcome_of}
 use Rattle.pegasus_cli.specs.Running.{HasRun, IsRun, IsShown, IsTold, IsUnopened, Tells}

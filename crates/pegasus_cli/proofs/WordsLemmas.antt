@@ -6,7 +6,7 @@ use Rattle.std.specs.List.{list_any}
 use Rattle.std.specs.Str.{bytes_eq}
 use Rattle.std.proofs.lemmas.Bool.{leb-true}
 use Rattle.std.proofs.lemmas.Slice.Eq.{bytes_eq-Decides}
-use Rattle.pegasus_cli.specs.Words.{HasWorkers, apart_workers, as_workers, begins_with, command, command_named, document_words, four_digits, is_document_word, is_run_word, is_threaded, joined_workers, run_after, run_apart, run_joined, run_of, run_words, starts_threads, value_of, with_document, workers_in, workers_option}
+use Rattle.pegasus_cli.specs.Words.{HasWorkers, members_for, members_of, apart_workers, as_workers, begins_with, command, command_named, document_words, four_digits, is_document_word, is_run_word, is_threaded, joined_workers, run_after, run_apart, run_joined, run_of, run_words, starts_threads, value_of, with_document, workers_in, workers_option}
 use Rattle.pegasus_cli.specs.declared.commands.Command.{Command}
 use Rattle.pegasus_cli.specs.declared.commands.Command.TheVariants.{Alone, Check, Eval, Plan, Run}
 
@@ -142,6 +142,22 @@ is_a_run words c name is threads = by (is_threaded words) (command words) thread
 
 pub has_workers : (words : List (List ℕ)) (c : Command) (name : List ℕ) → command words ≡ Some (c, name) → is_threaded words ≡ true → HasWorkers c
 has_workers words c name is threads = let run = is_a_run words c name is threads in subst HasWorkers (sym run.1) (run.2, run.3)
+
+-- a run uses a member for each worker, other words the first one
+pub members_are : (words : List (List ℕ)) (c : Command) (name : List ℕ) (n : ℕ) → command words ≡ Some (c, name) → c ≡ Run n → members_of (command words) ≡ n
+members_are words c name n is run = ap members_of is ∙ ap members_for run
+
+quiet_members : (c : Command) → starts_threads c ≡ false → members_for c ≡ 1
+quiet_members (Run n) none = absurd cc
+quiet_members c none = refl
+
+pub one_member : (words : List (List ℕ)) → is_threaded words ≡ false → members_of (command words) ≡ 1
+one_member words none = by (is_threaded words) (command words) none (of_kind words)
+  where
+    by : (t : Bool) (o : Option (Command × List ℕ)) → t ≡ false → IsOfKind t o → members_of o ≡ 1
+    by t None e k = refl
+    by true (Some c) e k = absurd cc
+    by false (Some c) e k = quiet_members c.0 k
 
 -- with two words more or above there is no run
 pub too_many : {X : Type 0} (f : X → List ℕ) (a b : List ℕ) (words : List X) → 2 ≤ length words → run_after a b (map f words) ≡ None

@@ -1,5 +1,5 @@
 -- What a run by several workers comes to that ended Done, in whatever order they worked.
-use Rattle.std.specs.Prelude.{◌≡◌, ℕ, ◌+◌, ◌≤◌, ◌<◌, ◌++◌, List, [], take, Option, Some, is_some, true, IfSome, MatchOption}
+use Rattle.std.specs.Prelude.{◌≡◌, ℕ, ◌+◌, ◌≤◌, ◌<◌, ◌++◌, List, take, Option, Some, is_some, true, IfSome, MatchOption}
 use Rattle.std.specs.FinMap as files
 use Rattle.std.specs.Io.KnownBytes.{Appends}
 use Rattle.outside.specs.FileMap.{Files}
@@ -15,7 +15,7 @@ use Rattle.run_record.specs.Events.{Event}
 use Rattle.lease_book.specs.Choice.{Safe}
 use Rattle.lease_book.specs.Law.{reserved_at, stored_at}
 use Rattle.lease_book.specs.Legal.{IsComplete, Legal}
-use Rattle.lease_book.specs.State.{State, now}
+use Rattle.lease_book.specs.State.{now}
 use Rattle.site_yard.specs.Changes.{carries}
 use Rattle.site_yard.specs.Faults.{AllBelow}
 use Rattle.site_yard.specs.Law.{IsDeliveryOf}

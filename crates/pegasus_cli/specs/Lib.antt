@@ -1,4 +1,5 @@
--- The clause of the call, from the top. A reader begins with Call and the commands.
+-- What a run that ended Done comes to, and the clause of every call, from the top.
+pub mod Headline
 pub mod Call
 pub mod Commands
 pub mod CommandSpec
@@ -12,7 +13,6 @@ pub mod JobTools
 pub mod Bases
 pub mod ValueText
 pub mod KeptTools
-pub mod Headline
 pub mod PlanRun
 pub mod Running
 pub mod RunText

@@ -1,5 +1,6 @@
 -- What the objects of a call show before and after it.
-use Rattle.std.specs.Prelude.{ℕ, Bool, List, [], ◌∷◌, get_or, Option}
+use Rattle.std.specs.Prelude.{ℕ, Bool, List, [], ◌∷◌, get_or, map, Option}
+use Rattle.craft.specs.declared.crew.Crew.{Crew}
 use Rattle.outside.specs.FileMap.{Files}
 use Rattle.outside.specs.Tool.{Apply}
 use Rattle.outside.specs.declared.counts.Counts.{Counts}
@@ -7,6 +8,7 @@ use Rattle.outside.specs.declared.docs.Docs as docs
 use Rattle.outside.specs.declared.host.Host as host
 use Rattle.outside.specs.declared.sink.Sink as sink
 use Rattle.outside.specs.declared.store.Store.{Store}
+use Rattle.outside.specs.declared.tool.Tool as tool
 
 -- the documents, where they are told, and how often they were asked for
 pub record DocsMoment : Type 0 where
@@ -90,3 +92,25 @@ writing before after = record { before = before; after = after }
 
 abbrev pub call : Asked → Work → Tools → Output → Call
 call asked work tools output = record { asked = asked; work = work; tools = tools; output = output }
+
+-- the objects of a call at one moment
+pub record Objects (D K H T G : Type 0) : Type 0 where
+  pub docs : D
+  pub sink : K
+  pub host : H
+  pub crew : List (Crew T G)
+
+abbrev pub objects : {D K H T G : Type 0} → D → K → H → List (Crew T G) → Objects D K H T G
+objects docs sink host crew = record { docs = docs; sink = sink; host = host; crew = crew }
+
+-- how often the tool of each member has failed
+abbrev pub tool_counts : {T G : Type 0} → tool.Ghosts T → List (Crew T G) → List ℕ
+tool_counts g crew = map (λ c. g.faults c.tool) crew
+
+-- A call by its words, and by what its objects show before and after it. Callers see a word and not its parts.
+unfoldable pub call_of : {D K H T G : Type 0} → docs.Ghosts D → sink.Ghosts K → host.Ghosts H → tool.Ghosts T → List (List ℕ) → Objects D K H T G → Objects D K H T G → Call
+call_of d k h t words old new =
+    call (asking words (docs_moment d old.docs) (docs_moment d new.docs))
+    (working t.apply t.known (work_moment h old.host (first_count (tool_counts t old.crew))) (work_moment h new.host (first_count (tool_counts t new.crew))))
+    (counting (tool_counts t old.crew) (tool_counts t new.crew))
+    (writing (sink_moment k old.sink) (sink_moment k new.sink))

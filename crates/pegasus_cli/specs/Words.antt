@@ -1,5 +1,5 @@
 -- The words of a command line.
-use Rattle.std.specs.Prelude.{◌≡◌, ℕ, ◌<◌, ◌≤◌, ◌+◌, ◌*◌, ◌-◌, ◌==◌, ◌&&◌, ◌||◌, not, nat_le, Bool, true, false, List, [], ◌∷◌, codes, drop, take, length, if◌then◌else◌, Option, Some, None, option_and_then, Result, Ok, Err}
+use Rattle.std.specs.Prelude.{◌≡◌, ℕ, ◌<◌, ◌≤◌, ◌+◌, ◌*◌, ◌-◌, ◌==◌, ◌&&◌, ◌||◌, not, nat_le, Bool, true, false, List, [], ◌∷◌, codes, drop, take, length, if◌then◌else◌, Option, Some, None, Result, Ok, Err}
 use Rattle.std.specs.List.{list_any}
 use Rattle.std.specs.Char.{is_ascii_digit}
 use Rattle.std.specs.Str.{bytes_eq}
@@ -98,6 +98,15 @@ command (word ∷ words) = if is_run_word word then run_words words else documen
 abbrev pub starts_threads : Command → Bool
 starts_threads (Run n) = true
 starts_threads _ = false
+
+-- how many members of a crew the work of some words may use: a member for each worker of a run, else the first one
+abbrev pub members_for : Command → ℕ
+members_for (Run n) = n
+members_for _ = 1
+
+abbrev pub members_of : Option (Command × List ℕ) → ℕ
+members_of None = 1
+members_of (Some c) = members_for c.0
 
 -- from 1 to 16 workers
 abbrev pub HasWorkers : Command → Type 0

@@ -8,7 +8,7 @@ ghost use Rattle.dependency_graph.specs.Graph.{IsGraphOf};
 ghost use Rattle.plan_request.specs.Limits.{IsWithinLimits};
 ghost use Rattle.plan_request.specs.Reader.{execute_checked};
 ghost use Rattle.pegasus_cli.specs.Call.{Ends, GoesOnWith, IsAnswer, IsAnswered, IsEarly};
-ghost use Rattle.pegasus_cli.specs.Moments.{asking, call, counting, docs_moment, first_count, sink_moment, work_moment, working, writing};
+ghost use Rattle.pegasus_cli.specs.Moments.{asking, call_of, docs_moment, objects, sink_moment, writing};
 ghost use Rattle.pegasus_cli.specs.Survey.{PlansMeanWorkflow};
 ghost use Rattle.pegasus_cli.specs.Words.{is_threaded};
 
@@ -91,12 +91,9 @@ pub fn quick<D: Docs, K: Sink, H: Host, T: Tool, G: Gate>(
 ) -> (Outcome, H, Vec<Crew<T, G>>)
     requires crew { length crew.items ≡ 16 }
     requires words { is_threaded (list_map string_bytes words.now) ≡ false }
-    ensures answered { let asked = asking (list_map string_bytes words.now) (docs_moment D.Docs docs.old) (docs_moment D.Docs docs.new) in
-        let before = list_map (λ (c : Crew T G). T.faults c.tool) crew.items in
-        let after = list_map (λ (c : Crew T G). T.faults c.tool) result.2.items in
-        let work = working T.apply T.known (work_moment H.Host host (first_count before)) (work_moment H.Host result.1 (first_count after)) in
-        let output = writing (sink_moment K.Sink out.old) (sink_moment K.Sink out.new) in
-        IsAnswered (call asked work (counting before after) output) result.0 }
+    ensures answered { IsAnswered (call_of D.Docs K.Sink H.Host T.Tool (list_map string_bytes words.now)
+        (objects docs.old out.old host crew.items)
+        (objects docs.new out.new result.1 result.2.items)) result.0 }
     ensures crew { length result.2.items ≡ 16 }
     ensures others { drop 1 result.2.items ≡ drop 1 crew.items }
     ensures gates { list_map (λ (c : Crew T G). c.gate) result.2.items ≡ list_map (λ (c : Crew T G). c.gate) crew.items }

@@ -4,8 +4,8 @@ ghost use Rattle.std.specs.Prelude.{◌≡◌, ◌<◌, ◌≤◌, drop, false, 
 ghost use Rattle.craft.specs.declared.crew.Crew.{Crew};
 ghost use Rattle.pegasus_cli.specs.Call.{IsAnswered};
 ghost use Rattle.pegasus_cli.specs.Headline.{HoldsOf};
-ghost use Rattle.pegasus_cli.specs.Moments.{asking, call, counting, docs_moment, first_count, sink_moment, work_moment, working, writing};
-ghost use Rattle.pegasus_cli.specs.Words.{HasWorkers, is_threaded};
+ghost use Rattle.pegasus_cli.specs.Moments.{call_of, objects};
+ghost use Rattle.pegasus_cli.specs.Words.{HasWorkers, command, is_threaded, members_of};
 ghost use Rattle.pegasus_cli.specs.declared.commands.Command.TheVariants.{Run};
 
 use crate::call::{finish, prepare, quick};
@@ -50,13 +50,12 @@ fn run_words<
 ) -> (Outcome, H, Vec<Crew<T, G>>)
     requires crew { length crew.items ≡ 16 }
     requires words { is_threaded (list_map string_bytes words.now) ≡ true }
-    ensures answered { let asked = asking (list_map string_bytes words.now) (docs_moment D.Docs docs.old) (docs_moment D.Docs docs.new) in
-        let before = list_map (λ (c : Crew T G). T.faults c.tool) crew.items in
-        let after = list_map (λ (c : Crew T G). T.faults c.tool) result.2.items in
-        let work = working T.apply T.known (work_moment H.Host host (first_count before)) (work_moment H.Host result.1 (first_count after)) in
-        let output = writing (sink_moment K.Sink out.old) (sink_moment K.Sink out.new) in
-        IsAnswered (call asked work (counting before after) output) result.0 }
+    ensures answered { IsAnswered (call_of D.Docs K.Sink H.Host T.Tool (list_map string_bytes words.now)
+        (objects docs.old out.old host crew.items)
+        (objects docs.new out.new result.1 result.2.items)) result.0 }
     ensures crew { length result.2.items ≡ 16 }
+    ensures others { let used = members_of (command (list_map string_bytes words.now)) in
+        drop used result.2.items ≡ drop used crew.items }
 {
     // A law for the proof: it does nothing.
     nothing_else_fails();
@@ -93,20 +92,15 @@ pub fn pegasus<
     crew: Vec<Crew<T, G>>,
 ) -> (Outcome, H, Vec<Crew<T, G>>)
     requires { length crew.items ≡ 16 }
-    ensures answered { let asked = asking (list_map string_bytes words.now) (docs_moment D.Docs docs.old) (docs_moment D.Docs docs.new) in
-        let before = list_map (λ (c : Crew T G). T.faults c.tool) crew.items in
-        let after = list_map (λ (c : Crew T G). T.faults c.tool) result.2.items in
-        let work = working T.apply T.known (work_moment H.Host host (first_count before)) (work_moment H.Host result.1 (first_count after)) in
-        let output = writing (sink_moment K.Sink out.old) (sink_moment K.Sink out.new) in
-        IsAnswered (call asked work (counting before after) output) result.0 }
-    ensures headline { let asked = asking (list_map string_bytes words.now) (docs_moment D.Docs docs.old) (docs_moment D.Docs docs.new) in
-        let before = list_map (λ (c : Crew T G). T.faults c.tool) crew.items in
-        let after = list_map (λ (c : Crew T G). T.faults c.tool) result.2.items in
-        let work = working T.apply T.known (work_moment H.Host host (first_count before)) (work_moment H.Host result.1 (first_count after)) in
-        let output = writing (sink_moment K.Sink out.old) (sink_moment K.Sink out.new) in
-        HoldsOf (call asked work (counting before after) output) result.0 }
+    ensures answered { IsAnswered (call_of D.Docs K.Sink H.Host T.Tool (list_map string_bytes words.now)
+        (objects docs.old out.old host crew.items)
+        (objects docs.new out.new result.1 result.2.items)) result.0 }
+    ensures headline { HoldsOf (call_of D.Docs K.Sink H.Host T.Tool (list_map string_bytes words.now)
+        (objects docs.old out.old host crew.items)
+        (objects docs.new out.new result.1 result.2.items)) result.0 }
     ensures crew { length result.2.items ≡ 16 }
-    ensures others { is_threaded (list_map string_bytes words.now) ≡ false → drop 1 result.2.items ≡ drop 1 crew.items }
+    ensures others { let used = members_of (command (list_map string_bytes words.now)) in
+        drop used result.2.items ≡ drop used crew.items }
     ensures gates { is_threaded (list_map string_bytes words.now) ≡ false → list_map (λ (c : Crew T G). c.gate) result.2.items ≡ list_map (λ (c : Crew T G). c.gate) crew.items }
 {
     if threaded(words) {

@@ -1,6 +1,6 @@
 //! `run`.
 
-ghost use Rattle.std.specs.Prelude.{◌≡◌, ◌<◌, ◌≤◌, Ok, length, map as list_map};
+ghost use Rattle.std.specs.Prelude.{◌≡◌, ◌<◌, ◌≤◌, Ok, drop, length, map as list_map};
 ghost use Rattle.craft.specs.declared.crew.Crew.{Crew};
 ghost use Rattle.outside.specs.Policy.{plain};
 ghost use Rattle.workflow_core.specs.WellFormed.{IsWellFormed};
@@ -49,6 +49,7 @@ pub(crate) fn work<R: Threads + Wait + Sync, H: Host + Send, T: Tool + Send, G: 
         (counting before after) surveyed.now result.worked.text.items result.worked.answer }
     ensures answer { IsAnswer result.worked.answer }
     ensures crew { length crew.new.items ≡ 16 }
+    ensures others { drop workers crew.new.items ≡ drop workers crew.old.items }
 {
     // Laws for the proof: they do nothing.
     ordered_plans_fit();

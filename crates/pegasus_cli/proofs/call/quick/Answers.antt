@@ -2,6 +2,7 @@ use Rattle.std.proofs.Common.{map, refl}
 use Rattle.std.specs.Prelude.{string_bytes}
 use Rattle.craft.specs.declared.crew.Crew.{Crew}
 use Rattle.pegasus_cli.proofs.CallLemmas.{all_stay, early_answered, first_is, first_set, worked_answered}
+use Rattle.pegasus_cli.specs.Moments.{call_of}
 use Rattle.pegasus_cli.proofs.WordsLemmas.{starts_none}
 use Rattle.pegasus_cli.proofs.call.quick.Goals as goal
 
@@ -12,9 +13,11 @@ work-ran-requires-clause-no_threads g c =
     starts_none words c.in-Ok.going.command on.request on.is_command c.requires.words
 
 pub returns-in-Err-clause-answered : goal.returns-in-Err-clause-answered
+unfolding call_of
 returns-in-Err-clause-answered g c = early_answered _ c.in-Err.answer c.finish-outcome.result c.new.result.items c.in-Err.ensures.early refl refl c.new.ensures.items c.finish-outcome.ensures
 
 pub returns-clause-answered : goal.returns-clause-answered
+unfolding call_of
 returns-clause-answered g c =
     let count = λ (m : Crew g.row.T.Denot g.row.G.Denot). g.T.Tool.faults m.tool in
     let before = first_is count c.args.crew.items c.index_mut.result.now c.requires.crew c.index_mut.ensures.value in

@@ -3,7 +3,7 @@ use Rattle.craft.specs.declared.crew.Crew.{Crew}
 use Rattle.plan_core.specs.Words.{task_numbers}
 use Rattle.pegasus_cli.specs.Commands.Plan.{task_limit}
 use Rattle.pegasus_cli.specs.Moments.{work_moment, working}
-use Rattle.pegasus_cli.proofs.MembersLemmas.{taken_many}
+use Rattle.pegasus_cli.proofs.MembersLemmas.{others_stay, taken_many}
 use Rattle.pegasus_cli.proofs.RunLemmas.{many_of}
 use Rattle.pegasus_cli.proofs.commands.run.work.Goals as goal
 
@@ -33,3 +33,13 @@ returns-in-Ok-take_members-clause-works g c =
     (c.plans_deliver_requests.ensures s.request s.survey task_limit p ready.planned)
     (c.requires.means p ready.planned)
     c.run_plan_by-ran.ensures.ran
+
+pub returns-in-Ok-take_members-clause-others : goal.returns-in-Ok-take_members-clause-others
+returns-in-Ok-take_members-clause-others g c =
+    let taken = c.in-Ok-take_members.ensures.taken in
+    let crew = c.args.crew.now.items in
+    let members = c.in-Ok-take_members.members.items in
+    let back = c.run_plan_by-ran.result.members.items in
+    others_stay c.args.workers crew c.put_back.new.crew.items back members
+    (c.put_back.ensures ∙ ap (λ (rest : List (Crew g.row.T.Denot g.row.G.Denot)). back ++ rest) taken.1) c.run_plan_by-ran.ensures.members
+    (taken_many crew members c.args.workers taken.0 c.requires.crew c.requires.workers.1)
