@@ -4,11 +4,11 @@ use Rattle.std.specs.FinMap as map
 use Rattle.outside.specs.MemoryHost.{host_store}
 use Rattle.outside.specs.declared.memory_host.MemoryHost.{MemoryHost}
 use Rattle.outside.specs.SiteMap.{pair_at}
-use Rattle.cases.specs.declared.case.Delivered.{Delivered}
-use Rattle.cases.specs.declared.case.Ending.{Ending}
-use Rattle.cases.specs.declared.case.Part.{Part}
-use Rattle.cases.specs.declared.case.Part.TheVariants.{Whole, AfterRecord}
-use Rattle.cases.specs.declared.case.Stored.{Stored}
+use Rattle.case_files.specs.declared.case.Delivered.{Delivered}
+use Rattle.case_files.specs.declared.case.Ending.{Ending}
+use Rattle.case_files.specs.declared.case.Part.{Part}
+use Rattle.case_files.specs.declared.case.Part.TheVariants.{Whole, AfterRecord}
+use Rattle.case_files.specs.declared.case.Stored.{Stored}
 
 -- What was written is the text, or a part of it is.
 abbrev pub IsWritten : List ℕ → List ℕ → Part → Type 0

@@ -2,9 +2,9 @@
 
 ghost use Rattle.std.specs.Prelude.{◌≡◌, IfOk, length};
 
-use crate::case::{Case, CommandLine, Document, Setup, SiteFiles, Weather};
 use crate::comparing::is_met;
 use crate::trace::trace_text;
+use case_files::{Case, CommandLine, Document, Setup, SiteFiles, Weather};
 use craft::{Crew, Faulty, Gate, Hold, Holding, OpenGate};
 use outside::{Docs, Host, Memory, MemoryDocs, MemoryHost, MemorySink, Sink, Tool};
 use pegasus_cli::pegasus;

@@ -5,7 +5,7 @@ ghost use Rattle.outside.specs.MemorySink.{sink_bytes};
 ghost use Rattle.cases.specs.Comparing.{IsHeld, IsStored, IsWrittenAs};
 
 use crate::calling::Ended;
-use crate::case::{Case, Delivered, Ending, Part, Stored};
+use case_files::{Case, Delivered, Ending, Part, Stored};
 use outside::MemoryHost;
 
 /// Whether the host holds the bytes, or nothing where there are none.

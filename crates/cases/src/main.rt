@@ -7,17 +7,9 @@
 #![tactic(auto)]
 
 mod calling;
-mod case;
 mod comparing;
-mod draft;
-mod fault;
-mod header;
-mod piece;
-mod reader;
 mod report;
-mod setting;
 mod trace;
-mod words;
 
 use host_files::StreamSink;
 use outside::{Memory, SinkFault, write_all};

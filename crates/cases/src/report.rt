@@ -1,10 +1,8 @@
 //! The lines that tell how the cases went.
 
 use crate::calling::{Difference, Ended, first_difference};
-use crate::case::{Case, Setup};
 use crate::comparing::{is_held, is_stored, is_traced};
-use crate::fault::{Complaint, FileFault};
-use crate::reader::parse;
+use case_files::{Case, Complaint, FileFault, Setup, parse};
 use outside::{Memory, Word, push_line};
 use std::alloc::Global;
 use std::collections::BTreeSet;

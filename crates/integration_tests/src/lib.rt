@@ -10,6 +10,6 @@ mod by_hand;
 #[cfg(test)]
 mod files;
 #[cfg(test)]
-mod planning;
+mod graphs;
 #[cfg(test)]
 mod values;
