@@ -17,8 +17,9 @@ whole, found = bench.ends_of(["run", "examples/diamond/request.json", "--workers
 assert whole[0] == 0 and whole[1].endswith(b"\ndone\n"), whole
 for number, (end, _) in enumerate(found, 1):
     assert end in (bench.WANT, bench.SAME), (number, end)
-# Up to the first call that changed something no work had begun: the call, planning, the yard, the lock and its passes.
-begun = next(number for number, (_, is_changed) in enumerate(found) if is_changed)
-early = [end for end, _ in found[:begun]]
-assert begun > 1000 and early.count(bench.WANT) > 0.9 * begun, (begun, early.count(bench.WANT))
+# Before the first call that gave up with something changed no work had begun: the documents, planning, the yard, the lock
+# and its passes. Refused there, a request ended the call with all as it was, or the call went on without it.
+begun = next(number for number, (end, is_changed) in enumerate(found) if end == bench.WANT and is_changed)
+early = [is_changed for end, is_changed in found[:begun] if end == bench.WANT]
+assert begun > 1000 and len(early) > 0.9 * begun and not any(early), (begun, len(early))
 print(f"refused-memory: ok, {len(found)} requests refused in turn, {begun} of them before any work began")
