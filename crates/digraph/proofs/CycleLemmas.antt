@@ -4,7 +4,7 @@ use Rattle.std.specs.Prelude.{Option, Some, None, MatchOption}
 use Rattle.std.proofs.lemmas.List.{append-nil, append_assoc}
 use Rattle.digraph.proofs.AdjacencyLemmas.{same_edges, swapped}
 use Rattle.digraph.proofs.DistancesLemmas.{distance_is_at, is_distance, walk_distance}
-use Rattle.digraph.proofs.KahnLemmas.{present}
+use Rattle.digraph.proofs.TimesLemmas.{present}
 use Rattle.digraph.proofs.OrderLemmas.{never_returns}
 use Rattle.digraph.specs.Adjacency.{AreLinked, comes, has, leads, neighbours, times}
 use Rattle.digraph.specs.Cycle.{Descends, IsCycleFrom, IsNamedCycle, IsNext, Returns}

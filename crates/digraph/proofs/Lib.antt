@@ -1,5 +1,6 @@
 pub mod AdjacencyLemmas
 pub mod ScatterLemmas
+pub mod TimesLemmas
 pub mod KahnLemmas
 pub mod OrderLemmas
 pub mod SearchLemmas

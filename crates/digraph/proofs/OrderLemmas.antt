@@ -3,7 +3,8 @@ use Rattle.std.proofs.Common.{◌≡◌, ◌≢◌, ℕ, zero, suc, ◌+◌, ◌
 use Rattle.std.proofs.lemmas.List.{get_or-take, take-take, length-take-le}
 use Rattle.std.proofs.lemmas.Bool.{eqb-false, eqb-true, ne_eqb}
 use Rattle.digraph.proofs.AdjacencyLemmas.{same_edges, neighbours_past}
-use Rattle.digraph.proofs.KahnLemmas.{has_front, new_at, ordered_in, all_placed, one_stuck, present}
+use Rattle.digraph.proofs.KahnLemmas.{ordered_in, all_placed, one_stuck}
+use Rattle.digraph.proofs.TimesLemmas.{has_front, new_at, present}
 use Rattle.digraph.specs.Adjacency.{AreLinked, comes, leads, has, times, neighbours}
 use Rattle.digraph.specs.Kahn.{IsPlacement, waits_for}
 use Rattle.digraph.specs.Cycle.{Returns}

@@ -11,7 +11,8 @@ use Rattle.lease_book.proofs.GoodsLemmas.{good_small}
 use Rattle.lease_book.proofs.ListLemmas.{both, un_not}
 use Rattle.lease_book.proofs.RoomLemmas.{consistent_more, room_falls}
 use Rattle.lease_book.proofs.SizesRoomLemmas.{sizes_fall}
-use Rattle.lease_book.proofs.SoundLemmas.{choice_exists, complete_of, fresh_among, safe_state, sound_more, sound_opened}
+use Rattle.lease_book.proofs.SoundLemmas.{fresh_among, sound_more, sound_opened}
+use Rattle.lease_book.proofs.SafeLemmas.{choice_exists, complete_of, safe_state}
 use Rattle.lease_book.specs.Book.{is_tried_again, state_at}
 use Rattle.lease_book.specs.Choice.{IsChoice}
 use Rattle.lease_book.specs.Kept.{IsBook}

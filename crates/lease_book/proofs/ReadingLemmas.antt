@@ -2,19 +2,16 @@
 use Rattle.std.proofs.Common.{◌≡◌, ℕ, ◌+◌, ◌||◌, ◌&&◌, Bool, true, false, cond, eqb, eqb-true, inl, inr, List, [], ◌∷◌, length, refl, sym, ap, subst, ◌∙◌, arith}
 use Rattle.std.specs.Prelude.{not, filter, Option, Some, None, is_some}
 use Rattle.std.specs.List.{list_any}
-use Rattle.lease_book.proofs.ListLemmas.{by_bool, filter_without, or_left, or_right}
+use Rattle.lease_book.proofs.ListLemmas.{by_bool, or_left, or_right}
 use Rattle.lease_book.proofs.SoundLemmas.{choice_in, fresh_among, is_waiting, sound_more, sound_opened}
 use Rattle.lease_book.specs.Law.{FitsFromStart, HasStorageLaws, IsSoundState}
 use Rattle.lease_book.specs.Legal.{Allowed, Legal, LegalFrom, MayFail}
-use Rattle.lease_book.specs.Reading.{IsPlain, IsPlainlyRead, IsRead, again_of, begins, ends, fails, frees, grants, held_by, is_fail, is_grant_in, is_granted, last_of, reserves, size_among, stored, stores, worker_in}
-use Rattle.lease_book.specs.State.{State, after, ended, now, now_from, opened, runs, stored_among, without}
-use Rattle.outside.specs.declared.policy.Policy.{Policy}
+use Rattle.lease_book.specs.Reading.{IsRead, again_of, ends, fails, frees, grants, held_by, is_fail, is_grant_in, is_granted, last_of, reserves, size_among, stored, stores, worker_in}
+use Rattle.lease_book.specs.State.{State, after, ended, now, now_from, opened, runs, stored_among}
 use Rattle.plan_core.specs.Numbers.{has, or_else}
-use Rattle.plan_core.specs.Printing.{is_plain}
-use Rattle.plan_core.specs.Words.{cleans, is_fresh, retries}
+use Rattle.plan_core.specs.Words.{cleans}
 use Rattle.plan_core.specs.declared.plan.Plan.{Plan}
 use Rattle.run_record.specs.Events.{Again, Arrive, Clean, End, Event, Fail, Grant, Regrant}
-use Rattle.run_record.specs.declared.entry.Cause.{Cause}
 use Rattle.storage_simulation.specs.Goods.{good_size, makes}
 use Rattle.storage_simulation.specs.declared.standing.Held.{Held}
 use Rattle.storage_simulation.specs.declared.standing.Held.TheVariants.{Nothing, Reserved, Stored}
@@ -116,7 +113,7 @@ runs_turn false false false x d true o f h k = k
 runs_turn false false false x d false o f h k = k
 
 -- what the list so far says, with d, b, .. for it
-any_from : (f : Event → Bool) (r : List Event) (e : Event) (b : Bool) → ((b || f e) || list_any f r) ≡ (b || list_any f (e ∷ r))
+pub any_from : (f : Event → Bool) (r : List Event) (e : Event) (b : Bool) → ((b || f e) || list_any f r) ≡ (b || list_any f (e ∷ r))
 any_from f r e true = refl
 any_from f r e false = refl
 
@@ -128,7 +125,7 @@ granted_or t (Some e) d = grants t e
 abbrev pub granted_last : ℕ → List Event → Bool → Bool
 granted_last t r d = granted_or t (last_of (λ e. grants t e || again_of t e) r) d
 
-granted_step : (t : ℕ) (e : Event) (r : List Event) (d : Bool) → granted_last t r (grants t e || (not (again_of t e) && d)) ≡ granted_last t (e ∷ r) d
+pub granted_step : (t : ℕ) (e : Event) (r : List Event) (d : Bool) → granted_last t r (grants t e || (not (again_of t e) && d)) ≡ granted_last t (e ∷ r) d
 granted_step t e r d = by_last (last_of (λ x. grants t x || again_of t x) r)
   where
     by_tests : (g a : Bool) → grants t e ≡ g → (g || (not a && d)) ≡ granted_or t (cond (g || a) (Some e) None) d
@@ -140,7 +137,7 @@ granted_step t e r d = by_last (last_of (λ x. grants t x || again_of t x) r)
     by_last (Some x) = refl
     by_last None = by_tests (grants t e) (again_of t e) refl
 
-granted_none : (t : ℕ) (r : List Event) → granted_last t r false ≡ is_granted t r
+pub granted_none : (t : ℕ) (r : List Event) → granted_last t r false ≡ is_granted t r
 granted_none t r = by_last (last_of (λ x. grants t x || again_of t x) r)
   where
     by_last : (o : Option Event) → granted_or t o false ≡ is_grant_in t o
@@ -160,7 +157,7 @@ read_phase p proper s (e ∷ r) t d b sound legal h k =
     (ap runs (turned e s p t) ∙ runs_turn (grants t e) (again_of t e) (ends t e) (s.phase t) d b (one_thing e t) (grants_waits p s e t sound legal.0) h k) in
     (less.0 ∙ any_from (ends t) r e b, less.1 ∙ ap (λ (c : Bool). c && not ((b || ends t e) || list_any (ends t) r)) (granted_step t e r d) ∙ ap (λ (c : Bool). granted_last t (e ∷ r) d && not c) (any_from (ends t) r e b))
 
-or_no : (c : Bool) → c ≡ (c || false)
+pub or_no : (c : Bool) → c ≡ (c || false)
 or_no true = refl
 or_no false = refl
 
@@ -396,73 +393,3 @@ record_reads p order r proper fit legal = record {
   where
     sound : IsSoundState p (opened order)
     sound = sound_opened p order fit
-
--- the plain policy
-plain_retries : (p : Plan) → IsPlain p → retries p ≡ 0
-unfolding retries
-plain_retries p is_plain = ap (λ (c : Policy). c.retries) is_plain
-
-plain_fresh : (p : Plan) → IsPlain p → is_fresh p ≡ false
-unfolding is_fresh
-plain_fresh p is_plain = ap (λ (c : Policy). c.fresh) is_plain
-
-pub plain_no_again : (p : Plan) (s : State) (w t : ℕ) (c : Cause) (ns : List ℕ) → IsPlain p → Allowed p s (Again w t c ns) → ⊥
-plain_no_again p s w t c ns is_plain a = let l = a.5 in absurd (omega (arith, l, plain_retries p is_plain))
-
-pub plain_no_regrant : (p : Plan) (s : State) (w t : ℕ) → IsPlain p → Allowed p s (Regrant w t) → ⊥
-plain_no_regrant p s w t is_plain a = let f = a.1.fresh in let g = plain_fresh p is_plain in absurd cc
-
-plain_again : (p : Plan) (s : State) (e : Event) (t : ℕ) → IsPlain p → Allowed p s e → again_of t e ≡ false
-plain_again p s (Grant w u) t is_plain a = refl
-plain_again p s (Regrant w u) t is_plain a = refl
-plain_again p s (Again w u c ns) t is_plain a = absurd (plain_no_again p s w u c ns is_plain a)
-plain_again p s (Arrive w u n) t is_plain a = refl
-plain_again p s (End w u ns) t is_plain a = refl
-plain_again p s (Clean w u) t is_plain a = refl
-plain_again p s (Fail w u c ns) t is_plain a = refl
-
-plain_last : (p : Plan) (s : State) (r : List Event) (t : ℕ) (d : Bool) → IsPlain p → LegalFrom p s r → granted_last t r d ≡ (d || list_any (grants t) r)
-plain_last p s [] t d is_plain legal = or_no d
-plain_last p s (e ∷ r) t d is_plain legal =
-    sym (granted_step t e r d) ∙ ap (λ (a : Bool). granted_last t r (grants t e || (not a && d))) (plain_again p s e t is_plain legal.0)
-    ∙ plain_last p (after p s e) r t (grants t e || d) is_plain legal.1
-    ∙ swap (grants t e) d (list_any (grants t) r)
-  where
-    swap : (a b c : Bool) → ((a || b) || c) ≡ (b || (a || c))
-    swap true true c = refl
-    swap true false c = refl
-    swap false true c = refl
-    swap false false c = refl
-
-filter_same : (f g : ℕ → Bool) → ((u : ℕ) → f u ≡ g u) → (xs : List ℕ) → filter f xs ≡ filter g xs
-filter_same f g h [] = refl
-filter_same f g h (x ∷ xs) = ap (λ (b : Bool). cond b (x ∷ filter f xs) (filter f xs)) (h x) ∙ ap (λ (l : List ℕ). cond (g x) (x ∷ l) l) (filter_same f g h xs)
-
-not_or : (a b : Bool) → not (a || b) ≡ (not a && not b)
-not_or true b = refl
-not_or false b = refl
-
-rest_step : (p : Plan) (s : State) (e : Event) (order : List ℕ) (b : ℕ → Bool) → IsPlain p → Allowed p s e → s.rest ≡ filter (λ t. not (b t)) order → (after p s e).rest ≡ filter (λ t. not (b t || begins t e)) order
-rest_step p s (Grant w u) order b is_plain a h = ap (without u) h ∙ sym (filter_without (λ t. not (b t)) (λ t. not (b t || eqb u t)) u (λ t. not_or (b t) (eqb u t)) order)
-rest_step p s (Clean w u) order b is_plain a h = ap (without u) h ∙ sym (filter_without (λ t. not (b t)) (λ t. not (b t || eqb u t)) u (λ t. not_or (b t) (eqb u t)) order)
-rest_step p s (Regrant w u) order b is_plain a h = absurd (plain_no_regrant p s w u is_plain a)
-rest_step p s (Again w u c ns) order b is_plain a h = absurd (plain_no_again p s w u c ns is_plain a)
-rest_step p s (Arrive w u n) order b is_plain a h = h ∙ filter_same (λ t. not (b t)) (λ t. not (b t || false)) (λ t. ap not (or_no (b t))) order
-rest_step p s (End w u ns) order b is_plain a h = h ∙ filter_same (λ t. not (b t)) (λ t. not (b t || false)) (λ t. ap not (or_no (b t))) order
-rest_step p s (Fail w u c ns) order b is_plain a h = h ∙ filter_same (λ t. not (b t)) (λ t. not (b t || false)) (λ t. ap not (or_no (b t))) order
-
-plain_rest : (p : Plan) (s : State) (r : List Event) (order : List ℕ) (b : ℕ → Bool) → IsPlain p → LegalFrom p s r → s.rest ≡ filter (λ t. not (b t)) order → (now_from p s r).rest ≡ filter (λ t. not (b t || list_any (begins t) r)) order
-plain_rest p s [] order b is_plain legal h = h ∙ filter_same (λ t. not (b t)) (λ t. not (b t || false)) (λ t. ap not (or_no (b t))) order
-plain_rest p s (e ∷ r) order b is_plain legal h =
-    plain_rest p (after p s e) r order (λ t. b t || begins t e) is_plain legal.1 (rest_step p s e order b is_plain legal.0 h)
-    ∙ filter_same (λ t. not ((b t || begins t e) || list_any (begins t) r)) (λ t. not (b t || list_any (begins t) (e ∷ r))) (λ t. ap not (any_from (begins t) r e (b t))) order
-
-filter_all : (xs : List ℕ) → filter (λ u. true) xs ≡ xs
-filter_all [] = refl
-filter_all (x ∷ xs) = ap (λ (l : List ℕ). x ∷ l) (filter_all xs)
-
-pub plain_reads : (p : Plan) (order : List ℕ) (r : List Event) → HasStorageLaws p → IsPlain p → FitsFromStart p order → Legal p order r → IsPlainlyRead order r (now p order r)
-plain_reads p order r proper is_plain fit legal = record {
-  runs = λ t. (record_reads p order r proper fit legal).runs t ∙ ap (λ (b : Bool). b && not (list_any (ends t) r)) (sym (granted_none t r) ∙ plain_last p (opened order) r t false is_plain legal);
-  rest = plain_rest p (opened order) r order (λ t. false) is_plain legal (sym (filter_all order));
-}

@@ -4,7 +4,8 @@ use Rattle.std.proofs.lemmas.List.{take_more}
 use Rattle.std.proofs.lemmas.List.Folds.{list_any-append}
 use Rattle.lease_book.proofs.FitLemmas.{usage_by_weight}
 use Rattle.lease_book.proofs.ListLemmas.{any_without, front_of_without, has_take, has_without, once_without, or_case, place_of_without, without_has}
-use Rattle.lease_book.proofs.SoundLemmas.{clean_weight, cleaned_held, false_of, has_split, maker_of, not_both, put_at, put_off}
+use Rattle.lease_book.proofs.SoundLemmas.{clean_weight, cleaned_held, false_of, has_split, not_both, put_at, put_off}
+use Rattle.lease_book.proofs.SafeLemmas.{maker_of}
 use Rattle.lease_book.proofs.TotalLemmas.{total_same}
 use Rattle.lease_book.specs.Choice.{CanStart, HasNoChoice, HaveParentsEnded, IsChoice, Safe}
 use Rattle.lease_book.specs.Law.{HasStorageLaws, IsSoundState}

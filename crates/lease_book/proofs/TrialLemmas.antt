@@ -6,7 +6,8 @@ use Rattle.std.proofs.Math.Path.{fun_ext}
 use Rattle.lease_book.proofs.ArrayLemmas.{few_once}
 use Rattle.lease_book.proofs.GoodsLemmas.{good_small}
 use Rattle.lease_book.proofs.ListLemmas.{all_have, have_all}
-use Rattle.lease_book.proofs.SoundLemmas.{choice_exists, choice_in, put_at, put_off}
+use Rattle.lease_book.proofs.SoundLemmas.{choice_in, put_at, put_off}
+use Rattle.lease_book.proofs.SafeLemmas.{choice_exists}
 use Rattle.lease_book.proofs.StartLemmas.{follows_of, follows_without}
 use Rattle.lease_book.specs.Choice.{CanStart, HasNoChoice, HaveParentsEnded, IsCandidate, IsChoice, Safe, start}
 use Rattle.lease_book.specs.Law.{HasStorageLaws, IsIdle, IsSoundState}

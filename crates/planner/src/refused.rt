@@ -1,7 +1,7 @@
 //! The line of a refusal.
 
 ghost use Rattle.std.specs.Prelude.{◌≡◌, ◌++◌, OnOk};
-ghost use Rattle.planner.specs.Refused.{counted_word as word_of_counted, one_name, refused_line, three_names, tree_line, two_names};
+ghost use Rattle.planner.specs.Refused.{counted_word as word_of_counted, cycle_line, found_line, many_line, one_name, refused_line, three_names, tree_line, two_names};
 
 use crate::document::Document;
 use crate::plan_fault::PlanFault;
@@ -20,6 +20,24 @@ fn counted_word(counted: Counted) -> &'static str
     }
 }
 
+/// Adds the line of a document that has something else, or nothing, where a name says.
+fn push_found(
+    alloc: Global,
+    text: &mut Vec<u8>,
+    of: Document,
+    word: &str,
+    name: &Text,
+) -> Result<(), Memory>
+    ensures { OnOk result (text.new.items ≡ text.old.items ++ found_line of word.now name.now) }
+{
+    let words = &[
+        Word::Plain(of.word()),
+        Word::Plain(word),
+        Word::Name(name.as_bytes()),
+    ];
+    push_line(alloc, text, "refused", words)
+}
+
 fn push_tree_fault(
     alloc: Global,
     text: &mut Vec<u8>,
@@ -31,18 +49,8 @@ fn push_tree_fault(
     let of = Word::Plain(which.word());
     match fault {
         TreeFault::Syntax => push_line(alloc, text, "refused", &[of, Word::Plain("syntax")]),
-        TreeFault::MissingKey(path) => push_line(
-            alloc,
-            text,
-            "refused",
-            &[of, Word::Plain("missing"), Word::Name(path.as_bytes())],
-        ),
-        TreeFault::WrongKind(path) => push_line(
-            alloc,
-            text,
-            "refused",
-            &[of, Word::Plain("kind"), Word::Name(path.as_bytes())],
-        ),
+        TreeFault::MissingKey(path) => push_found(alloc, text, which, "missing", path),
+        TreeFault::WrongKind(path) => push_found(alloc, text, which, "kind", path),
         TreeFault::OutOfRange(path, number) => push_line(
             alloc,
             text,
@@ -65,12 +73,7 @@ fn push_tree_fault(
                 Word::Name(what.as_bytes()),
             ],
         ),
-        TreeFault::BadVersion(version) => push_line(
-            alloc,
-            text,
-            "refused",
-            &[of, Word::Plain("version"), Word::Name(version.as_bytes())],
-        ),
+        TreeFault::BadVersion(version) => push_found(alloc, text, which, "version", version),
         TreeFault::Memory => Ok(()),
     }
 }
@@ -111,22 +114,43 @@ fn push_three(
     push_line(alloc, text, words, &[one, two, three])
 }
 
+fn push_cycle(
+    alloc: Global,
+    text: &mut Vec<u8>,
+    words: &str,
+    ids: &[Text],
+) -> Result<(), Memory>
+    ensures { OnOk result (text.new.items ≡ text.old.items ++ cycle_line words.now ids.now) }
+{
+    push_line(alloc, text, words, &[Word::Names(ids)])
+}
+
+fn push_too_many(
+    alloc: Global,
+    text: &mut Vec<u8>,
+    what: Counted,
+    count: u64,
+    limit: u64,
+) -> Result<(), Memory>
+    ensures { OnOk result (text.new.items ≡ text.old.items ++ many_line what count limit) }
+{
+    let words = &[
+        Word::Plain(counted_word(what)),
+        Word::Number(count),
+        Word::Number(limit),
+    ];
+    push_line(alloc, text, "refused many", words)
+}
+
 /// Adds the line of a refusal. What is answered with another line, or with none, adds nothing.
 pub fn push_refused(alloc: Global, text: &mut Vec<u8>, fault: &PlanFault) -> Result<(), Memory>
     ensures { OnOk result (text.new.items ≡ text.old.items ++ refused_line fault.now) }
 {
     match fault {
         PlanFault::Tree(which, fault) => push_tree_fault(alloc, text, *which, fault),
-        PlanFault::TooMany(what, count, limit) => push_line(
-            alloc,
-            text,
-            "refused many",
-            &[
-                Word::Plain(counted_word(*what)),
-                Word::Number(*count),
-                Word::Number(*limit),
-            ],
-        ),
+        PlanFault::TooMany(what, count, limit) => {
+            push_too_many(alloc, text, *what, *count, *limit)
+        }
         PlanFault::DuplicateJob(id) => push_name(alloc, text, "refused twice job", id),
         PlanFault::DuplicateUse(id, lfn) => push_two(alloc, text, "refused twice use", id, lfn),
         PlanFault::UnknownJob(id) => push_name(alloc, text, "refused unknown job", id),
@@ -144,24 +168,16 @@ pub fn push_refused(alloc: Global, text: &mut Vec<u8>, fault: &PlanFault) -> Res
         PlanFault::TwoProducers(lfn, one, two) => {
             push_three(alloc, text, "refused producers", lfn, one, two)
         }
-        PlanFault::Cycle(ids) => push_line(
-            alloc,
-            text,
-            "refused cycle",
-            &[Word::Names(ids.as_slice())],
-        ),
+        PlanFault::Cycle(ids) => push_cycle(alloc, text, "refused cycle", ids.as_slice()),
         PlanFault::NoTransformation(id) => push_name(alloc, text, "refused transformation", id),
         PlanFault::NoSite(id, name) => push_two(alloc, text, "refused site", id, name),
         PlanFault::BadNumber(id, key) => push_two(alloc, text, "refused number", id, key),
         PlanFault::LabelOverSites(label, one, two) => {
             push_three(alloc, text, "refused label", label, one, two)
         }
-        PlanFault::ClusterCycle(ids) => push_line(
-            alloc,
-            text,
-            "refused cluster cycle",
-            &[Word::Names(ids.as_slice())],
-        ),
+        PlanFault::ClusterCycle(ids) => {
+            push_cycle(alloc, text, "refused cluster cycle", ids.as_slice())
+        }
         PlanFault::NoReplica(lfn) => push_name(alloc, text, "refused replica", lfn),
         PlanFault::NoSize(lfn) => push_name(alloc, text, "refused size", lfn),
         PlanFault::ToolUnknown(id, name) => push_two(alloc, text, "refused tool", id, name),

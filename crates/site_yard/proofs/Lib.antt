@@ -19,6 +19,7 @@ mod DeliveryListLemmas
 mod DeliveryRoomLemmas
 mod StepLemmas
 mod StoreLemmas
+mod OverlongLemmas
 mod EndingLemmas
 mod FaultsLemmas
 mod FailingLemmas

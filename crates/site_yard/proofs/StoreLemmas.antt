@@ -1,5 +1,5 @@
 -- What the storing of a Run's outputs writes, and the entry that it adds.
-use Rattle.std.proofs.Common.{◌≡◌, ℕ, zero, suc, ◌+◌, ◌≤◌, ◌<◌, inl, inr, Bool, true, false, cond, ◌||◌, List, [], ◌∷◌, ◌++◌, map, length, take, drop, get_or, refl, sym, ap, ◌∙◌, subst, nat_eq, nat_lt, arith}
+use Rattle.std.proofs.Common.{◌≡◌, ℕ, zero, suc, ◌+◌, ◌≤◌, ◌<◌, inl, inr, Bool, true, false, ◌||◌, List, [], ◌∷◌, ◌++◌, map, length, take, drop, get_or, refl, sym, ap, ◌∙◌, subst, nat_eq, arith}
 use Rattle.std.specs.Prelude.{Option, Some, None, option_map, is_some, IfSome, Ok, Err}
 use Rattle.std.specs.List.{list_any}
 use Rattle.outside.specs.Counts.{IsLater}
@@ -12,33 +12,30 @@ use Rattle.outside.specs.declared.numbers.PairId.{PairId}
 use Rattle.outside.specs.declared.store.Store.{Store}
 use Rattle.plan_core.specs.declared.plan.Plan.{Plan}
 use Rattle.plan_core.specs.declared.plan.PlanJob.{PlanJob}
-use Rattle.plan_core.specs.declared.plan.TaskKind.{TaskKind}
-use Rattle.plan_core.specs.declared.plan.TaskKind.TheVariants.{Transfer, Run, Clean as CleanTask}
-use Rattle.plan_core.specs.Kinds.{kind_carries, kind_writes, makes as finds}
-use Rattle.plan_core.proofs.TestLemmas.{both, or_right}
+use Rattle.plan_core.specs.Kinds.{makes as finds}
+use Rattle.plan_core.proofs.TestLemmas.{or_right}
 use Rattle.plan_core.specs.Numbers.{has}
-use Rattle.plan_core.specs.Words.{count_pairs, file_numbers, is_run, is_run_kind, job_numbers, kind, outputs, pair_numbers, writes}
+use Rattle.plan_core.specs.Words.{count_pairs, file_numbers, is_run, job_numbers, kind, outputs, pair_numbers, writes}
 use Rattle.storage_simulation.specs.Goods.{makes}
 use Rattle.run_record.specs.declared.entry.Cause.{Cause}
 use Rattle.run_record.specs.declared.entry.Cause.TheVariants.{Absent, TooLong, Checksum, Oversize, Declined, ToolFailed, HostFailed, Memory}
-use Rattle.run_record.specs.Events.{Event, End, Fail}
+use Rattle.run_record.specs.Events.{Event, End}
 use Rattle.lease_book.specs.declared.book.Book.{Book}
 use Rattle.lease_book.specs.Book.{failure, is_tried_again, state_at}
-use Rattle.lease_book.specs.Legal.{Allowed, AreDeclared, AreOfFirst, ArePublished, CauseFits, IsOpen, is_too_long}
+use Rattle.lease_book.specs.Legal.{Allowed, AreDeclared, AreOfFirst, ArePublished, CauseFits, IsOpen}
 use Rattle.site_yard.specs.Changes.{carries, or_nil, publishes}
-use Rattle.site_yard.specs.Failures.{IsCounted}
 use Rattle.site_yard.specs.Kept.{IsKept}
 use Rattle.site_yard.specs.Law.{HasPlanLaws}
 use Rattle.site_yard.specs.Loading.{pair_limit}
-use Rattle.site_yard.specs.Names.{pair_file, pair_file_name, pair_site, pair_site_name}
-use Rattle.site_yard.specs.Storing.{AreWithin, IsFirstPast, IsOverlong, WroteFirst, WrotePair, WrotePairs, publishing}
-use Rattle.site_yard.specs.Truthful.{AreSizes, is_over, oversize_among}
-use Rattle.site_yard.specs.Yard.{Adds, AreOutputs, IsEnding, IsStop, IsTold}
+use Rattle.site_yard.specs.Names.{pair_file, pair_file_name, pair_site_name}
+use Rattle.site_yard.specs.Storing.{AreWithin, IsFirstPast, WroteFirst, WrotePair, WrotePairs, publishing}
+use Rattle.site_yard.specs.Truthful.{AreSizes}
+use Rattle.site_yard.specs.Yard.{Adds, AreOutputs, IsEnding, IsStop}
 use Rattle.site_yard.proofs.AgreesLemmas.{HasBookLaws}
-use Rattle.site_yard.proofs.HostFailLemmas.{IsHosts, hosts_counted, hosts_fits, hosts_keeps, plain_keeps, still}
+use Rattle.site_yard.proofs.HostFailLemmas.{IsHosts, hosts_counted, hosts_fits, hosts_keeps, still}
 use Rattle.site_yard.proofs.KeptLemmas.{changed_append, keeps}
 use Rattle.site_yard.proofs.MoveLemmas.{failed, failed_counted, rose_none}
-use Rattle.site_yard.proofs.PlanLemmas.{written_below, written_file}
+use Rattle.site_yard.proofs.PlanLemmas.{written_below}
 use Rattle.site_yard.proofs.BringLemmas.{tells_by}
 use Rattle.site_yard.proofs.HoldsLemmas.{same_id}
 use Rattle.site_yard.proofs.LoadLemmas.{rose_from}
@@ -145,11 +142,11 @@ wrote_stops p qs bs o m n ns k q b first before now_ HostFailed long told sizes 
 wrote_stops p qs bs o m n ns k q b first before now_ Memory long told sizes later why = wrote_first p qs bs o n m ns k long why told sizes
 
 -- where the outputs are what the task carries, their publishing is the record's
-abbrev head_of : {A : Type 0} → A → List A → A
+abbrev pub head_of : {A : Type 0} → A → List A → A
 head_of d [] = d
 head_of d (x ∷ xs) = x
 
-abbrev tail_of : {A : Type 0} → List A → List A
+abbrev pub tail_of : {A : Type 0} → List A → List A
 tail_of [] = []
 tail_of (x ∷ xs) = xs
 
@@ -288,7 +285,7 @@ stop_keeps b apply o n m f0 m0 before now_ w t outs ns cause kept told all later
     (first_sizes apply b.plan m o t outs told n ns is.1.sizes_are)
     later is.0
 
-failed_ending : (p : Plan) (b : Bool) (w t : ℕ) (outs : List (List ℕ)) (cause : Cause) (ns : List ℕ) → IsStop p (writes p t) outs cause ns → IsEnding p w t outs (failed b w t cause ns)
+pub failed_ending : (p : Plan) (b : Bool) (w t : ℕ) (outs : List (List ℕ)) (cause : Cause) (ns : List ℕ) → IsStop p (writes p t) outs cause ns → IsEnding p w t outs (failed b w t cause ns)
 failed_ending p true w t outs cause ns h = (refl, refl, h)
 failed_ending p false w t outs cause ns h = (refl, refl, h)
 
@@ -319,84 +316,6 @@ wrote_tells p qs outs o n ns first = tells_by o n _ first.told
 
 pub stop_tells : (p : Plan) (qs : List ℕ) (outs : List (List ℕ)) (o n : Option Store) (ns : List ℕ) (before now_ : Counts) (cause : Cause) → AreWithin p qs outs → WrotePairs p qs outs o n ns before now_ (Err cause) → is_some n ≡ is_some o
 stop_tells p qs outs o n ns before now_ cause all why = wrote_tells p qs outs o n ns (stopped p qs outs o n ns before now_ cause all why).1
-
--- an output that is longer than declared
-past_long : (p : Plan) (qs : List ℕ) (bs : List (List ℕ)) (x n : ℕ) → IsFirstPast p qs bs x n → pair_limit p x < n
-past_long p [] bs x n h = absurd h
-past_long p (q ∷ qs) [] x n h = absurd h
-past_long p (q ∷ qs) (b ∷ bs) x n h = elim h [
-  | inl here ↦ subst (λ z. pair_limit p x < z) here.2 (subst (λ z. pair_limit p z < length b) here.1 here.0)
-  | inr later ↦ past_long p qs bs x n later.1
-]
-
-pub past_in : (p : Plan) (qs : List ℕ) (bs : List (List ℕ)) (x n : ℕ) → IsFirstPast p qs bs x n → has qs x ≡ true
-past_in p [] bs x n h = absurd h
-past_in p (q ∷ qs) [] x n h = absurd h
-past_in p (q ∷ qs) (b ∷ bs) x n h = elim h [
-  | inl here ↦ subst (λ z. has (q ∷ qs) z ≡ true) here.1 (same_id q qs)
-  | inr later ↦ or_right (nat_eq q x) (has qs x) (past_in p qs bs x n later.1)
-]
-
-less_is : (a b : ℕ) → a < b → nat_lt a b ≡ true
-less_is a b h = grind (arith, h)
-
-not_less : (a b : ℕ) → b ≤ a → nat_lt a b ≡ false
-not_less a b h = grind (arith, h)
-
-past_among : (p : Plan) (c : ℕ → ℕ → Option (List ℕ)) (t x n : ℕ) (qs : List ℕ) (bs : List (List ℕ)) → map (λ q. c t (pair_file p q)) qs ≡ map Some bs → IsFirstPast p qs bs x n
-    → (oversize_among p (c t) qs ≡ Some (pair_file p x)) × (option_map length (c t (pair_file p x)) ≡ Some n)
-past_among p c t x n [] bs is h = absurd h
-past_among p c t x n (q ∷ qs) [] is h = absurd h
-past_among p c t x n (q ∷ qs) (b ∷ bs) is h =
-    let head : c t (pair_file p q) ≡ Some b = ap (head_of None) is in
-    let step : (z : Bool) → nat_lt (pair_limit p q) (length b) ≡ z → oversize_among p (c t) (q ∷ qs) ≡ cond z (Some (pair_file p q)) (oversize_among p (c t) qs) = λ z e.
-    ap (λ o. cond (is_over (pair_limit p q) o) (Some (pair_file p q)) (oversize_among p (c t) qs)) head ∙ ap (λ y. cond y (Some (pair_file p q)) (oversize_among p (c t) qs)) e in
-    elim h [
-      | inl here ↦ (
-        step true (less_is (pair_limit p q) (length b) here.0) ∙ ap (λ y. Some (pair_file p y)) here.1,
-        ap (λ y. option_map length (c t (pair_file p y))) (sym here.1) ∙ ap (option_map length) head ∙ ap Some here.2,
-      )
-      | inr later ↦
-          let rest = past_among p c t x n qs bs (ap tail_of is) later.1 in
-          (step false (not_less (pair_limit p q) (length b) later.0) ∙ rest.0, rest.1)
-    ]
-
-pub over_fits : (p : Plan) (t : ℕ) (outs : List (List ℕ)) (j : JobId) (f : FileId) (n : ℕ) → IsOverlong p t outs j.0 f.0 n → CauseFits p t (Oversize j f n) []
-over_fits p t outs j f n over =
-    (over.job, over.made, subst (λ z. is_too_long p z n ≡ true) over.file (less_is (pair_limit p over.pair) n (past_long p (writes p t) outs over.pair n over.first)), refl)
-
-over_told : (apply : Apply) (p : Plan) (m : Store) (o : Option Store) (t : ℕ) (outs : List (List ℕ)) (j : JobId) (f : FileId) (n : ℕ) → AreOutputs apply p m o t outs → IsOverlong p t outs j.0 f.0 n → IsTold apply p m o t (Oversize j f n)
-over_told apply p m None t outs j f n told over = tt
-over_told apply p m (Some s) t outs j f n told over =
-    let found = past_among p (carries apply p m) t over.pair n (writes p t) outs told.0 over.first in
-    (told.1, found.0 ∙ ap Some over.file, over.made, ap (λ z. option_map length (carries apply p m t z)) (sym over.file) ∙ found.1)
-
-over_counted : (o : Option Store) (before : Counts) (w t : ℕ) (j : JobId) (f : FileId) (n : ℕ) → IsCounted o before before (Fail w t (Oversize j f n) [])
-over_counted o before w t j f n = rose_none o before before (Fail w t (Oversize j f n) []) refl refl (still before)
-
-pub over_keeps : (b : Book) (apply : Apply) (o : Option Store) (m : Store) (f0 m0 : ℕ) (before : Counts) (w t : ℕ) (outs : List (List ℕ)) (j : JobId) (f : FileId) (n : ℕ) → ∥ IsKept apply b.plan b.history.events o m f0 m0 before ∥₁ → AreOutputs apply b.plan m o t outs → IsOverlong b.plan t outs j.0 f.0 n
-    → ∥ IsKept apply b.plan (b.history.events ++ failure b.plan (state_at b) w t (Oversize j f n) [] ∷ []) o m f0 m0 before ∥₁
-over_keeps b apply o m f0 m0 before w t outs j f n kept told over =
-    plain_keeps apply b.plan b.history.events o m f0 m0 before (is_tried_again b.plan (state_at b) t (Oversize j f n)) w t (Oversize j f n) kept (over_told apply b.plan m o t outs j f n told over) (over_counted o before w t j f n)
-
-pub over_adds : (b : Book) (o : Option Store) (before : Counts) (w t : ℕ) (outs : List (List ℕ)) (j : JobId) (f : FileId) (n : ℕ) (new : List Event) → IsOverlong b.plan t outs j.0 f.0 n
-    → new ≡ b.history.events ++ failure b.plan (state_at b) w t (Oversize j f n) [] ∷ [] → Adds b.history.events new (IsEnding b.plan w t outs) o before before
-over_adds b o before w t outs j f n new over is = record {
-  entry = failure b.plan (state_at b) w t (Oversize j f n) [];
-  is = is;
-  kind = failed_ending b.plan (is_tried_again b.plan (state_at b) t (Oversize j f n)) w t outs (Oversize j f n) [] (over.pair, over.first, over.file, refl);
-  counted = failed_counted o before before (is_tried_again b.plan (state_at b) t (Oversize j f n)) w t (Oversize j f n) [] (over_counted o before w t j f n);
-}
-
--- the file of a pair that a Run writes is made by one of its jobs
-run_carries : (jobs : List PlanJob) (k : Option TaskKind) (s f : ℕ) → is_run_kind k ≡ true → kind_writes jobs k s f ≡ true → kind_carries jobs k f ≡ true
-run_carries jobs None s f run h = absurd cc
-run_carries jobs (Some (Transfer g from to)) s f run h = absurd cc
-run_carries jobs (Some (Run a js)) s f run h = (both (nat_eq a.0 s) (finds jobs js f) h).1
-run_carries jobs (Some (CleanTask q)) s f run h = absurd cc
-
-pub past_carried : (p : Plan) → HasPlanLaws p → (t : ℕ) (bs : List (List ℕ)) (x n : ℕ) → is_run p t ≡ true → IsFirstPast p (writes p t) bs x n → kind_carries p.jobs (kind p t) (pair_file p x) ≡ true
-past_carried p laws t bs x n run h = run_carries p.jobs (kind p t) (pair_site p x) (pair_file p x) run (written_file p laws t x (past_in p (writes p t) bs x n h))
 
 -- a job among some, by its place
 pub nth_job : (js : List JobId) (k : ℕ) (x : JobId) → k < length js → has (job_numbers js) (get_or js k x).0 ≡ true

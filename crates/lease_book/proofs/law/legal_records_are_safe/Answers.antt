@@ -1,4 +1,4 @@
-use Rattle.lease_book.proofs.SoundLemmas.{always_safe, sums_are_usage}
+use Rattle.lease_book.proofs.SafeLemmas.{always_safe, sums_are_usage}
 use Rattle.lease_book.proofs.law.legal_records_are_safe.Goals as goal
 
 pub returns-clause-always : goal.returns-clause-always

@@ -1,4 +1,4 @@
-use Rattle.lease_book.proofs.ReadingLemmas.{plain_no_again, plain_no_regrant, plain_reads}
+use Rattle.lease_book.proofs.PlainLemmas.{plain_no_again, plain_no_regrant, plain_reads}
 use Rattle.lease_book.proofs.law.plain_policy_tries_once.Goals as goal
 
 pub returns-clause-again : goal.returns-clause-again

@@ -2,7 +2,7 @@ use Rattle.std.proofs.Common.{◌≡◌, true, sym, subst}
 use Rattle.plan_core.specs.Kinds.{kind_carries}
 use Rattle.plan_core.specs.Words.{kind}
 use Rattle.site_yard.specs.Storing.{IsFirstPast}
-use Rattle.site_yard.proofs.StoreLemmas.{past_carried}
+use Rattle.site_yard.proofs.OverlongLemmas.{past_carried}
 use Rattle.site_yard.proofs.storing.find_overlong.Goals as goal
 
 pub maker-requires-clause-made : goal.maker-requires-clause-made

@@ -2,7 +2,7 @@ use Rattle.std.proofs.Common.{sym, subst, ◌∙◌}
 use Rattle.plan_core.specs.Words.{writes}
 use Rattle.site_yard.specs.Storing.{AreWithin, IsOverlong}
 use Rattle.site_yard.specs.Yard.{Adds, AreOutputs, IsEnding}
-use Rattle.site_yard.proofs.StoreLemmas.{over_adds, over_fits, over_keeps}
+use Rattle.site_yard.proofs.OverlongLemmas.{over_adds, over_fits, over_keeps}
 use Rattle.site_yard.proofs.StepLemmas.{worker_low}
 use Rattle.site_yard.proofs.DeliveryListLemmas.{list_fails}
 use Rattle.std.proofs.Common.{[], refl}

@@ -2,7 +2,8 @@ use Rattle.std.proofs.Common.{◌≡◌, ℕ, ◌+◌, ◌/◌, length, sym, ap,
 use Rattle.std.specs.Prelude.{Option}
 use Rattle.tournament_tree.specs.declared.tree.Key.{Key}
 use Rattle.tournament_tree.specs.Tree.{IsLeast, better, entry, halved, least_from, row, with_first, with_last}
-use Rattle.tournament_tree.proofs.TreeLemmas.{between_end, between_means, between_more, halved_end, halved_next, halved_same}
+use Rattle.tournament_tree.proofs.TreeLemmas.{between_end, between_more, halved_end, halved_next, halved_same}
+use Rattle.tournament_tree.proofs.LeastLemmas.{between_means}
 use Rattle.tournament_tree.proofs.tree.Tree.least_between.Goals as goal
 
 pub loop-height-preserved : goal.loop-height-preserved
