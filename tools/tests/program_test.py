@@ -1,0 +1,105 @@
+"""The program that the gate built: the commands in README and guide, one after the other as a reader types them, with the
+texts printed below them, and a call for each of the other statuses."""
+import os
+import pathlib
+import re
+import shutil
+import subprocess
+import sys
+import tempfile
+
+PROGRAM = pathlib.Path("crates/pegasus/out/pegasus").absolute()
+TOOLS = pathlib.Path("tools").absolute()
+EXAMPLES = pathlib.Path("examples").absolute()
+STATUS = {"done": 0, "usage:": 2, "no": 3, "document": 3, "refused": 4, "exceeds": 5, "failed": 6}
+CYCLE = """{
+  "pegasus": "5.0", "name": "wait for each other",
+  "siteCatalog": {"sites": [{"name": "local"}]},
+  "replicaCatalog": {"replicas": []},
+  "transformationCatalog": {"transformations": [
+    {"name": "join", "sites": [{"name": "local", "pfn": "join", "type": "installed"}]}]},
+  "jobs": [
+    {"type": "job", "id": "a", "name": "join", "uses": [{"lfn": "x", "type": "output"}]},
+    {"type": "job", "id": "b", "name": "join", "uses": [{"lfn": "x", "type": "input"}]}],
+  "jobDependencies": [{"id": "b", "children": ["a"]}]
+}
+"""
+
+
+def commands(page):
+    """Each command of a page with the lines below it."""
+    found, is_open = [], False
+    for line in pathlib.Path(page).read_text(encoding="utf-8").splitlines():
+        if line.startswith("    $ "):
+            found.append([line[6:], []])
+            is_open = True
+        elif not line.startswith("    "):
+            is_open = False
+        elif is_open and found[-1][0].endswith("\\"):
+            found[-1][0] = found[-1][0][:-1] + line.strip()
+        elif is_open:
+            found[-1][1].append(line[4:])
+    return found
+
+
+def folder(place):
+    """A folder as the top of the repository is to its reader, with the program that was built in the script's place."""
+    shutil.copytree(EXAMPLES, place / "examples")
+    (place / "tools").symlink_to(TOOLS)
+    (place / "pegasus").symlink_to(PROGRAM)
+    return place
+
+
+def call(command, place):
+    done = subprocess.run(["bash", "-c", command], cwd=place, capture_output=True, text=True, timeout=60)
+    return done.returncode, done.stdout.splitlines()
+
+
+def is_as_printed(lines, printed):
+    """A printed line of two points stands for any lines."""
+    pattern = "".join(".*" if it == ".." else re.escape(it + "\n") for it in printed)
+    return re.fullmatch(pattern, "".join(it + "\n" for it in lines), re.DOTALL) is not None
+
+
+def page_holds(page, place, has_yaml):
+    tried = 0
+    for command, printed in commands(page):
+        if printed[:1] and printed[0].startswith("pegasus: "):
+            continue
+        if not has_yaml and ("from-pegasus" in command or "mine/" in command):
+            continue
+        status, lines = call(command, place)
+        assert not printed or is_as_printed(lines, printed), (page, command, lines)
+        if command.startswith("./pegasus") and "|" not in command:
+            last = (printed or ["done"])[-1].split()[0]
+            assert status == STATUS[last], (page, command, status)
+        tried += 1
+    return tried
+
+
+def others_hold(place):
+    """A call for each status that no page shows, and the refusal of a workflow that the readers let pass."""
+    (place / "cycle.json").write_text(CYCLE)
+    request = '{"workflow": "cycle.json", "execute": [{"site": "local", "bound": 1000}], "default_size": 100}'
+    (place / "request.json").write_text(request)
+    assert call("./pegasus check request.json", place) == (4, ["refused cycle a b"])
+    status, lines = call("./pegasus audit request.json now", place)
+    assert status == 2 and len(lines) == 1 and lines[0].startswith("usage: "), (status, lines)
+    assert call("./pegasus check nowhere.json", place) == (3, ["no document nowhere.json"])
+    assert call("./pegasus check examples", place) == (3, ["document failed examples"])
+    (place / "long.json").write_bytes(b" " * 33554433)
+    assert call("./pegasus check long.json", place) == (3, ["document too long long.json 33554432"])
+    assert call("./pegasus check examples/hello/request.json > /dev/full", place) == (7, [])
+    return 6
+
+
+if not PROGRAM.exists():
+    print("program: skipped, none is built")
+    sys.exit()
+has_yaml = subprocess.run([sys.executable, "-c", "import yaml"], capture_output=True).returncode == 0
+with tempfile.TemporaryDirectory() as work:
+    tried = 0
+    for page in ("README.md", "docs/GUIDE.md"):
+        tried += page_holds(page, folder(pathlib.Path(work, page.replace("/", "_"))), has_yaml)
+    tried += others_hold(folder(pathlib.Path(work, "others")))
+print(f"program: ok, {tried} commands")
