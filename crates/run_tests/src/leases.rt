@@ -45,14 +45,14 @@ struct Case {
     used: (u64, u64),
 }
 
-pub fn gets(next: &Next, wanted: u32) -> bool {
+fn gets(next: &Next, wanted: u32) -> bool {
     match next {
         Next::Task(task) => task.0 == wanted,
         _ => false,
     }
 }
 
-pub fn fails(book: &mut Book, worker: u32, task: TaskId, published: &[u64]) -> bool {
+fn fails(book: &mut Book, worker: u32, task: TaskId, published: &[u64]) -> bool {
     if worker >= 16 || !book.may_have_published(task, published) {
         return false;
     }
@@ -63,14 +63,14 @@ pub fn fails(book: &mut Book, worker: u32, task: TaskId, published: &[u64]) -> b
     true
 }
 
-pub fn asks(book: &mut Book, worker: u32) -> Option<Next> {
+fn asks(book: &mut Book, worker: u32) -> Option<Next> {
     if worker >= 16 {
         return None;
     }
     Some(book.next(worker))
 }
 
-pub fn arrives(book: &mut Book, worker: u32, task: TaskId, size: u64) -> bool {
+fn arrives(book: &mut Book, worker: u32, task: TaskId, size: u64) -> bool {
     if !book.allows_arrive(worker, task, size) {
         return false;
     }
@@ -78,7 +78,7 @@ pub fn arrives(book: &mut Book, worker: u32, task: TaskId, size: u64) -> bool {
     true
 }
 
-pub fn ends(book: &mut Book, worker: u32, task: TaskId, sizes: &[u64]) -> bool {
+fn ends(book: &mut Book, worker: u32, task: TaskId, sizes: &[u64]) -> bool {
     if !book.allows_end(worker, task, sizes) {
         return false;
     }
@@ -86,7 +86,7 @@ pub fn ends(book: &mut Book, worker: u32, task: TaskId, sizes: &[u64]) -> bool {
     true
 }
 
-pub fn cleans(book: &mut Book, worker: u32, task: TaskId) -> bool {
+fn cleans(book: &mut Book, worker: u32, task: TaskId) -> bool {
     if !book.allows_clean(worker, task) {
         return false;
     }

@@ -15,5 +15,3 @@ mod records;
 mod sketches;
 #[cfg(test)]
 mod storage;
-#[cfg(test)]
-mod workers;

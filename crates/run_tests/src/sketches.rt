@@ -56,7 +56,7 @@ fn files(alloc: Global, rows: &[(&str, Option<u64>)]) -> Result<Items<PlanFile>,
     Ok(Items::new(made))
 }
 
-pub fn file_ids(alloc: Global, numbers: &[u32]) -> Result<Items<FileId>, Memory> {
+fn file_ids(alloc: Global, numbers: &[u32]) -> Result<Items<FileId>, Memory> {
     let mut made = Vec::new(alloc);
     for number in numbers {
         made.push(FileId(*number))?;
@@ -64,7 +64,7 @@ pub fn file_ids(alloc: Global, numbers: &[u32]) -> Result<Items<FileId>, Memory>
     Ok(Items::new(made))
 }
 
-pub fn pair_ids(alloc: Global, numbers: &[u32]) -> Result<Items<PairId>, Memory> {
+fn pair_ids(alloc: Global, numbers: &[u32]) -> Result<Items<PairId>, Memory> {
     let mut made = Vec::new(alloc);
     for number in numbers {
         made.push(PairId(*number))?;
@@ -80,7 +80,7 @@ pub fn task_ids(alloc: Global, numbers: &[u32]) -> Result<Vec<TaskId>, Memory> {
     Ok(made)
 }
 
-pub fn job_ids(alloc: Global, numbers: &[u32]) -> Result<Items<JobId>, Memory> {
+fn job_ids(alloc: Global, numbers: &[u32]) -> Result<Items<JobId>, Memory> {
     let mut made = Vec::new(alloc);
     for number in numbers {
         made.push(JobId(*number))?;

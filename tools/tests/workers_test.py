@@ -1,0 +1,119 @@
+"""Runs by several workers of the program that the gate built, on a disk: what each delivers, and each record judged by
+tools/record-model over the plan of tools/plan-model."""
+import concurrent.futures
+import importlib.machinery
+import importlib.util
+import json
+import os
+import pathlib
+import shutil
+import subprocess
+import sys
+import tempfile
+
+PROGRAM = pathlib.Path("crates/pegasus/out/pegasus").absolute()
+PLAN_MODEL = pathlib.Path("tools/plan-model").absolute()
+MAKE = pathlib.Path("examples/montage/make").absolute()
+sys.dont_write_bytecode = True
+LOADER = importlib.machinery.SourceFileLoader("record_model", "tools/record-model")
+record_model = importlib.util.module_from_spec(importlib.util.spec_from_loader("record_model", LOADER))
+sys.modules["record_model"] = record_model
+LOADER.exec_module(record_model)
+
+
+def write(place, jobs, bound):
+    """A workflow of jobs, each with its tool, arguments, inputs and output, at one site with a bound."""
+    tools = [{"name": name, "sites": [{"name": "pool", "pfn": name, "type": "installed"}]} for name in ("text", "join", "total")]
+    listed = []
+    for number, (tool, arguments, inputs) in enumerate(jobs):
+        uses = [{"lfn": f"f{it}", "type": "input"} for it in inputs] + [{"lfn": f"f{number}", "type": "output"}]
+        listed.append({"type": "job", "id": f"j{number}", "name": tool, "arguments": arguments, "uses": uses})
+    workflow = {
+        "pegasus": "5.0",
+        "name": "w",
+        "siteCatalog": {"sites": [{"name": "pool"}]},
+        "replicaCatalog": {"replicas": []},
+        "transformationCatalog": {"transformations": tools},
+        "jobs": listed,
+    }
+    request = {"workflow": "workflow.json", "execute": [{"site": "pool", "bound": bound}], "default_size": 10}
+    (place / "workflow.json").write_text(json.dumps(workflow))
+    (place / "request.json").write_text(json.dumps(request))
+
+
+def apart(place):
+    """Two hundred jobs, none after another, of which the site holds four files at a time."""
+    write(place, [("text", [f"word {number}"], []) for number in range(200)], 40)
+
+
+def chain(place):
+    write(place, [("text", ["word"], [])] + [("join", [], [number]) for number in range(19)], 1000)
+
+
+def few(place):
+    write(place, [("text", [f"word {number}"], []) for number in range(3)], 1000)
+
+
+def declined(place):
+    """Forty jobs, one of which has no numbers to add."""
+    write(place, [("text", ["word"], [])] + [("text", ["12"], [])] * 38 + [("total", [], [0])], 1000)
+
+
+def mosaic(place):
+    subprocess.run([sys.executable, MAKE, "12", "."], cwd=place, check=True, stdout=subprocess.DEVNULL)
+
+
+def called(place, words):
+    """Status and text of a call, in a folder of its own with the same documents; what stands in `output` after it."""
+    with tempfile.TemporaryDirectory() as own:
+        at = pathlib.Path(own, "at")
+        shutil.copytree(place, at)
+        done = subprocess.run([PROGRAM, *words], cwd=at, capture_output=True, text=True, timeout=60)
+        out = at / "output"
+        files = {it.name: it.read_bytes() for it in out.iterdir()} if out.exists() else {}
+        left = sorted(str(it) for it in (at / "sites").rglob("*") if it.is_file())
+    return done.returncode, done.stdout, files, left
+
+
+def is_right(place, plan, workers, alone):
+    """Whether a run by so many workers left a complete record, and delivered what a run by one does."""
+    status, text, files, left = called(place, ["run", "request.json", "--workers", str(workers)])
+    record, rest = text.split("closed\n", 1)
+    verdict = record_model.judge(plan, record + "closed\n", workers)
+    return status == 0 and verdict == "complete" and (rest, files, left) == alone
+
+
+def holds(make, counts):
+    with tempfile.TemporaryDirectory() as work:
+        place = pathlib.Path(work)
+        make(place)
+        plan = subprocess.run([PLAN_MODEL, "request.json"], cwd=place, capture_output=True, text=True, check=True).stdout
+        status, text, files, left = called(place, ["alone", "request.json"])
+        assert status == 0 and files and not left, (make.__name__, status, text[-200:])
+        alone = text.split("closed\n", 1)[1], files, left
+        with concurrent.futures.ThreadPoolExecutor(os.cpu_count()) as pool:
+            found = list(pool.map(lambda workers: is_right(place, plan, workers, alone), counts))
+        assert all(found), (make.__name__, [it for it, right in zip(counts, found) if not right])
+    return len(counts)
+
+
+def stops():
+    """A job that declines ends the run: its Fail stands in the record, and nothing was begun after it."""
+    with tempfile.TemporaryDirectory() as work:
+        place = pathlib.Path(work)
+        declined(place)
+        plan = subprocess.run([PLAN_MODEL, "request.json"], cwd=place, capture_output=True, text=True, check=True).stdout
+        status, text, files, _ = called(place, ["run", "request.json", "--workers", "8"])
+        record, rest = text.split("closed\n", 1)
+        assert status == 6 and rest.splitlines()[-1] == "failed declined j39", (status, rest)
+        assert record_model.judge(plan, record + "closed\n", 8) == "legal" and record.count("\nfail ") == 1, record
+        told = {line.split(" ")[1] for line in rest.splitlines()[:-1]}
+        assert set(files) == told, (files, rest)
+    return 1
+
+
+if not PROGRAM.exists():
+    print("workers: skipped, no program is built")
+    sys.exit()
+runs = holds(apart, [16]) + holds(chain, [4]) + holds(few, [16] * 300) + holds(mosaic, [1, 2, 4, 16]) + stops()
+print(f"workers: ok, {runs} runs")
