@@ -114,12 +114,7 @@ fn push_three(
     push_line(alloc, text, words, &[one, two, three])
 }
 
-fn push_cycle(
-    alloc: Global,
-    text: &mut Vec<u8>,
-    words: &str,
-    ids: &[Text],
-) -> Result<(), Memory>
+fn push_cycle(alloc: Global, text: &mut Vec<u8>, words: &str, ids: &[Text]) -> Result<(), Memory>
     ensures { OnOk result (text.new.items ≡ text.old.items ++ cycle_line words.now ids.now) }
 {
     push_line(alloc, text, words, &[Word::Names(ids)])
