@@ -5,3 +5,4 @@ pub mod LawLemmas
 pub mod DraftLemmas
 pub mod MeaningLemmas
 pub mod DeliveriesLemmas
+pub mod RefusedLemmas

@@ -57,13 +57,13 @@ abbrev pub cycle_line : List ℕ → List (List ℕ) → List ℕ
 cycle_line words ids = words ++ codes " " ++ printed_names ids ++ codes "\n"
 
 -- what is too many, how many there are and how many there may be
-abbrev pub many_line : Counted → ℕ → ℕ → List ℕ
-many_line what count limit = codes "refused many" ++ and_word (counted_word what) ++ and_number count ++ and_number limit ++ codes "\n"
+abbrev pub many_line : List ℕ → ℕ → ℕ → List ℕ
+many_line what count limit = codes "refused many" ++ and_word what ++ and_number count ++ and_number limit ++ codes "\n"
 
 -- a bound that is passed has a line of its own, and want of memory has none
 abbrev pub refused_line : PlanFault → List ℕ
 refused_line (plan.Tree which fault) = tree_line which fault
-refused_line (plan.TooMany what count limit) = many_line what count limit
+refused_line (plan.TooMany what count limit) = many_line (counted_word what) count limit
 refused_line (plan.DuplicateJob id) = one_name (codes "refused twice job") id
 refused_line (plan.DuplicateUse id lfn) = two_names (codes "refused twice use") id lfn
 refused_line (plan.UnknownJob id) = one_name (codes "refused unknown job") id

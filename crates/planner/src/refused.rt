@@ -120,20 +120,16 @@ fn push_cycle(alloc: Global, text: &mut Vec<u8>, words: &str, ids: &[Text]) -> R
     push_line(alloc, text, words, &[Word::Names(ids)])
 }
 
-fn push_too_many(
+fn push_many(
     alloc: Global,
     text: &mut Vec<u8>,
-    what: Counted,
+    what: &str,
     count: u64,
     limit: u64,
 ) -> Result<(), Memory>
-    ensures { OnOk result (text.new.items ≡ text.old.items ++ many_line what count limit) }
+    ensures { OnOk result (text.new.items ≡ text.old.items ++ many_line what.now count limit) }
 {
-    let words = &[
-        Word::Plain(counted_word(what)),
-        Word::Number(count),
-        Word::Number(limit),
-    ];
+    let words = &[Word::Plain(what), Word::Number(count), Word::Number(limit)];
     push_line(alloc, text, "refused many", words)
 }
 
@@ -144,7 +140,7 @@ pub fn push_refused(alloc: Global, text: &mut Vec<u8>, fault: &PlanFault) -> Res
     match fault {
         PlanFault::Tree(which, fault) => push_tree_fault(alloc, text, *which, fault),
         PlanFault::TooMany(what, count, limit) => {
-            push_too_many(alloc, text, *what, *count, *limit)
+            push_many(alloc, text, counted_word(*what), *count, *limit)
         }
         PlanFault::DuplicateJob(id) => push_name(alloc, text, "refused twice job", id),
         PlanFault::DuplicateUse(id, lfn) => push_two(alloc, text, "refused twice use", id, lfn),
