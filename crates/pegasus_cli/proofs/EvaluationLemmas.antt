@@ -17,7 +17,7 @@ use Rattle.pegasus_cli.specs.Outcome.{UnlessMemory}
 use Rattle.pegasus_cli.specs.declared.evaluation.Prepared.{Prepared}
 use Rattle.pegasus_cli.specs.declared.outcome.Outcome.{Outcome}
 use Rattle.pegasus_cli.specs.declared.outcome.Outcome.TheVariants as outcomes
-use Rattle.site_yard.specs.declared.ending.RunFault.TheVariants.{ReplicaAbsent, ReplicaTooLong, ChecksumDiffers, Declined, ToolFailed, HostFailed}
+use Rattle.run_record.specs.declared.run_fault.RunFault.TheVariants.{ReplicaAbsent, ReplicaTooLong, ChecksumDiffers, Declined, ToolFailed, HostFailed}
 use Rattle.pegasus_cli.specs.declared.survey.Surveyed.{Surveyed}
 use Rattle.pegasus_cli.proofs.ValueTextLemmas.{chosen_are}
 use Rattle.pegasus_cli.proofs.PreparedLemmas.{IsBaseFault, IsRefused, only_bases_fail, only_refuses}

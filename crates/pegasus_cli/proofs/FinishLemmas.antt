@@ -21,8 +21,8 @@ use Rattle.pegasus_cli.specs.Moments.{Work}
 use Rattle.pegasus_cli.specs.declared.evaluation.Prepared.{Prepared}
 use Rattle.pegasus_cli.specs.declared.outcome.Outcome.{Outcome}
 use Rattle.pegasus_cli.specs.declared.outcome.Outcome.TheVariants as outcomes
-use Rattle.site_yard.specs.declared.ending.RunFault.{RunFault}
-use Rattle.site_yard.specs.declared.ending.RunFault.TheVariants.{Declined, ToolFailed}
+use Rattle.run_record.specs.declared.run_fault.RunFault.{RunFault}
+use Rattle.run_record.specs.declared.run_fault.RunFault.TheVariants.{Declined, ToolFailed}
 use Rattle.pegasus_cli.specs.declared.sources.Source.{Source}
 use Rattle.pegasus_cli.specs.declared.survey.Surveyed.{Surveyed}
 use Rattle.pegasus_cli.proofs.ValueTextLemmas.{rose_since}

@@ -16,4 +16,3 @@ pub mod HeadlineLemmas
 pub mod CallLemmas
 pub mod ValueTextLemmas
 pub mod SurveyLemmas
-pub mod RunFaultLemmas

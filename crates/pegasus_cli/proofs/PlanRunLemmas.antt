@@ -36,8 +36,8 @@ use Rattle.site_yard.specs.Names.{file_name, lfn_in, site_name}
 use Rattle.site_yard.specs.Opening.{Refuses, fault_of_opening}
 use Rattle.site_yard.specs.Places.{is_delivered}
 use Rattle.site_yard.specs.Truthful.{Truthful}
-use Rattle.site_yard.specs.declared.ending.RunFault.{RunFault}
-use Rattle.site_yard.specs.declared.ending.RunFault.TheVariants as faults
+use Rattle.run_record.specs.declared.run_fault.RunFault.{RunFault}
+use Rattle.run_record.specs.declared.run_fault.RunFault.TheVariants as faults
 use Rattle.site_yard.specs.declared.opening.OpenFault.{OpenFault}
 use Rattle.site_yard.specs.declared.opening.OpenFault.TheVariants as openings
 use Rattle.pegasus_cli.specs.Call.{IsDoneOrMemory}

@@ -23,7 +23,7 @@ use Rattle.pegasus_cli.specs.Sources.{registered, source_if_base, source_of, sou
 use Rattle.pegasus_cli.specs.declared.evaluation.Prepared.{Prepared}
 use Rattle.pegasus_cli.specs.declared.outcome.Outcome.{Outcome}
 use Rattle.pegasus_cli.specs.declared.outcome.Outcome.TheVariants as outcomes
-use Rattle.site_yard.specs.declared.ending.RunFault.TheVariants.{ReplicaAbsent, ReplicaTooLong, ChecksumDiffers, HostFailed}
+use Rattle.run_record.specs.declared.run_fault.RunFault.TheVariants.{ReplicaAbsent, ReplicaTooLong, ChecksumDiffers, HostFailed}
 use Rattle.pegasus_cli.specs.declared.sources.Source.{Source}
 use Rattle.pegasus_cli.specs.declared.survey.Surveyed.{Surveyed}
 use Rattle.pegasus_cli.proofs.RestLemmas.{both_came}

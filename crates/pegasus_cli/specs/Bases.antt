@@ -11,7 +11,7 @@ use Rattle.outside.specs.declared.host.HostFault.TheVariants as host_faults
 use Rattle.outside.specs.declared.store.Store.{Store}
 use Rattle.pegasus_cli.specs.declared.outcome.Outcome.{Outcome}
 use Rattle.pegasus_cli.specs.declared.outcome.Outcome.TheVariants.{Failed, Memory}
-use Rattle.site_yard.specs.declared.ending.RunFault.TheVariants.{ReplicaAbsent, ReplicaTooLong, ChecksumDiffers, HostFailed}
+use Rattle.run_record.specs.declared.run_fault.RunFault.TheVariants.{ReplicaAbsent, ReplicaTooLong, ChecksumDiffers, HostFailed}
 use Rattle.pegasus_cli.specs.declared.sources.Source.{Source}
 
 -- the longest base, in bytes

@@ -21,7 +21,7 @@ use Rattle.pegasus_cli.specs.Sources.{sources_of}
 use Rattle.pegasus_cli.specs.declared.evaluation.Prepared.{Prepared}
 use Rattle.pegasus_cli.specs.declared.outcome.Outcome.{Outcome}
 use Rattle.pegasus_cli.specs.declared.outcome.Outcome.TheVariants as outcomes
-use Rattle.site_yard.specs.declared.ending.RunFault.TheVariants.{Declined, ToolFailed}
+use Rattle.run_record.specs.declared.run_fault.RunFault.TheVariants.{Declined, ToolFailed}
 use Rattle.pegasus_cli.specs.declared.survey.Surveyed.{Surveyed}
 
 -- the source of each file that no job makes, and then the tool of each job; or the first one that isn't to be had

@@ -18,8 +18,8 @@ use Rattle.site_yard.specs.Leaving.{left_in}
 use Rattle.site_yard.specs.Opening.{AreUnused, Refuses, fault_of_opening}
 use Rattle.site_yard.specs.Trace.{trace_of}
 use Rattle.site_yard.specs.declared.delivered.Delivered.{Delivered}
-use Rattle.site_yard.specs.declared.ending.RunFault.{RunFault}
-use Rattle.site_yard.specs.declared.ending.RunFault.TheVariants as faults
+use Rattle.run_record.specs.declared.run_fault.RunFault.{RunFault}
+use Rattle.run_record.specs.declared.run_fault.RunFault.TheVariants as faults
 use Rattle.site_yard.specs.declared.opening.OpenFault.{OpenFault}
 use Rattle.worker_gate.specs.Alone.{NoneOpen, begun}
 use Rattle.worker_gate.specs.Inputs.{AreOfInputs}

@@ -246,8 +246,6 @@ pub fn plan_survey(
     requires sizes { IsWithinLimits request.now }
     requires few { limit ≤ 120000 }
     ensures plan { Plans request.now survey.now limit result }
-    ensures proper { IfOk result (λ o. IsProper o.plan) }
-    ensures limits { IfOk result (λ o. IsPlanWithinLimits o.plan) }
 {
     // A law for the proof: it does nothing.
     plans_can_be_ordered();
@@ -272,8 +270,6 @@ pub fn plan(
     requires sizes { IsWithinLimits request.now }
     requires few { limit ≤ 120000 }
     ensures plan { PlansDocuments request.now documents.now limit result }
-    ensures proper { IfOk result (λ o. IsProper o.plan) }
-    ensures limits { IfOk result (λ o. IsPlanWithinLimits o.plan) }
     ensures means { IfOk result (λ o. OfSurvey request.now documents.now (λ s. MeansWorkflow request.now s o.plan)) }
 {
     // A law for the proof: it does nothing.

@@ -1,12 +1,12 @@
 //! The line of a failed run.
 
 ghost use Rattle.std.specs.Prelude.{◌≡◌, ◌++◌, OnOk};
-ghost use Rattle.site_yard.specs.declared.ending.RunFault.TheVariants.{ChecksumDiffers, Oversize};
-ghost use Rattle.pegasus_cli.specs.RunFault.{failed_line};
+ghost use Rattle.run_record.specs.declared.run_fault.RunFault.TheVariants.{ChecksumDiffers, Oversize};
+ghost use Rattle.run_record.specs.FailedLine.{failed_line};
 
+use crate::run_fault::RunFault;
 use hex::encode;
 use outside::{Memory, Text, Word, push_line};
-use site_yard::RunFault;
 use std::alloc::Global;
 
 fn push_differs(
@@ -44,7 +44,7 @@ fn push_oversize<'a>(
 }
 
 /// Adds the line of a failed run.
-pub(crate) fn push_failed(alloc: Global, text: &mut Vec<u8>, fault: &RunFault) -> Result<(), Memory>
+pub fn push_failed(alloc: Global, text: &mut Vec<u8>, fault: &RunFault) -> Result<(), Memory>
     ensures { OnOk result (text.new.items ≡ text.old.items ++ failed_line fault.now) }
 {
     match fault {
