@@ -2,8 +2,8 @@
 use Rattle.std.proofs.Common.{◌≡◌, refl}
 use Rattle.planner.specs.declared.plan_fault.PlanFault.{PlanFault}
 use Rattle.planner.specs.declared.plan_fault.PlanFault.TheVariants as plan
-use Rattle.pegasus_cli.specs.declared.early.Early.TheVariants.{Refused}
-use Rattle.pegasus_cli.specs.Course.{plan_answer}
+use Rattle.pegasus_cli.specs.declared.fault.CallFault.TheVariants.{Refused}
+use Rattle.pegasus_cli.specs.Fault.{plan_answer}
 
 -- a fault that is neither want of memory nor a bound that is passed
 pub plan_answer_else : (fault : PlanFault) → (fault ≡ plan.Memory → ⊥) → ((site : _) (task : _) (needed bound : _) → fault ≡ plan.Exceeds site task needed bound → ⊥) → Refused fault ≡ plan_answer fault
