@@ -12,6 +12,7 @@ use crate::commands::{Told, work};
 use crate::outcome::{Outcome, of_answer, push_outcome};
 use crate::words::quick_command;
 use craft::{Crew, Gate};
+use evaluation::evaluations_finish;
 use outside::{Docs, Host, Memory, Sink, SinkFault, Tool, write_all};
 use plan_run::runs_finish;
 use std::alloc::Global;
@@ -75,8 +76,9 @@ pub fn quick<D: Docs, K: Sink, H: Host, T: Tool, G: Gate>(
     ensures others { drop 1 result.2.items ≡ drop 1 crew.items }
     ensures gates { list_map (λ (c : Crew T G). c.gate) result.2.items ≡ list_map (λ (c : Crew T G). c.gate) crew.items }
 {
-    // A law for the proof: it does nothing.
+    // Laws for the proof: they do nothing.
     runs_finish();
+    evaluations_finish();
     let mut crew = crew;
     match quick_command(words) {
         Some(command) => {

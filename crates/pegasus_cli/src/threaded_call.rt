@@ -12,6 +12,7 @@ use crate::commands::{Threaded, run};
 use crate::outcome::Outcome;
 use crate::words::{threaded, threaded_command};
 use craft::{Crew, Gate};
+use evaluation::evaluations_finish;
 use outside::{Docs, Host, Sink, Tool};
 use plan_run::runs_finish;
 use std::alloc::Global;
@@ -44,8 +45,9 @@ fn in_threads<
     ensures others { let used = members_of (command (list_map string_bytes words.now)) in
         drop used result.2.items ≡ drop used crew.items }
 {
-    // A law for the proof: it does nothing.
+    // Laws for the proof: they do nothing.
     runs_finish();
+    evaluations_finish();
     let mut crew = crew;
     match threaded_command(words) {
         Some(Threaded::Run(name, workers)) => {
