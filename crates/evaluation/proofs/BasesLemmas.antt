@@ -2,11 +2,9 @@
 use Rattle.std.proofs.Common.{◌≡◌, ℕ, List, [], ◌∷◌, ◌++◌, refl, sym, ap, subst, append_assoc}
 use Rattle.std.proofs.lemmas.List.{append-nil}
 use Rattle.std.specs.Prelude.{Option, Some, None, Result, Ok, Err}
-use Rattle.outside.specs.Host.{Reads}
 use Rattle.outside.specs.declared.counts.Counts.{Counts}
-use Rattle.outside.specs.declared.host.HostFault.{HostFault}
 use Rattle.outside.specs.declared.store.Store.{Store}
-use Rattle.evaluation.specs.Bases.{Bases, Continues, IsBaseRead, ReadsBases, after_base, base_answer}
+use Rattle.evaluation.specs.Bases.{Bases, Continues, IsBaseRead, ReadsBases, after_base}
 use Rattle.evaluation.specs.declared.fault.EvaluationFault.{EvaluationFault}
 use Rattle.evaluation.specs.declared.sources.Source.{Source}
 use Rattle.evaluation.proofs.RestLemmas.{front_then, none_before}

@@ -1,14 +1,13 @@
 -- How an evaluation ends.
-use Rattle.std.proofs.Common.{◌≡◌, ℕ, Bool, List, refl, sym, ap, ◌∙◌}
-use Rattle.std.specs.Prelude.{Option, None, Result, Ok, Err}
-use Rattle.std.specs.declared.alloc.Global.{Global}
+use Rattle.std.proofs.Common.{◌≡◌, ℕ, List, refl, sym, ap, ◌∙◌}
+use Rattle.std.specs.Prelude.{None, Result, Ok, Err}
 use Rattle.outside.specs.Counts.{Rose}
 use Rattle.outside.specs.declared.numbers.JobId.{JobId}
 use Rattle.dependency_graph.specs.Value.{Basis, basis}
 use Rattle.workflow_eval.specs.Evaluating.{AreValues, Evaluates, IsReached, first_undefined}
 use Rattle.workflow_eval.specs.declared.fault.EvalFault.{EvalFault}
 use Rattle.workflow_eval.specs.declared.fault.EvalFault.TheVariants as eval_faults
-use Rattle.evaluation.specs.Bases.{ReadsBases}
+use Rattle.evaluation.specs.Bases.{Bases, ReadsBases}
 use Rattle.evaluation.specs.Values.{chosen}
 use Rattle.evaluation.specs.Evaluating.{AnswersFault, HasBases, HasNoValues, HasValues, prepared}
 use Rattle.outside.specs.Tool.{Apply}
@@ -23,7 +22,7 @@ use Rattle.evaluation.proofs.PreparedLemmas.{IsBaseFault, IsRefused, only_bases_
 
 -- sources or tools are not to be had
 pub refused_ends : (A : Type 0) (m : Meeting) (s : Subject) (answer : EvaluationFault) → UnlessMemory {A = A} (Err answer) (◌≡◌ {A = Result Prepared EvaluationFault} (Err answer) (prepared m.known s)) → m.after ≡ m.before → HasNoValues m s answer
-refused_ends A w s answer h same = by answer h (λ e. only_refuses m.known s answer (sym e))
+refused_ends A m s answer h same = by answer h (λ e. only_refuses m.known s answer (sym e))
   where
     by : (o : EvaluationFault) → UnlessMemory {A = A} (Err o) (◌≡◌ {A = Result Prepared EvaluationFault} (Err o) (prepared m.known s)) → (◌≡◌ {A = Result Prepared EvaluationFault} (Err o) (prepared m.known s) → IsRefused o) → HasNoValues m s o
     by (Failed Memory) h only = tt
@@ -34,7 +33,7 @@ refused_ends A w s answer h same = by answer h (λ e. only_refuses m.known s ans
 -- a base could not be read
 pub unread_ends : (A : Type 0) (m : Meeting) (s : Subject) (from : Prepared) (answer : EvaluationFault) → prepared m.known s ≡ Ok from
     → UnlessMemory {A = A} (Err answer) (ReadsBases m.before.told from.sources m.before.counts m.after.counts (Err answer)) → HasNoValues m s answer
-unread_ends A w s from answer is h = by answer h (λ r. only_bases_fail m.before.told from.sources m.before.counts m.after.counts answer r)
+unread_ends A m s from answer is h = by answer h (λ r. only_bases_fail m.before.told from.sources m.before.counts m.after.counts answer r)
   where
     by : (o : EvaluationFault) → UnlessMemory {A = A} (Err o) (ReadsBases m.before.told from.sources m.before.counts m.after.counts (Err o)) → (ReadsBases m.before.told from.sources m.before.counts m.after.counts (Err o) → IsBaseFault o) → HasNoValues m s o
     by (Failed Memory) h only = tt

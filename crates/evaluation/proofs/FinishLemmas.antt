@@ -19,7 +19,6 @@ use Rattle.evaluation.specs.Moments.{Meeting, Subject}
 use Rattle.evaluation.specs.declared.evaluating.Prepared.{Prepared}
 use Rattle.evaluation.specs.declared.fault.EvaluationFault.{EvaluationFault}
 use Rattle.evaluation.specs.declared.fault.EvaluationFault.TheVariants.{NoReplica, ToolUnknown, Failed}
-use Rattle.run_record.specs.declared.run_fault.RunFault.{RunFault}
 use Rattle.run_record.specs.declared.run_fault.RunFault.TheVariants.{Declined, ToolFailed, Memory}
 use Rattle.evaluation.specs.declared.sources.Source.{Source}
 use Rattle.evaluation.proofs.ValuesLemmas.{rose_since}
@@ -144,15 +143,15 @@ not_declined m s id on can has declined still =
     let nothing = subst (λ (b : Basis). is_some (made_by_number b s.workflow declined.place) ≡ false) (basis_told m s on can has still) (undefined_there on s.workflow s.order declined.place declined.first) in
     not_both _ nothing (can.defined declined.place declined.within)
 
-not_unread : (m : Meeting) (s : Subject) (fault : RunFault) (can : AllDefined m s) → IsUnread m s (Failed fault) → (Rose m.before.counts.faults m.after.counts.faults → ⊥) → ⊥
-not_unread m s fault can unread still =
+unread_is_memory : (m : Meeting) (s : Subject) (fault : EvaluationFault) (can : AllDefined m s) → IsUnread m s fault → (Rose m.before.counts.faults m.after.counts.faults → ⊥) → fault ≡ Failed Memory
+unread_is_memory m s fault can unread still =
     let from_is = same_prepared (prepared m.known s) unread.from can.from unread.is can.is in
     let tells = ap (λ (p : Prepared). told_bases m.before.told p.sources) from_is ∙ can.told in
-    by (told_decides m.before.told unread.from.sources m.before.counts m.after.counts (Err (Failed fault)) can.bases unread.read tells still)
+    by (told_decides m.before.told unread.from.sources m.before.counts m.after.counts (Err fault) can.bases unread.read tells still)
   where
-    by : IsToldOrMemory {A = Bases} (Err (Failed fault)) (Ok can.bases) → ⊥
+    by : IsToldOrMemory {A = Bases} (Err fault) (Ok can.bases) → fault ≡ Failed Memory
     by (inl e) = absurd cc
-    by (inr e) = absurd cc
+    by (inr e) = cc
 
 pub only_memory : (m : Meeting) (s : Subject) (fault : EvaluationFault) → HasNoValues m s fault → AllDefined m s → (Rose m.before.counts.faults m.after.counts.faults → ⊥) → (Rose m.before.tool m.after.tool → ⊥) → fault ≡ Failed Memory
 only_memory m s (NoReplica lfn) h can host tool = absurd (not_prepared (prepared m.known s) can.from (NoReplica lfn) can.is h.is)
@@ -160,4 +159,4 @@ only_memory m s (ToolUnknown id name) h can host tool = absurd (not_prepared (pr
 only_memory m s (Failed (Declined id)) h can host tool = absurd (not_declined m s id h.0 can h.1 h.2 host)
 only_memory m s (Failed (ToolFailed id)) h can host tool = absurd (tool h.0)
 only_memory m s (Failed Memory) h can host tool = refl
-only_memory m s (Failed fault) h can host tool = absurd (not_unread m s fault can h host)
+only_memory m s (Failed fault) h can host tool = unread_is_memory m s (Failed fault) can h host

@@ -3,7 +3,8 @@ use Rattle.std.proofs.Common.{◌≡◌, List, [], ◌∷◌, ◌++◌, refl, sy
 use Rattle.std.specs.Prelude.{Result, Ok, Err}
 use Rattle.peg_json.specs.Tree.{◌>>=◌}
 use Rattle.evaluation.specs.declared.fault.EvaluationFault.{EvaluationFault}
-use Rattle.evaluation.specs.declared.fault.EvaluationFault.TheVariants.{NoReplica, ToolUnknown, Failed}
+use Rattle.evaluation.specs.declared.fault.EvaluationFault.TheVariants.{Failed}
+use Rattle.run_record.specs.declared.run_fault.RunFault.TheVariants.{Memory}
 use Rattle.evaluation.specs.Fault.{UnlessMemory}
 
 -- the elements so far, before those of the rest

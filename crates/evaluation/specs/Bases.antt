@@ -1,4 +1,4 @@
--- The bases of a workflow's files: the bytes of those that no job makes, read from their first places.
+-- The bases of a workflow's files: the bytes of those that no job makes, from their first places.
 use Rattle.std.specs.Prelude.{◌≡◌, ℕ, ◌^◌, List, [], ◌∷◌, if◌then◌else◌, Option, Some, None, option_map, Result, Ok, Err}
 use Rattle.std.specs.Str.{bytes_eq}
 use Rattle.std.specs.FinMap as map
@@ -26,7 +26,8 @@ Bases = List (Option (List ℕ))
 abbrev pub checked : Source → List ℕ → Option (List ℕ) → Result (List ℕ) EvaluationFault
 checked s bytes None = Ok bytes
 checked s bytes (Some wanted) =
-    if bytes_eq (sha256 bytes) wanted then Ok bytes else Err (Failed (ChecksumDiffers s.lfn wanted (sha256 bytes)))
+    if bytes_eq (sha256 bytes) wanted then Ok bytes
+    else Err (Failed (ChecksumDiffers s.lfn wanted (sha256 bytes)))
 
 -- what the reading of a source gives
 abbrev pub base_answer : Source → Result (List ℕ) HostFault → Result (List ℕ) EvaluationFault
@@ -37,12 +38,14 @@ base_answer s (Err (host_faults.Over limit n)) = Err (Failed (ReplicaTooLong s.l
 base_answer s (Err host_faults.Memory) = Err (Failed Memory)
 
 -- one base more before those of later files
-abbrev pub after_base : Option (List ℕ) → Result Bases EvaluationFault → Result Bases EvaluationFault
+abbrev pub after_base : Option (List ℕ) → Result Bases EvaluationFault
+    → Result Bases EvaluationFault
 after_base base (Ok bases) = Ok (base ∷ bases)
 after_base base (Err fault) = Err fault
 
 -- What comes of a reading: later files go on from these counts, or it was the last one.
-abbrev pub Continues : (Counts → Result Bases EvaluationFault → Type 0) → Result (List ℕ) EvaluationFault → Counts → Counts → Result Bases EvaluationFault → Type 0
+abbrev pub Continues : (Counts → Result Bases EvaluationFault → Type 0) → Result (List ℕ) EvaluationFault
+    → Counts → Counts → Result Bases EvaluationFault → Type 0
 Continues later (Ok bytes) now after result =
     (rest : Result Bases EvaluationFault) × later now rest × (result ≡ after_base (Some bytes) rest)
 Continues later (Err fault) now after result = (after ≡ now) × (result ≡ Err fault)
@@ -52,17 +55,22 @@ abbrev pub told_bytes : Option Store → List ℕ → Option (Option (List ℕ))
 told_bytes told pfn = option_map (λ s. map.get s.replicas pfn) told
 
 -- One call of the host read a source.
-abbrev pub IsBaseRead : Option Store → Source → Counts → Counts → Result (List ℕ) EvaluationFault → Type 0
+abbrev pub IsBaseRead : Option Store → Source → Counts → Counts → Result (List ℕ) EvaluationFault
+    → Type 0
 IsBaseRead told s before now result =
-    (read : Result (List ℕ) HostFault) × Reads (told_bytes told s.pfn) base_limit before now read × (result ≡ base_answer s read)
+    (read : Result (List ℕ) HostFault) × Reads (told_bytes told s.pfn) base_limit before now read
+    × (result ≡ base_answer s read)
 
--- The files' sources were read one after the other, each with one call of the host, up to the first fault.
-abbrev pub ReadsBases : Option Store → List (Option Source) → Counts → Counts → Result Bases EvaluationFault → Type 0
+-- The sources were read one after the other, each with one call of the host, up to the first fault.
+abbrev pub ReadsBases : Option Store → List (Option Source) → Counts → Counts
+    → Result Bases EvaluationFault → Type 0
 ReadsBases told [] before after result = (after ≡ before) × (result ≡ Ok [])
 ReadsBases told (None ∷ ss) before after result =
-    (rest : Result Bases EvaluationFault) × ReadsBases told ss before after rest × (result ≡ after_base None rest)
+    (rest : Result Bases EvaluationFault) × ReadsBases told ss before after rest
+    × (result ≡ after_base None rest)
 ReadsBases told (Some s ∷ ss) before after result =
-    (read : Result (List ℕ) HostFault) × (now : Counts) × Reads (told_bytes told s.pfn) base_limit before now read
+    (read : Result (List ℕ) HostFault) × (now : Counts)
+    × Reads (told_bytes told s.pfn) base_limit before now read
     × Continues (λ c r. ReadsBases told ss c after r) (base_answer s read) now after result
 
 -- the bytes that a host tells; of one that doesn't tell nothing can be said beforehand

@@ -1,9 +1,8 @@
--- An evaluation: what it asks of the documents and the tool, the bases that it reads, and how it ends.
-use Rattle.std.specs.Prelude.{◌≡◌, ℕ, ◌<◌, Bool, true, List, length, is_some, Option, Some, None, Result, Ok, Err, Vec, slice_index_or}
+-- What an evaluation asks of the documents and the tool, the bases that it reads, and how it ends.
+use Rattle.std.specs.Prelude.{◌≡◌, ℕ, ◌<◌, Bool, true, List, length, is_some, Some, None, Result, Ok, Err, Vec, slice_index_or}
 use Rattle.std.specs.declared.alloc.Global.{Global}
 use Rattle.peg_json.specs.Tree.{◌>>=◌}
 use Rattle.outside.specs.Counts.{Rose}
-use Rattle.outside.specs.declared.counts.Counts.{Counts}
 use Rattle.outside.specs.declared.numbers.JobId.{JobId}
 use Rattle.workflow_core.specs.Requested.{requested}
 use Rattle.workflow_core.specs.declared.workflow.Job.{Job}
@@ -22,7 +21,8 @@ use Rattle.evaluation.specs.declared.evaluating.Prepared.{Prepared}
 use Rattle.evaluation.specs.declared.fault.EvaluationFault.{EvaluationFault}
 use Rattle.evaluation.specs.declared.fault.EvaluationFault.TheVariants.{NoReplica, ToolUnknown, Failed}
 
--- the source of each file that no job makes, and then the tool of each job; or the first one that isn't to be had
+-- the source of each file that no job makes, and then the tool of each job; or the first one that
+-- isn't to be had
 abbrev pub prepared : (List ℕ → Bool) → Subject → Result Prepared EvaluationFault
 prepared known s = do
   sources ← sources_of s.workflow s.replicas
@@ -37,7 +37,7 @@ pub record HasBases (m : Meeting) (s : Subject) (on : Basis) : Type 0 where
   pub tools : on.tools ≡ from.tools
   pub apply : on.apply ≡ m.apply
 
--- Each job makes something of its inputs' values, and these are the requested files with their values.
+-- Each job makes something of its inputs' values, and these are the requested files with theirs.
 pub record IsValued (on : Basis) (s : Subject) (all : List Valued) : Type 0 where
   pub defined : first_undefined on s.workflow s.order ≡ None
   pub values : AreValued on s.workflow (requested s.workflow) all
@@ -60,7 +60,7 @@ pub record IsDeclined (on : Basis) (s : Subject) (id : List ℕ) : Type 0 where
   pub first : first_undefined on s.workflow s.order ≡ Some place
   pub named : IsIdOf s.workflow place id
 
--- A job with this id is reached in the order: each job before it makes something of its inputs' values.
+-- A job with this id is reached in the order: each job before it makes something.
 pub record IsTried (on : Basis) (s : Subject) (id : List ℕ) : Type 0 where
   pub job : JobId
   pub within : job.0 < length s.workflow.jobs
@@ -91,17 +91,19 @@ HasNoValues m s (Failed fault) = IsUnread m s (Failed fault)
 -- What an evaluation gives: one value for each file, or none.
 abbrev pub Evaluated : Meeting → Subject → Result (Vec (List ℕ) Global) EvaluationFault → Type 0
 Evaluated m s (Ok values) =
-    (on : Basis) × HasBases m s on × AreValues on s.workflow values.items × (first_undefined on s.workflow s.order ≡ None)
+    (on : Basis) × HasBases m s on × AreValues on s.workflow values.items
+    × (first_undefined on s.workflow s.order ≡ None)
 Evaluated m s (Err fault) = HasNoValues m s fault
 
--- Sources and tools are to be had, the host tells each base within the limit and with its checksum, and each job
--- makes something.
+-- Sources and tools are to be had, the host tells each base within the limit and with its checksum,
+-- and each job makes something.
 pub record AllDefined (m : Meeting) (s : Subject) : Type 0 where
   pub from : Prepared
   pub is : prepared m.known s ≡ Ok from
   pub bases : Bases
   pub told : told_bases m.before.told from.sources ≡ Ok bases
-  pub defined : (a : ℕ) → a < length s.workflow.jobs → is_some (made_by_number (basis m.apply from.tools bases) s.workflow a) ≡ true
+  pub defined : (a : ℕ) → a < length s.workflow.jobs
+      → is_some (made_by_number (basis m.apply from.tools bases) s.workflow a) ≡ true
 
 -- a fault of the jobs' running names a job of the workflow
 abbrev pub NamesJob : Workflow → EvalFault → Type 0

@@ -11,6 +11,7 @@ UnlessMemory (Err (Failed Memory)) P = Unit {0}
 UnlessMemory _ P = P
 
 -- an answer with a vector, as one with the vector's list
-abbrev pub items_of : {X : Type 0} → Result (Vec X Global) EvaluationFault → Result (List X) EvaluationFault
+abbrev pub items_of : {X : Type 0} → Result (Vec X Global) EvaluationFault
+    → Result (List X) EvaluationFault
 items_of (Ok v) = Ok v.items
 items_of (Err fault) = Err fault

@@ -12,7 +12,8 @@ abbrev pub known_tool : (List ℕ → Bool) → Job → List ℕ → Result (Lis
 known_tool known j tool = if known tool then Ok tool else Err (ToolUnknown j.id tool)
 
 -- the tool of each job, or the first job whose tool isn't known
-abbrev pub tools_of : (List ℕ → Bool) → List ToolOf → List Job → Result (List (List ℕ)) EvaluationFault
+abbrev pub tools_of : (List ℕ → Bool) → List ToolOf → List Job
+    → Result (List (List ℕ)) EvaluationFault
 tools_of known stated [] = Ok []
 tools_of known stated (j ∷ js) = do
   tool ← known_tool known j (tool_of stated j.transformation.name)

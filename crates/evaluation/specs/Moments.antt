@@ -10,7 +10,7 @@ use Rattle.workflow_core.specs.declared.workflow.Workflow.{Workflow}
 use Rattle.replica_catalog.specs.declared.catalog.Replica.{Replica}
 use Rattle.plan_request.specs.declared.request.ToolOf.{ToolOf}
 
--- a workflow, the order of its jobs, the replicas that are registered, and the tools that are stated
+-- a workflow, an order of its jobs, the replicas that are registered, the tools that are stated
 pub record Subject : Type 0 where
   pub workflow : Workflow
   pub order : List JobId
@@ -40,4 +40,9 @@ moment h t host tool = record { told = h.told host; counts = h.counts host; tool
 -- by the ghost members of a host's and a tool's bounds: what they are before, and after
 abbrev pub meeting : {H T : Type 0} → host.Ghosts H → tool.Ghosts T → H → T → H → T → Meeting
 meeting h t host tool new_host new_tool =
-    record { apply = t.apply; known = t.known; before = moment h t host tool; after = moment h t new_host new_tool }
+    record {
+      apply = t.apply;
+      known = t.known;
+      before = moment h t host tool;
+      after = moment h t new_host new_tool;
+    }

@@ -28,12 +28,14 @@ registered lfn None = Err (NoReplica lfn)
 registered lfn (Some s) = Ok (Some s)
 
 -- the source of a file, if no job makes it
-abbrev pub source_if_base : Workflow → List Replica → ℕ → List ℕ → Result (Option Source) EvaluationFault
+abbrev pub source_if_base : Workflow → List Replica → ℕ → List ℕ
+    → Result (Option Source) EvaluationFault
 source_if_base w es f lfn =
     if is_some (producer w.jobs f) then Ok None else registered lfn (source_of es lfn)
 
 -- those of the files from number f on, or the first file without one
-abbrev pub sources_from : Workflow → List Replica → ℕ → List (List ℕ) → Result (List (Option Source)) EvaluationFault
+abbrev pub sources_from : Workflow → List Replica → ℕ → List (List ℕ)
+    → Result (List (Option Source)) EvaluationFault
 sources_from w es f [] = Ok []
 sources_from w es f (lfn ∷ lfns) = do
   source ← source_if_base w es f lfn

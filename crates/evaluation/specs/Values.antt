@@ -18,19 +18,23 @@ pub record Valued : Type 0 where
 -- for each of the files its name and its value
 abbrev pub AreValued : Basis → Workflow → List ℕ → List Valued → Type 0
 AreValued on w [] [] = Unit {0}
-AreValued on w (f ∷ fs) (d ∷ ds) = (d.name ≡ slice_index_or w.files f []) × (value on w f ≡ Some d.bytes) × AreValued on w fs ds
+AreValued on w (f ∷ fs) (d ∷ ds) =
+    (d.name ≡ slice_index_or w.files f []) × (value on w f ≡ Some d.bytes) × AreValued on w fs ds
 AreValued on w _ _ = ⊥
 
 -- a file's line: its name, its length and the SHA-256 of its bytes
 abbrev pub value_line : Valued → List ℕ
-value_line d = codes "value " ++ printed_name d.name ++ codes " " ++ decimal (length d.bytes) ++ codes " " ++ encode_lower (sha256 d.bytes) ++ codes "\n"
+value_line d =
+    codes "value " ++ printed_name d.name ++ codes " " ++ decimal (length d.bytes)
+    ++ codes " " ++ encode_lower (sha256 d.bytes) ++ codes "\n"
 
 abbrev pub value_lines : List Valued → List ℕ
 value_lines ds = flat_map value_line ds
 
 -- of three lists, the names and bytes at the places that are marked
 abbrev pub picked : List Bool → List (List ℕ) → List (List ℕ) → List Valued
-picked (true ∷ marks) (name ∷ names) (bytes ∷ values) = record { name = name; bytes = bytes } ∷ picked marks names values
+picked (true ∷ marks) (name ∷ names) (bytes ∷ values) =
+    record { name = name; bytes = bytes } ∷ picked marks names values
 picked (false ∷ marks) (name ∷ names) (bytes ∷ values) = picked marks names values
 picked _ _ _ = []
 

@@ -60,7 +60,8 @@ fn base_answer(
 
 /// Reads the bytes of a source.
 fn read_base<H: Host>(alloc: Global, host: &mut H, source: &Source) -> Result<Blob, EvaluationFault>
-    ensures answer { UnlessMemory result (IsBaseRead (H.told host.old) source.now (H.counts host.old) (H.counts host.new) result) }
+    ensures answer { UnlessMemory result
+        (IsBaseRead (H.told host.old) source.now (H.counts host.old) (H.counts host.new) result) }
     ensures told { H.told host.new ≡ H.told host.old }
     ensures later { IsLater (H.counts host.old) (H.counts host.new) }
 {
@@ -74,7 +75,8 @@ pub(crate) fn read_bases<H: Host>(
     host: &mut H,
     sources: &[Option<Source>],
 ) -> Result<Vec<Option<Blob>>, EvaluationFault>
-    ensures answer { UnlessMemory result (ReadsBases (H.told host.old) sources.now (H.counts host.old) (H.counts host.new) (items_of result)) }
+    ensures answer { UnlessMemory result
+        (ReadsBases (H.told host.old) sources.now (H.counts host.old) (H.counts host.new) (items_of result)) }
     ensures told { H.told host.new ≡ H.told host.old }
     ensures later { IsLater (H.counts host.old) (H.counts host.new) }
 {

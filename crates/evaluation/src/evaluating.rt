@@ -22,7 +22,7 @@ use std::alloc::Global;
 use workflow_core::Workflow;
 use workflow_eval::{EvalFault, evaluate};
 
-/// What an evaluation needs: the source of each file that no job makes, and the tool of each job, by number.
+/// The source of each file that no job makes, and the tool of each job, by number.
 #[derive(Drop)]
 pub struct Prepared {
     pub sources: Items<Option<Source>>,
@@ -39,7 +39,8 @@ fn prepare<T: Tool>(
 ) -> Result<Prepared, EvaluationFault>
     requires well_formed { IsWellFormed workflow.now }
     requires graph { IsGraphOf workflow.now graph.now }
-    ensures { UnlessMemory result (result ≡ prepared T.known (subject workflow.now graph.now.ordered replicas.now.entries request.now.tools)) }
+    ensures { UnlessMemory result
+        (result ≡ prepared T.known (subject workflow.now graph.now.ordered replicas.now.entries request.now.tools)) }
 {
     let sources = match sources_of(alloc, workflow, graph, replicas) {
         Ok(sources) => Items::new(sources),
@@ -81,8 +82,8 @@ fn of_eval_fault(alloc: Global, workflow: &Workflow, fault: EvalFault) -> Evalua
     EvaluationFault::Failed(fault)
 }
 
-/// The value of each file, by number: sources and tools are looked up, then the bases are read, and then the jobs
-/// run in the graph's order.
+/// The value of each file, by number: sources and tools are looked up, then the bases are read, and
+/// then the jobs run in the graph's order.
 pub fn values_of<H: Host, T: Tool>(
     alloc: Global,
     workflow: &Workflow,
@@ -96,8 +97,10 @@ pub fn values_of<H: Host, T: Tool>(
     requires graph { IsGraphOf workflow.now graph.now }
     ensures answer { Evaluated (meeting H.Host T.Tool host.old tool.old host.new tool.new)
         (subject workflow.now graph.now.ordered replicas.now.entries request.now.tools) result }
-    ensures requested { IfOk result (λ values. HasValues (meeting H.Host T.Tool host.old tool.old host.new tool.new)
-        (subject workflow.now graph.now.ordered replicas.now.entries request.now.tools) (chosen workflow.now values.items)) }
+    ensures requested { IfOk result (λ values.
+        HasValues (meeting H.Host T.Tool host.old tool.old host.new tool.new)
+        (subject workflow.now graph.now.ordered replicas.now.entries request.now.tools)
+        (chosen workflow.now values.items)) }
     ensures told { H.told host.new ≡ H.told host.old }
     ensures later { IsLater (H.counts host.old) (H.counts host.new) }
 {

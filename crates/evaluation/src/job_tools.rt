@@ -34,7 +34,8 @@ pub(crate) fn tools_of<T: Tool>(
     workflow: &Workflow,
     tool: &T,
 ) -> Result<Vec<Text>, EvaluationFault>
-    ensures { UnlessMemory result (items_of result ≡ tools_of T.known request.now.tools workflow.now.jobs) }
+    ensures { UnlessMemory result
+        (items_of result ≡ tools_of T.known request.now.tools workflow.now.jobs) }
 {
     let stated = Tools::new(alloc, request)?;
     let mut tools = Vec::new(alloc);

@@ -8,8 +8,11 @@ ghost use Rattle.evaluation.specs.Moments.{Meeting, Subject};
 ghost use Rattle.evaluation.specs.declared.fault.EvaluationFault.{EvaluationFault};
 ghost use Rattle.evaluation.specs.declared.fault.EvaluationFault.TheVariants.{Failed};
 
-/// Where all is defined and no count of faults rose, only want of memory keeps an evaluation from values.
+/// Where all is defined and no count of faults rose, only want of memory leaves no values.
 pub fn evaluations_finish()
-    ensures { (m : Meeting) (s : Subject) (fault : EvaluationFault) → HasNoValues m s fault → AllDefined m s
-        → (Rose m.before.counts.faults m.after.counts.faults → ⊥) → (Rose m.before.tool m.after.tool → ⊥) → fault ≡ Failed run_faults.Memory }
+    ensures { (m : Meeting) (s : Subject) (fault : EvaluationFault)
+        → HasNoValues m s fault → AllDefined m s
+        → (Rose m.before.counts.faults m.after.counts.faults → ⊥)
+        → (Rose m.before.tool m.after.tool → ⊥)
+        → fault ≡ Failed run_faults.Memory }
 {}

@@ -1,9 +1,9 @@
-//! The evaluation of a workflow whose bases a host has: the value of each file, and the lines that tell those of the
-//! requested ones.
+//! The evaluation of a workflow: the value of each file, over the bases that a host has.
 //!
-//! [`values_of`] looks up the source of each file that no job makes (`sources`) and the tool of each job
-//! (`job_tools`), reads the bases (`bases`), and has `workflow_eval` run the jobs. `specs/Evaluating.antt` says how it
-//! ends, and [`evaluations_finish`] when it ends with values. [`value_text`] makes the lines (`specs/Values.antt`).
+//! [`values_of`] looks up the source of each file that no job makes (`sources`) and the tool of each
+//! job (`job_tools`), reads the bases (`bases`), and has `workflow_eval` run the jobs.
+//! `specs/Evaluating.antt` says how it ends, and [`evaluations_finish`] when it ends with values.
+//! [`value_text`] makes the lines that tell those of the requested files (`specs/Values.antt`).
 #![tactic(auto)]
 
 mod bases;

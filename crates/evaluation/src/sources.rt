@@ -69,7 +69,8 @@ fn source_if_base(
 ) -> Result<Option<Source>, EvaluationFault>
     requires graph { IsGraphOf workflow.now graph.now }
     requires below { file.0 < length workflow.now.files }
-    ensures { UnlessMemory result (result ≡ source_if_base workflow.now replicas.now file.0 lfn.now) }
+    ensures { UnlessMemory result
+        (result ≡ source_if_base workflow.now replicas.now file.0 lfn.now) }
 {
     if graph.is_made(file) {
         return Ok(None);

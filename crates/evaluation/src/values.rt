@@ -22,7 +22,8 @@ fn mark_outputs(marks: &mut Vec<bool>, outputs: &[Output])
 
 /// For each file of a workflow, whether it is requested.
 fn requested_marks(alloc: Global, workflow: &Workflow) -> Result<Vec<bool>, Memory>
-    ensures { IfOk result (λ v. v.items ≡ marked_by workflow.now.jobs (replicate (length workflow.now.files) false)) }
+    ensures { IfOk result (λ v.
+        v.items ≡ marked_by workflow.now.jobs (replicate (length workflow.now.files) false)) }
 {
     let mut marks = vec![in alloc; false; workflow.files.as_slice().len()]?;
     for job in workflow.jobs.as_slice() {
@@ -33,7 +34,8 @@ fn requested_marks(alloc: Global, workflow: &Workflow) -> Result<Vec<bool>, Memo
 
 /// Adds the line of a file.
 fn push_value(alloc: Global, text: &mut Vec<u8>, name: &Text, bytes: &Blob) -> Result<(), Memory>
-    ensures { OnOk result (text.new.items ≡ text.old.items ++ value_line (record { name = name.now; bytes = bytes.now })) }
+    ensures { OnOk result (text.new.items
+        ≡ text.old.items ++ value_line (record { name = name.now; bytes = bytes.now })) }
 {
     let digest = Sha256::digest(bytes.as_slice());
     let digits = encode(alloc, digest.as_slice())?;
@@ -53,7 +55,8 @@ fn push_values(
 ) -> Result<(), Memory>
     requires names { length marks.now ≡ length names.now }
     requires values { length marks.now ≡ length values.now }
-    ensures { OnOk result (text.new.items ≡ text.old.items ++ value_lines (picked marks.now names.now values.now)) }
+    ensures { OnOk result (text.new.items
+        ≡ text.old.items ++ value_lines (picked marks.now names.now values.now)) }
 {
     for (i, marked) in marks.iter().enumerate() {
         if *marked {
@@ -64,11 +67,7 @@ fn push_values(
 }
 
 /// A line for each requested file of a workflow, by file number.
-pub fn value_text(
-    alloc: Global,
-    workflow: &Workflow,
-    values: &[Blob],
-) -> Result<Vec<u8>, Memory>
+pub fn value_text(alloc: Global, workflow: &Workflow, values: &[Blob]) -> Result<Vec<u8>, Memory>
     requires { length values.now ≡ length workflow.now.files }
     ensures { IfOk result (λ text. text.items ≡ value_lines (chosen workflow.now values.now)) }
 {

@@ -1,15 +1,19 @@
 -- The table of the commands.
 use Rattle.pegasus_cli.specs.CommandSpec.{CommandSpec}
-use Rattle.pegasus_cli.specs.Words.{Command, Quick, Threaded, Check, Plan, Eval, Alone, Run, Quickly, InThreads}
+use Rattle.pegasus_cli.specs.Words.{Command, Quick, Threaded, Check, Plan, Eval, Alone, Audit, Stat, Run, Quickly, InThreads}
 use Rattle.pegasus_cli.specs.Commands.Check.{check}
 use Rattle.pegasus_cli.specs.Commands.Plan.{plan}
 use Rattle.pegasus_cli.specs.Commands.Eval.{eval}
 use Rattle.pegasus_cli.specs.Commands.Alone.{alone}
+use Rattle.pegasus_cli.specs.Commands.Audit.{audit}
+use Rattle.pegasus_cli.specs.Commands.Stat.{stat}
 use Rattle.pegasus_cli.specs.Commands.Run.{run}
 pub mod Check
 pub mod Plan
 pub mod Eval
 pub mod Alone
+pub mod Audit
+pub mod Stat
 pub mod Run
 
 abbrev pub quick_spec : Quick → CommandSpec
@@ -17,6 +21,8 @@ quick_spec (Check name) = check name
 quick_spec (Plan name) = plan name
 quick_spec (Eval name) = eval name
 quick_spec (Alone name) = alone name
+quick_spec (Audit name history) = audit name history
+quick_spec (Stat name history) = stat name history
 
 abbrev pub threaded_spec : Threaded → CommandSpec
 threaded_spec (Run name workers) = run name workers

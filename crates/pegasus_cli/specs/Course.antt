@@ -13,6 +13,7 @@ use Rattle.planner.specs.declared.document.Document.TheVariants.{Request}
 use Rattle.planner.specs.declared.plan_fault.PlanFault.{PlanFault}
 use Rattle.pegasus_cli.specs.Fault.{plan_answer}
 use Rattle.pegasus_cli.specs.declared.course.Requested.{Requested}
+use Rattle.pegasus_cli.specs.declared.course.WithRecord.{WithRecord}
 use Rattle.pegasus_cli.specs.declared.fault.CallFault.{CallFault}
 use Rattle.pegasus_cli.specs.declared.fault.CallFault.TheVariants.{Memory, DocAbsent, DocTooLong, DocFailed}
 use Rattle.pegasus_cli.specs.Moments.{DocsMoment}
@@ -110,3 +111,10 @@ named_documents request = do
 -- a call's documents: the request, and then those that it names
 abbrev pub documents : List ℕ → Course Requested
 documents name = document name request_in_bytes >>= named_documents
+
+-- those, and then the document of a record
+abbrev pub with_record : List ℕ → Requested → Course WithRecord
+with_record history requested = document history (λ bytes. Ok (record { requested = requested; bytes = bytes }))
+
+abbrev pub documents_with : List ℕ → List ℕ → Course WithRecord
+documents_with name history = documents name >>= with_record history

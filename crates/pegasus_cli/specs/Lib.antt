@@ -8,6 +8,7 @@ pub mod Words
 -- What commands share: the documents and their survey, and the run of a plan.
 pub mod Course
 pub mod Survey
+pub mod Recorded
 pub mod KeptTools
 pub mod PlanRun
 -- What is answered, and its line and status.

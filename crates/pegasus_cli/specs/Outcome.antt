@@ -3,7 +3,7 @@ use Rattle.std.specs.Prelude.{ℕ, ◌++◌, List, [], codes, Ok, Err}
 use Rattle.outside.specs.Printed.{printed_name}
 use Rattle.pegasus_cli.specs.declared.fault.CallFault.TheVariants as faults
 use Rattle.pegasus_cli.specs.declared.outcome.Outcome.{Outcome}
-use Rattle.pegasus_cli.specs.declared.outcome.Outcome.TheVariants.{Done, Memory, Usage, DocAbsent, DocTooLong, DocFailed, Refused, Exceeds, Failed, SinkFailed}
+use Rattle.pegasus_cli.specs.declared.outcome.Outcome.TheVariants.{Done, Memory, Usage, DocAbsent, DocTooLong, DocFailed, Refused, Exceeds, Failed, BadRecord, SinkFailed}
 use Rattle.outside.specs.declared.numbers.TaskId.{TaskId}
 use Rattle.planner.specs.Refused.{and_name, and_number, refused_line}
 use Rattle.run_record.specs.FailedLine.{failed_line}
@@ -23,6 +23,7 @@ line_of (DocFailed name) = codes "document failed " ++ printed_name name ++ code
 line_of (Refused fault) = refused_line fault
 line_of (Exceeds site task needed bound) = exceeds_line site task needed bound
 line_of (Failed fault) = failed_line fault
+line_of (BadRecord line) = codes "bad record" ++ and_number line ++ codes "\n"
 line_of SinkFailed = []
 
 -- the status that the program ends with
@@ -37,6 +38,7 @@ status_of (Refused fault) = 4
 status_of (Exceeds site task needed bound) = 5
 status_of (Failed fault) = 6
 status_of SinkFailed = 7
+status_of (BadRecord line) = 8
 
 -- a command's answer as an outcome
 abbrev pub outcome_of : Answer → Outcome
@@ -48,6 +50,7 @@ outcome_of (Err (faults.DocFailed name)) = DocFailed name
 outcome_of (Err (faults.Refused fault)) = Refused fault
 outcome_of (Err (faults.Exceeds site task needed bound)) = Exceeds site task needed bound
 outcome_of (Err (faults.Failed fault)) = Failed fault
+outcome_of (Err (faults.BadRecord line)) = BadRecord line
 
 -- every outcome but a failing sink, which only the end of a call can tell
 abbrev pub IsAnswer : Outcome → Type 0

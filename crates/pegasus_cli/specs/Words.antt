@@ -21,6 +21,8 @@ pub data Quick : Type 0 where
   Plan : List ℕ → Quick
   Eval : List ℕ → Quick
   Alone : List ℕ → Quick
+  Audit : List ℕ → List ℕ → Quick
+  Stat : List ℕ → List ℕ → Quick
 
 -- what may start threads and wait, with the name that its words say, and how many workers
 pub data Threaded : Type 0 where
@@ -36,6 +38,8 @@ quick_of (quick_words.Check name) = Check name.now
 quick_of (quick_words.Plan name) = Plan name.now
 quick_of (quick_words.Eval name) = Eval name.now
 quick_of (quick_words.Alone name) = Alone name.now
+quick_of (quick_words.Audit name history) = Audit name.now history.now
+quick_of (quick_words.Stat name history) = Stat name.now history.now
 
 abbrev pub threaded_of : ThreadedWords → Threaded
 threaded_of (threaded_words.Run name workers) = Run name.now workers
@@ -95,8 +99,16 @@ one_named word name =
 abbrev pub many_named : List ℕ → List ℕ → ℕ → Option Threaded
 many_named word name n = if bytes_eq word (codes "run") then Some (Run name n) else None
 
+-- a command's word, and two names: of a request, and of a record
+abbrev pub two_named : List ℕ → List ℕ → List ℕ → Option Quick
+two_named word name history =
+    if bytes_eq word (codes "audit") then Some (Audit name history)
+    else if bytes_eq word (codes "stat") then Some (Stat name history)
+    else None
+
 abbrev pub quick_after : List ℕ → List (List ℕ) → Option Quick
 quick_after word (name ∷ []) = if is_name name then one_named word name else None
+quick_after word (name ∷ history ∷ []) = if is_name name && is_name history then two_named word name history else None
 quick_after word _ = None
 
 abbrev pub named_workers : List ℕ → List ℕ → Option ℕ → Option Threaded

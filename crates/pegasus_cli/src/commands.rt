@@ -9,10 +9,12 @@ ghost use Rattle.pegasus_cli.specs.Moments.{docs_moment};
 ghost use Rattle.pegasus_cli.specs.Words.{quick_of};
 
 mod alone;
+mod audit;
 mod check;
 mod eval;
 mod plan;
 pub(crate) mod run;
+mod stat;
 
 use crate::fault::CallFault;
 use craft::{Crew, Gate};
@@ -33,6 +35,10 @@ pub enum Quick<'a> {
     Eval(&'a str),
     /// Plans the workflow and runs the plan with one worker.
     Alone(&'a str),
+    /// Plans the workflow and judges a record by the plan.
+    Audit(&'a str, &'a str),
+    /// Plans the workflow, judges a record by the plan, and tells what it sums up to.
+    Stat(&'a str, &'a str),
 }
 
 /// What starts threads, with the name that its words say, and how many workers.
@@ -94,5 +100,13 @@ pub(crate) fn work<D: Docs, H: Host, T: Tool, G: Gate>(
             Worked { told, host }
         }
         Quick::Alone(name) => alone::work(alloc, name, docs, host, crew),
+        Quick::Audit(name, history) => {
+            let told = audit::work(alloc, name, history, docs);
+            Worked { told, host }
+        }
+        Quick::Stat(name, history) => {
+            let told = stat::work(alloc, name, history, docs);
+            Worked { told, host }
+        }
     }
 }

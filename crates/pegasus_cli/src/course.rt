@@ -4,7 +4,7 @@ ghost use Rattle.std.specs.Prelude.{◌≡◌, IfOk, Ok, Err};
 ghost use Rattle.outside.specs.Policy.{plain};
 ghost use Rattle.plan_request.specs.Limits.{IsWithinLimits};
 ghost use Rattle.plan_request.specs.Reader.{execute_checked};
-ghost use Rattle.pegasus_cli.specs.Course.{ButMemory, IsStep, doc_answer, document, documents, if_named, named_documents, request_in_bytes};
+ghost use Rattle.pegasus_cli.specs.Course.{ButMemory, IsStep, doc_answer, document, documents, documents_with, if_named, named_documents, request_in_bytes, with_record};
 ghost use Rattle.pegasus_cli.specs.Moments.{docs_moment};
 
 use crate::fault::{CallFault, of_plan_fault};
@@ -21,6 +21,13 @@ const DOCUMENT_LIMIT: u64 = 33_554_432;
 pub struct Requested {
     pub request: PlanRequest,
     pub documents: Documents,
+}
+
+/// A request with its documents, and the document of a record.
+#[derive(Drop)]
+pub struct WithRecord {
+    pub requested: Requested,
+    pub bytes: Blob,
 }
 
 fn of_doc_fault(alloc: Global, name: &str, fault: DocFault) -> CallFault
@@ -137,6 +144,40 @@ pub(crate) fn fetch_documents<D: Docs>(
 {
     match fetch_request(alloc, docs, name) {
         Ok(request) => fetch_named(alloc, docs, request),
+        Err(fault) => Err(fault),
+    }
+}
+
+/// Fetches the document of a record.
+fn fetch_record<D: Docs>(
+    alloc: Global,
+    docs: &mut D,
+    name: &str,
+    requested: Requested,
+) -> Result<WithRecord, CallFault>
+    ensures answer { IsStep (with_record name.now requested) (docs_moment D.Docs docs.old) (docs_moment D.Docs docs.new) result }
+    ensures requested { IfOk result (λ r. r.requested ≡ requested) }
+{
+    match fetch(alloc, docs, name) {
+        Ok(bytes) => Ok(WithRecord { requested, bytes }),
+        Err(fault) => Err(fault),
+    }
+}
+
+/// Fetches a request, the documents that it names, and the document of a record.
+pub(crate) fn fetch_with_record<D: Docs>(
+    alloc: Global,
+    docs: &mut D,
+    name: &str,
+    history: &str,
+) -> Result<WithRecord, CallFault>
+    ensures answer { IsStep (documents_with name.now history.now) (docs_moment D.Docs docs.old) (docs_moment D.Docs docs.new) result }
+    ensures sites { IfOk result (λ r. execute_checked r.requested.request.execute ≡ Ok tt) }
+    ensures limits { IfOk result (λ r. IsWithinLimits r.requested.request) }
+    ensures policy { IfOk result (λ r. r.requested.request.policy ≡ plain) }
+{
+    match fetch_documents(alloc, docs, name) {
+        Ok(requested) => fetch_record(alloc, docs, history, requested),
         Err(fault) => Err(fault),
     }
 }

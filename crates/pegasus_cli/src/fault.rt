@@ -29,6 +29,8 @@ pub enum CallFault {
         bound: u64,
     },
     Failed(RunFault),
+    /// The first line of a record that stands in no record's text.
+    BadRecord(u64),
 }
 
 impl From<Memory> for CallFault {

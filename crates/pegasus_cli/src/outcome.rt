@@ -33,6 +33,8 @@ pub enum Outcome {
         bound: u64,
     },
     Failed(RunFault),
+    /// The first line of a record that stands in no record's text, from 1.
+    BadRecord(u64),
     /// The output could not be written whole.
     SinkFailed,
 }
@@ -53,6 +55,7 @@ impl Outcome {
             Outcome::Exceeds { .. } => 5,
             Outcome::Failed(_) => 6,
             Outcome::SinkFailed => 7,
+            Outcome::BadRecord(_) => 8,
         }
     }
 }
@@ -83,6 +86,7 @@ pub(crate) fn of_answer(answer: Result<(), CallFault>) -> Outcome
             bound,
         },
         CallFault::Failed(fault) => Outcome::Failed(fault),
+        CallFault::BadRecord(line) => Outcome::BadRecord(line),
     }
 }
 
@@ -141,5 +145,8 @@ pub(crate) fn push_outcome(
             bound,
         } => push_exceeds(alloc, text, site, *task, *needed, *bound),
         Outcome::Failed(fault) => push_failed(alloc, text, fault),
+        Outcome::BadRecord(line) => {
+            push_line(alloc, text, "bad record", &[Word::Number(*line)])
+        }
     }
 }

@@ -1,7 +1,9 @@
 //! A plan of the documents, ready to be run, and what a command tells of its run.
 
-ghost use Rattle.std.specs.Prelude.{◌≡◌, ◌≤◌, [], IfOk};
+ghost use Rattle.std.specs.Prelude.{◌≡◌, ◌≤◌, [], IfErr, IfOk};
 ghost use Rattle.plan_core.specs.Words.{retries};
+ghost use Rattle.planner.specs.Planning.{IsPlanned};
+ghost use Rattle.pegasus_cli.specs.Commands.Plan.{IsRefusal, task_limit};
 ghost use Rattle.pegasus_cli.specs.Fault.{end_answer, not_for};
 ghost use Rattle.pegasus_cli.specs.PlanRun.{Readies};
 
@@ -14,6 +16,20 @@ use planner::{Surveyed, plan_survey, plans_deliver_requests};
 use std::alloc::Global;
 use storage_simulation::Ordered;
 
+/// The plan of a surveyed request with its order.
+pub(crate) fn plan_request(alloc: Global, surveyed: &Surveyed) -> Result<Ordered, CallFault>
+    ensures planned { IfOk result (IsPlanned surveyed.now.request surveyed.now.survey task_limit) }
+    ensures fault { IfErr result (IsRefusal surveyed.now) }
+    ensures retries { IfOk result (λ o. retries o.plan ≤ 10) }
+{
+    // A law for the proof: it does nothing.
+    plans_deliver_requests();
+    match plan_survey(alloc, surveyed, TASK_LIMIT) {
+        Ok(ordered) => Ok(ordered),
+        Err(fault) => Err(of_plan_fault(fault)),
+    }
+}
+
 /// The plan of a surveyed request with its order, if the tools of all its kept jobs are known.
 pub(crate) fn ready_plan<T: Tool>(
     alloc: Global,
@@ -23,11 +39,9 @@ pub(crate) fn ready_plan<T: Tool>(
     ensures readies { Readies T.known surveyed.now result }
     ensures retries { IfOk result (λ o. retries o.plan ≤ 10) }
 {
-    // A law for the proof: it does nothing.
-    plans_deliver_requests();
-    let ordered = match plan_survey(alloc, surveyed, TASK_LIMIT) {
+    let ordered = match plan_request(alloc, surveyed) {
         Ok(ordered) => ordered,
-        Err(fault) => return Err(of_plan_fault(fault)),
+        Err(fault) => return Err(fault),
     };
     match unknown_tool(alloc, ordered.plan(), tool) {
         Ok(None) => Ok(ordered),

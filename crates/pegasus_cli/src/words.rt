@@ -2,7 +2,7 @@
 
 ghost use Rattle.std.specs.Prelude.{◌≡◌, IfOk, IfSome, IsErr, map as list_map, option_map, string_bytes};
 ghost use Rattle.std.specs.List.{list_any};
-ghost use Rattle.pegasus_cli.specs.Words.{AreFew, IsForMemory, apart_after as of_apart, apart_workers as apart, begins_with, four_digits as of_digits, is_name as names, is_threaded, joined_after as of_joined, joined_workers as joined, many_named as many, named_workers as of_workers, one_named as one, quick_after as of_quick, quick_command as quick_in, quick_of, threaded_after as of_threaded, threaded_command as threaded_in, threaded_members, threaded_of, words_given, workers_in as within, workers_option};
+ghost use Rattle.pegasus_cli.specs.Words.{AreFew, IsForMemory, apart_after as of_apart, apart_workers as apart, begins_with, four_digits as of_digits, is_name as names, is_threaded, joined_after as of_joined, joined_workers as joined, many_named as many, named_workers as of_workers, one_named as one, quick_after as of_quick, quick_command as quick_in, quick_of, threaded_after as of_threaded, threaded_command as threaded_in, threaded_members, threaded_of, two_named as two, words_given, workers_in as within, workers_option};
 
 use crate::commands::{Quick, Threaded};
 use outside::Memory;
@@ -28,6 +28,17 @@ fn one_named<'a>(word: &str, name: &'a str) -> Option<Quick<'a>>
         "plan" => Some(Quick::Plan(name)),
         "eval" => Some(Quick::Eval(name)),
         "alone" => Some(Quick::Alone(name)),
+        _ => None,
+    }
+}
+
+/// The command of a word with the names of a request and of a record.
+fn two_named<'a>(word: &str, name: &'a str, history: &'a str) -> Option<Quick<'a>>
+    ensures { option_map quick_of result ≡ two word.now name.now history.now }
+{
+    match word {
+        "audit" => Some(Quick::Audit(name, history)),
+        "stat" => Some(Quick::Stat(name, history)),
         _ => None,
     }
 }
@@ -149,6 +160,9 @@ fn quick_after<'a>(word: &str, words: &'a [String]) -> Option<Quick<'a>>
 {
     match words {
         [name] if is_name(name.as_str()) => one_named(word, name.as_str()),
+        [name, history] if is_name(name.as_str()) && is_name(history.as_str()) => {
+            two_named(word, name.as_str(), history.as_str())
+        }
         _ => None,
     }
 }

@@ -48,6 +48,11 @@ pub record IsUnplanned (s : Surveyed) (answer : CallFault) : Type 0 where
   pub comes : CannotPlan s.request s.survey task_limit fault
   pub answers : answer ≡ plan_answer fault
 
+-- that, or memory ran out
+abbrev pub IsRefusal : Surveyed → CallFault → Type 0
+IsRefusal s Memory = Unit {0}
+IsRefusal s answer = IsUnplanned s answer
+
 -- When each answer comes, and the text before its line.
 abbrev pub Says : Surveyed → List ℕ → Answer → Type 0
 Says s text (Ok done) = HasPlan s text

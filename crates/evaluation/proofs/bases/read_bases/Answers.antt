@@ -1,7 +1,8 @@
 use Rattle.std.proofs.Common.{◌≡◌, ◌+◌, List, [], ◌∷◌, drop, sym, ap, ◌∙◌, arith}
-use Rattle.std.specs.Prelude.{ℕ, Option, Some, None, Vec}
+use Rattle.std.specs.Prelude.{ℕ, Option, Some, None, Err, Vec}
 use Rattle.std.specs.declared.alloc.Global.{Global}
 use Rattle.std.proofs.lemmas.List.{drop_all, drop_more}
+use Rattle.evaluation.specs.Bases.{IsBaseRead, ReadsBases}
 use Rattle.evaluation.specs.declared.sources.Source.{Source}
 use Rattle.evaluation.proofs.RestLemmas.{unless_then}
 use Rattle.evaluation.proofs.BasesLemmas.{all_came, goes_on_none, goes_on_some, stops_at}
@@ -16,8 +17,15 @@ returns-in-Err-clause-answer g c =
     let all = c.args.sources.now in
     let here : drop i all ≡ Some c.in-Some.source ∷ drop (i + 1) all = drop_more all i c.source-item.result (omega arith) ∙ ap (λ (s : Option Source). s ∷ drop (i + 1) all) (sym c.source-item.is ∙ c.in-Some.is) in
     let goes = rw here at kept.goes in
-    unless_then (List ℕ) (Vec (Option (List ℕ)) Global) c.in-Err.fault _ _ c.in-Err.ensures.answer
-    (λ read. stops_at (g.H.Host.told c.args.host.now) all (drop (i + 1) all) c.in-Some.source (g.H.Host.counts c.args.host.now) (g.H.Host.counts c.loop-source.host) (g.H.Host.counts c.read_base.new.host) c.loop-source.bases.items c.in-Err.fault goes (rw kept.told at read))
+    let told = g.H.Host.told c.args.host.now in
+    let before = g.H.Host.counts c.args.host.now in
+    let now = g.H.Host.counts c.loop-source.host in
+    let after = g.H.Host.counts c.read_base.new.host in
+    unless_then (List ℕ) (Vec (Option (List ℕ)) Global) c.in-Err.fault
+    (IsBaseRead (g.H.Host.told c.loop-source.host) c.in-Some.source now after (Err c.in-Err.fault))
+    (ReadsBases told all before after (Err c.in-Err.fault))
+    c.in-Err.ensures.answer
+    (λ read. stops_at told all (drop (i + 1) all) c.in-Some.source before now after c.loop-source.bases.items c.in-Err.fault goes (rw kept.told at read))
 
 pub loop-source-preserved : goal.loop-source-preserved
 loop-source-preserved g c =

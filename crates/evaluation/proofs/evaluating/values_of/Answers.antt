@@ -1,10 +1,10 @@
 use Rattle.std.proofs.Common.{◌≡◌, ◌∙◌, ℕ, List, refl, sym, ap, subst, length}
-use Rattle.std.specs.Prelude.{Option, Err, None, Vec}
+use Rattle.std.specs.Prelude.{Option, Ok, Err, Vec}
 use Rattle.std.specs.declared.alloc.Global.{Global}
 use Rattle.outside.specs.Counts.{Rose}
 use Rattle.outside.specs.declared.numbers.JobId.{JobId}
 use Rattle.dependency_graph.specs.Value.{AllBased, Basis, basis}
-use Rattle.workflow_eval.specs.Evaluating.{AreValues, Evaluates, IsReached, first_undefined}
+use Rattle.workflow_eval.specs.Evaluating.{Evaluates, IsReached}
 use Rattle.workflow_eval.specs.declared.fault.EvalFault.TheVariants.{ToolFailed}
 use Rattle.evaluation.specs.Moments.{meeting, subject}
 use Rattle.evaluation.specs.declared.evaluating.Prepared.{Prepared}
@@ -45,17 +45,49 @@ evaluate-requires-clause-based g c =
     subst (λ (on : Basis). AllBased on c.args.workflow.now) (sym on_is)
     (all_based g.T.Tool.known s c.in-Ok.prepared g.T.Tool.apply c.in-Ok.prepared.tools c.in-Ok-read_bases.bases.items (is_ready g.T.Tool.known s c.in-Ok.prepared (sym c.in-Ok.ensures)) are)
 
+pub returns-in-Ok-evaluate-clause-answer : goal.returns-in-Ok-evaluate-clause-answer
+returns-in-Ok-evaluate-clause-answer g c =
+    let w = c.args.workflow.now in
+    let order = c.args.graph.now.ordered in
+    let m = meeting g.H.Host g.T.Tool c.args.host.now c.args.tool.now c.read_bases.new.host c.evaluate.new.tool in
+    let s = subject w order c.args.replicas.now.entries c.args.request.now.tools in
+    let on = basis g.T.Tool.apply c.in-Ok.prepared.tools c.in-Ok-read_bases.bases.items in
+    let read = rw c.as_slice.ensures at c.in-Ok-read_bases.ensures.answer in
+    let has = based m s c.in-Ok.prepared c.in-Ok-read_bases.bases.items (sym c.in-Ok.ensures) read in
+    let on_is = basis_is g.T.Tool.apply _ _ _ _ c.as_slice-tools.ensures c.deref.ensures.value in
+    let rose = Rose (g.T.Tool.faults c.args.tool.now) (g.T.Tool.faults c.evaluate.new.tool) in
+    let values = c.in-Ok-evaluate.values in
+    let evaluated = subst (λ (b : Basis). Evaluates b w order rose (Ok values)) on_is c.in-Ok-evaluate.ensures.answer in
+    (on, has, evaluated.0, evaluated.1)
+
+pub returns-in-Ok-evaluate-clause-requested : goal.returns-in-Ok-evaluate-clause-requested
+returns-in-Ok-evaluate-clause-requested g c =
+    let w = c.args.workflow.now in
+    let order = c.args.graph.now.ordered in
+    let m = meeting g.H.Host g.T.Tool c.args.host.now c.args.tool.now c.read_bases.new.host c.evaluate.new.tool in
+    let s = subject w order c.args.replicas.now.entries c.args.request.now.tools in
+    let on = basis g.T.Tool.apply c.in-Ok.prepared.tools c.in-Ok-read_bases.bases.items in
+    let read = rw c.as_slice.ensures at c.in-Ok-read_bases.ensures.answer in
+    let has = based m s c.in-Ok.prepared c.in-Ok-read_bases.bases.items (sym c.in-Ok.ensures) read in
+    let on_is = basis_is g.T.Tool.apply _ _ _ _ c.as_slice-tools.ensures c.deref.ensures.value in
+    let rose = Rose (g.T.Tool.faults c.args.tool.now) (g.T.Tool.faults c.evaluate.new.tool) in
+    let values = c.in-Ok-evaluate.values in
+    let evaluated = subst (λ (b : Basis). Evaluates b w order rose (Ok values)) on_is c.in-Ok-evaluate.ensures.answer in
+    values_are m s on values.items has evaluated.0 evaluated.1
+
 pub returns-clause-answer : goal.returns-clause-answer
 returns-clause-answer g c =
     let w = c.args.workflow.now in
     let order = c.args.graph.now.ordered in
     let m = meeting g.H.Host g.T.Tool c.args.host.now c.args.tool.now c.read_bases.new.host c.evaluate.new.tool in
     let s = subject w order c.args.replicas.now.entries c.args.request.now.tools in
+    let on = basis g.T.Tool.apply c.in-Ok.prepared.tools c.in-Ok-read_bases.bases.items in
     let read = rw c.as_slice.ensures at c.in-Ok-read_bases.ensures.answer in
     let has = based m s c.in-Ok.prepared c.in-Ok-read_bases.bases.items (sym c.in-Ok.ensures) read in
     let on_is = basis_is g.T.Tool.apply _ _ _ _ c.as_slice-tools.ensures c.deref.ensures.value in
+    let rose = Rose (g.T.Tool.faults c.args.tool.now) (g.T.Tool.faults c.evaluate.new.tool) in
     let fault = c.in-Err-evaluate.fault in
-    let evaluated = subst (λ (on : Basis). Evaluates on w order (Rose (g.T.Tool.faults c.args.tool.now) (g.T.Tool.faults c.evaluate.new.tool)) (Err fault)) on_is c.in-Err-evaluate.ensures.answer in
-    let reached : (j : JobId) → fault ≡ ToolFailed j → IsReached (basis g.T.Tool.apply c.in-Ok.prepared.tools c.in-Ok-read_bases.bases.items) w order j =
-    λ j is. subst (λ (on : Basis). IsReached on w order j) on_is (c.in-Err-evaluate.ensures.reached j (ap Err is)) in
-    fault_ends m s (basis g.T.Tool.apply c.in-Ok.prepared.tools c.in-Ok-read_bases.bases.items) fault c.of_eval_fault.result has evaluated reached c.of_eval_fault.ensures
+    let evaluated = subst (λ (b : Basis). Evaluates b w order rose (Err fault)) on_is c.in-Err-evaluate.ensures.answer in
+    let reached : (j : JobId) → fault ≡ ToolFailed j → IsReached on w order j =
+    λ j is. subst (λ (b : Basis). IsReached b w order j) on_is (c.in-Err-evaluate.ensures.reached j (ap Err is)) in
+    fault_ends m s on fault c.of_eval_fault.result has evaluated reached c.of_eval_fault.ensures

@@ -1,6 +1,7 @@
 use Rattle.std.proofs.Common.{◌≡◌, ◌+◌, ℕ, suc, List, [], ◌∷◌, ◌++◌, drop, sym, ap, ◌∙◌, arith}
 use Rattle.std.specs.Prelude.{Option, Ok}
 use Rattle.std.proofs.lemmas.List.{drop_more}
+use Rattle.replica_catalog.specs.declared.catalog.Replica.{Replica}
 use Rattle.evaluation.specs.Sources.{source_if_base, sources_from}
 use Rattle.evaluation.specs.declared.sources.Source.{Source}
 use Rattle.evaluation.proofs.RestLemmas.{front_then, one_more}
@@ -21,7 +22,8 @@ loop-number-preserved c =
     ∙ drop_more list i c.lfn-item.result (omega arith)
     ∙ ap (λ (name : List ℕ). name ∷ drop (i + 1) list) (sym c.lfn-item.is)
     ∙ ap (λ (l : List (List ℕ)). c.lfn-item.result ∷ drop (i + 1) l) c.as_slice-lfn-items.ensures in
-    let source : source_if_base w es i c.lfn-item.result ≡ Ok c.in-Ok.source = sym c.in-Ok.ensures in
+    let source : source_if_base w es i c.lfn-item.result ≡ Ok c.in-Ok.source =
+    ap (λ (rs : List Replica). source_if_base w rs i c.lfn-item.result) (sym c.in_ok-replicas.ensures) ∙ sym c.in-Ok.ensures in
     ap (λ (found : List (Option Source)). front_then found (sources_from w es (i + 1) later)) c.in_ok-push-in-Ok.ensures.items
     ∙ ap (λ (n : ℕ). front_then (front ++ c.in-Ok.source ∷ []) (sources_from w es n later)) next
     ∙ sym (one_more front c.in-Ok.source _ (sources_from w es (suc i) later) source)

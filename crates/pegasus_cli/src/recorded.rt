@@ -1,0 +1,39 @@
+//! The documents of one request, surveyed, with the document of a record.
+
+ghost use Rattle.pegasus_cli.specs.Moments.{docs_moment};
+ghost use Rattle.pegasus_cli.specs.Recorded.{Surveys};
+
+use crate::course::fetch_with_record;
+use crate::fault::{CallFault, of_plan_fault};
+use outside::{Blob, Docs};
+use planner::{Surveyed, survey_request};
+use std::alloc::Global;
+
+/// A request with a survey of its documents, and the bytes of a record.
+#[derive(Drop)]
+pub struct Recorded {
+    pub surveyed: Surveyed,
+    pub bytes: Blob,
+}
+
+/// Fetches a request, the documents that it names and a record, and surveys the documents.
+pub(crate) fn read_recorded<D: Docs>(
+    alloc: Global,
+    docs: &mut D,
+    name: &str,
+    history: &str,
+) -> Result<Recorded, CallFault>
+    ensures { Surveys name.now history.now (docs_moment D.Docs docs.old) (docs_moment D.Docs docs.new) result }
+{
+    let given = match fetch_with_record(alloc, docs, name, history) {
+        Ok(given) => given,
+        Err(fault) => return Err(fault),
+    };
+    match survey_request(alloc, given.requested.request, &given.requested.documents) {
+        Ok(surveyed) => Ok(Recorded {
+            surveyed,
+            bytes: given.bytes,
+        }),
+        Err(fault) => Err(of_plan_fault(fault)),
+    }
+}
