@@ -1,5 +1,5 @@
 -- A run by the first members of a crew, told of the whole crew.
-use Rattle.std.proofs.Common.{◌≡◌, ℕ, ◌+◌, ◌<◌, ◌++◌, List, length, map, take, drop, sym, ap, subst, ◌∙◌, arith}
+use Rattle.std.proofs.Common.{◌≡◌, ℕ, ◌<◌, ◌++◌, List, length, map, take, drop, sym, ap, subst, ◌∙◌, arith}
 use Rattle.std.proofs.Math.Logic.{∥∥₁_map}
 use Rattle.std.proofs.lemmas.List.{get_or_append_left, length-map, take-append-drop}
 use Rattle.plan_core.specs.declared.plan.Plan.{Plan}

@@ -1,7 +1,7 @@
 -- What keeps a run from its end.
-use Rattle.std.proofs.Common.{◌≡◌, ◌⊎◌, ℕ, ◌-◌, ◌^◌, ◌≤◌, ◌<◌, List, [], refl, sym, subst, inl, inr, arith}
+use Rattle.std.proofs.Common.{◌≡◌, ◌⊎◌, ℕ, ◌-◌, ◌^◌, ◌≤◌, ◌<◌, List, refl, sym, subst, inl, inr, arith}
 use Rattle.std.proofs.lemmas.Bool.{cases_lt}
-use Rattle.std.specs.Prelude.{Option, Some, None, IfSome, MatchOption, Result, Ok, Err}
+use Rattle.std.specs.Prelude.{Option, Some, None, IfSome, MatchOption, Ok, Err}
 use Rattle.outside.specs.Counts.{Rose}
 use Rattle.outside.specs.SiteMap.{IsEmptyAt}
 use Rattle.outside.specs.Tool.{Apply}
@@ -23,7 +23,7 @@ use Rattle.site_yard.specs.Truthful.{Truthful}
 use Rattle.site_yard.specs.declared.opening.OpenFault.{OpenFault}
 use Rattle.site_yard.specs.declared.opening.OpenFault.TheVariants as openings
 use Rattle.plan_run.specs.Finishing.{CanEnd, IsDoneOrMemory, NoneFailed, replicas_of}
-use Rattle.plan_run.specs.Moments.{Tools, Work, count_of}
+use Rattle.plan_run.specs.Moments.{Tools, Work}
 use Rattle.plan_run.specs.Running.{End, HasRun, IsRun, IsShown, IsUnopened, Tells}
 
 abbrev pub NothingElseFails : Type 0

@@ -1,5 +1,5 @@
 -- What keeps a run from its end: a counted failure, or want of memory.
-use Rattle.std.specs.Prelude.{◌≡◌, ℕ, ◌<◌, List, Option, Some, Result, Ok, Err}
+use Rattle.std.specs.Prelude.{◌≡◌, ℕ, ◌<◌, List, Option, Some, Ok, Err}
 use Rattle.std.specs.FinMap as files
 use Rattle.outside.specs.Counts.{Rose}
 use Rattle.outside.specs.declared.store.Store.{Store}

@@ -8,4 +8,4 @@ pub mod Planning
 pub mod Meaning
 pub mod Surveyed
 pub mod Deliveries
-pub mod CheckText
+pub mod SurveyText

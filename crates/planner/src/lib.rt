@@ -8,7 +8,6 @@
 #![tactic(auto)]
 
 mod catalogue;
-mod check_text;
 mod course;
 mod deliveries;
 mod document;
@@ -19,9 +18,9 @@ mod ordering;
 mod plan_fault;
 mod planning;
 mod refused;
+mod survey_text;
 mod surveyed;
 
-pub use check_text::check_text;
 pub use course::survey;
 pub use deliveries::plans_deliver_requests;
 pub use document::Document;
@@ -30,4 +29,5 @@ pub use meaning::plans_mean_the_workflow;
 pub use plan_fault::{PlanFault, of_read_fault};
 pub use planning::{plan, plan_survey};
 pub use refused::push_refused;
+pub use survey_text::check_text;
 pub use surveyed::{Surveyed, survey_request};

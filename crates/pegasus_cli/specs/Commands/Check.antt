@@ -1,6 +1,6 @@
 -- `check`: lists what the workflow has and what isn't acted on. It touches nothing.
 use Rattle.std.specs.Prelude.{◌≡◌, ℕ, List, Ok, Err}
-use Rattle.planner.specs.CheckText.{check_lines}
+use Rattle.planner.specs.SurveyText.{check_lines}
 use Rattle.planner.specs.declared.inputs.Survey.{Survey}
 use Rattle.planner.specs.declared.surveyed.Surveyed.{Surveyed}
 use Rattle.plan_run.specs.Moments.{Tools, Work}

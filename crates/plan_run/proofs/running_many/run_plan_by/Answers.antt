@@ -1,5 +1,4 @@
-use Rattle.std.proofs.Common.{ℕ, [], List, length, map, ◌++◌, ◌∙◌, ap, refl}
-use Rattle.std.proofs.lemmas.List.{length-append}
+use Rattle.std.proofs.Common.{ℕ, [], List, map, ◌++◌, ◌∙◌, ap, refl, arith}
 use Rattle.craft.specs.declared.crew.Crew.{Crew}
 use Rattle.plan_core.specs.Words.{task_numbers}
 use Rattle.plan_run.specs.Moments.{counting, first_count, work_moment, working}
@@ -32,3 +31,20 @@ returns-in-Ok-clause-others g c =
     others_stay c.args.workers crew c.put_back.new.crew.items back members
     (c.put_back.ensures ∙ ap (λ (rest : List (Crew g.row.T.Denot g.row.G.Denot)). back ++ rest) taken.1) c.run_members-ran.ensures.members
     (taken_many crew members c.args.workers taken.0 c.requires.crew c.requires.workers.1)
+
+pub returns-in-Err-clause-ran : goal.returns-in-Err-clause-ran
+returns-in-Err-clause-ran g c =
+    let o = c.args.ordered in
+    let order = task_numbers o.tasks.items in
+    let fits = c.ordered_plans_fit.ensures o in
+    let count = λ (m : Crew g.row.T.Denot g.row.G.Denot). g.T.Tool.faults m.tool in
+    let old = map count c.args.crew.now.items in
+    let moment = work_moment g.H.Host c.args.host (first_count old) in
+    let w = working g.T.Tool.apply g.T.Tool.known moment moment in
+    rw (c.out_of_memory.ensures.host, c.out_of_memory.ensures.end, c.in-Err.ensures.refused)
+    (∣ no_room w (counting old old) c.args.workers o.plan order c.out_of_memory.result.text.items
+    (record {
+      safe = λ n. c.legal_records_are_safe.ensures.always o.plan order [] o.proper fits tt n;
+      left = λ n site. c.what_is_left_is_held.ensures o.plan order [] o.proper fits tt n site;
+    })
+    refl (record { done = omega arith; faults = omega arith; misses = omega arith }) refl ∣₁)

@@ -1,6 +1,6 @@
 use Rattle.std.proofs.Common.{◌≡◌, ◌++◌, drop}
-use Rattle.planner.specs.CheckText.{ignored_lines}
-use Rattle.planner.proofs.check_text.push_all_ignored.Given as goal
+use Rattle.planner.specs.SurveyText.{ignored_lines}
+use Rattle.planner.proofs.survey_text.push_all_ignored.Given as goal
 
 abbrev pub invariant-loop-path : goal.invariant-loop-path
 invariant-loop-path l =
