@@ -1,0 +1,85 @@
+-- The lines of a text, one after the other.
+use Rattle.std.proofs.Common.{◌≡◌, ℕ, zero, suc, ◌+◌, ◌≤◌, ◌<◌, ◌++◌, Bool, true, false, List, [], ◌∷◌, length, take, drop, if◌then◌else◌, nat_eq, refl, sym, ap, ◌∙◌, arith}
+use Rattle.std.specs.List.{concat, onto_first}
+use Rattle.std.specs.Str.{bytes_eq}
+use Rattle.std.proofs.Math.Seq.{take-add}
+use Rattle.std.proofs.lemmas.List.{append-nil, append_assoc, drop-drop}
+use Rattle.run_record.specs.Lines.{first_line, line_length, lines}
+use Rattle.run_record.specs.RecordText.{closed_line}
+use Rattle.record_audit.specs.Part.{record_part, up_to_closed}
+
+line_counts : (b : ℕ) (bs : List ℕ) → 0 < line_length (b ∷ bs)
+line_counts b bs = by (nat_eq b 10)
+  where
+    by : (t : Bool) → 0 < (if t then 1 else suc (line_length bs))
+    by true = omega arith
+    by false = omega arith
+
+-- each line of a text that isn't empty has a byte
+pub some_line : (text : List ℕ) → 0 < length text → 0 < line_length text
+some_line [] l = absurd (omega (arith, l))
+some_line (b ∷ bs) l = line_counts b bs
+
+-- the first line, then those of what follows
+lines_are : (b : ℕ) (bs : List ℕ) → lines (b ∷ bs) ≡ first_line (b ∷ bs) ∷ lines (drop (line_length (b ∷ bs)) (b ∷ bs))
+lines_are b [] = by (nat_eq b 10)
+  where
+    by : (t : Bool)
+        → (if t then (b ∷ []) ∷ lines [] else onto_first b (lines []))
+        ≡ take (if t then 1 else 1) (b ∷ []) ∷ lines (drop (if t then 1 else 1) (b ∷ []))
+    by true = refl
+    by false = refl
+lines_are b (c ∷ cs) = by (nat_eq b 10) (lines_are c cs)
+  where
+    rest : List ℕ
+    rest = c ∷ cs
+
+    by : (t : Bool) → lines rest ≡ first_line rest ∷ lines (drop (line_length rest) rest)
+        → (if t then (b ∷ []) ∷ lines rest else onto_first b (lines rest))
+        ≡ take (if t then 1 else suc (line_length rest)) (b ∷ rest) ∷ lines (drop (if t then 1 else suc (line_length rest)) (b ∷ rest))
+    by true others = refl
+    by false others = ap (onto_first b) others
+
+-- the part of a text by its first line
+part_of : (line : List ℕ) (others : List (List ℕ)) (closed : Bool) → bytes_eq line closed_line ≡ closed
+    → concat (up_to_closed (line ∷ others)) ≡ line ++ (if closed then [] else concat (up_to_closed others))
+part_of line others true e = ap (λ (b : Bool). concat (if b then line ∷ [] else line ∷ up_to_closed others)) e
+part_of line others false e = ap (λ (b : Bool). concat (if b then line ∷ [] else line ∷ up_to_closed others)) e
+
+first_part : (text : List ℕ) (closed : Bool) → 0 < length text → bytes_eq (first_line text) closed_line ≡ closed
+    → record_part text ≡ first_line text ++ (if closed then [] else record_part (drop (line_length text) text))
+first_part [] closed l e = absurd (omega (arith, l))
+first_part (b ∷ bs) closed l e =
+    ap (λ (ls : List (List ℕ)). concat (up_to_closed ls)) (lines_are b bs)
+    ∙ part_of (first_line (b ∷ bs)) (lines (drop (line_length (b ∷ bs)) (b ∷ bs))) closed e
+
+-- what a loop over the lines keeps
+abbrev pub HasCome : List ℕ → ℕ → Type 0
+HasCome text n = record_part text ≡ take n text ++ record_part (drop n text)
+
+pub come_next : (text : List ℕ) (n k : ℕ) → k ≡ line_length (drop n text) → HasCome text n → 0 < length (drop n text)
+    → bytes_eq (first_line (drop n text)) closed_line ≡ false → HasCome text (n + k)
+come_next text n k is come some going =
+    come
+    ∙ ap (λ (l : List ℕ). take n text ++ l) (first_part (drop n text) false some going)
+    ∙ sym (append_assoc (take n text) (take (line_length (drop n text)) (drop n text)) (record_part (drop (line_length (drop n text)) (drop n text))))
+    ∙ ap (λ (l : List ℕ). l ++ record_part (drop (line_length (drop n text)) (drop n text))) (sym (take-add n (line_length (drop n text)) text))
+    ∙ ap (λ (l : List ℕ). take (n + line_length (drop n text)) text ++ record_part l) (drop-drop (line_length (drop n text)) n text)
+    ∙ ap (λ (m : ℕ). take (n + m) text ++ record_part (drop (n + m) text)) (sym is)
+
+pub come_end : (text : List ℕ) (n k : ℕ) → k ≡ line_length (drop n text) → HasCome text n → 0 < length (drop n text)
+    → bytes_eq (first_line (drop n text)) closed_line ≡ true → take (n + k) text ≡ record_part text
+come_end text n k is come some closed = sym (
+    come
+    ∙ ap (λ (l : List ℕ). take n text ++ l) (first_part (drop n text) true some closed ∙ append-nil (first_line (drop n text)))
+    ∙ sym (take-add n (line_length (drop n text)) text)
+    ∙ ap (λ (m : ℕ). take (n + m) text) (sym is))
+
+pub come_last : (text : List ℕ) (n : ℕ) → length text ≤ n → HasCome text n → take n text ≡ record_part text
+come_last text n l come = sym (come ∙ ap (λ (rest : List ℕ). take n text ++ record_part rest) (none text n l) ∙ append-nil (take n text))
+  where
+    none : (xs : List ℕ) (m : ℕ) → length xs ≤ m → drop m xs ≡ []
+    none [] zero h = refl
+    none [] (suc m) h = refl
+    none (x ∷ xs) zero h = absurd (omega (arith, h))
+    none (x ∷ xs) (suc m) h = none xs m (omega (arith, h))

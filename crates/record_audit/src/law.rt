@@ -1,0 +1,41 @@
+//! What the definitions come to.
+
+ghost use Rattle.std.specs.Prelude.{◌≤◌, ◌*◌, ◌^◌, ℕ, List, length, sum_by};
+ghost use Rattle.plan_core.specs.declared.plan.Plan.{Plan};
+ghost use Rattle.plan_core.specs.Proper.{IsProper};
+ghost use Rattle.plan_core.specs.Words.{retries};
+ghost use Rattle.storage_simulation.specs.Goods.{IsWithinLimits};
+ghost use Rattle.run_record.specs.Events.{Event};
+ghost use Rattle.lease_book.specs.Law.{FitsFromStart, IsConsistent};
+ghost use Rattle.lease_book.specs.Legal.{Allowed, Legal};
+ghost use Rattle.lease_book.specs.State.{State, now};
+ghost use Rattle.record_audit.specs.Holdings.{IsSized};
+ghost use Rattle.record_audit.specs.Sums.{arrived};
+
+use lease_book::{allowed_entries_keep_safe, entries_are_few};
+use plan_core::files_are_listed_by_pair;
+
+/// The state after a Legal record is consistent.
+pub(crate) fn legal_records_are_consistent()
+    ensures { (p : Plan) (order : List ℕ) (r : List Event) → IsProper p → FitsFromStart p order → Legal p order r → IsConsistent p (now p order r) }
+{
+    allowed_entries_keep_safe();
+    entries_are_few();
+}
+
+/// A Legal record has few entries, and what each of its arrivals has moved is a declared size.
+pub(crate) fn legal_records_are_short()
+    ensures entries { (p : Plan) (order : List ℕ) (r : List Event) → IsProper p → IsWithinLimits p → retries p ≤ 10 → FitsFromStart p order → Legal p order r → length r ≤ 120000 * 22 }
+    ensures moved { (p : Plan) (order : List ℕ) (r : List Event) → IsProper p → IsWithinLimits p → FitsFromStart p order → Legal p order r → sum_by arrived r ≤ length r * 2 ^ 40 }
+{
+    allowed_entries_keep_safe();
+    entries_are_few();
+    files_are_listed_by_pair();
+}
+
+/// The sizes of an entry that is allowed are small, and an End has one for each file of its task.
+pub(crate) fn allowed_entries_are_sized()
+    ensures { (p : Plan) (s : State) (e : Event) → IsProper p → IsWithinLimits p → Allowed p s e → IsSized p e }
+{
+    files_are_listed_by_pair();
+}

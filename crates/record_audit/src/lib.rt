@@ -1,0 +1,24 @@
+//! Whether a record is legal for an ordered plan, and what its entries come to.
+//!
+//! A record is replayed on a book of the plan, entry by entry: the first entry that isn't allowed
+//! there is the first illegal one. What is allowed, and when a record is complete, are definitions
+//! of `lease_book`; what is said of a record here is in `specs/Verdict.antt` and `specs/Sums.antt`,
+//! and which part of a document is read as a record in `specs/Part.antt`.
+#![tactic(auto)]
+
+mod causes;
+mod counting;
+mod holdings;
+mod law;
+mod part;
+mod replay;
+mod sums;
+mod text;
+mod verdict;
+
+pub use counting::statistics;
+pub use part::record_part;
+pub use replay::replay;
+pub use sums::Statistics;
+pub use text::{push_statistics, push_verdict};
+pub use verdict::{Verdict, audit};
