@@ -1,8 +1,8 @@
-"""The commands in README and guide with the texts printed after them."""
+"""The commands on the pages with the texts printed after them."""
 import pathlib
 import re
 
-PAGES = ("README.md", "docs/GUIDE.md")
+PAGES = ("README.md", "docs/COMMANDS.md", "docs/GUIDE.md")
 OF_DOCUMENTS = re.compile(
     "refused (request|workflow|sites|replicas|transformations|twice|unknown|catalogue|many (jobs|files|sites)) "
 )

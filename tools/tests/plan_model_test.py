@@ -1,4 +1,4 @@
-"""Tests of tools/plan-model: against the plans printed in README and guide, and those of the files of cases."""
+"""Tests of tools/plan-model: against the plans printed on the pages, and those of the files of cases."""
 import pathlib
 import re
 import subprocess

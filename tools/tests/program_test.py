@@ -1,5 +1,5 @@
-"""The program that the gate built: the commands in README and guide, one after the other as a reader types them, with the
-texts printed below them, and a call for each other status but want of memory, which refused_memory_test.py shows."""
+"""The program that the gate built: the commands of each page, one after the other as a reader types them, with the texts
+printed below them, and a call for each other status but want of memory, which refused_memory_test.py shows."""
 import os
 import pathlib
 import re
@@ -7,6 +7,8 @@ import shutil
 import subprocess
 import sys
 import tempfile
+
+import pages
 
 PROGRAM = pathlib.Path("crates/pegasus/out/pegasus").absolute()
 TOOLS = pathlib.Path("tools").absolute()
@@ -99,7 +101,7 @@ if not PROGRAM.exists():
 has_yaml = subprocess.run([sys.executable, "-c", "import yaml"], capture_output=True).returncode == 0
 with tempfile.TemporaryDirectory() as work:
     tried = 0
-    for page in ("README.md", "docs/GUIDE.md"):
+    for page in pages.PAGES:
         tried += page_holds(page, folder(pathlib.Path(work, page.replace("/", "_"))), has_yaml)
     tried += others_hold(folder(pathlib.Path(work, "others")))
 print(f"program: ok, {tried} commands")

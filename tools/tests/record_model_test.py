@@ -13,7 +13,7 @@ sys.modules["record_model"] = model
 LOADER.exec_module(model)
 
 PLAN = subprocess.run([sys.executable, "tools/plan-model", "examples/diamond/request.json"], capture_output=True, text=True, check=True).stdout
-PRINTED = re.search(r"    record 1\n(.*?)    closed\n", pathlib.Path("README.md").read_text(encoding="utf-8"), re.DOTALL)
+PRINTED = re.search(r"    record 1\n(.*?)    closed\n", pathlib.Path("docs/COMMANDS.md").read_text(encoding="utf-8"), re.DOTALL)
 RUN = [line.strip() for line in PRINTED[1].splitlines()]
 
 # Task 1 runs and task 2 is ready. At 36 a first job that made less leaves room for it.

@@ -1,4 +1,4 @@
-"""Tests of tools/run-model: against the runs printed in README and guide, and those of the files of cases."""
+"""Tests of tools/run-model: against the runs printed on the pages, and those of the files of cases."""
 import importlib.machinery
 import importlib.util
 import json
@@ -87,5 +87,5 @@ for request, _, lines in pages.texts("eval"):
     worth = [line.replace("delivered", "value", 1) for line in page_run(request, {})]
     assert lines == [line for line in worth if line.startswith(("value ", "done"))], request
 first = "".join(f"    {line}\n" for line in page_run("examples/diamond/request.json", {}))
-assert len(runs) >= 12 and first in pathlib.Path("README.md").read_text(encoding="utf-8"), len(runs)
+assert len(runs) >= 12 and first in pathlib.Path("docs/COMMANDS.md").read_text(encoding="utf-8"), len(runs)
 print(f"run-model: ok, {len(runs)} runs and {count} cases")

@@ -43,9 +43,7 @@ fn copied(alloc: Global, tasks: &[TaskId]) -> Result<Vec<TaskId>, Memory>
 impl Book {
     /// A book of an ordered plan, without entries. It takes all memory: no later call takes any.
     pub fn open(alloc: Global, ordered: &Ordered) -> Result<Book, Memory>
-        requires proper { IsProper ordered.now.plan }
-        requires limits { IsWithinLimits ordered.now.plan }
-        requires retries { retries ordered.now.plan ≤ 10 }
+        requires { retries ordered.now.plan ≤ 10 }
         ensures history { IfOk result (λ b. b.history.events ≡ []) }
         ensures plan { IfOk result (λ b. b.plan ≡ ordered.now.plan) }
         ensures order { IfOk result (λ b. b.order.items ≡ ordered.now.tasks.items) }

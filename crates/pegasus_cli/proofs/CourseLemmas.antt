@@ -7,8 +7,8 @@ use Rattle.outside.specs.FileMap.{Files}
 use Rattle.outside.specs.declared.counts.Counts.{Counts}
 use Rattle.outside.specs.declared.docs.DocFault.{DocFault}
 use Rattle.outside.specs.declared.docs.DocFault.TheVariants as doc_faults
-use Rattle.pegasus_cli.specs.declared.early.Early.{Early}
-use Rattle.pegasus_cli.specs.declared.early.Early.TheVariants.{Memory}
+use Rattle.pegasus_cli.specs.declared.fault.CallFault.{CallFault}
+use Rattle.pegasus_cli.specs.declared.fault.CallFault.TheVariants.{Memory}
 use Rattle.pegasus_cli.specs.Course.{ButMemory, Course, Ends, Asks, Gives, HasFailed, IsStep, ◌>>=◌, doc_answer, document_limit, goes_on, read_from}
 use Rattle.pegasus_cli.specs.Moments.{DocsMoment}
 
@@ -19,24 +19,24 @@ later_still a b c x y = record {
   misses = omega (arith, x.misses, y.misses);
 }
 
-but_memory : {A : Type 0} (r : Result A Early) (P : Type 0) → P → ButMemory r P
+but_memory : {A : Type 0} (r : Result A CallFault) (P : Type 0) → P → ButMemory r P
 but_memory (Err Memory) P h = tt
 but_memory r P h = h
 
-same_value : {A : Type 0} (a x : A) → ◌≡◌ {A = Result A Early} (Ok a) (Ok x) → a ≡ x
+same_value : {A : Type 0} (a x : A) → ◌≡◌ {A = Result A CallFault} (Ok a) (Ok x) → a ≡ x
 same_value a x is = cc
 
-same_answer : {A : Type 0} (e f : Early) → ◌≡◌ {A = Result A Early} (Err e) (Err f) → e ≡ f
+same_answer : {A : Type 0} (e f : CallFault) → ◌≡◌ {A = Result A CallFault} (Err e) (Err f) → e ≡ f
 same_answer e f is = cc
 
-value_is_no_answer : {A : Type 0} (a : A) (e : Early) → ◌≡◌ {A = Result A Early} (Ok a) (Err e) → ⊥
+value_is_no_answer : {A : Type 0} (a : A) (e : CallFault) → ◌≡◌ {A = Result A CallFault} (Ok a) (Err e) → ⊥
 value_is_no_answer a e is = absurd cc
 
-again : (B : Type 0) (e f : Early) → e ≡ f → ◌≡◌ {A = Result B Early} (Err e) (Err f)
+again : (B : Type 0) (e f : CallFault) → e ≡ f → ◌≡◌ {A = Result B CallFault} (Err e) (Err f)
 again B e f is = ap Err is
 
 -- a course that gave a value, and then one that starts from that value
-gives_then : {A B : Type 0} (told : Option Files) (c : Course A) (f : A → Course B) (before mid after : Counts) (a : A) (r : Result B Early)
+gives_then : {A B : Type 0} (told : Option Files) (c : Course A) (f : A → Course B) (before mid after : Counts) (a : A) (r : Result B CallFault)
     → Gives told c before mid (Ok a) → Gives told (f a) mid after r → Gives told (c >>= f) before after r
 gives_then {A} {B} told (Ends (Ok x)) f before mid after a r h next = subst (λ (m : Counts). Gives told (f x) m after r) h.0 (subst (λ (z : A). Gives told (f z) mid after r) (same_value {A = A} a x h.1) next)
 gives_then {A} {B} told (Ends (Err e)) f before mid after a r h next = absurd (value_is_no_answer {A = A} a e h.1)
@@ -44,7 +44,7 @@ gives_then {A} {B} told (Asks name rest) f before mid after a r (inl h) next = i
 gives_then {A} {B} told (Asks name rest) f before mid after a r (inr h) next = absurd (value_is_no_answer {A = A} a (doc_answer name h.0) h.2)
 
 -- a course that ended with an answer ends all that would follow
-gives_stop : {A B : Type 0} (told : Option Files) (c : Course A) (f : A → Course B) (before after : Counts) (e : Early)
+gives_stop : {A B : Type 0} (told : Option Files) (c : Course A) (f : A → Course B) (before after : Counts) (e : CallFault)
     → Gives {A = A} told c before after (Err e) → Gives {A = B} told (c >>= f) before after (Err e)
 gives_stop {A} {B} told (Ends (Ok x)) f before after e h = absurd (value_is_no_answer {A = A} x e (sym h.1))
 gives_stop {A} {B} told (Ends (Err g)) f before after e h = (h.0, again B e g (same_answer {A = A} e g h.1))
@@ -52,16 +52,16 @@ gives_stop {A} {B} told (Asks name rest) f before after e (inl h) = inl (h.0, h.
 gives_stop {A} {B} told (Asks name rest) f before after e (inr h) = inr (h.0, h.1, again B e (doc_answer name h.0) (same_answer {A = A} e (doc_answer name h.0) h.2))
 
 -- what held of one answer holds of the same answer elsewhere
-answer_again : (A B : Type 0) (e : Early) (P Q : Type 0) → (P → Q) → ButMemory {A = A} (Err e) P → ButMemory {A = B} (Err e) Q
+answer_again : (A B : Type 0) (e : CallFault) (P Q : Type 0) → (P → Q) → ButMemory {A = A} (Err e) P → ButMemory {A = B} (Err e) Q
 answer_again A B Memory P Q f h = tt
 answer_again A B e P Q f h = f h
 
-pub result_again : {A : Type 0} (r : Result A Early) (P Q : Type 0) → (P → Q) → ButMemory r P → ButMemory r Q
+pub result_again : {A : Type 0} (r : Result A CallFault) (P Q : Type 0) → (P → Q) → ButMemory r P → ButMemory r Q
 result_again (Err Memory) P Q f h = tt
 result_again r P Q f h = f h
 
 -- a step, and one that starts from its value
-pub step_then : {A B : Type 0} (c : Course A) (f : A → Course B) (before mid after : DocsMoment) (a : A) (r : Result B Early)
+pub step_then : {A B : Type 0} (c : Course A) (f : A → Course B) (before mid after : DocsMoment) (a : A) (r : Result B CallFault)
     → IsStep c before mid (Ok a) → IsStep (f a) mid after r → IsStep (c >>= f) before after r
 step_then c f before mid after a r one two = record {
   told = two.told ∙ one.told;
@@ -70,7 +70,7 @@ step_then c f before mid after a r one two = record {
 }
 
 -- an answer ends all that would follow
-pub step_stop : {A B : Type 0} (c : Course A) (f : A → Course B) (before after : DocsMoment) (e : Early)
+pub step_stop : {A B : Type 0} (c : Course A) (f : A → Course B) (before after : DocsMoment) (e : CallFault)
     → IsStep c before after (Err e) → IsStep (c >>= f) before after (Err e)
 step_stop {A} {B} c f before after e came = record {
   told = came.told;
@@ -86,7 +86,7 @@ rose_by_one : (before after : Counts) → after ≡ one_fault before → Rose be
 rose_by_one before after is = rw is (omega arith)
 
 -- What told documents give is what came, but where a fetch failed or memory ran out.
-pub told_gives : {A : Type 0} (files : Files) (c : Course A) (before after : Counts) (r : Result A Early)
+pub told_gives : {A : Type 0} (files : Files) (c : Course A) (before after : Counts) (r : Result A CallFault)
     → Gives (Some files) c before after r → ButMemory r ((r ≡ read_from files c) ⊎ HasFailed before after r)
 told_gives files (Ends r) before after x h = but_memory x _ (inl h.1)
 told_gives files (Asks name next) before after x (inl h) =

@@ -10,38 +10,32 @@ use Rattle.storage_simulation.specs.Ordering.{IsPeak, at_start}
 use Rattle.planner.specs.Planning.{CannotPlan}
 use Rattle.planner.specs.declared.plan_fault.PlanFault.{PlanFault}
 use Rattle.planner.specs.declared.plan_fault.PlanFault.TheVariants as plan_faults
-use Rattle.pegasus_cli.specs.declared.outcome.Outcome.{Outcome}
-use Rattle.pegasus_cli.specs.declared.outcome.Outcome.TheVariants as outcomes
-use Rattle.pegasus_cli.specs.declared.survey.Surveyed.{Surveyed}
-use Rattle.pegasus_cli.specs.Call.{IsAnswer, IsDoneOrMemory}
-use Rattle.pegasus_cli.specs.Commands.Plan.{ArePeaksOf, HasNoFault, Says, task_limit}
-use Rattle.pegasus_cli.specs.Course.{plan_answer}
-use Rattle.pegasus_cli.specs.Outcome.{outcome_of}
+use Rattle.std.specs.Prelude.{Ok, Err}
+use Rattle.planner.specs.declared.surveyed.Surveyed.{Surveyed}
+use Rattle.pegasus_cli.specs.declared.fault.CallFault.{CallFault}
+use Rattle.pegasus_cli.specs.declared.fault.CallFault.TheVariants.{Memory}
+use Rattle.pegasus_cli.specs.Commands.Plan.{ArePeaksOf, HasNoFault, Plans, Says, plan, task_limit}
+use Rattle.pegasus_cli.specs.CommandSpec.{Finishes}
+use Rattle.pegasus_cli.specs.Fault.{Answer, IsDoneOrMemory, not_for, plan_answer}
+use Rattle.pegasus_cli.proofs.SurveyLemmas.{survey_finishes}
 
 -- the answer for a fault
-pub refused_says : (s : Surveyed) (fault : PlanFault) → CannotPlan s.request s.survey task_limit fault → Says s [] (outcome_of (plan_answer fault))
+pub refused_says : (s : Surveyed) (fault : PlanFault) → CannotPlan s.request s.survey task_limit fault → Says s [] (not_for (plan_answer fault))
 refused_says s plan_faults.Memory h = tt
 refused_says s (plan_faults.Exceeds site task needed bound) h = (record { fault = plan_faults.Exceeds site task needed bound; comes = h; answers = refl }, refl)
 refused_says s fault h = (record { fault = fault; comes = h; answers = refl }, refl)
 
-pub refused_answers : (fault : PlanFault) → IsAnswer (outcome_of (plan_answer fault))
-refused_answers plan_faults.Memory = tt
-refused_answers (plan_faults.Exceeds site task needed bound) = tt
-refused_answers fault = tt
+pub says_refused : (s : Surveyed) (fault : PlanFault) (text : List ℕ) (a : Answer) → CannotPlan s.request s.survey task_limit fault → text ≡ [] → a ≡ not_for (plan_answer fault) → Says s text a
+says_refused s fault text a h none is = rw (none, is) (refused_says s fault h)
 
 -- without a fault there is a plan, or memory runs out
-pub plan_finishes : (s : Surveyed) (text : List ℕ) (a : Outcome) → Says s text a → HasNoFault s → IsDoneOrMemory a
-plan_finishes s text outcomes.Done h none = tt
-plan_finishes s text outcomes.Memory h none = tt
-plan_finishes s text a h none = subst IsDoneOrMemory (sym (h.0.answers ∙ ap (λ (f : PlanFault). outcome_of (plan_answer f)) (none h.0.fault h.0.comes))) tt
+says_done : (s : Surveyed) (text : List ℕ) (a : Answer) → Says s text a → HasNoFault s → IsDoneOrMemory a
+says_done s text (Ok done) h none = tt
+says_done s text (Err Memory) h none = tt
+says_done s text (Err fault) h none = subst (λ (f : CallFault). IsDoneOrMemory (not_for f)) (sym (h.0.answers ∙ ap plan_answer (none h.0.fault h.0.comes))) tt
 
-pub no_usage : (fault : PlanFault) → outcomes.Usage ≡ outcome_of (plan_answer fault) → ⊥
-no_usage plan_faults.Memory e = cc
-no_usage (plan_faults.Exceeds site task needed bound) e = cc
-no_usage fault e = cc
-
-pub plan_is_no_usage : (s : Surveyed) (text : List ℕ) → Says s text outcomes.Usage → ⊥
-plan_is_no_usage s text h = no_usage h.0.fault h.0.answers
+pub plan_finishes : (name : List ℕ) → Finishes (plan name)
+plan_finishes name = survey_finishes name Plans (λ w s. HasNoFault s) (λ w t s text a works can still. says_done s text a works.says can)
 
 -- ---- peaks
 

@@ -1,7 +1,6 @@
 -- The table of the commands.
-use Rattle.pegasus_cli.specs.declared.commands.Command.{Command}
-use Rattle.pegasus_cli.specs.declared.commands.Command.TheVariants as commands
 use Rattle.pegasus_cli.specs.CommandSpec.{CommandSpec}
+use Rattle.pegasus_cli.specs.Words.{Command, Quick, Threaded, Check, Plan, Eval, Alone, Run, Quickly, InThreads}
 use Rattle.pegasus_cli.specs.Commands.Check.{check}
 use Rattle.pegasus_cli.specs.Commands.Plan.{plan}
 use Rattle.pegasus_cli.specs.Commands.Eval.{eval}
@@ -13,9 +12,15 @@ pub mod Eval
 pub mod Alone
 pub mod Run
 
+abbrev pub quick_spec : Quick → CommandSpec
+quick_spec (Check name) = check name
+quick_spec (Plan name) = plan name
+quick_spec (Eval name) = eval name
+quick_spec (Alone name) = alone name
+
+abbrev pub threaded_spec : Threaded → CommandSpec
+threaded_spec (Run name workers) = run name workers
+
 abbrev pub spec_of : Command → CommandSpec
-spec_of commands.Check = check
-spec_of commands.Plan = plan
-spec_of commands.Eval = eval
-spec_of commands.Alone = alone
-spec_of (commands.Run workers) = run workers
+spec_of (Quickly q) = quick_spec q
+spec_of (InThreads t) = threaded_spec t

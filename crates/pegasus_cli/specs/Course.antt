@@ -11,19 +11,19 @@ use Rattle.plan_request.specs.declared.request.PlanRequest.{PlanRequest}
 use Rattle.planner.specs.PlanFault.{answered}
 use Rattle.planner.specs.declared.document.Document.TheVariants.{Request}
 use Rattle.planner.specs.declared.plan_fault.PlanFault.{PlanFault}
-use Rattle.planner.specs.declared.plan_fault.PlanFault.TheVariants as plan
+use Rattle.pegasus_cli.specs.Fault.{plan_answer}
 use Rattle.pegasus_cli.specs.declared.course.Requested.{Requested}
-use Rattle.pegasus_cli.specs.declared.early.Early.{Early}
-use Rattle.pegasus_cli.specs.declared.early.Early.TheVariants.{Memory, DocAbsent, DocTooLong, DocFailed, Refused, Exceeds}
+use Rattle.pegasus_cli.specs.declared.fault.CallFault.{CallFault}
+use Rattle.pegasus_cli.specs.declared.fault.CallFault.TheVariants.{Memory, DocAbsent, DocTooLong, DocFailed}
 use Rattle.pegasus_cli.specs.Moments.{DocsMoment}
 
--- A course over documents: it ends with a value or an early answer, or asks for a document and goes on with its bytes.
+-- A course over documents: it ends with a value or a fault, or asks for a document and goes on with its bytes.
 pub data Course (A : Type 0) : Type 0 where
-  Ends : Result A Early → Course A
+  Ends : Result A CallFault → Course A
   Asks : List ℕ → (List ℕ → Course A) → Course A
 
 -- one course after another, with the value of the first
-abbrev pub ends_then : {A B : Type 0} → Result A Early → (A → Course B) → Course B
+abbrev pub ends_then : {A B : Type 0} → Result A CallFault → (A → Course B) → Course B
 ends_then (Ok a) f = f a
 ends_then (Err e) f = Ends (Err e)
 
@@ -33,7 +33,7 @@ abbrev pub ◌>>=◌ : {A B : Type 0} → Course A → (A → Course B) → Cour
 (Asks name next) >>= f = Asks name (λ bytes. next bytes >>= f)
 
 -- the course of one document
-abbrev pub document : {A : Type 0} → List ℕ → (List ℕ → Result A Early) → Course A
+abbrev pub document : {A : Type 0} → List ℕ → (List ℕ → Result A CallFault) → Course A
 document name answered = Asks name (λ bytes. Ends (answered bytes))
 
 -- the bytes of a document that may be unnamed
@@ -46,18 +46,18 @@ abbrev pub document_limit : ℕ
 document_limit = 33554432
 
 -- the answer for a document that could not be had
-abbrev pub doc_answer : List ℕ → DocFault → Early
+abbrev pub doc_answer : List ℕ → DocFault → CallFault
 doc_answer name doc_faults.Absent = DocAbsent name
 doc_answer name doc_faults.Failed = DocFailed name
 doc_answer name (doc_faults.TooLong limit) = DocTooLong name limit
 doc_answer name doc_faults.Memory = Memory
 
 -- what a course gives for told documents
-abbrev pub goes_on : {A : Type 0} → Result (List ℕ) DocFault → List ℕ → (List ℕ → Result A Early) → Result A Early
+abbrev pub goes_on : {A : Type 0} → Result (List ℕ) DocFault → List ℕ → (List ℕ → Result A CallFault) → Result A CallFault
 goes_on (Ok bytes) name next = next bytes
 goes_on (Err fault) name next = Err (doc_answer name fault)
 
-abbrev pub read_from : {A : Type 0} → Files → Course A → Result A Early
+abbrev pub read_from : {A : Type 0} → Files → Course A → Result A CallFault
 read_from files (Ends r) = r
 read_from files (Asks name next) = goes_on (fetched files name document_limit) name (λ bytes. read_from files (next bytes))
 
@@ -67,38 +67,32 @@ pub record IsDocument (told : Option Files) (name bytes : List ℕ) : Type 0 whe
   pub told_is : IfSome told (λ files. fetched files name document_limit ≡ Ok bytes)
 
 -- What came of a course, told or not. Each document that was asked for came and was counted, up to one that could not be had.
-abbrev pub Gives : {A : Type 0} → Option Files → Course A → Counts → Counts → Result A Early → Type 0
+abbrev pub Gives : {A : Type 0} → Option Files → Course A → Counts → Counts → Result A CallFault → Type 0
 Gives told (Ends r) before after result = (after ≡ before) × (result ≡ r)
 Gives told (Asks name next) before after result =
     ((bytes : List ℕ) × IsDocument told name bytes × Gives told (next bytes) (one_done before) after result)
     ⊎ ((fault : DocFault) × Fetched told name document_limit before after (Err fault) [] × (result ≡ Err (doc_answer name fault)))
 
 -- a fetch failed, which was counted
-abbrev pub HasFailed : {A : Type 0} → Counts → Counts → Result A Early → Type 0
+abbrev pub HasFailed : {A : Type 0} → Counts → Counts → Result A CallFault → Type 0
 HasFailed before after result = Rose before.faults after.faults × (name : List ℕ) × (result ≡ Err (DocFailed name))
 
 -- memory ran out, or this holds
-abbrev pub ButMemory : {A : Type 0} → Result A Early → Type 0 → Type 0
+abbrev pub ButMemory : {A : Type 0} → Result A CallFault → Type 0 → Type 0
 ButMemory (Err Memory) P = Unit {0}
 ButMemory _ P = P
 
 -- A step over documents: what came of a course between two moments.
-pub record IsStep {A : Type 0} (course : Course A) (before after : DocsMoment) (result : Result A Early) : Type 0 where
+pub record IsStep {A : Type 0} (course : Course A) (before after : DocsMoment) (result : Result A CallFault) : Type 0 where
   pub told : after.told ≡ before.told
   pub later : IsLater before.counts after.counts
   pub gives : ButMemory result (Gives before.told course before.counts after.counts result)
 
--- the answer for a fault of planning
-abbrev pub plan_answer : PlanFault → Early
-plan_answer plan.Memory = Memory
-plan_answer (plan.Exceeds site task needed bound) = Exceeds site task needed bound
-plan_answer fault = Refused fault
-
-abbrev pub plan_answered : {A : Type 0} → Result A PlanFault → Result A Early
+abbrev pub plan_answered : {A : Type 0} → Result A PlanFault → Result A CallFault
 plan_answered (Ok a) = Ok a
 plan_answered (Err fault) = Err (plan_answer fault)
 
-abbrev pub request_in_bytes : List ℕ → Result PlanRequest Early
+abbrev pub request_in_bytes : List ℕ → Result PlanRequest CallFault
 request_in_bytes bytes = plan_answered (answered Request (read_of bytes))
 
 -- the documents that a request names, the workflow first

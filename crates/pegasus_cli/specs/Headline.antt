@@ -21,17 +21,17 @@ use Rattle.site_yard.specs.Faults.{AllBelow}
 use Rattle.site_yard.specs.Law.{IsDeliveryOf}
 use Rattle.site_yard.specs.Leaving.{left_in}
 use Rattle.site_yard.specs.Trace.{trace_of}
-use Rattle.pegasus_cli.specs.Call.{GoesOnWith}
+use Rattle.planner.specs.declared.surveyed.Surveyed.{Surveyed}
+use Rattle.plan_run.specs.Moments.{Work}
+use Rattle.plan_run.specs.Running.{IsRunText}
 use Rattle.pegasus_cli.specs.Commands.Plan.{task_limit}
-use Rattle.pegasus_cli.specs.Moments.{Call, Work}
+use Rattle.pegasus_cli.specs.Moments.{Call}
 use Rattle.pegasus_cli.specs.Outcome.{line_of}
 use Rattle.pegasus_cli.specs.PlanRun.{AreHonestIn, lfn, value_in}
-use Rattle.pegasus_cli.specs.Running.{IsRunText}
-use Rattle.pegasus_cli.specs.Words.{command}
-use Rattle.pegasus_cli.specs.declared.commands.Command.TheVariants.{Run}
+use Rattle.pegasus_cli.specs.Survey.{GoesOn}
+use Rattle.pegasus_cli.specs.Words.{InThreads, Run, command}
 use Rattle.pegasus_cli.specs.declared.outcome.Outcome.{Outcome}
 use Rattle.pegasus_cli.specs.declared.outcome.Outcome.TheVariants.{Done}
-use Rattle.pegasus_cli.specs.declared.survey.Surveyed.{Surveyed}
 
 -- Each requested file stands at its name with content of which this holds, and every other name is as it was.
 pub record AreSet (s : Surveyed) (Holds : ℕ → Option (List ℕ) → Type 0) (old new : Files) : Type 0 where
@@ -39,8 +39,8 @@ pub record AreSet (s : Surveyed) (Holds : ℕ → Option (List ℕ) → Type 0) 
   pub others : (name : List ℕ) → ((f : ℕ) → IsRequested s.survey f → lfn s.survey f ≡ name → ⊥) → files.get new name ≡ files.get old name
 
 -- the host told what it held, still tells, and of the two stores this holds
-abbrev pub IsTold : Work → (Store → Store → Type 0) → Type 0
-IsTold w Holds = IfSome w.before.told (λ old. MatchOption w.after.told ⊥ (λ new. Holds old new))
+abbrev pub ShownBy : Work → (Store → Store → Type 0) → Type 0
+ShownBy w Holds = IfSome w.before.told (λ old. MatchOption w.after.told ⊥ (λ new. Holds old new))
 
 pub record Headline (w : Work) (workers : ℕ) (s : Surveyed) (text : List ℕ) : Type 0 where
   -- the plan and the order that are stated for the documents, and the run's one record
@@ -56,7 +56,7 @@ pub record Headline (w : Work) (workers : ℕ) (s : Surveyed) (text : List ℕ) 
   -- this record is the one that is printed, with what was delivered
   pub printed : IsRunText w.apply plan history w.before.told text
   -- the host's operations are those that it names, and no others
-  pub operations : IsTold w (λ old new. new.trace ≡ old.trace ++ trace_of plan history)
+  pub operations : ShownBy w (λ old new. new.trace ≡ old.trace ++ trace_of plan history)
   -- after every entry each place's reserved and stored bytes are within its bound
   pub within : (k q : ℕ) → q < places plan → let held = (now plan (task_numbers order) (take k history)).held in stored_at plan held q + reserved_at plan held q ≤ place_bound plan q
   -- so are the bytes that the operations so far leave there
@@ -64,17 +64,17 @@ pub record Headline (w : Work) (workers : ℕ) (s : Surveyed) (text : List ℕ) 
   -- and the kept order would finish all remaining tasks within every bound
   pub safe : (k : ℕ) → Safe plan (now plan (task_numbers order) (take k history))
   -- each requested file is delivered as its delivery carries it, and as its value where the replicas are honest; nothing else is
-  pub carried : IsTold w (λ old new. AreSet s (IsDeliveryOf plan (carries w.apply plan old)) old.delivered new.delivered)
-  pub valued : IsTold w (λ old new. AreHonestIn w s old → AreSet s (λ f content. content ≡ value_in w s old f) old.delivered new.delivered)
+  pub carried : ShownBy w (λ old new. AreSet s (IsDeliveryOf plan (carries w.apply plan old)) old.delivered new.delivered)
+  pub valued : ShownBy w (λ old new. AreHonestIn w s old → AreSet s (λ f content. content ≡ value_in w s old f) old.delivered new.delivered)
 
 -- The words are a run's by so many workers, and it ended Done: of the documents that were read, and of the text that was
 -- written before the line of the answer, all this holds.
-pub record EndsSo (c : Call) (workers : ℕ) : Type 0 where
+pub record EndsSo (c : Call) (request : List ℕ) (workers : ℕ) : Type 0 where
   pub surveyed : Surveyed
-  pub read : GoesOnWith c.asked (Run workers) surveyed
+  pub read : GoesOn request c.asked.before c.asked.after surveyed
   pub text : List ℕ
   pub written : Appends c.output.before.written c.output.after.written (text ++ line_of Done)
   pub headline : Headline c.work workers surveyed text
 
 abbrev pub HoldsOf : Call → Outcome → Type 0
-HoldsOf c outcome = (workers : ℕ) (request : List ℕ) → command c.asked.words ≡ Some (Run workers, request) → outcome ≡ Done → ∥ EndsSo c workers ∥₁
+HoldsOf c outcome = (workers : ℕ) (request : List ℕ) → command c.asked.words ≡ Some (InThreads (Run request workers)) → outcome ≡ Done → ∥ EndsSo c request workers ∥₁

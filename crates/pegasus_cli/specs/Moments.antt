@@ -1,25 +1,18 @@
 -- What the objects of a call show before and after it.
-use Rattle.std.specs.Prelude.{ℕ, Bool, List, [], ◌∷◌, get_or, map, Option}
+use Rattle.std.specs.Prelude.{ℕ, List, map, Option}
 use Rattle.craft.specs.declared.crew.Crew.{Crew}
 use Rattle.outside.specs.FileMap.{Files}
-use Rattle.outside.specs.Tool.{Apply}
 use Rattle.outside.specs.declared.counts.Counts.{Counts}
 use Rattle.outside.specs.declared.docs.Docs as docs
 use Rattle.outside.specs.declared.host.Host as host
 use Rattle.outside.specs.declared.sink.Sink as sink
-use Rattle.outside.specs.declared.store.Store.{Store}
 use Rattle.outside.specs.declared.tool.Tool as tool
+use Rattle.plan_run.specs.Moments.{Tools, Work, counting, first_count, work_moment, working}
 
 -- the documents, where they are told, and how often they were asked for
 pub record DocsMoment : Type 0 where
   pub told : Option Files
   pub counts : Counts
-
--- what the host holds, where it is told, its counts, and how often the tool of the first member of the crew has failed
-pub record WorkMoment : Type 0 where
-  pub told : Option Store
-  pub counts : Counts
-  pub tool : ℕ
 
 -- the bytes written, where they are told, and how often the sink has failed
 pub record SinkMoment : Type 0 where
@@ -31,18 +24,6 @@ pub record Asked : Type 0 where
   pub words : List (List ℕ)
   pub before : DocsMoment
   pub after : DocsMoment
-
--- what the work meets: what the tool makes and knows, the host and the tool before and after
-pub record Work : Type 0 where
-  pub apply : Apply
-  pub known : List ℕ → Bool
-  pub before : WorkMoment
-  pub after : WorkMoment
-
--- how often the tool of each member of the crew has failed, in order, before and after
-pub record Tools : Type 0 where
-  pub before : List ℕ
-  pub after : List ℕ
 
 -- where it is written
 pub record Output : Type 0 where
@@ -59,33 +40,12 @@ pub record Call : Type 0 where
 abbrev pub docs_moment : {D : Type 0} → docs.Ghosts D → D → DocsMoment
 docs_moment g d = record { told = g.told d; counts = g.counts d }
 
-abbrev pub work_moment : {H : Type 0} → host.Ghosts H → H → ℕ → WorkMoment
-work_moment g h tool = record { told = g.told h; counts = g.counts h; tool = tool }
-
 abbrev pub sink_moment : {K : Type 0} → sink.Ghosts K → K → SinkMoment
 sink_moment g k = record { written = g.written k; faults = g.faults k }
-
--- the count of a member of a crew, and of its first
-abbrev pub count_of : List ℕ → ℕ → ℕ
-count_of counts k = get_or counts k 0
-
-abbrev pub first_count : List ℕ → ℕ
-first_count [] = 0
-first_count (n ∷ ns) = n
 
 -- a call, by its parts
 abbrev pub asking : List (List ℕ) → DocsMoment → DocsMoment → Asked
 asking words before after = record { words = words; before = before; after = after }
-
-abbrev pub working : Apply → (List ℕ → Bool) → WorkMoment → WorkMoment → Work
-working apply known before after = record { apply = apply; known = known; before = before; after = after }
-
-abbrev pub counting : List ℕ → List ℕ → Tools
-counting before after = record { before = before; after = after }
-
--- those of a crew of its first member alone
-abbrev pub first_tool : Work → Tools
-first_tool w = counting (w.before.tool ∷ []) (w.after.tool ∷ [])
 
 abbrev pub writing : SinkMoment → SinkMoment → Output
 writing before after = record { before = before; after = after }

@@ -1,14 +1,13 @@
 -- The line of an outcome, and its status.
-use Rattle.std.specs.Prelude.{ℕ, ◌++◌, List, [], codes, Result, Ok, Err, Vec}
-use Rattle.std.specs.declared.alloc.Global.{Global}
+use Rattle.std.specs.Prelude.{ℕ, ◌++◌, List, [], codes, Ok, Err}
 use Rattle.outside.specs.Printed.{printed_name}
-use Rattle.pegasus_cli.specs.declared.early.Early.{Early}
-use Rattle.pegasus_cli.specs.declared.early.Early.TheVariants as early
+use Rattle.pegasus_cli.specs.declared.fault.CallFault.TheVariants as faults
 use Rattle.pegasus_cli.specs.declared.outcome.Outcome.{Outcome}
 use Rattle.pegasus_cli.specs.declared.outcome.Outcome.TheVariants.{Done, Memory, Usage, DocAbsent, DocTooLong, DocFailed, Refused, Exceeds, Failed, SinkFailed}
 use Rattle.outside.specs.declared.numbers.TaskId.{TaskId}
 use Rattle.planner.specs.Refused.{and_name, and_number, refused_line}
-use Rattle.pegasus_cli.specs.RunFault.{failed_line}
+use Rattle.run_record.specs.FailedLine.{failed_line}
+use Rattle.pegasus_cli.specs.Fault.{Answer}
 
 abbrev pub exceeds_line : List ℕ → TaskId → ℕ → ℕ → List ℕ
 exceeds_line site task needed bound = codes "exceeds" ++ and_name site ++ and_number task.0 ++ and_number needed ++ and_number bound ++ codes "\n"
@@ -39,21 +38,18 @@ status_of (Exceeds site task needed bound) = 5
 status_of (Failed fault) = 6
 status_of SinkFailed = 7
 
--- an early answer as an outcome
-abbrev pub outcome_of : Early → Outcome
-outcome_of early.Memory = Memory
-outcome_of (early.DocAbsent name) = DocAbsent name
-outcome_of (early.DocTooLong name limit) = DocTooLong name limit
-outcome_of (early.DocFailed name) = DocFailed name
-outcome_of (early.Refused fault) = Refused fault
-outcome_of (early.Exceeds site task needed bound) = Exceeds site task needed bound
+-- a command's answer as an outcome
+abbrev pub outcome_of : Answer → Outcome
+outcome_of (Ok ended) = Done
+outcome_of (Err faults.Memory) = Memory
+outcome_of (Err (faults.DocAbsent name)) = DocAbsent name
+outcome_of (Err (faults.DocTooLong name limit)) = DocTooLong name limit
+outcome_of (Err (faults.DocFailed name)) = DocFailed name
+outcome_of (Err (faults.Refused fault)) = Refused fault
+outcome_of (Err (faults.Exceeds site task needed bound)) = Exceeds site task needed bound
+outcome_of (Err (faults.Failed fault)) = Failed fault
 
--- memory ran out, or this holds
-abbrev pub UnlessMemory : {A : Type 0} → Result A Outcome → Type 0 → Type 0
-UnlessMemory (Err Memory) P = Unit {0}
-UnlessMemory _ P = P
-
--- an answer with a vector, as one with the vector's list
-abbrev pub items_of : {X : Type 0} → Result (Vec X Global) Outcome → Result (List X) Outcome
-items_of (Ok v) = Ok v.items
-items_of (Err answer) = Err answer
+-- every outcome but a failing sink, which only the end of a call can tell
+abbrev pub IsAnswer : Outcome → Type 0
+IsAnswer SinkFailed = ⊥
+IsAnswer _ = Unit {0}

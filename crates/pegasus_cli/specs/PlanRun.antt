@@ -16,22 +16,18 @@ use Rattle.planner.specs.declared.plan_fault.PlanFault.{PlanFault}
 use Rattle.run_record.specs.Events.{Event}
 use Rattle.lease_book.specs.Reading.{IsPlain}
 use Rattle.site_yard.specs.Changes.{carries}
-use Rattle.site_yard.specs.Faults.{AllCarried}
 use Rattle.site_yard.specs.Law.{IsDeliveryOf}
 use Rattle.site_yard.specs.Names.{file_name}
-use Rattle.site_yard.specs.Opening.{AreUnused}
 use Rattle.site_yard.specs.Places.{is_delivered}
-use Rattle.pegasus_cli.specs.Commands.Plan.{HasNoFault, IsRefused, task_limit}
+use Rattle.planner.specs.declared.surveyed.Surveyed.{Surveyed}
+use Rattle.plan_run.specs.Finishing.{CanEnd, replicas_of}
+use Rattle.plan_run.specs.Moments.{Tools, Work}
+use Rattle.plan_run.specs.Running.{End, HasRun}
+use Rattle.pegasus_cli.specs.declared.fault.CallFault.{CallFault}
+use Rattle.pegasus_cli.specs.declared.fault.CallFault.TheVariants.{Memory, Refused}
+use Rattle.pegasus_cli.specs.Commands.Plan.{HasNoFault, IsUnplanned, task_limit}
+use Rattle.pegasus_cli.specs.Fault.{Answer, end_answer, not_for}
 use Rattle.pegasus_cli.specs.KeptTools.{unknown_tool}
-use Rattle.pegasus_cli.specs.Moments.{Tools, Work}
-use Rattle.pegasus_cli.specs.Running.{HasRun}
-use Rattle.pegasus_cli.specs.declared.outcome.Outcome.{Outcome}
-use Rattle.pegasus_cli.specs.declared.outcome.Outcome.TheVariants as outcomes
-use Rattle.pegasus_cli.specs.declared.survey.Surveyed.{Surveyed}
-
--- the bytes at each pfn of a store
-abbrev pub replicas_of : Store → List ℕ → Option (List ℕ)
-replicas_of m pfn = files.get m.replicas pfn
 
 -- a file's name in its workflow, and its value over the replicas of a store
 abbrev pub lfn : Survey → ℕ → List ℕ
@@ -52,8 +48,8 @@ pub record DeliversRequested (w : Work) (s : Surveyed) (p : Plan) (r : List Even
   pub others : (name : List ℕ) → ((f : ℕ) → is_delivered p r f ≡ true → lfn s.survey f ≡ name → ⊥) → files.get new.delivered name ≡ files.get m.delivered name
 
 -- Each requested file is delivered.
-abbrev pub AllDelivered : Surveyed → Plan → List Event → Outcome → Type 0
-AllDelivered s p r outcomes.Done = (f : ℕ) → IsRequested s.survey f → is_delivered p r f ≡ true
+abbrev pub AllDelivered : Surveyed → Plan → List Event → Answer → Type 0
+AllDelivered s p r (Ok done) = (f : ℕ) → IsRequested s.survey f → is_delivered p r f ≡ true
 AllDelivered s p r _ = Unit {0}
 
 -- A plan of the documents with its order, all of whose tools are known.
@@ -65,37 +61,41 @@ pub record IsReady (known : List ℕ → Bool) (s : Surveyed) (p : Plan) (order 
   pub tools : unknown_tool known p.jobs ≡ None
 
 -- It was run by n workers.
-pub record HasRunPlan (w : Work) (t : Tools) (n : ℕ) (s : Surveyed) (text : List ℕ) (answer : Outcome) : Type 0 where
+pub record HasRunPlan (w : Work) (t : Tools) (n : ℕ) (s : Surveyed) (text : List ℕ) (answer : Answer) : Type 0 where
   pub plan : Plan
   pub order : List TaskId
   pub ready : IsReady w.known s plan order
-  pub ran : HasRun w t n plan (task_numbers order) text answer
+  pub end : End
+  pub ran : HasRun w t n plan (task_numbers order) text end
+  pub answers : answer ≡ end_answer end
   pub delivers : IfSome w.before.told (λ m. IfSome w.after.told (λ new. DeliversRequested w s plan ran.r m new))
   pub complete : AllDelivered s plan ran.r answer
 
--- This answer is that of the first kept job whose tool isn't known.
-pub record LacksTool (known : List ℕ → Bool) (s : Surveyed) (answer : Outcome) : Type 0 where
+-- This is the answer for the first kept job whose tool isn't known.
+pub record LacksTool (known : List ℕ → Bool) (s : Surveyed) (answer : CallFault) : Type 0 where
   pub plan : Plan
   pub order : List TaskId
   pub planned : IsPlanOf s.request s.survey task_limit plan
   pub order_is : IsOrder plan at_start (task_numbers order)
   pub fault : PlanFault
   pub first : unknown_tool known plan.jobs ≡ Some fault
-  pub answers : answer ≡ outcomes.Refused fault
+  pub answers : answer ≡ Refused fault
 
--- This answer is that of planning's first fault, or of a tool that isn't known, or memory ran out.
-abbrev pub RefusedAs : (List ℕ → Bool) → Surveyed → Outcome → Type 0
-RefusedAs known s outcomes.Memory = Unit {0}
-RefusedAs known s answer = IsRefused s answer ⊎ LacksTool known s answer
+-- This is the answer for planning's first fault, or for a tool that isn't known, or memory ran out.
+abbrev pub RefusedAs : (List ℕ → Bool) → Surveyed → CallFault → Type 0
+RefusedAs known s Memory = Unit {0}
+RefusedAs known s answer = IsUnplanned s answer ⊎ LacksTool known s answer
 
 -- a plan that can be run, or why there is none
-abbrev pub Readies : (List ℕ → Bool) → Surveyed → Result Ordered Outcome → Type 0
+abbrev pub Readies : (List ℕ → Bool) → Surveyed → Result Ordered CallFault → Type 0
 Readies known s (Ok o) = IsReady known s o.plan o.tasks.items
 Readies known s (Err answer) = RefusedAs known s answer
 
 -- Nothing was run.
-pub record IsUnrun (w : Work) (t : Tools) (s : Surveyed) (text : List ℕ) (answer : Outcome) : Type 0 where
-  pub refused : RefusedAs w.known s answer
+pub record IsUnrun (w : Work) (t : Tools) (s : Surveyed) (text : List ℕ) (answer : Answer) : Type 0 where
+  pub fault : CallFault
+  pub refused : RefusedAs w.known s fault
+  pub answers : answer ≡ not_for fault
   pub untouched : w.after ≡ w.before
   pub unused : t.after ≡ t.before
   pub no_text : text ≡ []
@@ -104,10 +104,7 @@ pub record IsUnrun (w : Work) (t : Tools) (s : Surveyed) (text : List ℕ) (answ
 -- all that its tasks carry is there and fits.
 pub record CanRunPlan (w : Work) (p : Plan) : Type 0 where
   pub tools : unknown_tool w.known p.jobs ≡ None
-  pub store : Store
-  pub told : w.before.told ≡ Some store
-  pub unused : AreUnused p w.before.told
-  pub carried : AllCarried w.apply (replicas_of store) p
+  pub ends : CanEnd w p
 
 -- Planning has no fault, and its plan can be run.
 pub record CanRun (w : Work) (s : Surveyed) : Type 0 where

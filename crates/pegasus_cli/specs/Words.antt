@@ -1,5 +1,5 @@
 -- The words of a command line.
-use Rattle.std.specs.Prelude.{◌≡◌, ℕ, ◌<◌, ◌≤◌, ◌+◌, ◌*◌, ◌-◌, ◌==◌, ◌&&◌, ◌||◌, not, nat_le, Bool, true, false, List, [], ◌∷◌, codes, drop, take, length, if◌then◌else◌, Option, Some, None, Result, Ok, Err}
+use Rattle.std.specs.Prelude.{◌≡◌, ℕ, ◌<◌, ◌≤◌, ◌+◌, ◌*◌, ◌-◌, ◌==◌, ◌&&◌, ◌||◌, not, nat_le, Bool, true, false, List, [], ◌∷◌, codes, drop, take, length, if◌then◌else◌, Option, Some, None, option_map, Result, Ok, Err}
 use Rattle.std.specs.List.{list_any}
 use Rattle.std.specs.Char.{is_ascii_digit}
 use Rattle.std.specs.Str.{bytes_eq}
@@ -8,22 +8,37 @@ use Rattle.std.specs.Vec.Iter.{into_iter_items}
 use Rattle.std.specs.declared.vec.IntoIter.{IntoIter}
 use Rattle.std.specs.declared.io.Error.{Error}
 use Rattle.std.specs.declared.io.ErrorKind.TheVariants.{OutOfMemory}
-use Rattle.pegasus_cli.specs.declared.commands.Command.{Command}
-use Rattle.pegasus_cli.specs.declared.commands.Command.TheVariants.{Check, Plan, Eval, Alone, Run}
+use Rattle.pegasus_cli.specs.declared.commands.Quick.{Quick as QuickWords}
+use Rattle.pegasus_cli.specs.declared.commands.Quick.TheVariants as quick_words
+use Rattle.pegasus_cli.specs.declared.commands.Threaded.{Threaded as ThreadedWords}
+use Rattle.pegasus_cli.specs.declared.commands.Threaded.TheVariants as threaded_words
 
--- a word that names a document: it isn't empty and doesn't begin with a dash
-abbrev pub is_document_word : List ℕ → Bool
-is_document_word [] = false
-is_document_word (b ∷ bs) = not (b == 45)
+-- ---- what is asked for
 
--- the command of a word
-abbrev pub command_named : List ℕ → Option Command
-command_named word = if bytes_eq word (codes "check") then Some Check else if bytes_eq word (codes "plan") then Some Plan else if bytes_eq word (codes "eval") then Some Eval else if bytes_eq word (codes "alone") then Some Alone else None
+-- what starts no thread and waits for nobody, with the names that its words say
+pub data Quick : Type 0 where
+  Check : List ℕ → Quick
+  Plan : List ℕ → Quick
+  Eval : List ℕ → Quick
+  Alone : List ℕ → Quick
 
--- a command and its document's name
-abbrev pub with_document : List ℕ → Option Command → Option (Command × List ℕ)
-with_document name None = None
-with_document name (Some c) = if is_document_word name then Some (c, name) else None
+-- what may start threads and wait, with the name that its words say, and how many workers
+pub data Threaded : Type 0 where
+  Run : List ℕ → ℕ → Threaded
+
+pub data Command : Type 0 where
+  Quickly : Quick → Command
+  InThreads : Threaded → Command
+
+-- what the code holds of each
+abbrev pub quick_of : QuickWords → Quick
+quick_of (quick_words.Check name) = Check name.now
+quick_of (quick_words.Plan name) = Plan name.now
+quick_of (quick_words.Eval name) = Eval name.now
+quick_of (quick_words.Alone name) = Alone name.now
+
+abbrev pub threaded_of : ThreadedWords → Threaded
+threaded_of (threaded_words.Run name workers) = Run name.now workers
 
 -- ---- how many workers
 
@@ -60,63 +75,79 @@ joined_workers word = if begins_with (codes "--workers=") word then workers_in (
 abbrev pub apart_workers : List ℕ → List ℕ → Option ℕ
 apart_workers option digits = if bytes_eq option workers_option then workers_in digits else None
 
--- a run by so many workers, of this document
-abbrev pub run_of : List ℕ → Option ℕ → Option (Command × List ℕ)
-run_of name None = None
-run_of name (Some n) = with_document name (Some (Run n))
+-- ---- which words say it
 
--- the words after `run`: the document's name, with the option for workers as one word or as two, before or after it
-abbrev pub run_joined : List ℕ → List ℕ → Option (Command × List ℕ)
-run_joined a b = if is_document_word a then run_of a (joined_workers b) else run_of b (joined_workers a)
+-- a word that names a document: it isn't empty and doesn't begin with a dash
+abbrev pub is_name : List ℕ → Bool
+is_name [] = false
+is_name (b ∷ bs) = not (b == 45)
 
-abbrev pub run_apart : List ℕ → List ℕ → List ℕ → Option (Command × List ℕ)
-run_apart a b c = if is_document_word a then run_of a (apart_workers b c) else run_of c (apart_workers a b)
+-- a command's word, and one name
+abbrev pub one_named : List ℕ → List ℕ → Option Quick
+one_named word name =
+    if bytes_eq word (codes "check") then Some (Check name)
+    else if bytes_eq word (codes "plan") then Some (Plan name)
+    else if bytes_eq word (codes "eval") then Some (Eval name)
+    else if bytes_eq word (codes "alone") then Some (Alone name)
+    else None
 
-abbrev pub is_run_word : List ℕ → Bool
-is_run_word word = bytes_eq word (codes "run")
+-- a command's word, with one name and a number of workers
+abbrev pub many_named : List ℕ → List ℕ → ℕ → Option Threaded
+many_named word name n = if bytes_eq word (codes "run") then Some (Run name n) else None
 
-abbrev pub run_after : List ℕ → List ℕ → List (List ℕ) → Option (Command × List ℕ)
-run_after a b [] = run_joined a b
-run_after a b (c ∷ []) = run_apart a b c
-run_after a b _ = None
+abbrev pub quick_after : List ℕ → List (List ℕ) → Option Quick
+quick_after word (name ∷ []) = if is_name name then one_named word name else None
+quick_after word _ = None
 
-abbrev pub run_words : List (List ℕ) → Option (Command × List ℕ)
-run_words (a ∷ b ∷ words) = run_after a b words
-run_words _ = None
+abbrev pub named_workers : List ℕ → List ℕ → Option ℕ → Option Threaded
+named_workers word name None = None
+named_workers word name (Some n) = if is_name name then many_named word name n else None
 
--- the words after another command's word: its document's name
-abbrev pub document_words : Option Command → List (List ℕ) → Option (Command × List ℕ)
-document_words named (name ∷ []) = with_document name named
-document_words named _ = None
+-- the option for workers stands as one word or as two, before or after the name
+abbrev pub joined_after : List ℕ → List ℕ → List ℕ → Option Threaded
+joined_after word a b = if is_name a then named_workers word a (joined_workers b) else named_workers word b (joined_workers a)
 
--- a command and one document's name; a run's words say besides by how many workers
-abbrev pub command : List (List ℕ) → Option (Command × List ℕ)
-command [] = None
-command (word ∷ words) = if is_run_word word then run_words words else document_words (command_named word) words
+abbrev pub apart_after : List ℕ → List ℕ → List ℕ → List ℕ → Option Threaded
+apart_after word a b c = if is_name a then named_workers word a (apart_workers b c) else named_workers word c (apart_workers a b)
 
--- a command whose work starts threads
-abbrev pub starts_threads : Command → Bool
-starts_threads (Run n) = true
-starts_threads _ = false
+abbrev pub threaded_after : List ℕ → List (List ℕ) → Option Threaded
+threaded_after word (a ∷ b ∷ []) = joined_after word a b
+threaded_after word (a ∷ b ∷ c ∷ []) = apart_after word a b c
+threaded_after word _ = None
 
--- how many members of a crew the work of some words may use: a member for each worker of a run, else the first one
-abbrev pub members_for : Command → ℕ
-members_for (Run n) = n
-members_for _ = 1
+-- the command of words that start no thread, and of words that may
+abbrev pub quick_command : List (List ℕ) → Option Quick
+quick_command [] = None
+quick_command (word ∷ words) = quick_after word words
 
-abbrev pub members_of : Option (Command × List ℕ) → ℕ
-members_of None = 1
-members_of (Some c) = members_for c.0
-
--- from 1 to 16 workers
-abbrev pub HasWorkers : Command → Type 0
-HasWorkers (Run n) = (0 < n) × (n ≤ 16)
-HasWorkers _ = ⊥
+abbrev pub threaded_command : List (List ℕ) → Option Threaded
+threaded_command [] = None
+threaded_command (word ∷ words) = threaded_after word words
 
 -- Words of a call that may start threads and wait: a run's, and a rehearsal's by several workers.
 abbrev pub is_threaded : List (List ℕ) → Bool
 is_threaded [] = false
-is_threaded (word ∷ words) = is_run_word word || (bytes_eq word (codes "rehearse") && list_any (begins_with workers_option) words)
+is_threaded (word ∷ words) = bytes_eq word (codes "run") || (bytes_eq word (codes "rehearse") && list_any (begins_with workers_option) words)
+
+abbrev pub command_if : Bool → List (List ℕ) → Option Command
+command_if true words = option_map InThreads (threaded_command words)
+command_if false words = option_map Quickly (quick_command words)
+
+-- the command that words are
+abbrev pub command : List (List ℕ) → Option Command
+command words = command_if (is_threaded words) words
+
+-- how many members of a crew a command may use: a member for each worker, else the first one
+abbrev pub threaded_members : Threaded → ℕ
+threaded_members (Run name n) = n
+
+abbrev pub members_of : Option Command → ℕ
+members_of (Some (InThreads t)) = threaded_members t
+members_of _ = 1
+
+-- from 1 to 16 workers
+abbrev pub AreFew : ℕ → Type 0
+AreFew n = (0 < n) × (n ≤ 16)
 
 -- the user's words among a program's arguments: all but the first, which is the program's name; none, where the arguments are no texts
 abbrev pub words_given : {X Z : Type 0} → Result (IntoIter X Z) Error → List X

@@ -1,108 +1,98 @@
 //! The commands.
 
-ghost use Rattle.std.specs.Prelude.{◌≡◌, [], Ok, false};
-ghost use Rattle.outside.specs.Policy.{plain};
-ghost use Rattle.workflow_core.specs.WellFormed.{IsWellFormed};
-ghost use Rattle.dependency_graph.specs.Graph.{IsGraphOf};
-ghost use Rattle.plan_request.specs.Limits.{IsWithinLimits};
-ghost use Rattle.plan_request.specs.Reader.{execute_checked};
-ghost use Rattle.pegasus_cli.specs.Call.{IsAnswer};
-ghost use Rattle.pegasus_cli.specs.Commands.{spec_of};
-ghost use Rattle.pegasus_cli.specs.Moments.{Tools, work_moment, working};
-ghost use Rattle.pegasus_cli.specs.Survey.{PlansMeanWorkflow};
-ghost use Rattle.pegasus_cli.specs.Words.{starts_threads};
+ghost use Rattle.std.specs.Prelude.{◌≡◌, []};
+ghost use Rattle.plan_run.specs.Moments.{Tools, work_moment, working};
+ghost use Rattle.pegasus_cli.specs.Commands.{quick_spec};
+ghost use Rattle.pegasus_cli.specs.CommandSpec.{Does, OfFirst, doing};
+ghost use Rattle.pegasus_cli.specs.Fault.{not_for};
+ghost use Rattle.pegasus_cli.specs.Moments.{docs_moment};
+ghost use Rattle.pegasus_cli.specs.Words.{quick_of};
 
 mod alone;
 mod check;
 mod eval;
 mod plan;
-mod run;
+pub(crate) mod run;
 
-use crate::outcome::Outcome;
-use crate::survey::Surveyed;
+use crate::fault::CallFault;
 use craft::{Crew, Gate};
-use outside::{Host, Tool};
-pub(crate) use run::work as run_by_many;
+use outside::{Docs, Host, Tool};
 use std::alloc::Global;
 
 /// The most tasks that a plan may have.
 pub(crate) const TASK_LIMIT: u64 = 2000;
 
-/// What is asked for.
-#[derive(Clone, Copy, Debug, PartialEq, Eq)]
-pub enum Command {
+/// What starts no thread and waits for nobody, with the names that its words say.
+#[derive(Clone, Copy, Debug)]
+pub enum Quick<'a> {
     /// Reads the workflow and lists what isn't acted on.
-    Check,
+    Check(&'a str),
     /// Plans the workflow and prints the plan.
-    Plan,
+    Plan(&'a str),
     /// Evaluates the workflow and tells the requested files.
-    Eval,
+    Eval(&'a str),
     /// Plans the workflow and runs the plan with one worker.
-    Alone,
-    /// Plans the workflow and runs the plan with so many workers, each in a thread of its own.
-    Run(u32),
+    Alone(&'a str),
 }
 
-/// How a command's work ended, and the text before the answer's line.
+/// What starts threads, with the name that its words say, and how many workers.
+#[derive(Clone, Copy, Debug)]
+pub enum Threaded<'a> {
+    /// Plans the workflow and runs the plan with so many workers, each in a thread of its own.
+    Run(&'a str, u32),
+}
+
+/// What a command tells: its answer, and the text before the answer's line.
 #[derive(Drop)]
-pub(crate) struct Worked {
-    pub(crate) answer: Outcome,
+pub(crate) struct Told {
+    pub(crate) answer: Result<(), CallFault>,
     pub(crate) text: Vec<u8>,
 }
 
 /// An answer with no text before its line.
-pub(crate) fn at_once(alloc: Global, answer: Outcome) -> Worked
-    ensures answer { result.answer ≡ answer }
+pub(crate) fn at_once(alloc: Global, fault: CallFault) -> Told
+    ensures answer { result.answer ≡ not_for fault }
     ensures text { result.text.items ≡ [] }
 {
-    Worked {
-        answer,
+    Told {
+        answer: Err(fault),
         text: Vec::new(alloc),
     }
 }
 
-/// What came of a command, and the host after it.
+/// What a command tells, and the host after it.
 #[derive(Drop)]
-pub(crate) struct Ran<H> {
-    pub(crate) worked: Worked,
+pub(crate) struct Worked<H> {
+    pub(crate) told: Told,
     pub(crate) host: H,
 }
 
-/// The work of a command that starts no thread, over what the documents gave.
-pub(crate) fn work<H: Host, T: Tool, G: Gate>(
+/// Does a command that starts no thread.
+pub(crate) fn work<D: Docs, H: Host, T: Tool, G: Gate>(
     alloc: Global,
-    command: Command,
-    surveyed: &Surveyed,
+    command: Quick<'_>,
+    docs: &mut D,
     host: H,
     crew: &mut Crew<T, G>,
-) -> Ran<H>
-    requires well_formed { IsWellFormed surveyed.now.survey.workflow }
-    requires graph { IsGraphOf surveyed.now.survey.workflow surveyed.now.survey.graph }
-    requires sites { execute_checked surveyed.now.request.execute ≡ Ok tt }
-    requires limits { IsWithinLimits surveyed.now.request }
-    requires policy { surveyed.now.request.policy ≡ plain }
-    requires means { PlansMeanWorkflow surveyed.now }
-    requires no_threads { starts_threads command ≡ false }
-    ensures works { (t : Tools) → (spec_of command).Works (working T.apply T.known (work_moment H.Host host (T.faults crew.old.tool)) (work_moment H.Host result.host (T.faults crew.new.tool)))
-        t surveyed.now result.worked.text.items result.worked.answer }
-    ensures answer { IsAnswer result.worked.answer }
+) -> Worked<H>
+    ensures does { let w = working T.apply T.known (work_moment H.Host host (T.faults crew.old.tool)) (work_moment H.Host result.host (T.faults crew.new.tool)) in
+        (t : Tools) → OfFirst w t → Does (quick_spec (quick_of command)) (doing (docs_moment D.Docs docs.old) (docs_moment D.Docs docs.new) w t) result.told.text.items result.told.answer }
     ensures gate { crew.new.gate ≡ crew.old.gate }
 {
     let mut host = host;
     match command {
-        Command::Check => {
-            let worked = check::work(alloc, surveyed, &mut host, &mut crew.tool);
-            Ran { worked, host }
+        Quick::Check(name) => {
+            let told = check::work(alloc, name, docs);
+            Worked { told, host }
         }
-        Command::Plan => {
-            let worked = plan::work(alloc, surveyed, &mut host, &mut crew.tool);
-            Ran { worked, host }
+        Quick::Plan(name) => {
+            let told = plan::work(alloc, name, docs);
+            Worked { told, host }
         }
-        Command::Eval => {
-            let worked = eval::work(alloc, surveyed, &mut host, &mut crew.tool);
-            Ran { worked, host }
+        Quick::Eval(name) => {
+            let told = eval::work(alloc, name, docs, &mut host, &mut crew.tool);
+            Worked { told, host }
         }
-        Command::Alone => alone::work(alloc, surveyed, host, crew),
-        Command::Run(_) => unreachable!(),
+        Quick::Alone(name) => alone::work(alloc, name, docs, host, crew),
     }
 }

@@ -4,13 +4,13 @@ ghost use Rattle.std.specs.Prelude.{◌≡◌, IfOk, Ok, Err};
 ghost use Rattle.outside.specs.Policy.{plain};
 ghost use Rattle.plan_request.specs.Limits.{IsWithinLimits};
 ghost use Rattle.plan_request.specs.Reader.{execute_checked};
-ghost use Rattle.pegasus_cli.specs.Course.{ButMemory, IsStep, doc_answer, document, documents, if_named, named_documents, plan_answer, request_in_bytes};
+ghost use Rattle.pegasus_cli.specs.Course.{ButMemory, IsStep, doc_answer, document, documents, if_named, named_documents, request_in_bytes};
 ghost use Rattle.pegasus_cli.specs.Moments.{docs_moment};
 
-use crate::early::Early;
+use crate::fault::{CallFault, of_plan_fault};
 use outside::{Blob, DocFault, Docs, Documents, Text};
 use plan_request::PlanRequest;
-use planner::{Document, PlanFault, of_read_fault};
+use planner::{Document, of_read_fault};
 use std::alloc::Global;
 
 /// The longest document, in bytes.
@@ -23,43 +23,22 @@ pub struct Requested {
     pub documents: Documents,
 }
 
-fn of_doc_fault(alloc: Global, name: &str, fault: DocFault) -> Early
+fn of_doc_fault(alloc: Global, name: &str, fault: DocFault) -> CallFault
     ensures { ButMemory {A = Unit {0}} (Err result) (result ≡ doc_answer name.now fault) }
 {
     let Ok(name) = Text::copy_of(alloc, name) else {
-        return Early::Memory;
+        return CallFault::Memory;
     };
     match fault {
-        DocFault::Absent => Early::DocAbsent(name),
-        DocFault::Failed => Early::DocFailed(name),
-        DocFault::TooLong(limit) => Early::DocTooLong(name, limit),
-        DocFault::Memory => Early::Memory,
-    }
-}
-
-/// The answer for a fault of planning.
-pub(crate) fn of_plan_fault(fault: PlanFault) -> Early
-    ensures { result ≡ plan_answer fault }
-{
-    match fault {
-        PlanFault::Memory => Early::Memory,
-        PlanFault::Exceeds {
-            site,
-            task,
-            needed,
-            bound,
-        } => Early::Exceeds {
-            site,
-            task,
-            needed,
-            bound,
-        },
-        fault => Early::Refused(fault),
+        DocFault::Absent => CallFault::DocAbsent(name),
+        DocFault::Failed => CallFault::DocFailed(name),
+        DocFault::TooLong(limit) => CallFault::DocTooLong(name, limit),
+        DocFault::Memory => CallFault::Memory,
     }
 }
 
 /// Fetches the document of a name.
-fn fetch<D: Docs>(alloc: Global, docs: &mut D, name: &str) -> Result<Blob, Early>
+fn fetch<D: Docs>(alloc: Global, docs: &mut D, name: &str) -> Result<Blob, CallFault>
     ensures { IsStep (document name.now Ok) (docs_moment D.Docs docs.old) (docs_moment D.Docs docs.new) result }
 {
     let mut bytes = Vec::new(alloc);
@@ -73,7 +52,7 @@ fn fetch_if_named<D: Docs>(
     alloc: Global,
     docs: &mut D,
     name: &Option<Text>,
-) -> Result<Option<Blob>, Early>
+) -> Result<Option<Blob>, CallFault>
     ensures { IsStep (if_named name.now) (docs_moment D.Docs docs.old) (docs_moment D.Docs docs.new) result }
 {
     let Some(name) = name else {
@@ -81,12 +60,12 @@ fn fetch_if_named<D: Docs>(
     };
     match fetch(alloc, docs, name.as_str()) {
         Ok(bytes) => Ok(Some(bytes)),
-        Err(early) => Err(early),
+        Err(fault) => Err(fault),
     }
 }
 
 /// The request that a document's bytes say.
-fn request_in(alloc: Global, bytes: &Blob) -> Result<PlanRequest, Early>
+fn request_in(alloc: Global, bytes: &Blob) -> Result<PlanRequest, CallFault>
     ensures answer { ButMemory result (result ≡ request_in_bytes bytes.now) }
     ensures sites { IfOk result (λ r. execute_checked r.execute ≡ Ok tt) }
     ensures limits { IfOk result (λ r. IsWithinLimits r) }
@@ -98,7 +77,7 @@ fn request_in(alloc: Global, bytes: &Blob) -> Result<PlanRequest, Early>
     }
 }
 
-fn fetch_request<D: Docs>(alloc: Global, docs: &mut D, name: &str) -> Result<PlanRequest, Early>
+fn fetch_request<D: Docs>(alloc: Global, docs: &mut D, name: &str) -> Result<PlanRequest, CallFault>
     ensures answer { IsStep (document name.now request_in_bytes) (docs_moment D.Docs docs.old) (docs_moment D.Docs docs.new) result }
     ensures sites { IfOk result (λ r. execute_checked r.execute ≡ Ok tt) }
     ensures limits { IfOk result (λ r. IsWithinLimits r) }
@@ -106,7 +85,7 @@ fn fetch_request<D: Docs>(alloc: Global, docs: &mut D, name: &str) -> Result<Pla
 {
     match fetch(alloc, docs, name) {
         Ok(bytes) => request_in(alloc, &bytes),
-        Err(early) => Err(early),
+        Err(fault) => Err(fault),
     }
 }
 
@@ -115,21 +94,21 @@ fn fetch_named<D: Docs>(
     alloc: Global,
     docs: &mut D,
     request: PlanRequest,
-) -> Result<Requested, Early>
+) -> Result<Requested, CallFault>
     ensures answer { IsStep (named_documents request) (docs_moment D.Docs docs.old) (docs_moment D.Docs docs.new) result }
     ensures request { IfOk result (λ r. r.request ≡ request) }
 {
     let workflow = match fetch(alloc, docs, request.workflow.as_str()) {
         Ok(workflow) => workflow,
-        Err(early) => return Err(early),
+        Err(fault) => return Err(fault),
     };
     let sites = match fetch_if_named(alloc, docs, &request.sites) {
         Ok(sites) => sites,
-        Err(early) => return Err(early),
+        Err(fault) => return Err(fault),
     };
     let replicas = match fetch_if_named(alloc, docs, &request.replicas) {
         Ok(replicas) => replicas,
-        Err(early) => return Err(early),
+        Err(fault) => return Err(fault),
     };
     match fetch_if_named(alloc, docs, &request.transformations) {
         Ok(transformations) => Ok(Requested {
@@ -141,7 +120,7 @@ fn fetch_named<D: Docs>(
                 transformations,
             },
         }),
-        Err(early) => Err(early),
+        Err(fault) => Err(fault),
     }
 }
 
@@ -150,7 +129,7 @@ pub(crate) fn fetch_documents<D: Docs>(
     alloc: Global,
     docs: &mut D,
     name: &str,
-) -> Result<Requested, Early>
+) -> Result<Requested, CallFault>
     ensures answer { IsStep (documents name.now) (docs_moment D.Docs docs.old) (docs_moment D.Docs docs.new) result }
     ensures sites { IfOk result (λ r. execute_checked r.request.execute ≡ Ok tt) }
     ensures limits { IfOk result (λ r. IsWithinLimits r.request) }
@@ -158,6 +137,6 @@ pub(crate) fn fetch_documents<D: Docs>(
 {
     match fetch_request(alloc, docs, name) {
         Ok(request) => fetch_named(alloc, docs, request),
-        Err(early) => Err(early),
+        Err(fault) => Err(fault),
     }
 }

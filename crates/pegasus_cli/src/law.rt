@@ -4,7 +4,7 @@ ghost use Rattle.std.specs.Prelude.{◌≡◌, ◌⊎◌, ℕ, List, None, Resul
 ghost use Rattle.outside.specs.FileMap.{Files};
 ghost use Rattle.outside.specs.declared.counts.Counts.{Counts};
 ghost use Rattle.pegasus_cli.specs.declared.course.Requested.{Requested};
-ghost use Rattle.pegasus_cli.specs.declared.early.Early.{Early};
+ghost use Rattle.pegasus_cli.specs.declared.fault.CallFault.{CallFault};
 ghost use Rattle.pegasus_cli.specs.declared.outcome.Outcome.{Outcome};
 ghost use Rattle.pegasus_cli.specs.declared.outcome.Outcome.TheVariants as outcomes;
 ghost use Rattle.pegasus_cli.specs.Call.{IsAnswered};
@@ -14,7 +14,7 @@ ghost use Rattle.pegasus_cli.specs.Words.{command};
 
 /// Told documents decide what comes of them, but where a fetch failed, which was counted, or memory ran out.
 pub fn told_documents_decide()
-    ensures { (files : Files) (name : List ℕ) (before after : Counts) (r : Result Requested Early) → Gives (Some files) (documents name) before after r
+    ensures { (files : Files) (name : List ℕ) (before after : Counts) (r : Result Requested CallFault) → Gives (Some files) (documents name) before after r
         → ButMemory r ((r ≡ read_from files (documents name)) ⊎ HasFailed before after r) }
 {}
 

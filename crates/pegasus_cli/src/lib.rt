@@ -2,31 +2,21 @@
 //!
 //! `pegasus` of `threaded_call.rt` is the call that the program makes; its clauses say when each outcome comes, what
 //! the host holds then and what was written. [`quick`] is the same for words that start no thread, and waits for nobody.
-//! The definitions stand in `specs/`, over those of the crates below; begin with `specs/Headline.antt`, which says what a
-//! run by several workers comes to, and `specs/Call.antt`.
+//! A command is a file of `commands/`, one of `specs/Commands/` and a row of the tables of words and of commands. The
+//! definitions stand in `specs/`, over those of the crates below; begin with `specs/Headline.antt`, which says what a run
+//! by several workers comes to, and `specs/Call.antt`.
 #![tactic(auto)]
 
-mod bases;
 mod call;
-mod check_text;
 mod commands;
 mod course;
-mod early;
-mod evaluation;
-mod job_tools;
+mod fault;
 mod kept_tools;
 mod law;
-mod members;
 mod outcome;
-mod plan_run;
-mod run_fault;
-mod run_text;
-mod running;
-mod running_many;
-mod sources;
+mod ready_plan;
 mod survey;
 mod threaded_call;
-mod value_text;
 mod words;
 
 pub use call::quick;

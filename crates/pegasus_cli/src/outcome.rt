@@ -1,15 +1,13 @@
 //! How a call ends, its line and its status.
 
 ghost use Rattle.std.specs.Prelude.{◌≡◌, ◌++◌, OnOk};
-ghost use Rattle.pegasus_cli.specs.declared.outcome.Outcome.TheVariants as outcomes;
-ghost use Rattle.pegasus_cli.specs.Outcome.{exceeds_line, line_of, outcome_of};
+ghost use Rattle.pegasus_cli.specs.Outcome.{IsAnswer, exceeds_line, line_of, outcome_of};
 
-use crate::early::Early;
-use crate::run_fault::push_failed;
+use crate::fault::CallFault;
 use outside::{Memory, TaskId, Text, Word, push_line};
 use planner::{PlanFault, push_refused};
-use site_yard::RunFault;
-use std::alloc::{AllocFailed, Global};
+use run_record::{RunFault, push_failed};
+use std::alloc::Global;
 
 const USAGE: &str =
     "usage: pegasus check|plan|eval|alone REQ, run REQ --workers N, audit|stat REQ RECORD, rehearse N [--workers N]";
@@ -39,22 +37,6 @@ pub enum Outcome {
     SinkFailed,
 }
 
-impl From<Memory> for Outcome {
-    ghost from_gives = { λ _ e. e ≡ outcomes.Memory };
-
-    fn from(_e: Memory) -> Outcome {
-        Outcome::Memory
-    }
-}
-
-impl<T: Drop> From<AllocFailed<T>> for Outcome {
-    ghost from_gives = { λ _ e. e ≡ outcomes.Memory };
-
-    fn from(_e: AllocFailed<T>) -> Outcome {
-        Outcome::Memory
-    }
-}
-
 impl Outcome {
     ghost use Rattle.pegasus_cli.specs.Outcome.{status_of};
 
@@ -75,17 +57,21 @@ impl Outcome {
     }
 }
 
-/// An early answer as an outcome.
-pub(crate) fn of_early(early: Early) -> Outcome
-    ensures { result ≡ outcome_of early }
+/// A command's answer as an outcome.
+pub(crate) fn of_answer(answer: Result<(), CallFault>) -> Outcome
+    ensures is { result ≡ outcome_of answer }
+    ensures answer { IsAnswer result }
 {
-    match early {
-        Early::Memory => Outcome::Memory,
-        Early::DocAbsent(name) => Outcome::DocAbsent(name),
-        Early::DocTooLong(name, limit) => Outcome::DocTooLong(name, limit),
-        Early::DocFailed(name) => Outcome::DocFailed(name),
-        Early::Refused(fault) => Outcome::Refused(fault),
-        Early::Exceeds {
+    let Err(fault) = answer else {
+        return Outcome::Done;
+    };
+    match fault {
+        CallFault::Memory => Outcome::Memory,
+        CallFault::DocAbsent(name) => Outcome::DocAbsent(name),
+        CallFault::DocTooLong(name, limit) => Outcome::DocTooLong(name, limit),
+        CallFault::DocFailed(name) => Outcome::DocFailed(name),
+        CallFault::Refused(fault) => Outcome::Refused(fault),
+        CallFault::Exceeds {
             site,
             task,
             needed,
@@ -96,6 +82,7 @@ pub(crate) fn of_early(early: Early) -> Outcome
             needed,
             bound,
         },
+        CallFault::Failed(fault) => Outcome::Failed(fault),
     }
 }
 

@@ -1,51 +1,28 @@
-//! The documents of a call, surveyed.
+//! The documents of one request, surveyed.
 
-ghost use Rattle.std.specs.Prelude.{◌≡◌, IfOk, Ok};
-ghost use Rattle.outside.specs.Policy.{plain};
-ghost use Rattle.workflow_core.specs.WellFormed.{IsWellFormed};
-ghost use Rattle.plan_request.specs.Limits.{IsWithinLimits};
-ghost use Rattle.plan_request.specs.Reader.{execute_checked};
 ghost use Rattle.pegasus_cli.specs.Moments.{docs_moment};
-ghost use Rattle.pegasus_cli.specs.Survey.{PlansMeanWorkflow, Surveys};
+ghost use Rattle.pegasus_cli.specs.Survey.{Surveys};
 
-use crate::course::{fetch_documents, of_plan_fault};
-use crate::early::Early;
+use crate::course::fetch_documents;
+use crate::fault::{CallFault, of_plan_fault};
 use outside::Docs;
-use plan_request::PlanRequest;
-use planner::{Survey, plans_mean_the_workflow, survey};
+use planner::{Surveyed, survey_request};
 use std::alloc::Global;
 
-/// A call's request, and what its documents say.
-#[derive(Drop)]
-pub struct Surveyed {
-    pub request: PlanRequest,
-    pub survey: Survey,
-}
-
-/// Fetches a call's documents and surveys them.
+/// Fetches a request and the documents that it names, and surveys them.
 pub(crate) fn read_survey<D: Docs>(
     alloc: Global,
     docs: &mut D,
     name: &str,
-) -> Result<Surveyed, Early>
-    ensures answer { Surveys name.now (docs_moment D.Docs docs.old) (docs_moment D.Docs docs.new) result }
-    ensures well_formed { IfOk result (λ s. IsWellFormed s.survey.workflow) }
-    ensures sites { IfOk result (λ s. execute_checked s.request.execute ≡ Ok tt) }
-    ensures limits { IfOk result (λ s. IsWithinLimits s.request) }
-    ensures policy { IfOk result (λ s. s.request.policy ≡ plain) }
-    ensures means { IfOk result (λ s. PlansMeanWorkflow s) }
+) -> Result<Surveyed, CallFault>
+    ensures { Surveys name.now (docs_moment D.Docs docs.old) (docs_moment D.Docs docs.new) result }
 {
-    // A law for the proof: it does nothing.
-    plans_mean_the_workflow();
     let requested = match fetch_documents(alloc, docs, name) {
         Ok(requested) => requested,
-        Err(early) => return Err(early),
+        Err(fault) => return Err(fault),
     };
-    match survey(alloc, &requested.request, &requested.documents) {
-        Ok(survey) => Ok(Surveyed {
-            request: requested.request,
-            survey,
-        }),
+    match survey_request(alloc, requested.request, &requested.documents) {
+        Ok(surveyed) => Ok(surveyed),
         Err(fault) => Err(of_plan_fault(fault)),
     }
 }

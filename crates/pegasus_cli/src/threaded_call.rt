@@ -1,38 +1,26 @@
 //! The call that the program makes.
 
-ghost use Rattle.std.specs.Prelude.{◌≡◌, ◌<◌, ◌≤◌, drop, false, length, map as list_map, string_bytes, true};
+ghost use Rattle.std.specs.Prelude.{◌≡◌, drop, false, length, map as list_map, string_bytes, true};
 ghost use Rattle.craft.specs.declared.crew.Crew.{Crew};
 ghost use Rattle.pegasus_cli.specs.Call.{IsAnswered};
 ghost use Rattle.pegasus_cli.specs.Headline.{HoldsOf};
 ghost use Rattle.pegasus_cli.specs.Moments.{call_of, objects};
-ghost use Rattle.pegasus_cli.specs.Words.{HasWorkers, command, is_threaded, members_of};
-ghost use Rattle.pegasus_cli.specs.declared.commands.Command.TheVariants.{Run};
+ghost use Rattle.pegasus_cli.specs.Words.{command, is_threaded, members_of};
 
-use crate::call::{finish, prepare, quick};
-use crate::commands::{Command, run_by_many};
+use crate::call::{answer, quick, refuse_words};
+use crate::commands::{Threaded, run};
 use crate::outcome::Outcome;
-use crate::words::threaded;
+use crate::words::{threaded, threaded_command};
 use craft::{Crew, Gate};
+use evaluation::evaluations_finish;
 use outside::{Docs, Host, Sink, Tool};
-use site_yard::nothing_else_fails;
+use plan_run::runs_finish;
 use std::alloc::Global;
 use std::sync::Wait;
 use std::thread::Threads;
 
-/// How many workers a run is to have.
-fn workers_of(command: Command) -> u32
-    requires { HasWorkers command }
-    ensures is { command ≡ Run result }
-    ensures few { (0 < result) × (result ≤ 16) }
-{
-    match command {
-        Command::Run(workers) => workers,
-        _ => unreachable!(),
-    }
-}
-
-/// Does what the words of a run say, with as many members of the crew as there are to be workers.
-fn run_words<
+/// Does what words say that may start threads, with as many members of the crew as there are to be workers.
+fn in_threads<
     R: Threads + Wait + Sync,
     D: Docs,
     K: Sink,
@@ -57,20 +45,18 @@ fn run_words<
     ensures others { let used = members_of (command (list_map string_bytes words.now)) in
         drop used result.2.items ≡ drop used crew.items }
 {
-    // A law for the proof: it does nothing.
-    nothing_else_fails();
+    // Laws for the proof: they do nothing.
+    runs_finish();
+    evaluations_finish();
     let mut crew = crew;
-    let going = match prepare(alloc, words, docs) {
-        Ok(going) => going,
-        Err(answer) => {
-            let outcome = finish(alloc, out, Vec::new(alloc), answer);
-            return (outcome, host, crew);
+    match threaded_command(words) {
+        Some(Threaded::Run(name, workers)) => {
+            let worked = run::work(rt, alloc, name, workers, docs, host, &mut crew);
+            let outcome = answer(alloc, out, worked.told);
+            (outcome, worked.host, crew)
         }
-    };
-    let workers = workers_of(going.command);
-    let ran = run_by_many(rt, alloc, workers, &going.surveyed, host, &mut crew);
-    let outcome = finish(alloc, out, ran.worked.text, ran.worked.answer);
-    (outcome, ran.host, crew)
+        None => (refuse_words(alloc, out), host, crew),
+    }
 }
 
 /// Does what the words say and writes what came of it. A run starts a thread for each worker and joins them all before
@@ -104,7 +90,7 @@ pub fn pegasus<
     ensures gates { is_threaded (list_map string_bytes words.now) ≡ false → list_map (λ (c : Crew T G). c.gate) result.2.items ≡ list_map (λ (c : Crew T G). c.gate) crew.items }
 {
     if threaded(words) {
-        run_words(rt, alloc, words, docs, out, host, crew)
+        in_threads(rt, alloc, words, docs, out, host, crew)
     } else {
         quick(alloc, words, docs, out, host, crew)
     }

@@ -1,17 +1,17 @@
 //! The words of a command line.
 
-ghost use Rattle.std.specs.Prelude.{◌≡◌, ◌<◌, IfOk, IsErr, Some, is_some, length, map as list_map, option_map, string_bytes};
+ghost use Rattle.std.specs.Prelude.{◌≡◌, IfOk, IfSome, IsErr, map as list_map, option_map, string_bytes};
 ghost use Rattle.std.specs.List.{list_any};
-ghost use Rattle.pegasus_cli.specs.Words.{IsForMemory, apart_workers as apart, begins_with, command as command_of, command_named as named, document_words as document_of, four_digits as of_digits, is_document_word as is_document, is_run_word as is_run, is_threaded, joined_workers as joined, run_after as after_two, run_apart as apart_run, run_joined as joined_run, run_of as a_run, run_words as words_of_run, words_given, workers_in as within, workers_option};
+ghost use Rattle.pegasus_cli.specs.Words.{AreFew, IsForMemory, apart_after as of_apart, apart_workers as apart, begins_with, four_digits as of_digits, is_name as names, is_threaded, joined_after as of_joined, joined_workers as joined, many_named as many, named_workers as of_workers, one_named as one, quick_after as of_quick, quick_command as quick_in, quick_of, threaded_after as of_threaded, threaded_command as threaded_in, threaded_members, threaded_of, words_given, workers_in as within, workers_option};
 
-use crate::commands::Command;
+use crate::commands::{Quick, Threaded};
 use outside::Memory;
 use std::alloc::Global;
 use std::env::Args;
 use std::io;
 
-fn is_document_word(word: &str) -> bool
-    ensures { result ≡ is_document word.now }
+fn is_name(word: &str) -> bool
+    ensures { result ≡ names word.now }
 {
     match word.as_bytes() {
         [] => false,
@@ -19,21 +19,35 @@ fn is_document_word(word: &str) -> bool
     }
 }
 
-fn command_named(word: &str) -> Option<Command>
-    ensures { result ≡ named word.now }
+/// The command of a word with one name.
+fn one_named<'a>(word: &str, name: &'a str) -> Option<Quick<'a>>
+    ensures { option_map quick_of result ≡ one word.now name.now }
 {
     match word {
-        "check" => Some(Command::Check),
-        "plan" => Some(Command::Plan),
-        "eval" => Some(Command::Eval),
-        "alone" => Some(Command::Alone),
+        "check" => Some(Quick::Check(name)),
+        "plan" => Some(Quick::Plan(name)),
+        "eval" => Some(Quick::Eval(name)),
+        "alone" => Some(Quick::Alone(name)),
+        _ => None,
+    }
+}
+
+/// The command of a word with one name and a number of workers.
+fn many_named<'a>(word: &str, name: &'a str, workers: u32) -> Option<Threaded<'a>>
+    requires { AreFew workers }
+    ensures is { option_map threaded_of result ≡ many word.now name.now workers }
+    ensures few { IfSome result (λ c. AreFew (threaded_members (threaded_of c))) }
+{
+    match word {
+        "run" => Some(Threaded::Run(name, workers)),
         _ => None,
     }
 }
 
 /// The number that four digits make, if there may be so many workers.
 fn four_digits(a: u8, b: u8, c: u8, d: u8) -> Option<u32>
-    ensures { result ≡ of_digits a b c d }
+    ensures is { result ≡ of_digits a b c d }
+    ensures few { IfSome result AreFew }
 {
     if !(a.is_ascii_digit() && b.is_ascii_digit() && c.is_ascii_digit() && d.is_ascii_digit()) {
         return None;
@@ -49,7 +63,8 @@ fn four_digits(a: u8, b: u8, c: u8, d: u8) -> Option<u32>
 
 /// The number that one to four digits make, if there may be so many workers.
 fn workers_in(digits: &[u8]) -> Option<u32>
-    ensures { result ≡ within digits.now }
+    ensures is { result ≡ within digits.now }
+    ensures few { IfSome result AreFew }
 {
     match digits {
         [d] => four_digits(b'0', b'0', b'0', *d),
@@ -62,7 +77,8 @@ fn workers_in(digits: &[u8]) -> Option<u32>
 
 /// The number of workers in a word `--workers=N`.
 fn joined_workers(word: &str) -> Option<u32>
-    ensures { result ≡ joined word.now }
+    ensures is { result ≡ joined word.now }
+    ensures few { IfSome result AreFew }
 {
     match word.as_bytes().strip_prefix(b"--workers=".as_slice()) {
         Some(digits) => workers_in(digits),
@@ -72,7 +88,8 @@ fn joined_workers(word: &str) -> Option<u32>
 
 /// The number of workers in the words `--workers N`.
 fn apart_workers(option: &str, digits: &str) -> Option<u32>
-    ensures { result ≡ apart option.now digits.now }
+    ensures is { result ≡ apart option.now digits.now }
+    ensures few { IfSome result AreFew }
 {
     match option {
         "--workers" => workers_in(digits.as_bytes()),
@@ -80,92 +97,80 @@ fn apart_workers(option: &str, digits: &str) -> Option<u32>
     }
 }
 
-/// A run of this document by so many workers.
-fn run_of(name: &str, workers: Option<u32>) -> Option<(Command, &str)>
-    ensures { option_map (λ c. (c.0, c.1.now)) result ≡ a_run name.now workers }
+/// The command of a word with a name, if one may stand there, and so many workers.
+fn named_workers<'a>(word: &str, name: &'a str, workers: Option<u32>) -> Option<Threaded<'a>>
+    requires { IfSome workers AreFew }
+    ensures is { option_map threaded_of result ≡ of_workers word.now name.now workers }
+    ensures few { IfSome result (λ c. AreFew (threaded_members (threaded_of c))) }
 {
     match workers {
-        Some(workers) if is_document_word(name) => Some((Command::Run(workers), name)),
+        Some(workers) if is_name(name) => many_named(word, name, workers),
         _ => None,
     }
 }
 
-fn run_joined<'a>(a: &'a str, b: &'a str) -> Option<(Command, &'a str)>
-    ensures { option_map (λ c. (c.0, c.1.now)) result ≡ joined_run a.now b.now }
+fn joined_after<'a>(word: &str, a: &'a str, b: &'a str) -> Option<Threaded<'a>>
+    ensures is { option_map threaded_of result ≡ of_joined word.now a.now b.now }
+    ensures few { IfSome result (λ c. AreFew (threaded_members (threaded_of c))) }
 {
-    if is_document_word(a) {
-        run_of(a, joined_workers(b))
+    if is_name(a) {
+        named_workers(word, a, joined_workers(b))
     } else {
-        run_of(b, joined_workers(a))
+        named_workers(word, b, joined_workers(a))
     }
 }
 
-fn run_apart<'a>(a: &'a str, b: &'a str, c: &'a str) -> Option<(Command, &'a str)>
-    ensures { option_map (λ c. (c.0, c.1.now)) result ≡ apart_run a.now b.now c.now }
+fn apart_after<'a>(word: &str, a: &'a str, b: &'a str, c: &'a str) -> Option<Threaded<'a>>
+    ensures is { option_map threaded_of result ≡ of_apart word.now a.now b.now c.now }
+    ensures few { IfSome result (λ c. AreFew (threaded_members (threaded_of c))) }
 {
-    if is_document_word(a) {
-        run_of(a, apart_workers(b, c))
+    if is_name(a) {
+        named_workers(word, a, apart_workers(b, c))
     } else {
-        run_of(c, apart_workers(a, b))
+        named_workers(word, c, apart_workers(a, b))
     }
 }
 
-fn run_after<'a>(a: &'a str, b: &'a str, words: &'a [String]) -> Option<(Command, &'a str)>
-    ensures { option_map (λ c. (c.0, c.1.now)) result ≡ after_two a.now b.now (list_map string_bytes words.now) }
+/// What the words after a command's word say with workers.
+fn threaded_after<'a>(word: &str, words: &'a [String]) -> Option<Threaded<'a>>
+    ensures is { option_map threaded_of result ≡ of_threaded word.now (list_map string_bytes words.now) }
+    ensures few { IfSome result (λ c. AreFew (threaded_members (threaded_of c))) }
 {
     match words {
-        [] => run_joined(a, b),
-        [c, words @ ..] => match words {
-            [] => run_apart(a, b, c.as_str()),
-            [_, ..] => None,
-        },
-    }
-}
-
-/// What the words after `run` say.
-fn run_words(words: &[String]) -> Option<(Command, &str)>
-    ensures { option_map (λ c. (c.0, c.1.now)) result ≡ words_of_run (list_map string_bytes words.now) }
-{
-    match words {
-        [] => None,
-        [a, words @ ..] => match words {
-            [] => None,
-            [b, words @ ..] => run_after(a.as_str(), b.as_str(), words),
-        },
-    }
-}
-
-/// What the words after another command's word say: its document's name.
-fn document_words(named: Option<Command>, words: &[String]) -> Option<(Command, &str)>
-    ensures { option_map (λ c. (c.0, c.1.now)) result ≡ document_of named (list_map string_bytes words.now) }
-{
-    match (named, words) {
-        (Some(command), [name]) if is_document_word(name.as_str()) => {
-            Some((command, name.as_str()))
-        }
+        [a, b] => joined_after(word, a.as_str(), b.as_str()),
+        [a, b, c] => apart_after(word, a.as_str(), b.as_str(), c.as_str()),
         _ => None,
     }
 }
 
-fn is_run_word(word: &str) -> bool
-    ensures { result ≡ is_run word.now }
+/// What the words after a command's word say without workers.
+fn quick_after<'a>(word: &str, words: &'a [String]) -> Option<Quick<'a>>
+    ensures { option_map quick_of result ≡ of_quick word.now (list_map string_bytes words.now) }
 {
-    word == "run"
+    match words {
+        [name] if is_name(name.as_str()) => one_named(word, name.as_str()),
+        _ => None,
+    }
 }
 
-/// The command and the document that the words name.
-pub(crate) fn parse_words(words: &[String]) -> Option<(Command, &str)>
-    ensures { option_map (λ c. (c.0, c.1.now)) result ≡ command_of (list_map string_bytes words.now) }
+/// The command of words that start no thread.
+pub(crate) fn quick_command(words: &[String]) -> Option<Quick<'_>>
+    ensures { option_map quick_of result ≡ quick_in (list_map string_bytes words.now) }
 {
     match words {
         [] => None,
-        [word, words @ ..] => {
-            if is_run_word(word.as_str()) {
-                run_words(words)
-            } else {
-                document_words(command_named(word.as_str()), words)
-            }
-        }
+        [word, words @ ..] => quick_after(word.as_str(), words),
+    }
+}
+
+/// The command of words that may start threads.
+pub(crate) fn threaded_command(words: &[String]) -> Option<Threaded<'_>>
+    ensures is { option_map threaded_of result ≡ threaded_in (list_map string_bytes words.now) }
+    ensures few { IfSome result (λ c. AreFew (threaded_members (threaded_of c))) }
+{
+    match words {
+        [] => None,
+        [word, words @ ..] => threaded_after(word.as_str(), words),
     }
 }
 
@@ -189,7 +194,7 @@ pub fn threaded(words: &[String]) -> bool
     match words {
         [] => false,
         [word, words @ ..] => {
-            is_run_word(word.as_str()) || (word.as_str() == "rehearse" && has_workers(words))
+            word.as_str() == "run" || (word.as_str() == "rehearse" && has_workers(words))
         }
     }
 }

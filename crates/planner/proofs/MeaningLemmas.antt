@@ -58,15 +58,11 @@ use Rattle.planner.specs.declared.inputs.Survey.{Survey}
 use Rattle.planner.specs.declared.plan_fault.PlanFault.{PlanFault}
 use Rattle.planner.specs.Catalogue.{found, held}
 use Rattle.planner.specs.Course.{SurveyEntry, all_listed, or_empty, replicas_in, sites_in, surveyed, transformations_in, workflow_in}
-use Rattle.planner.specs.Meaning.{AreHonest, IsHonest, Told, basis_of, entry_named, value_of}
+use Rattle.planner.specs.Meaning.{AreHonest, IsHonest, IsJoined, Told, basis_of, entry_named, value_of}
 use Rattle.planner.specs.Planning.{AreLeveled, draft}
 use Rattle.planner.specs.PlanFault.{answered}
 
 -- ---- what is registered has one entry for each name
-
-pub record IsJoined (c : CatalogEntry) : Type 0 where
-  pub entries : List Replica
-  pub joined_is : c.entries ≡ joined entries
 
 bind_ok : {A B : Type 0} (m : Result A PlanFault) (k : A → Result B PlanFault) (y : B) → (m >>= k) ≡ Ok y → (x : A) × (m ≡ Ok x) × (k x ≡ Ok y)
 bind_ok (Ok x) k y e = (x, refl, e)

@@ -6,4 +6,6 @@ pub mod Course
 pub mod Ordering
 pub mod Planning
 pub mod Meaning
+pub mod Surveyed
 pub mod Deliveries
+pub mod CheckText

@@ -7,13 +7,20 @@ use Rattle.workflow_core.specs.declared.workflow.Job.{Job}
 use Rattle.dependency_graph.specs.Value.{Basis, basis, value}
 use Rattle.replica_catalog.specs.declared.catalog.Pfn.{Pfn}
 use Rattle.replica_catalog.specs.declared.catalog.Replica.{Replica}
+use Rattle.replica_catalog.specs.Joining.{joined}
 use Rattle.replica_catalog.specs.Lookup.{is_of}
+use Rattle.replica_catalog.specs.Reader.{CatalogEntry}
 use Rattle.plan_request.specs.declared.request.PlanRequest.{PlanRequest}
 use Rattle.plan_request.specs.JobTools.{tool_of}
 use Rattle.plan_core.specs.declared.plan.Plan.{Plan}
 use Rattle.plan_core.specs.Carried.{carried}
 use Rattle.plan_core.specs.Kinds.{carries}
 use Rattle.planner.specs.declared.inputs.Survey.{Survey}
+
+-- A catalogue has one entry for each name: several entries of one name are put together.
+pub record IsJoined (c : CatalogEntry) : Type 0 where
+  pub entries : List Replica
+  pub joined_is : c.entries ≡ joined entries
 
 -- what stands at each pfn
 abbrev pub Told : Type 0

@@ -2,11 +2,13 @@
 //!
 //! `survey` reads the documents in their course, which `specs/Course.antt` states: the workflow, the
 //! catalogues that hold, the execution sites, the graph. `plan` goes on from there, as `specs/Planning.antt` says: the
-//! kept jobs, their sites and clusters, the tasks, the Cleans, the order. `PlanFault` has every reason why planning ends, and
-//! `push_refused` its line.
+//! kept jobs, their sites and clusters, the tasks, the Cleans, the order. A [`Surveyed`] keeps what is known of a request and
+//! its survey, so that no caller says it again. `PlanFault` has every reason why planning ends, and `push_refused` its
+//! line; `check_text` tells what a survey has.
 #![tactic(auto)]
 
 mod catalogue;
+mod check_text;
 mod course;
 mod deliveries;
 mod document;
@@ -17,7 +19,9 @@ mod ordering;
 mod plan_fault;
 mod planning;
 mod refused;
+mod surveyed;
 
+pub use check_text::check_text;
 pub use course::survey;
 pub use deliveries::plans_deliver_requests;
 pub use document::Document;
@@ -26,3 +30,4 @@ pub use meaning::plans_mean_the_workflow;
 pub use plan_fault::{PlanFault, of_read_fault};
 pub use planning::{plan, plan_survey};
 pub use refused::push_refused;
+pub use surveyed::{Surveyed, survey_request};

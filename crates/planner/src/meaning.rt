@@ -1,14 +1,14 @@
 //! What a plan means: its tasks carry what the workflow's files are worth.
 
 ghost use Rattle.std.specs.Prelude.{◌≡◌, ◌≤◌, ℕ, Ok};
-ghost use Rattle.outside.specs.declared.documents.Documents.{Documents};
 ghost use Rattle.workflow_core.specs.WellFormed.{IsWellFormed};
+ghost use Rattle.dependency_graph.specs.Graph.{IsGraphOf};
+ghost use Rattle.replica_catalog.specs.Reader.{view};
 ghost use Rattle.plan_request.specs.declared.request.PlanRequest.{PlanRequest};
 ghost use Rattle.plan_request.specs.Reader.{execute_checked};
 ghost use Rattle.plan_core.specs.declared.plan.Plan.{Plan};
-ghost use Rattle.planner.specs.Course.{IsSurvey};
 ghost use Rattle.planner.specs.declared.inputs.Survey.{Survey};
-ghost use Rattle.planner.specs.Meaning.{MeansWorkflow};
+ghost use Rattle.planner.specs.Meaning.{IsJoined, MeansWorkflow};
 ghost use Rattle.planner.specs.Planning.{IsPlanOf};
 
 use crate::law::placed_jobs_are_a_draft;
@@ -21,9 +21,12 @@ use transfer_refiner::{
     refined_plan_means_the_workflow,
 };
 
-/// The plan of what documents say means the workflow that they say.
+/// A plan of a sound workflow, over a catalogue with one entry for each name, means that workflow.
 pub fn plans_mean_the_workflow()
-    ensures { (r : PlanRequest) (d : Documents) (s : Survey) (limit : ℕ) (p : Plan) → execute_checked r.execute ≡ Ok tt → limit ≤ 120000 → IsSurvey r d s → IsWellFormed s.workflow → IsPlanOf r s limit p → MeansWorkflow r s p }
+    ensures { (r : PlanRequest) (s : Survey) (limit : ℕ) (p : Plan)
+        → execute_checked r.execute ≡ Ok tt → limit ≤ 120000
+        → IsWellFormed s.workflow → IsGraphOf s.workflow s.graph → IsJoined (view s.replicas)
+        → IsPlanOf r s limit p → MeansWorkflow r s p }
 {
     placed_jobs_are_a_draft();
     kept_jobs_are_clustered();

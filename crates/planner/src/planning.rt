@@ -8,7 +8,6 @@ ghost use Rattle.site_selector.specs.Selecting.{IsSelected};
 ghost use Rattle.plan_request.specs.Limits.{IsWithinLimits};
 ghost use Rattle.plan_request.specs.Reader.{execute_checked};
 ghost use Rattle.plan_core.specs.Proper.{IsProper};
-ghost use Rattle.storage_simulation.specs.Goods.{IsWithinLimits as IsPlanWithinLimits};
 ghost use Rattle.transfer_refiner.specs.Conditions.{IsDraft};
 ghost use Rattle.cleanup_refiner.specs.Cleans.{cleaned};
 ghost use Rattle.planner.specs.declared.plan_fault.PlanFault.TheVariants as faults;
@@ -22,6 +21,7 @@ use crate::law::{placed_jobs_are_a_draft, plans_can_be_ordered};
 use crate::meaning::plans_mean_the_workflow;
 use crate::ordering::with_order;
 use crate::plan_fault::PlanFault;
+use crate::surveyed::Surveyed;
 use cleanup_refiner::add_cleans;
 use clustering::cluster;
 use data_reuse::kept;
@@ -233,8 +233,8 @@ fn plan_of(
     }
 }
 
-/// The plan of what the documents of a request say, with its order, or the first fault. `limit` is that on tasks.
-pub fn plan_survey(
+/// The plan of what the documents of a request say, with its order.
+fn ordered_plan(
     alloc: Global,
     request: &PlanRequest,
     survey: &Survey,
@@ -246,8 +246,6 @@ pub fn plan_survey(
     requires sizes { IsWithinLimits request.now }
     requires few { limit ≤ 120000 }
     ensures plan { Plans request.now survey.now limit result }
-    ensures proper { IfOk result (λ o. IsProper o.plan) }
-    ensures limits { IfOk result (λ o. IsPlanWithinLimits o.plan) }
 {
     // A law for the proof: it does nothing.
     plans_can_be_ordered();
@@ -261,6 +259,14 @@ pub fn plan_survey(
     }
 }
 
+/// The plan of a surveyed request, with its order, or the first fault. `limit` is that on tasks.
+pub fn plan_survey(alloc: Global, surveyed: &Surveyed, limit: u64) -> Result<Ordered, PlanFault>
+    requires { limit ≤ 120000 }
+    ensures { Plans surveyed.now.request surveyed.now.survey limit result }
+{
+    ordered_plan(alloc, &surveyed.request, &surveyed.survey, limit)
+}
+
 /// The plan of a request and its documents, with its order, or the first fault. `limit` is that on tasks.
 pub fn plan(
     alloc: Global,
@@ -272,8 +278,6 @@ pub fn plan(
     requires sizes { IsWithinLimits request.now }
     requires few { limit ≤ 120000 }
     ensures plan { PlansDocuments request.now documents.now limit result }
-    ensures proper { IfOk result (λ o. IsProper o.plan) }
-    ensures limits { IfOk result (λ o. IsPlanWithinLimits o.plan) }
     ensures means { IfOk result (λ o. OfSurvey request.now documents.now (λ s. MeansWorkflow request.now s o.plan)) }
 {
     // A law for the proof: it does nothing.
@@ -282,7 +286,7 @@ pub fn plan(
         Ok(survey) => survey,
         Err(fault) => return Err(fault),
     };
-    match plan_survey(alloc, request, &survey, limit) {
+    match ordered_plan(alloc, request, &survey, limit) {
         Ok(ordered) => Ok(ordered),
         Err(fault) => Err(fault),
     }

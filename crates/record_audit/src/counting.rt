@@ -1,9 +1,7 @@
 //! The sums of a record, entry by entry.
 
 ghost use Rattle.std.specs.Prelude.{◌≡◌, ◌≤◌, ◌<◌, ℕ, IfOk, get_or, length, max};
-ghost use Rattle.plan_core.specs.Proper.{IsProper};
 ghost use Rattle.plan_core.specs.Words.{retries, task_numbers};
-ghost use Rattle.storage_simulation.specs.Goods.{IsWithinLimits};
 ghost use Rattle.storage_simulation.specs.Standings.{at_in};
 ghost use Rattle.lease_book.specs.Legal.{Legal};
 ghost use Rattle.record_audit.specs.Sums.{AreSums};
@@ -36,8 +34,6 @@ pub fn statistics(
     ordered: &Ordered,
     history: &Record,
 ) -> Result<Statistics, Memory>
-    requires proper { IsProper ordered.now.plan }
-    requires limits { IsWithinLimits ordered.now.plan }
     requires retries { retries ordered.now.plan ≤ 10 }
     requires legal { Legal ordered.now.plan (task_numbers ordered.now.tasks.items) history.now.events }
     ensures { IfOk result (AreSums ordered.now.plan (task_numbers ordered.now.tasks.items) history.now.events) }

@@ -45,9 +45,7 @@ fn is_complete(book: &mut Book) -> bool
 /// Whether a record is complete for an ordered plan, or legal, or which of its entries is the first
 /// that isn't allowed. It takes memory once, before the first entry.
 pub fn audit(alloc: Global, ordered: &Ordered, history: &Record) -> Result<Verdict, Memory>
-    requires proper { IsProper ordered.now.plan }
-    requires limits { IsWithinLimits ordered.now.plan }
-    requires retries { retries ordered.now.plan ≤ 10 }
+    requires { retries ordered.now.plan ≤ 10 }
     ensures { IfOk result (IsJudged ordered.now.plan (task_numbers ordered.now.tasks.items) history.now.events) }
 {
     // A law for the proof: it does nothing.

@@ -11,8 +11,8 @@ use Rattle.lease_book.specs.Book.{state_at}
 use Rattle.lease_book.specs.Reading.{is_fail}
 use Rattle.site_yard.specs.Ending.{Ends, failed_in, fault_of, first_failed, first_fault}
 use Rattle.site_yard.specs.declared.ending.Failed.{Failed}
-use Rattle.site_yard.specs.declared.ending.RunFault.{RunFault}
-use Rattle.site_yard.specs.declared.ending.RunFault.TheVariants.{Memory}
+use Rattle.run_record.specs.declared.run_fault.RunFault.{RunFault}
+use Rattle.run_record.specs.declared.run_fault.RunFault.TheVariants.{Memory}
 use Rattle.site_yard.proofs.AgreesLemmas.{HasBookLaws}
 use Rattle.site_yard.proofs.MoveLemmas.{no_prop}
 

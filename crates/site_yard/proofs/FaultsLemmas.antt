@@ -32,8 +32,8 @@ use Rattle.site_yard.specs.Law.{HasPlanLaws}
 use Rattle.site_yard.specs.Names.{pair_file, pair_site}
 use Rattle.site_yard.specs.Truthful.{HasChecksum, HasSum, IsAtPfn, IsCause, IsDigest, IsLongAs, IsTrue, Truthful, declined, is_over, oversize_among}
 use Rattle.site_yard.specs.declared.ending.Failed.{Failed}
-use Rattle.site_yard.specs.declared.ending.RunFault.{RunFault}
-use Rattle.site_yard.specs.declared.ending.RunFault.TheVariants as fault
+use Rattle.run_record.specs.declared.run_fault.RunFault.{RunFault}
+use Rattle.run_record.specs.declared.run_fault.RunFault.TheVariants as fault
 use Rattle.site_yard.proofs.HoldsLemmas.{same_id}
 use Rattle.site_yard.proofs.PlanLemmas.{written_file}
 

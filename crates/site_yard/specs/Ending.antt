@@ -15,8 +15,8 @@ use Rattle.run_record.specs.Events.{Event, Fail}
 use Rattle.lease_book.specs.Legal.{checksum}
 use Rattle.site_yard.specs.Names.{file_name}
 use Rattle.site_yard.specs.declared.ending.Failed.{Failed}
-use Rattle.site_yard.specs.declared.ending.RunFault.{RunFault}
-use Rattle.site_yard.specs.declared.ending.RunFault.TheVariants.{ReplicaAbsent, ReplicaTooLong, ChecksumDiffers, Oversize, Declined, ToolFailed, HostFailed, Memory}
+use Rattle.run_record.specs.declared.run_fault.RunFault.{RunFault}
+use Rattle.run_record.specs.declared.run_fault.RunFault.TheVariants.{ReplicaAbsent, ReplicaTooLong, ChecksumDiffers, Oversize, Declined, ToolFailed, HostFailed, Memory}
 
 -- the id of a job
 abbrev pub id_in : Option PlanJob → List ℕ

@@ -8,8 +8,8 @@ use Rattle.plan_core.specs.Words.{declared, is_transfer, kind}
 use Rattle.storage_simulation.specs.Goods.{or_zero}
 use Rattle.run_record.specs.Events.{Event}
 use Rattle.lease_book.specs.Owning.{worker}
-use Rattle.site_yard.specs.declared.ending.RunFault.{RunFault}
-use Rattle.site_yard.specs.declared.ending.RunFault.TheVariants.{ToolFailed, HostFailed, Memory}
+use Rattle.run_record.specs.declared.run_fault.RunFault.{RunFault}
+use Rattle.run_record.specs.declared.run_fault.RunFault.TheVariants.{ToolFailed, HostFailed, Memory}
 use Rattle.site_yard.specs.Changes.{moved}
 use Rattle.site_yard.specs.Failures.{host_faults, tool_faults}
 use Rattle.site_yard.specs.Truthful.{HasChecksum, declined, is_over}

@@ -6,8 +6,8 @@ use Rattle.outside.specs.declared.store.Store.{Store}
 use Rattle.plan_core.specs.declared.plan.Plan.{Plan}
 use Rattle.site_yard.specs.Moving.{HaveFaultsRisen, HaveMissesRisen}
 use Rattle.site_yard.specs.Names.{is_used, site_name}
-use Rattle.site_yard.specs.declared.ending.RunFault.{RunFault}
-use Rattle.site_yard.specs.declared.ending.RunFault.TheVariants as run
+use Rattle.run_record.specs.declared.run_fault.RunFault.{RunFault}
+use Rattle.run_record.specs.declared.run_fault.RunFault.TheVariants as run
 use Rattle.site_yard.specs.declared.opening.OpenFault.{OpenFault}
 use Rattle.site_yard.specs.declared.opening.OpenFault.TheVariants.{ScratchInUse, HostFailed, Memory}
 

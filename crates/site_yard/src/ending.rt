@@ -6,7 +6,7 @@ ghost use Rattle.storage_simulation.specs.Goods.{or_zero};
 ghost use Rattle.run_record.specs.declared.entry.Cause.TheVariants as why;
 ghost use Rattle.run_record.specs.Events.{event};
 ghost use Rattle.lease_book.specs.Legal.{checksum};
-ghost use Rattle.site_yard.specs.declared.ending.RunFault.TheVariants.{Oversize};
+ghost use Rattle.run_record.specs.declared.run_fault.RunFault.TheVariants.{Oversize};
 ghost use Rattle.site_yard.specs.Names.{file_name};
 ghost use Rattle.site_yard.specs.Ending.{failed_in, fault_of, first_failed, job_name, moved_file, registered, source_pfn};
 
@@ -14,30 +14,8 @@ use crate::moving::checksum;
 use crate::names::{declared_size, file_name};
 use outside::{FileId, JobId, Memory, TaskId, Text};
 use plan_core::{Plan, Source, TaskKind};
-use run_record::{Cause, Entry, Record};
+use run_record::{Cause, Entry, Record, RunFault};
 use std::alloc::Global;
-
-/// Why a run failed, with the names of its plan. Sizes are in bytes.
-#[derive(Debug, Drop)]
-pub enum RunFault {
-    /// A file's name, and its pfn, where it isn't.
-    ReplicaAbsent(Text, Text),
-    /// A file's name, its declared size, and the length of its replica.
-    ReplicaTooLong(Text, u64, u64),
-    /// A file's name, the SHA-256 that is registered for it, and that of its replica.
-    ChecksumDiffers(Text, [u8; 32], [u8; 32]),
-    /// A job's id, the name of its output, the declared size, and the length.
-    Oversize(Text, Text, u64, u64),
-    /// Of this job's inputs its tool makes nothing.
-    Declined(Text),
-    /// The tool failed at this job.
-    ToolFailed(Text),
-    /// The host failed, at a task or outside any.
-    HostFailed(Option<TaskId>),
-    /// A site that was not empty.
-    ScratchInUse(Text),
-    Memory,
-}
 
 /// A failed task, and its cause.
 #[derive(Debug, Clone, Copy)]

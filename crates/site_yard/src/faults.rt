@@ -8,7 +8,7 @@ ghost use Rattle.plan_core.specs.Proper.{IsProper};
 ghost use Rattle.run_record.specs.Events.{Event};
 ghost use Rattle.lease_book.specs.Legal.{Legal};
 ghost use Rattle.lease_book.specs.State.{now};
-ghost use Rattle.site_yard.specs.declared.ending.RunFault.{RunFault};
+ghost use Rattle.run_record.specs.declared.run_fault.RunFault.{RunFault};
 ghost use Rattle.site_yard.specs.Ending.{first_failed, first_fault};
 ghost use Rattle.site_yard.specs.Failures.{tool_faults};
 ghost use Rattle.site_yard.specs.Faults.{AllBelow, AllCarried, HasToolFault, IsCountedFault};

@@ -29,7 +29,6 @@ mod yard;
 pub use chronicle::{Charter, JournalEntry};
 pub use completing::{complete_records_deliver, empty_records};
 pub use delivered::Delivered;
-pub use ending::RunFault;
 pub use faults::{fails_show_in_the_state, nothing_else_fails};
 pub use law::kept_stores_show_records;
 pub use leased::Leased;

@@ -3,12 +3,12 @@
 ghost use Rattle.std.specs.Prelude.{◌≡◌, ◌≤◌, ◌<◌, ◌^◌, ◌⊎◌, length};
 ghost use Rattle.outside.specs.Counts.{IsLater};
 ghost use Rattle.site_yard.specs.Opening.{Looked, LookedAt, fault_of_opening};
-ghost use Rattle.site_yard.specs.declared.ending.RunFault.TheVariants as run;
+ghost use Rattle.run_record.specs.declared.run_fault.RunFault.TheVariants as run;
 
-use crate::ending::RunFault;
 use crate::names::{is_used, site_name};
 use outside::{Host, HostFault, SiteId, Text};
 use plan_core::Plan;
+use run_record::RunFault;
 use std::alloc::Global;
 use storage_simulation::Ordered;
 

@@ -13,7 +13,7 @@ ghost use Rattle.site_yard.specs.Delivered.{AreDelivered, AreDelivered-prop, cou
 ghost use Rattle.site_yard.specs.Kept.{IsKept};
 
 use crate::delivered::{Delivered, count_deliveries, keep};
-use crate::ending::{RunFault, first_failed, run_fault};
+use crate::ending::{first_failed, run_fault};
 use crate::law::{plan_laws, record_laws};
 use crate::leased::{Leased, failed};
 use crate::loading::load_inputs;
@@ -24,7 +24,7 @@ use crate::storing::{find_overlong, store};
 use lease_book::{Book, Next};
 use outside::{Blob, Host, PairId, TaskId, Tool};
 use plan_core::Plan;
-use run_record::Cause;
+use run_record::{Cause, RunFault};
 use std::alloc::Global;
 use std::marker::PhantomData;
 use storage_simulation::Ordered;
@@ -61,9 +61,7 @@ impl<H: Host, T: Tool> Yard<H, T> {
     /// Takes over a host whose sites are free. It takes room for the deliveries, marks the host, and asks each site that
     /// has a pair once.
     pub fn open(alloc: Global, ordered: Ordered, host: H) -> Result<Yard<H, T>, OpenRefused<H>>
-        requires proper { IsProper ordered.plan }
-        requires limits { IsWithinLimits ordered.plan }
-        requires retries { retries ordered.plan ≤ 10 }
+        requires { retries ordered.plan ≤ 10 }
         ensures ordered { IfOk result (λ y. y.ordered ≡ ordered) }
         ensures history { IfOk result (λ y. y.book.history.events ≡ []) }
         ensures told { IfOk result (λ y. H.told y.host ≡ H.told host) }

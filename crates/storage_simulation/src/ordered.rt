@@ -1,7 +1,7 @@
 //! A plan with its order.
 
 ghost use Rattle.std.specs.Prelude.{◌≡◌, ◌<◌, ℕ, IfErr, IfOk, get_or, length};
-ghost use Rattle.plan_core.specs.Proper.{IsProper};
+ghost use Rattle.plan_core.specs.Proper.{IsProper, IsProper-prop};
 ghost use Rattle.plan_core.specs.Words.{task_numbers};
 ghost use Rattle.storage_simulation.specs.Front.{front_of};
 ghost use Rattle.storage_simulation.specs.Fitting.{Fits};
@@ -20,12 +20,14 @@ use outside::{Memory, SiteId, TaskId};
 use plan_core::Plan;
 use std::alloc::Global;
 
-/// A plan with the order of all its tasks from the start, and the peak of each place.
+/// A proper plan within the limits, with the order of all its tasks from the start, and the peak of each place.
 #[derive(Debug, Drop)]
 pub struct Ordered {
     plan: Plan,
     tasks: Vec<TaskId>,
     peaks: Vec<u64>,
+    ghost proper: { IsProper plan } by { IsProper-prop plan },
+    ghost limits: { IsWithinLimits plan },
     ghost order: { ∥ IsOrder plan at_start (task_numbers tasks.items) ∥₁ },
     ghost fits: { Fits plan all_wait nothing_held (task_numbers tasks.items) },
     ghost peaks_are: { ∥ ((s : ℕ) → s < places plan → IsPeak plan at_start (task_numbers tasks.items) s (get_or peaks.items s 0)) ∥₁ },

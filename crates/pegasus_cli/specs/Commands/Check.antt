@@ -1,21 +1,22 @@
 -- `check`: lists what the workflow has and what isn't acted on. It touches nothing.
-use Rattle.std.specs.Prelude.{◌≡◌, ℕ, List}
-use Rattle.pegasus_cli.specs.declared.outcome.Outcome.{Outcome}
-use Rattle.pegasus_cli.specs.declared.outcome.Outcome.TheVariants as outcomes
+use Rattle.std.specs.Prelude.{◌≡◌, ℕ, List, Ok, Err}
+use Rattle.planner.specs.CheckText.{check_lines}
 use Rattle.planner.specs.declared.inputs.Survey.{Survey}
-use Rattle.pegasus_cli.specs.declared.survey.Surveyed.{Surveyed}
-use Rattle.pegasus_cli.specs.CheckText.{check_lines}
+use Rattle.planner.specs.declared.surveyed.Surveyed.{Surveyed}
+use Rattle.plan_run.specs.Moments.{Tools, Work}
+use Rattle.pegasus_cli.specs.declared.fault.CallFault.TheVariants.{Memory}
 use Rattle.pegasus_cli.specs.CommandSpec.{CommandSpec}
-use Rattle.pegasus_cli.specs.Moments.{Work}
+use Rattle.pegasus_cli.specs.Fault.{Answer}
+use Rattle.pegasus_cli.specs.Survey.{over_survey}
 
-abbrev pub Says : Survey → List ℕ → Outcome → Type 0
-Says s text outcomes.Done = text ≡ check_lines s
-Says s text outcomes.Memory = Unit {0}
-Says s text _ = ⊥
+abbrev pub Says : Survey → List ℕ → Answer → Type 0
+Says s text (Ok done) = text ≡ check_lines s
+Says s text (Err Memory) = Unit {0}
+Says s text (Err fault) = ⊥
 
-pub record Checks (w : Work) (s : Surveyed) (text : List ℕ) (answer : Outcome) : Type 0 where
+pub record Checks (w : Work) (t : Tools) (s : Surveyed) (text : List ℕ) (answer : Answer) : Type 0 where
   pub untouched : w.after ≡ w.before
   pub says : Says s.survey text answer
 
-abbrev pub check : CommandSpec
-check = record { Works = λ w t. Checks w; CanFinish = λ w s. Unit {0} }
+abbrev pub check : List ℕ → CommandSpec
+check name = over_survey name Checks (λ w s. Unit {0})

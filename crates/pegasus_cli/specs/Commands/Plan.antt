@@ -1,5 +1,5 @@
 -- `plan`: prints the plan of the documents with its order. It touches nothing.
-use Rattle.std.specs.Prelude.{◌≡◌, ◌<◌, ℕ, List, [], get_or, length}
+use Rattle.std.specs.Prelude.{◌≡◌, ◌<◌, ℕ, List, [], get_or, length, Ok, Err}
 use Rattle.outside.specs.declared.numbers.TaskId.{TaskId}
 use Rattle.plan_core.specs.declared.plan.Plan.{Plan}
 use Rattle.plan_core.specs.Printing.{plan_text}
@@ -8,13 +8,13 @@ use Rattle.storage_simulation.specs.Ordering.{IsOrder, IsPeak, at_start}
 use Rattle.planner.specs.Planning.{CannotPlan, IsPlanOf}
 use Rattle.planner.specs.declared.plan_fault.PlanFault.{PlanFault}
 use Rattle.planner.specs.declared.plan_fault.PlanFault.TheVariants as plan_faults
-use Rattle.pegasus_cli.specs.declared.outcome.Outcome.{Outcome}
-use Rattle.pegasus_cli.specs.declared.outcome.Outcome.TheVariants as outcomes
-use Rattle.pegasus_cli.specs.declared.survey.Surveyed.{Surveyed}
+use Rattle.planner.specs.declared.surveyed.Surveyed.{Surveyed}
+use Rattle.plan_run.specs.Moments.{Tools, Work}
+use Rattle.pegasus_cli.specs.declared.fault.CallFault.{CallFault}
+use Rattle.pegasus_cli.specs.declared.fault.CallFault.TheVariants.{Memory}
 use Rattle.pegasus_cli.specs.CommandSpec.{CommandSpec}
-use Rattle.pegasus_cli.specs.Course.{plan_answer}
-use Rattle.pegasus_cli.specs.Moments.{Work}
-use Rattle.pegasus_cli.specs.Outcome.{outcome_of}
+use Rattle.pegasus_cli.specs.Fault.{Answer, plan_answer}
+use Rattle.pegasus_cli.specs.Survey.{over_survey}
 
 -- how many tasks a plan may have
 abbrev pub task_limit : ℕ
@@ -42,19 +42,19 @@ pub record HasPlan (s : Surveyed) (text : List ℕ) : Type 0 where
   pub order_is : IsOrder plan at_start (task_numbers order)
   pub text_is : IsTextOf plan order text
 
--- this answer is that of planning's first fault
-pub record IsRefused (s : Surveyed) (answer : Outcome) : Type 0 where
+-- this is the answer for planning's first fault
+pub record IsUnplanned (s : Surveyed) (answer : CallFault) : Type 0 where
   pub fault : PlanFault
   pub comes : CannotPlan s.request s.survey task_limit fault
-  pub answers : answer ≡ outcome_of (plan_answer fault)
+  pub answers : answer ≡ plan_answer fault
 
 -- When each answer comes, and the text before its line.
-abbrev pub Says : Surveyed → List ℕ → Outcome → Type 0
-Says s text outcomes.Done = HasPlan s text
-Says s text outcomes.Memory = Unit {0}
-Says s text answer = IsRefused s answer × (text ≡ [])
+abbrev pub Says : Surveyed → List ℕ → Answer → Type 0
+Says s text (Ok done) = HasPlan s text
+Says s text (Err Memory) = Unit {0}
+Says s text (Err fault) = IsUnplanned s fault × (text ≡ [])
 
-pub record Plans (w : Work) (s : Surveyed) (text : List ℕ) (answer : Outcome) : Type 0 where
+pub record Plans (w : Work) (t : Tools) (s : Surveyed) (text : List ℕ) (answer : Answer) : Type 0 where
   pub untouched : w.after ≡ w.before
   pub says : Says s text answer
 
@@ -62,5 +62,5 @@ pub record Plans (w : Work) (s : Surveyed) (text : List ℕ) (answer : Outcome) 
 abbrev pub HasNoFault : Surveyed → Type 0
 HasNoFault s = (fault : PlanFault) → CannotPlan s.request s.survey task_limit fault → fault ≡ plan_faults.Memory
 
-abbrev pub plan : CommandSpec
-plan = record { Works = λ w t. Plans w; CanFinish = λ w s. HasNoFault s }
+abbrev pub plan : List ℕ → CommandSpec
+plan name = over_survey name Plans (λ w s. HasNoFault s)

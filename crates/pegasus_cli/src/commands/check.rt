@@ -1,34 +1,31 @@
 //! `check`.
 
-ghost use Rattle.pegasus_cli.specs.Call.{IsAnswer};
-ghost use Rattle.pegasus_cli.specs.Commands.Check.{Checks};
-ghost use Rattle.pegasus_cli.specs.Moments.{work_moment, working};
+ghost use Rattle.std.specs.Prelude.{◌≡◌};
+ghost use Rattle.plan_run.specs.Moments.{Tools, Work};
+ghost use Rattle.pegasus_cli.specs.Commands.Check.{check};
+ghost use Rattle.pegasus_cli.specs.CommandSpec.{Does, doing};
+ghost use Rattle.pegasus_cli.specs.Moments.{docs_moment};
 
-use crate::check_text::check_text;
-use crate::commands::Worked;
-use crate::outcome::Outcome;
-use crate::survey::Surveyed;
-use outside::{Host, Memory, Tool};
+use crate::commands::{Told, at_once};
+use crate::fault::CallFault;
+use crate::survey::read_survey;
+use outside::{Docs, Memory};
+use planner::check_text;
 use std::alloc::Global;
 
-pub(crate) fn work<H: Host, T: Tool>(
-    alloc: Global,
-    surveyed: &Surveyed,
-    _host: &mut H,
-    _tool: &mut T,
-) -> Worked
-    ensures works { Checks (working T.apply T.known (work_moment H.Host _host.old (T.faults _tool.old)) (work_moment H.Host _host.new (T.faults _tool.new)))
-        surveyed.now result.text.items result.answer }
-    ensures answer { IsAnswer result.answer }
+pub(crate) fn work<D: Docs>(alloc: Global, name: &str, docs: &mut D) -> Told
+    ensures { (w : Work) (t : Tools) → w.after ≡ w.before → t.after ≡ t.before
+        → Does (check name.now) (doing (docs_moment D.Docs docs.old) (docs_moment D.Docs docs.new) w t) result.text.items result.answer }
 {
+    let surveyed = match read_survey(alloc, docs, name) {
+        Ok(surveyed) => surveyed,
+        Err(fault) => return at_once(alloc, fault),
+    };
     match check_text(alloc, &surveyed.survey) {
-        Ok(text) => Worked {
-            answer: Outcome::Done,
+        Ok(text) => Told {
+            answer: Ok(()),
             text,
         },
-        Err(Memory) => Worked {
-            answer: Outcome::Memory,
-            text: Vec::new(alloc),
-        },
+        Err(Memory) => at_once(alloc, CallFault::Memory),
     }
 }

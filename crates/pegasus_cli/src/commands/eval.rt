@@ -1,41 +1,64 @@
 //! `eval`.
 
-ghost use Rattle.std.specs.Prelude.{◌≡◌, []};
-ghost use Rattle.workflow_core.specs.WellFormed.{IsWellFormed};
-ghost use Rattle.dependency_graph.specs.Graph.{IsGraphOf};
-ghost use Rattle.pegasus_cli.specs.Call.{IsAnswer};
-ghost use Rattle.pegasus_cli.specs.Commands.Eval.{Evaluates};
-ghost use Rattle.pegasus_cli.specs.Moments.{work_moment, working};
+ghost use Rattle.std.specs.Prelude.{◌≡◌};
+ghost use Rattle.plan_run.specs.Moments.{Tools, work_moment, working};
+ghost use Rattle.pegasus_cli.specs.Commands.Eval.{Evaluates, eval};
+ghost use Rattle.pegasus_cli.specs.CommandSpec.{Does, OfFirst, doing};
+ghost use Rattle.pegasus_cli.specs.Moments.{docs_moment};
 
-use crate::commands::{Worked, at_once};
-use crate::evaluation::values_of;
-use crate::outcome::Outcome;
-use crate::survey::Surveyed;
-use crate::value_text::value_text;
-use outside::{Host, Memory, Tool};
+use crate::commands::{Told, at_once};
+use crate::fault::{CallFault, of_evaluation_fault};
+use crate::survey::read_survey;
+use evaluation::{value_text, values_of};
+use outside::{Docs, Host, Memory, Tool};
+use planner::Surveyed;
 use std::alloc::Global;
 
-pub(crate) fn work<H: Host, T: Tool>(
+/// The lines of the requested files' values, or why there are none.
+fn values_text<H: Host, T: Tool>(
     alloc: Global,
     surveyed: &Surveyed,
     host: &mut H,
     tool: &mut T,
-) -> Worked
-    requires well_formed { IsWellFormed surveyed.now.survey.workflow }
-    requires graph { IsGraphOf surveyed.now.survey.workflow surveyed.now.survey.graph }
-    ensures works { Evaluates (working T.apply T.known (work_moment H.Host host.old (T.faults tool.old)) (work_moment H.Host host.new (T.faults tool.new)))
-        surveyed.now result.text.items result.answer }
-    ensures answer { IsAnswer result.answer }
+) -> Told
+    ensures { (t : Tools) → Evaluates (working T.apply T.known (work_moment H.Host host.old (T.faults tool.old)) (work_moment H.Host host.new (T.faults tool.new)))
+        t surveyed.now result.text.items result.answer }
 {
-    let values = match values_of(alloc, surveyed, host, tool) {
+    let survey = &surveyed.survey;
+    let workflow = &survey.workflow;
+    let values = match values_of(
+        alloc,
+        workflow,
+        &survey.graph,
+        &survey.replicas,
+        &surveyed.request,
+        host,
+        tool,
+    ) {
         Ok(values) => values,
-        Err(answer) => return at_once(alloc, answer),
+        Err(fault) => return at_once(alloc, of_evaluation_fault(fault)),
     };
-    match value_text(alloc, &surveyed.survey.workflow, &values) {
-        Ok(text) => Worked {
-            answer: Outcome::Done,
+    match value_text(alloc, workflow, &values) {
+        Ok(text) => Told {
+            answer: Ok(()),
             text,
         },
-        Err(Memory) => at_once(alloc, Outcome::Memory),
+        Err(Memory) => at_once(alloc, CallFault::Memory),
+    }
+}
+
+pub(crate) fn work<D: Docs, H: Host, T: Tool>(
+    alloc: Global,
+    name: &str,
+    docs: &mut D,
+    host: &mut H,
+    tool: &mut T,
+) -> Told
+    ensures { let w = working T.apply T.known (work_moment H.Host host.old (T.faults tool.old)) (work_moment H.Host host.new (T.faults tool.new)) in
+        (t : Tools) → OfFirst w t → Does (eval name.now) (doing (docs_moment D.Docs docs.old) (docs_moment D.Docs docs.new) w t) result.text.items result.answer }
+{
+    match read_survey(alloc, docs, name) {
+        Ok(surveyed) => values_text(alloc, &surveyed, host, tool),
+        Err(fault) => at_once(alloc, fault),
     }
 }

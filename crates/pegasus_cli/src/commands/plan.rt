@@ -1,21 +1,17 @@
 //! `plan`.
 
-ghost use Rattle.std.specs.Prelude.{◌≡◌, ◌≤◌, Ok, IfOk, length};
-ghost use Rattle.workflow_core.specs.WellFormed.{IsWellFormed};
-ghost use Rattle.dependency_graph.specs.Graph.{IsGraphOf};
-ghost use Rattle.plan_request.specs.Limits.{IsWithinLimits};
-ghost use Rattle.plan_request.specs.Reader.{execute_checked};
-ghost use Rattle.pegasus_cli.specs.Call.{IsAnswer};
-ghost use Rattle.pegasus_cli.specs.Commands.Plan.{ArePeaks, IsTextOf, Plans};
-ghost use Rattle.pegasus_cli.specs.Moments.{work_moment, working};
+ghost use Rattle.std.specs.Prelude.{◌≡◌, ◌≤◌, IfOk, length};
+ghost use Rattle.plan_run.specs.Moments.{Tools, Work};
+ghost use Rattle.pegasus_cli.specs.Commands.Plan.{ArePeaks, IsTextOf, Says, plan};
+ghost use Rattle.pegasus_cli.specs.CommandSpec.{Does, doing};
+ghost use Rattle.pegasus_cli.specs.Moments.{docs_moment};
 
-use crate::commands::{TASK_LIMIT, Worked, at_once};
-use crate::course::of_plan_fault;
-use crate::outcome::{Outcome, of_early};
-use crate::survey::Surveyed;
-use outside::{Host, Memory, SiteId, Tool};
+use crate::commands::{TASK_LIMIT, Told, at_once};
+use crate::fault::{CallFault, of_plan_fault};
+use crate::survey::read_survey;
+use outside::{Docs, Memory, SiteId};
 use plan_core::print;
-use planner::plan_survey;
+use planner::{Surveyed, plan_survey};
 use std::alloc::Global;
 use storage_simulation::Ordered;
 
@@ -42,29 +38,29 @@ fn text_of(alloc: Global, ordered: &Ordered) -> Result<Vec<u8>, Memory>
     Ok(text.into_vec())
 }
 
-pub(crate) fn work<H: Host, T: Tool>(
-    alloc: Global,
-    surveyed: &Surveyed,
-    _host: &mut H,
-    _tool: &mut T,
-) -> Worked
-    requires well_formed { IsWellFormed surveyed.now.survey.workflow }
-    requires graph { IsGraphOf surveyed.now.survey.workflow surveyed.now.survey.graph }
-    requires sites { execute_checked surveyed.now.request.execute ≡ Ok tt }
-    requires limits { IsWithinLimits surveyed.now.request }
-    ensures works { Plans (working T.apply T.known (work_moment H.Host _host.old (T.faults _tool.old)) (work_moment H.Host _host.new (T.faults _tool.new)))
-        surveyed.now result.text.items result.answer }
-    ensures answer { IsAnswer result.answer }
+/// The text of the plan of a surveyed request, or why there is none.
+fn plan_text(alloc: Global, surveyed: &Surveyed) -> Told
+    ensures { Says surveyed.now result.text.items result.answer }
 {
-    let ordered = match plan_survey(alloc, &surveyed.request, &surveyed.survey, TASK_LIMIT) {
+    let ordered = match plan_survey(alloc, surveyed, TASK_LIMIT) {
         Ok(ordered) => ordered,
-        Err(fault) => return at_once(alloc, of_early(of_plan_fault(fault))),
+        Err(fault) => return at_once(alloc, of_plan_fault(fault)),
     };
     match text_of(alloc, &ordered) {
-        Ok(text) => Worked {
-            answer: Outcome::Done,
+        Ok(text) => Told {
+            answer: Ok(()),
             text,
         },
-        Err(Memory) => at_once(alloc, Outcome::Memory),
+        Err(Memory) => at_once(alloc, CallFault::Memory),
+    }
+}
+
+pub(crate) fn work<D: Docs>(alloc: Global, name: &str, docs: &mut D) -> Told
+    ensures { (w : Work) (t : Tools) → w.after ≡ w.before → t.after ≡ t.before
+        → Does (plan name.now) (doing (docs_moment D.Docs docs.old) (docs_moment D.Docs docs.new) w t) result.text.items result.answer }
+{
+    match read_survey(alloc, docs, name) {
+        Ok(surveyed) => plan_text(alloc, &surveyed),
+        Err(fault) => at_once(alloc, fault),
     }
 }

@@ -5,7 +5,7 @@ use Rattle.pegasus_cli.proofs.WordsLemmas.{one_member}
 use Rattle.pegasus_cli.proofs.threaded_call.pegasus.Goals as goal
 
 pub returns-then-threaded-clause-headline : goal.returns-then-threaded-clause-headline
-returns-then-threaded-clause-headline g c = holds _ _ c.run_words.ensures.answered
+returns-then-threaded-clause-headline g c = holds _ _ c.in_threads.ensures.answered
 
 pub returns-else-threaded-clause-headline : goal.returns-else-threaded-clause-headline
 returns-else-threaded-clause-headline g c = holds _ _ c.quick.ensures.answered

@@ -27,7 +27,7 @@ pub follow-requires-clause-sized : goal.follow-requires-clause-sized
 follow-requires-clause-sized c =
     let allowed = legal_at c.args.ordered.now.plan (opened (task_numbers c.args.ordered.now.tasks.items)) c.args.history.now.events c.loop-k.k (event c.entry-entry.result) c.requires.legal c.entry-entry.ensures in
     subst (λ (p : Plan). IsSized p (event c.entry-entry.result)) (sym c.plan-plan.ensures)
-    (c.allowed_entries_are_sized.ensures c.args.ordered.now.plan (now c.args.ordered.now.plan (task_numbers c.args.ordered.now.tasks.items) (take c.loop-k.k c.args.history.now.events)) (event c.entry-entry.result) c.requires.proper c.requires.limits allowed)
+    (c.allowed_entries_are_sized.ensures c.args.ordered.now.plan (now c.args.ordered.now.plan (task_numbers c.args.ordered.now.tasks.items) (take c.loop-k.k c.args.history.now.events)) (event c.entry-entry.result) c.args.ordered.now.proper c.args.ordered.now.limits allowed)
 
 pub follow-requires-clause-adds_up : goal.follow-requires-clause-adds_up
 follow-requires-clause-adds_up c = subst (λ (p : Plan). AddsUp p c.loop-k.holdings) (sym c.plan-plan.ensures) c.loop-k.invariant.adds_up
@@ -41,8 +41,8 @@ pub count-requires-clause-moved : goal.count-requires-clause-moved
 count-requires-clause-moved c =
     let next : take (c.loop-k.k + 1) c.args.history.now.events ≡ take c.loop-k.k c.args.history.now.events ++ event c.entry-entry.result ∷ [] = take_next c.args.history.now.events c.loop-k.k (event c.entry-entry.result) c.entry-entry.ensures in
     let legal = legal_take c.args.ordered.now.plan (opened (task_numbers c.args.ordered.now.tasks.items)) c.args.history.now.events (c.loop-k.k + 1) c.requires.legal in
-    let few = c.legal_records_are_short.ensures.entries c.args.ordered.now.plan (task_numbers c.args.ordered.now.tasks.items) (take (c.loop-k.k + 1) c.args.history.now.events) c.requires.proper c.requires.limits c.requires.retries (c.ordered_plans_fit.ensures c.args.ordered.now) legal in
-    let sum = c.legal_records_are_short.ensures.moved c.args.ordered.now.plan (task_numbers c.args.ordered.now.tasks.items) (take (c.loop-k.k + 1) c.args.history.now.events) c.requires.proper c.requires.limits (c.ordered_plans_fit.ensures c.args.ordered.now) legal in
+    let few = c.legal_records_are_short.ensures.entries c.args.ordered.now.plan (task_numbers c.args.ordered.now.tasks.items) (take (c.loop-k.k + 1) c.args.history.now.events) c.args.ordered.now.proper c.args.ordered.now.limits c.requires.retries (c.ordered_plans_fit.ensures c.args.ordered.now) legal in
+    let sum = c.legal_records_are_short.ensures.moved c.args.ordered.now.plan (task_numbers c.args.ordered.now.tasks.items) (take (c.loop-k.k + 1) c.args.history.now.events) c.args.ordered.now.proper c.args.ordered.now.limits (c.ordered_plans_fit.ensures c.args.ordered.now) legal in
     moved_small (take c.loop-k.k c.args.history.now.events) c.loop-k.sums (event c.entry-entry.result) c.loop-k.invariant.counts
     (subst (λ (r : List Event). length r ≤ 120000 * 22) next few) (subst (λ (r : List Event). sum_by arrived r ≤ length r * 2 ^ 40) next sum)
 

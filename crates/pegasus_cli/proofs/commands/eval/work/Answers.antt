@@ -1,11 +1,10 @@
-use Rattle.pegasus_cli.specs.Moments.{work_moment}
-use Rattle.pegasus_cli.proofs.EvaluationLemmas.{values_are}
+use Rattle.pegasus_cli.specs.Commands.Eval.{CanEvaluate, Evaluates}
+use Rattle.std.proofs.Common.{refl}
+use Rattle.pegasus_cli.proofs.SurveyLemmas.{survey_stops, survey_works}
 use Rattle.pegasus_cli.proofs.commands.eval.work.Goals as goal
 
-pub returns-in-Ok-value_text-clause-works : goal.returns-in-Ok-value_text-clause-works
-returns-in-Ok-value_text-clause-works g c =
-    let after = work_moment g.H.Host c.values_of.new.host (g.T.Tool.faults c.values_of.new.tool) in
-    record {
-      same = c.in-Ok.ensures.told;
-      says = (_, values_are _ _ _ after c.args.surveyed.now c.in-Ok.values c.in-Ok.ensures.answer, rw c.deref.ensures.value at c.in-Ok-value_text.ensures);
-    }
+pub returns-in-Err : goal.returns-in-Err
+returns-in-Err g c = λ t first. survey_stops c.args.name.now Evaluates CanEvaluate _ _ _ c.in-Err.fault c.in-Err.ensures c.at_once.ensures.answer refl (first refl) c.at_once.ensures.text
+
+pub returns-in-Ok : goal.returns-in-Ok
+returns-in-Ok g c = λ t first. survey_works c.args.name.now Evaluates CanEvaluate _ _ _ c.in-Ok.surveyed c.in-Ok.ensures (c.values_text.ensures t)

@@ -1,0 +1,61 @@
+use Rattle.std.proofs.Common.{◌≡◌, ◌∙◌, ℕ, List, refl, sym, ap, subst, length}
+use Rattle.std.specs.Prelude.{Option, Err, None, Vec}
+use Rattle.std.specs.declared.alloc.Global.{Global}
+use Rattle.outside.specs.Counts.{Rose}
+use Rattle.outside.specs.declared.numbers.JobId.{JobId}
+use Rattle.dependency_graph.specs.Value.{AllBased, Basis, basis}
+use Rattle.workflow_eval.specs.Evaluating.{AreValues, Evaluates, IsReached, first_undefined}
+use Rattle.workflow_eval.specs.declared.fault.EvalFault.TheVariants.{ToolFailed}
+use Rattle.evaluation.specs.Moments.{meeting, subject}
+use Rattle.evaluation.specs.declared.evaluating.Prepared.{Prepared}
+use Rattle.evaluation.proofs.PreparedLemmas.{all_based, are_bases, is_ready}
+use Rattle.evaluation.proofs.EvaluatingLemmas.{based, basis_is, fault_ends, refused_ends, unread_ends, values_are}
+use Rattle.evaluation.proofs.evaluating.values_of.Goals as goal
+
+pub returns-in-Err-clause-answer : goal.returns-in-Err-clause-answer
+returns-in-Err-clause-answer g c =
+    let m = meeting g.H.Host g.T.Tool c.args.host.now c.args.tool.now c.args.host.now c.args.tool.now in
+    let s = subject c.args.workflow.now c.args.graph.now.ordered c.args.replicas.now.entries c.args.request.now.tools in
+    refused_ends Prepared m s c.in-Err.fault c.in-Err.ensures refl
+
+pub returns-in-Err-read_bases-clause-answer : goal.returns-in-Err-read_bases-clause-answer
+returns-in-Err-read_bases-clause-answer g c =
+    let m = meeting g.H.Host g.T.Tool c.args.host.now c.args.tool.now c.read_bases.new.host c.args.tool.now in
+    let s = subject c.args.workflow.now c.args.graph.now.ordered c.args.replicas.now.entries c.args.request.now.tools in
+    unread_ends (Vec (Option (List ℕ)) Global) m s c.in-Ok.prepared c.in-Err-read_bases.fault (sym c.in-Ok.ensures) (rw c.as_slice.ensures at c.in-Err-read_bases.ensures.answer)
+
+pub evaluate-requires-clause-tools : goal.evaluate-requires-clause-tools
+evaluate-requires-clause-tools g c =
+    let s = subject c.args.workflow.now c.args.graph.now.ordered c.args.replicas.now.entries c.args.request.now.tools in
+    ap length c.as_slice-tools.ensures ∙ (is_ready g.T.Tool.known s c.in-Ok.prepared (sym c.in-Ok.ensures)).tools
+
+pub evaluate-requires-clause-bases : goal.evaluate-requires-clause-bases
+evaluate-requires-clause-bases g c =
+    let s = subject c.args.workflow.now c.args.graph.now.ordered c.args.replicas.now.entries c.args.request.now.tools in
+    let read = rw c.as_slice.ensures at c.in-Ok-read_bases.ensures.answer in
+    let are = are_bases (g.H.Host.told c.args.host.now) c.in-Ok.prepared.sources (g.H.Host.counts c.args.host.now) (g.H.Host.counts c.read_bases.new.host) _ read c.in-Ok-read_bases.bases.items refl in
+    ap length c.deref.ensures.value ∙ are.many ∙ (is_ready g.T.Tool.known s c.in-Ok.prepared (sym c.in-Ok.ensures)).sources.many
+
+pub evaluate-requires-clause-based : goal.evaluate-requires-clause-based
+evaluate-requires-clause-based g c =
+    let s = subject c.args.workflow.now c.args.graph.now.ordered c.args.replicas.now.entries c.args.request.now.tools in
+    let read = rw c.as_slice.ensures at c.in-Ok-read_bases.ensures.answer in
+    let are = are_bases (g.H.Host.told c.args.host.now) c.in-Ok.prepared.sources (g.H.Host.counts c.args.host.now) (g.H.Host.counts c.read_bases.new.host) _ read c.in-Ok-read_bases.bases.items refl in
+    let on_is = basis_is g.T.Tool.apply _ _ _ _ c.as_slice-tools.ensures c.deref.ensures.value in
+    subst (λ (on : Basis). AllBased on c.args.workflow.now) (sym on_is)
+    (all_based g.T.Tool.known s c.in-Ok.prepared g.T.Tool.apply c.in-Ok.prepared.tools c.in-Ok-read_bases.bases.items (is_ready g.T.Tool.known s c.in-Ok.prepared (sym c.in-Ok.ensures)) are)
+
+pub returns-clause-answer : goal.returns-clause-answer
+returns-clause-answer g c =
+    let w = c.args.workflow.now in
+    let order = c.args.graph.now.ordered in
+    let m = meeting g.H.Host g.T.Tool c.args.host.now c.args.tool.now c.read_bases.new.host c.evaluate.new.tool in
+    let s = subject w order c.args.replicas.now.entries c.args.request.now.tools in
+    let read = rw c.as_slice.ensures at c.in-Ok-read_bases.ensures.answer in
+    let has = based m s c.in-Ok.prepared c.in-Ok-read_bases.bases.items (sym c.in-Ok.ensures) read in
+    let on_is = basis_is g.T.Tool.apply _ _ _ _ c.as_slice-tools.ensures c.deref.ensures.value in
+    let fault = c.in-Err-evaluate.fault in
+    let evaluated = subst (λ (on : Basis). Evaluates on w order (Rose (g.T.Tool.faults c.args.tool.now) (g.T.Tool.faults c.evaluate.new.tool)) (Err fault)) on_is c.in-Err-evaluate.ensures.answer in
+    let reached : (j : JobId) → fault ≡ ToolFailed j → IsReached (basis g.T.Tool.apply c.in-Ok.prepared.tools c.in-Ok-read_bases.bases.items) w order j =
+    λ j is. subst (λ (on : Basis). IsReached on w order j) on_is (c.in-Err-evaluate.ensures.reached j (ap Err is)) in
+    fault_ends m s (basis g.T.Tool.apply c.in-Ok.prepared.tools c.in-Ok-read_bases.bases.items) fault c.of_eval_fault.result has evaluated reached c.of_eval_fault.ensures

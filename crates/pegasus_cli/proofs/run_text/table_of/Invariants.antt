@@ -1,6 +1,0 @@
-use Rattle.std.proofs.Common.{◌≡◌, drop}
-use Rattle.pegasus_cli.specs.RunText.{placed}
-use Rattle.pegasus_cli.proofs.run_text.table_of.Given as goal
-
-abbrev pub invariant-loop-one : goal.invariant-loop-one
-invariant-loop-one l = placed (drop l.one-index l.delivered) l.table.items ≡ placed l.delivered l.initial.table.items

@@ -1,6 +1,0 @@
-use Rattle.std.proofs.Common.{◌≡◌, drop}
-use Rattle.pegasus_cli.specs.ValueText.{marked_by}
-use Rattle.pegasus_cli.proofs.value_text.requested_marks.Given as goal
-
-abbrev pub invariant-loop-job : goal.invariant-loop-job
-invariant-loop-job l = marked_by (drop l.job-index l.job-items) l.marks.items ≡ marked_by l.job-items l.initial.marks.items

@@ -1,9 +1,0 @@
-use Rattle.std.proofs.Common.{◌∙◌, sym, ap, length}
-use Rattle.pegasus_cli.proofs.ValueTextLemmas.{length_all}
-use Rattle.pegasus_cli.proofs.value_text.value_text.Goals as goal
-
-pub push_values-requires-clause-names : goal.push_values-requires-clause-names
-push_values-requires-clause-names c = ap length (c.deref.ensures.value ∙ c.in_ok-marks.ensures) ∙ length_all c.args.workflow.now ∙ sym (ap length c.as_slice.ensures)
-
-pub push_values-requires-clause-values : goal.push_values-requires-clause-values
-push_values-requires-clause-values c = ap length (c.deref.ensures.value ∙ c.in_ok-marks.ensures) ∙ length_all c.args.workflow.now ∙ sym c.requires

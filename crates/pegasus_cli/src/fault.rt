@@ -1,0 +1,92 @@
+//! Why a command isn't done.
+
+ghost use Rattle.std.specs.Prelude.{◌≡◌};
+ghost use Rattle.evaluation.specs.declared.fault.EvaluationFault.{EvaluationFault as Unvalued};
+ghost use Rattle.pegasus_cli.specs.declared.fault.CallFault.TheVariants as faults;
+ghost use Rattle.pegasus_cli.specs.Fault.{plan_answer, run_answer, value_answer};
+
+use evaluation::EvaluationFault;
+use outside::{Memory, TaskId, Text};
+use planner::PlanFault;
+use run_record::RunFault;
+use std::alloc::AllocFailed;
+
+/// Why a command isn't done.
+#[derive(Debug, Drop)]
+pub enum CallFault {
+    /// No memory was left.
+    Memory,
+    DocAbsent(Text),
+    /// The document is longer than this limit, in bytes.
+    DocTooLong(Text, u64),
+    DocFailed(Text),
+    Refused(PlanFault),
+    /// No order fits: the first task that doesn't, its site, and the bytes that it would need there.
+    Exceeds {
+        site: Text,
+        task: TaskId,
+        needed: u64,
+        bound: u64,
+    },
+    Failed(RunFault),
+}
+
+impl From<Memory> for CallFault {
+    ghost from_gives = { λ _ e. e ≡ faults.Memory };
+
+    fn from(_e: Memory) -> CallFault {
+        CallFault::Memory
+    }
+}
+
+impl<T: Drop> From<AllocFailed<T>> for CallFault {
+    ghost from_gives = { λ _ e. e ≡ faults.Memory };
+
+    fn from(_e: AllocFailed<T>) -> CallFault {
+        CallFault::Memory
+    }
+}
+
+/// The answer for a fault of planning.
+pub(crate) fn of_plan_fault(fault: PlanFault) -> CallFault
+    ensures { result ≡ plan_answer fault }
+{
+    match fault {
+        PlanFault::Memory => CallFault::Memory,
+        PlanFault::Exceeds {
+            site,
+            task,
+            needed,
+            bound,
+        } => CallFault::Exceeds {
+            site,
+            task,
+            needed,
+            bound,
+        },
+        fault => CallFault::Refused(fault),
+    }
+}
+
+/// The answer for a fault of a run.
+pub(crate) fn of_run_fault(fault: RunFault) -> CallFault
+    ensures { result ≡ run_answer fault }
+{
+    match fault {
+        RunFault::Memory => CallFault::Memory,
+        fault => CallFault::Failed(fault),
+    }
+}
+
+/// The answer for a fault of an evaluation.
+pub(crate) fn of_evaluation_fault(fault: EvaluationFault) -> CallFault
+    ensures { result ≡ value_answer fault }
+{
+    match fault {
+        EvaluationFault::NoReplica(lfn) => CallFault::Refused(PlanFault::NoReplica(lfn)),
+        EvaluationFault::ToolUnknown(id, tool) => {
+            CallFault::Refused(PlanFault::ToolUnknown(id, tool))
+        }
+        EvaluationFault::Failed(fault) => of_run_fault(fault),
+    }
+}

@@ -1,0 +1,84 @@
+-- What keeps a run from its end.
+use Rattle.std.proofs.Common.{◌≡◌, ◌⊎◌, ℕ, ◌-◌, ◌^◌, ◌≤◌, ◌<◌, List, [], refl, sym, subst, inl, inr, arith}
+use Rattle.std.proofs.lemmas.Bool.{cases_lt}
+use Rattle.std.specs.Prelude.{Option, Some, None, IfSome, MatchOption, Result, Ok, Err}
+use Rattle.outside.specs.Counts.{Rose}
+use Rattle.outside.specs.SiteMap.{IsEmptyAt}
+use Rattle.outside.specs.Tool.{Apply}
+use Rattle.outside.specs.declared.store.Store.{Store}
+use Rattle.plan_core.specs.declared.plan.Plan.{Plan}
+use Rattle.plan_core.specs.Carried.{Bytes, carried}
+use Rattle.plan_core.specs.Proper.{IsProper}
+use Rattle.lease_book.specs.Legal.{Legal}
+use Rattle.run_record.specs.Events.{Event}
+use Rattle.run_record.specs.declared.run_fault.RunFault.{RunFault}
+use Rattle.run_record.specs.declared.run_fault.RunFault.TheVariants as faults
+use Rattle.site_yard.specs.Ending.{first_fault}
+use Rattle.site_yard.specs.Failures.{AreCounted, RoseBy, host_faults, tool_faults}
+use Rattle.site_yard.specs.Faults.{AllBelow, AllCarried, HasToolFault, IsCountedFault}
+use Rattle.site_yard.specs.Law.{Agrees}
+use Rattle.site_yard.specs.Names.{site_name}
+use Rattle.site_yard.specs.Opening.{Refuses, fault_of_opening}
+use Rattle.site_yard.specs.Truthful.{Truthful}
+use Rattle.site_yard.specs.declared.opening.OpenFault.{OpenFault}
+use Rattle.site_yard.specs.declared.opening.OpenFault.TheVariants as openings
+use Rattle.plan_run.specs.Finishing.{CanEnd, IsDoneOrMemory, NoneFailed, replicas_of}
+use Rattle.plan_run.specs.Moments.{Tools, Work, count_of}
+use Rattle.plan_run.specs.Running.{End, HasRun, IsRun, IsShown, IsUnopened, Tells}
+
+abbrev pub NothingElseFails : Type 0
+NothingElseFails = (apply : Apply) (told : Bytes → Option Bytes) (p : Plan) (order : List ℕ) (r : List Event) (fault : RunFault) (n : ℕ) → IsProper p → Legal p order r → Truthful apply told p (carried apply told p) r → AllCarried apply told p → AllBelow n r
+    → first_fault p r ≡ Some fault → IsCountedFault (HasToolFault n r) r fault
+
+rose_by : (n before now_ : ℕ) → 1 ≤ n → RoseBy n before now_ → Rose before now_
+rose_by n before now_ some rose = by (cases_lt now_ (2 ^ 64 - 1))
+  where
+    by : (now_ < 2 ^ 64 - 1) ⊎ (2 ^ 64 - 1 ≤ now_) → Rose before now_
+    by (inl l) = let more = rose l in grind (arith, more, some)
+    by (inr l) = grind (arith, l)
+
+shows_truth : (w : Work) (p : Plan) (r : List Event) (m : Store) → w.before.told ≡ Some m → IsShown w p r → Truthful w.apply (replicas_of m) p (carried w.apply (replicas_of m) p) r
+shows_truth w p r m told shown = by w.after.told (subst (λ (o : Option Store). IfSome o (λ x. MatchOption w.after.told ⊥ (λ s. Agrees w.apply p r x s))) told shown)
+  where
+    by : (new : Option Store) → MatchOption new ⊥ (λ s. Agrees w.apply p r m s) → Truthful w.apply (replicas_of m) p (carried w.apply (replicas_of m) p) r
+    by None h = absurd h
+    by (Some s) h = h.truthful
+
+-- no opening of empty sites is refused but for a counted failure, or want of memory
+no_refusal : (w : Work) (p : Plan) (fault : RunFault) → CanEnd w p → (Rose w.before.counts.faults w.after.counts.faults → ⊥) → IsUnopened w p fault → fault ≡ faults.Memory
+no_refusal w p fault can still h = by h.opening h.refuses h.fault_is
+  where
+    by : (opening : OpenFault) → Refuses p w.before.told w.before.counts w.after.counts opening → fault ≡ fault_of_opening p opening → fault ≡ faults.Memory
+    by (openings.ScratchInUse x) refuses is =
+        let used = subst (λ (o : Option Store). IfSome o (λ s. IsEmptyAt s.scratch (site_name p x.0) → ⊥)) can.told refuses.2.1 in
+        let unused = subst (λ (o : Option Store). IfSome o (λ s. IsEmptyAt s.scratch (site_name p x.0))) can.told (can.unused x.0 refuses.0 refuses.2.0) in
+        absurd (used unused)
+    by openings.HostFailed refuses is = absurd (still refuses)
+    by openings.Memory refuses is = is
+
+counted_told : (w : Work) (r : List Event) (m : Store) → w.before.told ≡ Some m → AreCounted w.before.told w.before.counts.faults w.before.counts.misses w.after.counts r → RoseBy (host_faults r) w.before.counts.faults w.after.counts.faults
+counted_told w r m told counted = subst (λ (o : Option Store). AreCounted o w.before.counts.faults w.before.counts.misses w.after.counts r) told counted
+
+no_fail : (law : NothingElseFails) (w : Work) (t : Tools) (n : ℕ) (p : Plan) (order : List ℕ) (r : List Event) (fault : RunFault) → IsProper p → CanEnd w p → IsRun w t n p order r → first_fault p r ≡ Some fault
+    → NoneFailed w t n → fault ≡ faults.Memory
+no_fail law w t n p order r fault proper can run first none =
+    by fault (law w.apply (replicas_of can.store) p order r fault n proper run.legal (shows_truth w p r can.store can.told run.shown) can.carried run.below first)
+  where
+    by : (f : RunFault) → IsCountedFault (HasToolFault n r) r f → f ≡ faults.Memory
+    by (faults.HostFailed None) h = absurd h
+    by (faults.HostFailed (Some task)) h = absurd (none.host (rose_by (host_faults r) _ _ h (counted_told w r can.store can.told run.counted)))
+    by (faults.ToolFailed id) h = absurd (none.tools h.0 h.1 (rose_by (tool_faults h.0 r) _ _ h.2 (run.tools h.0 h.1)))
+    by faults.Memory h = refl
+    by f h = absurd h
+
+pub run_finishes : (law : NothingElseFails) (w : Work) (t : Tools) (n : ℕ) (p : Plan) (order text : List ℕ) (end : End) → IsProper p → CanEnd w p → NoneFailed w t n → HasRun w t n p order text end → IsDoneOrMemory end
+run_finishes law w t n p order text end proper can none h = by end h.tells
+  where
+    of_memory : (fault : RunFault) → fault ≡ faults.Memory → IsDoneOrMemory (Err fault)
+    of_memory fault is = subst (λ (f : RunFault). IsDoneOrMemory (Err f)) (sym is) tt
+
+    by : (e : End) → Tells w p order h.r e → IsDoneOrMemory e
+    by (Ok done) tells = tt
+    by (Err faults.Memory) tells = tt
+    by (Err fault) (inl first) = of_memory fault (no_fail law w t n p order h.r fault proper can h.run first.1 none)
+    by (Err fault) (inr refused) = of_memory fault (no_refusal w p fault can none.host refused.1)

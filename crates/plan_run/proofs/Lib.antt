@@ -1,0 +1,5 @@
+pub mod RunningLemmas
+pub mod RunningManyLemmas
+pub mod MembersLemmas
+pub mod CrewLemmas
+pub mod FinishingLemmas

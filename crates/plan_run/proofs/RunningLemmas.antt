@@ -1,0 +1,297 @@
+-- A run of a plan: what its yard's record, its host and its tool say of it.
+use Rattle.std.proofs.Common.{◌≡◌, ◌⊎◌, ℕ, ◌+◌, ◌≤◌, ◌<◌, zero, suc, true, List, [], ◌∷◌, length, take, refl, sym, ap, subst, ◌∙◌, inl, inr, arith}
+use Rattle.std.specs.Prelude.{Option, Some, None, Result, Ok, Err, IfOk, IfSome, MatchOption, is_some}
+use Rattle.std.proofs.lemmas.List.{append-nil}
+use Rattle.outside.specs.Counts.{IsLater}
+use Rattle.outside.specs.Tool.{Apply}
+use Rattle.outside.specs.declared.counts.Counts.{Counts}
+use Rattle.outside.specs.declared.numbers.TaskId.{TaskId}
+use Rattle.outside.specs.declared.store.Store.{Store}
+use Rattle.plan_core.specs.declared.plan.Plan.{Plan}
+use Rattle.plan_core.specs.Words.{task_numbers}
+use Rattle.storage_simulation.specs.declared.standing.Phase.{Phase}
+use Rattle.storage_simulation.specs.declared.standing.Phase.TheVariants.{Runs, Waits}
+use Rattle.run_record.specs.Events.{Event}
+use Rattle.lease_book.specs.declared.book.Book.{Book}
+use Rattle.lease_book.specs.Book.{state_at}
+use Rattle.lease_book.specs.Law.{IsSafeState, reserved_at, stored_at}
+use Rattle.lease_book.specs.Legal.{IsComplete, Legal}
+use Rattle.lease_book.specs.State.{State, now, opened}
+use Rattle.site_yard.specs.Changes.{carries}
+use Rattle.site_yard.specs.Delivered.{AreDigests, AreFiles, AreLengths, AreLong, arrivals}
+use Rattle.site_yard.specs.Ending.{Ends}
+use Rattle.site_yard.specs.Failures.{AreCounted, RoseBy, host_faults, host_misses, tool_faults}
+use Rattle.site_yard.specs.Faults.{AllBelow}
+use Rattle.site_yard.specs.Law.{Agrees}
+use Rattle.site_yard.specs.Leaving.{left_in}
+use Rattle.site_yard.specs.Opening.{AreUnused, Refuses, fault_of_opening}
+use Rattle.site_yard.specs.Places.{is_delivered, is_published, is_swept}
+use Rattle.site_yard.specs.Trace.{trace_of}
+use Rattle.site_yard.specs.declared.delivered.Delivered.{Delivered}
+use Rattle.run_record.specs.declared.run_fault.RunFault.{RunFault}
+use Rattle.run_record.specs.declared.run_fault.RunFault.TheVariants as faults
+use Rattle.site_yard.specs.declared.opening.OpenFault.{OpenFault}
+use Rattle.worker_gate.specs.Alone.{AllBy, IsOver, NoneOpen, WorksAlone, begun}
+use Rattle.worker_gate.specs.Inputs.{AddsOfInputs, AreOfInputs}
+use Rattle.plan_run.specs.Moments.{Tools, Work, count_of, first_tool}
+use Rattle.plan_run.specs.Running.{AreDeliveries, End, EndsAs, HasRun, HasRunAlone, IsRefusal, IsRun, IsRunText, IsShown, Prints, Tells, ended_by, marked_if}
+use Rattle.plan_run.specs.RunText.{run_text}
+
+-- what the laws of lease_book and site_yard say of a record
+pub record HasLaws (p : Plan) (order : List ℕ) (r : List Event) : Type 0 where
+  pub safe : (k : ℕ) → IsSafeState p (now p order (take k r))
+  pub left : (k s : ℕ) → left_in p (trace_of p (take k r)) s ≤ stored_at p (now p order (take k r)).held s + reserved_at p (now p order (take k r)).held s
+
+-- the state that a book shows
+state_is : (b : Book) (p : Plan) (ts : List TaskId) → b.plan ≡ p → b.order.items ≡ ts → state_at b ≡ now p (task_numbers ts) b.history.events
+state_is b p ts plan order = ap (λ (q : Plan). now q (task_numbers b.order.items) b.history.events) plan ∙ ap (λ (xs : List TaskId). now p (task_numbers xs) b.history.events) order
+
+pub over_in : (b : Book) (p : Plan) (ts : List TaskId) → b.plan ≡ p → b.order.items ≡ ts → IsOver p (now p (task_numbers ts) b.history.events) → IsComplete p (state_at b) ⊎ ((state_at b).failing ≡ true)
+over_in b p ts plan order over = subst (λ (s : State). IsComplete p s ⊎ (s.failing ≡ true)) (sym (state_is b p ts plan order)) over
+
+pub complete_in : (b : Book) (p : Plan) (ts : List TaskId) → b.plan ≡ p → b.order.items ≡ ts → IsComplete p (state_at b) → IsComplete p (now p (task_numbers ts) b.history.events)
+complete_in b p ts plan order complete = subst (IsComplete p) (state_is b p ts plan order) complete
+
+-- no task is open at the start
+pub none_open : (order : List ℕ) → NoneOpen (opened order)
+none_open order w t opened_ = (let clash : ◌≡◌ {A = Phase} Waits Runs = opened_.runs in absurd cc)
+
+pub none_open_in : (b : Book) (p : Plan) (ts : List TaskId) → b.plan ≡ p → b.order.items ≡ ts → b.history.events ≡ [] → NoneOpen (state_at b)
+none_open_in b p ts plan order none = subst NoneOpen (sym (state_is b p ts plan order ∙ ap (now p (task_numbers ts)) none)) (none_open (task_numbers ts))
+
+below_one : (r : List Event) → AllBy 0 r → AllBelow 1 r
+below_one [] h = tt
+below_one (e ∷ r) h = (omega (arith, h.0), below_one r h.1)
+
+-- what is told at the end by what was told at the start
+shown_so : (w : Work) (p : Plan) (r : List Event) (m : Store) (told : Option Store) → w.after.told ≡ told → is_some told ≡ is_some w.before.told → IfSome w.before.told (λ s. m ≡ s) → IfSome told (Agrees w.apply p r m) → IsShown w p r
+shown_so w p r m told after tells marked agrees = by w.before.told told tells marked agrees after
+  where
+    by : (old new : Option Store) → is_some new ≡ is_some old → IfSome old (λ s. m ≡ s) → IfSome new (Agrees w.apply p r m) → w.after.told ≡ new → IfSome old (λ x. MatchOption w.after.told ⊥ (λ s. Agrees w.apply p r x s))
+    by None new tells marked agrees after = tt
+    by (Some x) None tells marked agrees after = absurd cc
+    by (Some x) (Some s) tells marked agrees after = subst (λ (o : Option Store). MatchOption o ⊥ (λ z. Agrees w.apply p r x z)) (sym after) (subst (λ (y : Store). Agrees w.apply p r y s) marked agrees)
+
+counted_so : (p : Plan) (r : List Event) (old new : Option Store) (faults misses f m : ℕ) (now_ : Counts) → is_some new ≡ is_some old → faults ≡ f → misses ≡ m → AreCounted new faults misses now_ r → AreCounted old f m now_ r
+counted_so p r None None faults misses f m now_ tells e g counted = rw (e, g) at counted
+counted_so p r None (Some s) faults misses f m now_ tells e g counted = absurd cc
+counted_so p r (Some x) None faults misses f m now_ tells e g counted = absurd cc
+counted_so p r (Some x) (Some s) faults misses f m now_ tells e g counted = rw e at counted
+
+deliveries_so : (apply : Apply) (p : Plan) (r : List Event) (old new : Option Store) (m : Store) (ds : _) → is_some new ≡ is_some old → IfSome old (λ s. m ≡ s) → AreDeliveries apply p r (marked_if new m) ds → AreDeliveries apply p r old ds
+deliveries_so apply p r old new m ds tells marked are = record { files = are.files; lengths = are.lengths; long = are.long; digests = by old new tells marked are.digests }
+  where
+    by : (old new : Option Store) → is_some new ≡ is_some old → IfSome old (λ s. m ≡ s) → IfSome (marked_if new m) (λ x. AreDigests (carries apply p x) ds (arrivals p r)) → IfSome old (λ x. AreDigests (carries apply p x) ds (arrivals p r))
+    by None new tells marked digests = tt
+    by (Some x) None tells marked digests = absurd cc
+    by (Some x) (Some s) tells marked digests = subst (λ (y : Store). AreDigests (carries apply p y) ds (arrivals p r)) marked digests
+
+prints_so : (w : Work) (p : Plan) (r : List Event) (new : Option Store) (m : Store) (text : List ℕ) (a : End) → is_some new ≡ is_some w.before.told → IfSome w.before.told (λ s. m ≡ s) → Prints w.apply p r (marked_if new m) text a → Prints w.apply p r w.before.told text a
+prints_so w p r new m text (Err faults.Memory) tells marked h = tt
+prints_so w p r new m text a tells marked h = record { delivered = h.delivered; are = deliveries_so w.apply p r w.before.told new m h.delivered tells marked h.are; text_is = h.text_is }
+
+tells_so : (w : Work) (p : Plan) (order : List ℕ) (r : List Event) (a : End) → AreUnused p w.before.told → EndsAs p order r a → Tells w p order r a
+tells_so w p order r (Ok done) unused h = (unused, h)
+tells_so w p order r (Err faults.Memory) unused h = tt
+tells_so w p order r (Err fault) unused h = inl (unused, h)
+
+-- the end of a run that is over
+pub ends_by : (p : Plan) (order : List ℕ) (r : List Event) (fault : RunFault) → Ends p r (Err fault) → EndsAs p order r (ended_by fault)
+ends_by p order r faults.Memory h = tt
+ends_by p order r fault h = h
+
+-- its text
+pub text_is : (apply : Apply) (p : Plan) (r : List Event) (told : Option Store) (m : Store) (ds : List Delivered) (text : List ℕ) → AreFiles ds (arrivals p r) → AreLengths ds (arrivals p r) → AreLong ds → IfSome told (λ s. AreDigests (carries apply p m) ds (arrivals p r)) → text ≡ run_text p r ds
+    → IsRunText apply p r (marked_if told m) text
+text_is apply p r told m ds text are_files are_lengths are_long digests is = record { delivered = ds; are = record { files = are_files; lengths = are_lengths; long = are_long; digests = by told digests }; text_is = is }
+  where
+    by : (o : Option Store) → IfSome o (λ s. AreDigests (carries apply p m) ds (arrivals p r)) → IfSome (marked_if o m) (λ x. AreDigests (carries apply p x) ds (arrivals p r))
+    by None h = tt
+    by (Some s) h = h
+
+pub prints_text : (apply : Apply) (p : Plan) (r : List Event) (told : Option Store) (text : List ℕ) (a : End) → IsRunText apply p r told text → Prints apply p r told text a
+prints_text apply p r told text (Err faults.Memory) h = tt
+prints_text apply p r told text a h = h
+
+pub if_ok : {A E : Type 0} (r : Result A E) (P Q : A → Type 0) → ((a : A) → P a → Q a) → IfOk r P → IfOk r Q
+if_ok (Ok a) P Q f h = f a h
+if_ok (Err e) P Q f h = tt
+
+pub marked_so : (o : Option Store) (m n : Store) → n ≡ m → IfSome o (λ s. m ≡ s) → IfSome o (λ s. n ≡ s)
+marked_so None m n same h = tt
+marked_so (Some s) m n same h = same ∙ h
+
+-- What a yard shows at the end of a run by n workers.
+pub record IsYardEnd (w : Work) (t : Tools) (n : ℕ) (p : Plan) (order : List ℕ) (r : List Event) (told : Option Store) (marked : Store) (faults misses : ℕ) : Type 0 where
+  pub told_is : w.after.told ≡ told
+  pub tells : is_some told ≡ is_some w.before.told
+  pub marked_is : IfSome w.before.told (λ s. marked ≡ s)
+  pub faults_are : faults ≡ w.before.counts.faults
+  pub misses_are : misses ≡ w.before.counts.misses
+  pub unused : AreUnused p w.before.told
+  pub below : AllBelow n r
+  pub over : (r ≡ []) ⊎ IsOver p (now p order r)
+  pub none_open : NoneOpen (now p order r)
+  pub inputs : AreOfInputs w.apply p r
+  pub tools : (k : ℕ) → k < n → RoseBy (tool_faults k r) (count_of t.before k) (count_of t.after k)
+
+run_so : (w : Work) (t : Tools) (n : ℕ) (p : Plan) (order : List ℕ) (r : List Event) (told : Option Store) (marked : Store) (faults misses : ℕ) → IsYardEnd w t n p order r told marked faults misses → HasLaws p order r → Legal p order r
+    → IfSome told (Agrees w.apply p r marked) → AreCounted told faults misses w.after.counts r → IsRun w t n p order r
+run_so w t n p order r told marked faults misses end laws legal agrees counted = record {
+  legal = legal;
+  below = end.below;
+  over = end.over;
+  none_open = end.none_open;
+  safe = laws.safe;
+  left = laws.left;
+  shown = shown_so w p r marked told end.told_is end.tells end.marked_is agrees;
+  inputs = end.inputs;
+  counted = counted_so p r w.before.told told faults misses w.before.counts.faults w.before.counts.misses w.after.counts end.tells end.faults_are end.misses_are counted;
+  tools = end.tools;
+}
+
+-- A run whose opening was accepted.
+pub ran : (w : Work) (t : Tools) (n : ℕ) (p : Plan) (order : List ℕ) (r : List Event) (told : Option Store) (marked : Store) (faults misses : ℕ) (text : List ℕ) (a : End) → IsYardEnd w t n p order r told marked faults misses → HasLaws p order r
+    → Legal p order r → IfSome told (Agrees w.apply p r marked) → AreCounted told faults misses w.after.counts r → EndsAs p order r a → Prints w.apply p r (marked_if told marked) text a → HasRun w t n p order text a
+ran w t n p order r told marked faults misses text a end laws legal agrees counted answers prints = record {
+  r = r;
+  run = run_so w t n p order r told marked faults misses end laws legal agrees counted;
+  tells = tells_so w p order r a end.unused answers;
+  prints = prints_so w p r told marked text a end.tells end.marked_is prints;
+}
+
+-- ---- one worker alone
+
+first_rose : (w : Work) (r added : List Event) → r ≡ added → RoseBy (tool_faults 0 added) w.before.tool w.after.tool → (k : ℕ) → k < 1 → RoseBy (tool_faults k r) (count_of (first_tool w).before k) (count_of (first_tool w).after k)
+first_rose w r added is rose zero l = subst (λ (es : List Event). RoseBy (tool_faults 0 es) w.before.tool w.after.tool) (sym is) rose
+first_rose w r added is rose (suc k) l = absurd (omega (arith, l))
+
+-- What a yard shows at the end of a run by one worker alone.
+pub record IsAloneEnd (w : Work) (p : Plan) (order : List ℕ) (r : List Event) (told : Option Store) (marked : Store) (faults misses : ℕ) : Type 0 where
+  pub told_is : w.after.told ≡ told
+  pub tells : is_some told ≡ is_some w.before.told
+  pub marked_is : IfSome w.before.told (λ s. marked ≡ s)
+  pub faults_are : faults ≡ w.before.counts.faults
+  pub misses_are : misses ≡ w.before.counts.misses
+  pub unused : AreUnused p w.before.told
+  pub works : WorksAlone p order [] r w.before.tool w.after.tool
+  pub inputs : AddsOfInputs w.apply p [] r
+
+of_all : (w : Work) (p : Plan) (order : List ℕ) (r : List Event) (told : Option Store) (marked : Store) (faults misses : ℕ) → IsAloneEnd w p order r told marked faults misses → IsYardEnd w (first_tool w) 1 p order r told marked faults misses
+of_all w p order r told marked faults misses end = record {
+  told_is = end.told_is;
+  tells = end.tells;
+  marked_is = end.marked_is;
+  faults_are = end.faults_are;
+  misses_are = end.misses_are;
+  unused = end.unused;
+  below = subst (AllBelow 1) (sym end.works.is) (below_one end.works.added end.works.by_zero);
+  over = inr end.works.over;
+  none_open = end.works.none_open;
+  inputs = subst (AreOfInputs w.apply p) (sym end.inputs.is) end.inputs.are;
+  tools = first_rose w r end.works.added end.works.is end.works.counted;
+}
+
+-- A run by one worker whose opening was accepted.
+pub ran_alone : (w : Work) (p : Plan) (order : List ℕ) (r : List Event) (told : Option Store) (marked : Store) (faults misses : ℕ) (text : List ℕ) (a : End) → IsAloneEnd w p order r told marked faults misses → HasLaws p order r
+    → Legal p order r → IfSome told (Agrees w.apply p r marked) → AreCounted told faults misses w.after.counts r → EndsAs p order r a → Prints w.apply p r (marked_if told marked) text a → HasRunAlone w p order text a
+ran_alone w p order r told marked faults misses text a end laws legal agrees counted answers prints = record {
+  ran = record {
+    r = r;
+    run = run_so w (first_tool w) 1 p order r told marked faults misses (of_all w p order r told marked faults misses end) laws legal agrees counted;
+    tells = tells_so w p order r a end.unused answers;
+    prints = prints_so w p r told marked text a end.tells end.marked_is prints;
+  };
+  in_order = λ none. subst (λ (es : List Event). begun es ≡ take (length (begun es)) order) (sym end.works.is) (end.works.in_order none);
+}
+
+-- ---- a refused opening
+
+agrees_at_start : (apply : Apply) (p : Plan) (m : Store) → Agrees apply p [] m m
+unfolding is_published is_swept is_delivered
+agrees_at_start apply p m = record {
+  truthful = tt;
+  replicas = refl;
+  trace = sym (append-nil m.trace);
+  published = λ q h k. absurd cc;
+  swept = λ q h. absurd cc;
+  untouched = λ site name h. refl;
+  delivered = λ f h. absurd cc;
+  undelivered = λ name h. refl;
+}
+
+shown_at_start : (w : Work) (p : Plan) → w.after.told ≡ w.before.told → IsShown w p []
+shown_at_start w p same = by w.before.told same
+  where
+    by : (old : Option Store) → w.after.told ≡ old → IfSome old (λ m. MatchOption w.after.told ⊥ (λ s. Agrees w.apply p [] m s))
+    by None after = tt
+    by (Some m) after = subst (λ (o : Option Store). MatchOption o ⊥ (λ s. Agrees w.apply p [] m s)) (sym after) (agrees_at_start w.apply p m)
+
+counted_at_start : (told : Option Store) (before after : Counts) → IsLater before after → AreCounted told before.faults before.misses after []
+unfolding host_faults host_misses
+counted_at_start None before after later = λ l m. omega (arith, later.faults, later.misses)
+counted_at_start (Some s) before after later = λ l. omega (arith, later.faults)
+
+tool_at_start : (k before after : ℕ) → before ≡ after → RoseBy (tool_faults k []) before after
+unfolding tool_faults
+tool_at_start k before after same = λ l. omega (arith, same)
+
+refusal_tells : (w : Work) (p : Plan) (order : List ℕ) (opening : OpenFault) (a : End) → Refuses p w.before.told w.before.counts w.after.counts opening → (a ≡ ended_by faults.Memory) ⊎ (a ≡ ended_by (fault_of_opening p opening)) → Tells w p order [] a
+refusal_tells w p order opening a refuses (inl e) = subst (Tells w p order []) (sym e) tt
+refusal_tells w p order opening a refuses (inr e) = subst (Tells w p order []) (sym e) (by (fault_of_opening p opening) refl)
+  where
+    by : (fault : RunFault) → fault ≡ fault_of_opening p opening → Tells w p order [] (ended_by fault)
+    by faults.Memory is = tt
+    by fault is = inr (refl, record { opening = opening; refuses = refuses; fault_is = is })
+
+no_deliveries : (apply : Apply) (p : Plan) (told : Option Store) → AreDeliveries apply p [] told []
+no_deliveries apply p told = record { files = refl; lengths = refl; long = λ k d l. absurd (omega (arith, l)); digests = by told }
+  where
+    by : (o : Option Store) → IfSome o (λ m. AreDigests (carries apply p m) [] (arrivals p []))
+    by None = tt
+    by (Some m) = refl
+
+refusal_prints : (w : Work) (p : Plan) (text : List ℕ) (a : End) → (a ≡ ended_by faults.Memory) ⊎ (text ≡ run_text p [] []) → Prints w.apply p [] w.before.told text a
+refusal_prints w p text (Err faults.Memory) h = tt
+refusal_prints w p text a (inl e) = subst (Prints w.apply p [] w.before.told text) (sym e) tt
+refusal_prints w p text a (inr e) = record { delivered = []; are = no_deliveries w.apply p w.before.told; text_is = e }
+
+empty_run : (w : Work) (t : Tools) (n : ℕ) (p : Plan) (order : List ℕ) → HasLaws p order [] → w.after.told ≡ w.before.told → IsLater w.before.counts w.after.counts → t.after ≡ t.before → IsRun w t n p order []
+empty_run w t n p order laws told later tools = record {
+  legal = tt;
+  below = tt;
+  over = inl refl;
+  none_open = none_open order;
+  safe = laws.safe;
+  left = laws.left;
+  shown = shown_at_start w p told;
+  inputs = tt;
+  counted = counted_at_start w.before.told w.before.counts w.after.counts later;
+  tools = λ k l. tool_at_start k (count_of t.before k) (count_of t.after k) (ap (λ (c : List ℕ). count_of c k) (sym tools));
+}
+
+-- A run that was not begun.
+pub not_begun : (w : Work) (t : Tools) (n : ℕ) (p : Plan) (order : List ℕ) (opening : OpenFault) (text : List ℕ) (a : End) → HasLaws p order [] → w.after.told ≡ w.before.told → IsLater w.before.counts w.after.counts → t.after ≡ t.before
+    → Refuses p w.before.told w.before.counts w.after.counts opening → IsRefusal p opening text a → HasRun w t n p order text a
+not_begun w t n p order opening text a laws told later tools refuses refusal = record {
+  r = [];
+  run = empty_run w t n p order laws told later tools;
+  tells = refusal_tells w p order opening a refuses refusal.ends;
+  prints = refusal_prints w p text a refusal.says;
+}
+
+pub not_begun_alone : (w : Work) (p : Plan) (order : List ℕ) (opening : OpenFault) (text : List ℕ) (a : End) → HasLaws p order [] → w.after.told ≡ w.before.told → IsLater w.before.counts w.after.counts → w.after.tool ≡ w.before.tool
+    → Refuses p w.before.told w.before.counts w.after.counts opening → IsRefusal p opening text a → HasRunAlone w p order text a
+not_begun_alone w p order opening text a laws told later tool refuses refusal = record {
+  ran = record {
+    r = [];
+    run = empty_run w (first_tool w) 1 p order laws told later (ap (λ (n : ℕ). n ∷ []) tool);
+    tells = refusal_tells w p order opening a refuses refusal.ends;
+    prints = refusal_prints w p text a refusal.says;
+  };
+  in_order = λ none. refl;
+}
+
+-- A run for which there was no memory to begin.
+pub no_room : (w : Work) (t : Tools) (n : ℕ) (p : Plan) (order text : List ℕ) → HasLaws p order [] → w.after.told ≡ w.before.told → IsLater w.before.counts w.after.counts → t.after ≡ t.before → HasRun w t n p order text (ended_by faults.Memory)
+no_room w t n p order text laws told later tools = record { r = []; run = empty_run w t n p order laws told later tools; tells = tt; prints = tt }

@@ -1,0 +1,61 @@
+use Rattle.std.proofs.Common.{[], ◌∙◌, ap, refl}
+use Rattle.std.proofs.Math.Logic.{∥∥₁_elim, ∥∥₁_map, ∥∥₁_prop}
+use Rattle.std.specs.Prelude.{is_some}
+use Rattle.plan_core.specs.Words.{task_numbers}
+use Rattle.plan_run.specs.Moments.{work_moment, working}
+use Rattle.plan_run.proofs.RunningLemmas.{marked_so, not_begun_alone, ran_alone}
+use Rattle.plan_run.proofs.running.run_plan.Goals as goal
+
+pub returns-in-Ok-clause-ran : goal.returns-in-Ok-clause-ran
+returns-in-Ok-clause-ran g c =
+    let p = c.args.ordered.plan in
+    let order = task_numbers c.args.ordered.tasks.items in
+    let y = c.run_alone-yard.result in
+    let r = y.book.history.events in
+    let text = c.end_run.result.text.items in
+    let end_ = c.end_run.result.end in
+    let same = c.run_alone-yard.ensures.ordered ∙ c.in-Ok.ensures.ordered in
+    let legal = rw same at c.agrees.ensures.legal in
+    let shows = rw same at c.agrees.ensures.shows in
+    let ends = rw same at c.end_run.ensures.ends in
+    let prints = rw same at c.end_run.ensures.prints in
+    let works = rw (c.in-Ok.ensures.ordered, c.in-Ok.ensures.history) at c.run_alone-yard.ensures.works in
+    let inputs = rw (c.in-Ok.ensures.ordered, c.in-Ok.ensures.history) at c.run_alone-yard.ensures.inputs in
+    let fits = c.ordered_plans_fit.ensures c.args.ordered in
+    let before = work_moment g.H.Host c.args.host (g.T.Tool.faults c.args.crew.now.tool) in
+    let after = work_moment g.H.Host y.host (g.T.Tool.faults c.run_alone-yard.new.crew.tool) in
+    let w = working g.T.Tool.apply g.T.Tool.known before after in
+    rw c.end_run.ensures.host (∥∥₁_elim legal ∥∥₁_prop (λ l. ∥∥₁_elim shows ∥∥₁_prop (λ s. ∥∥₁_map c.agrees.ensures.counted (λ k.
+    ran_alone w p order r (g.H.Host.told y.host) (g.H.Host.marked y.host) y.faults y.misses text end_
+    (record {
+      told_is = refl;
+      tells = c.run_alone-yard.ensures.tells ∙ ap is_some c.in-Ok.ensures.told;
+      marked_is = marked_so (g.H.Host.told c.args.host) _ _ c.run_alone-yard.ensures.marked c.in-Ok.ensures.marked;
+      faults_are = c.run_alone-yard.ensures.faults ∙ c.in-Ok.ensures.faults;
+      misses_are = c.run_alone-yard.ensures.misses ∙ c.in-Ok.ensures.misses;
+      unused = c.in-Ok.ensures.unused;
+      works = works;
+      inputs = inputs;
+    })
+    (record {
+      safe = λ n. c.legal_records_are_safe.ensures.always p order r c.args.ordered.proper fits l n;
+      left = λ n site. c.what_is_left_is_held.ensures p order r c.args.ordered.proper fits l n site;
+    })
+    l s k ends prints))))
+
+pub returns-in-Err-clause-ran : goal.returns-in-Err-clause-ran
+returns-in-Err-clause-ran g c =
+    let p = c.args.ordered.plan in
+    let order = task_numbers c.args.ordered.tasks.items in
+    let fits = c.ordered_plans_fit.ensures c.args.ordered in
+    let refusal = rw c.in-Err.ensures.back.0 at c.refuse_run.ensures.refusal in
+    let faults = g.T.Tool.faults c.args.crew.now.tool in
+    let before = work_moment g.H.Host c.args.host faults in
+    let after = work_moment g.H.Host c.in-Err.refused.host faults in
+    let w = working g.T.Tool.apply g.T.Tool.known before after in
+    rw c.refuse_run.ensures.host (∣ not_begun_alone w p order c.in-Err.refused.fault c.refuse_run.result.text.items c.refuse_run.result.end
+    (record {
+      safe = λ n. c.legal_records_are_safe.ensures.always p order [] c.args.ordered.proper fits tt n;
+      left = λ n site. c.what_is_left_is_held.ensures p order [] c.args.ordered.proper fits tt n site;
+    })
+    c.in-Err.ensures.back.1 c.in-Err.ensures.back.2 refl c.in-Err.ensures.refused refusal ∣₁)

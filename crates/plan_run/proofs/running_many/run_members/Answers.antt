@@ -1,0 +1,67 @@
+use Rattle.std.proofs.Common.{[], length, map, ◌∙◌, ap, refl}
+use Rattle.std.proofs.Math.Logic.{∥∥₁_elim, ∥∥₁_map, ∥∥₁_prop}
+use Rattle.std.proofs.lemmas.List.{length-map}
+use Rattle.std.specs.Prelude.{is_some}
+use Rattle.craft.specs.declared.crew.Crew.{Crew}
+use Rattle.plan_core.specs.Words.{task_numbers}
+use Rattle.plan_run.specs.Moments.{counting, first_count, work_moment, working}
+use Rattle.plan_run.proofs.RunningLemmas.{marked_so, not_begun, ran}
+use Rattle.plan_run.proofs.RunningManyLemmas.{many_end}
+use Rattle.plan_run.proofs.running_many.run_members.Goals as goal
+
+pub returns-in-Ok-clause-ran : goal.returns-in-Ok-clause-ran
+returns-in-Ok-clause-ran g c =
+    let p = c.args.ordered.plan in
+    let order = task_numbers c.args.ordered.tasks.items in
+    let many = c.run_many-end.result in
+    let y = many.yard in
+    let r = y.book.history.events in
+    let n = length c.args.members.items in
+    let count = λ (m : Crew g.row.T.Denot g.row.G.Denot). g.T.Tool.faults m.tool in
+    let old = map count c.args.members.items in
+    let new = map count many.crew.items in
+    let text = c.end_many-ran.result.text.items in
+    let end_ = c.end_many-ran.result.end in
+    let same = c.run_many-end.ensures.ordered ∙ c.in-Ok.ensures.ordered in
+    let legal = rw same at c.agrees.ensures.legal in
+    let shows = rw same at c.agrees.ensures.shows in
+    let ends = rw same at c.end_many-ran.ensures.ends in
+    let prints = rw same at c.end_many-ran.ensures.prints in
+    let works = rw c.in-Ok.ensures.ordered at c.run_many-end.ensures.works in
+    let inputs = rw c.in-Ok.ensures.ordered at c.run_many-end.ensures.inputs in
+    let fits = c.ordered_plans_fit.ensures c.args.ordered in
+    let before = work_moment g.H.Host c.args.host (first_count old) in
+    let after = work_moment g.H.Host y.host (first_count new) in
+    let w = working g.T.Tool.apply g.T.Tool.known before after in
+    let t = counting old new in
+    let end = many_end w t n p order r many.unstarted (g.H.Host.told y.host) (g.H.Host.marked y.host) y.faults y.misses refl
+    (c.run_many-end.ensures.tells ∙ ap is_some c.in-Ok.ensures.told)
+    (marked_so (g.H.Host.told c.args.host) _ _ c.run_many-end.ensures.marked c.in-Ok.ensures.marked)
+    (c.run_many-end.ensures.faults ∙ c.in-Ok.ensures.faults)
+    (c.run_many-end.ensures.misses ∙ c.in-Ok.ensures.misses)
+    c.in-Ok.ensures.unused works (λ u. (c.run_many-end.ensures.unstarted u).0) (length-map c.args.members.items count) c.run_many-end.ensures.tools inputs in
+    rw c.end_many-ran.ensures.host (∥∥₁_elim legal ∥∥₁_prop (λ l. ∥∥₁_elim shows ∥∥₁_prop (λ s. ∥∥₁_map c.agrees.ensures.counted (λ k.
+    ran w t n p order r (g.H.Host.told y.host) (g.H.Host.marked y.host) y.faults y.misses text end_ end
+    (record {
+      safe = λ j. c.legal_records_are_safe.ensures.always p order r c.args.ordered.proper fits l j;
+      left = λ j site. c.what_is_left_is_held.ensures p order r c.args.ordered.proper fits l j site;
+    })
+    l s k ends prints))))
+
+pub returns-in-Err-clause-ran : goal.returns-in-Err-clause-ran
+returns-in-Err-clause-ran g c =
+    let p = c.args.ordered.plan in
+    let order = task_numbers c.args.ordered.tasks.items in
+    let fits = c.ordered_plans_fit.ensures c.args.ordered in
+    let refusal = rw c.in-Err.ensures.back.0 at c.refuse_run.ensures.refusal in
+    let count = λ (m : Crew g.row.T.Denot g.row.G.Denot). g.T.Tool.faults m.tool in
+    let old = map count c.args.members.items in
+    let before = work_moment g.H.Host c.args.host (first_count old) in
+    let after = work_moment g.H.Host c.in-Err.refused.host (first_count old) in
+    let w = working g.T.Tool.apply g.T.Tool.known before after in
+    rw c.refuse_run.ensures.host (∣ not_begun w (counting old old) (length c.args.members.items) p order c.in-Err.refused.fault c.refuse_run.result.text.items c.refuse_run.result.end
+    (record {
+      safe = λ n. c.legal_records_are_safe.ensures.always p order [] c.args.ordered.proper fits tt n;
+      left = λ n site. c.what_is_left_is_held.ensures p order [] c.args.ordered.proper fits tt n site;
+    })
+    c.in-Err.ensures.back.1 c.in-Err.ensures.back.2 refl c.in-Err.ensures.refused refusal ∣₁)

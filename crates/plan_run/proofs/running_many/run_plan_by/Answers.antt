@@ -1,0 +1,34 @@
+use Rattle.std.proofs.Common.{ℕ, [], List, length, map, ◌++◌, ◌∙◌, ap, refl}
+use Rattle.std.proofs.lemmas.List.{length-append}
+use Rattle.craft.specs.declared.crew.Crew.{Crew}
+use Rattle.plan_core.specs.Words.{task_numbers}
+use Rattle.plan_run.specs.Moments.{counting, first_count, work_moment, working}
+use Rattle.plan_run.proofs.CrewLemmas.{many_of}
+use Rattle.plan_run.proofs.MembersLemmas.{others_stay, taken_many}
+use Rattle.plan_run.proofs.RunningLemmas.{no_room}
+use Rattle.plan_run.proofs.running_many.run_plan_by.Goals as goal
+
+pub returns-in-Ok-clause-ran : goal.returns-in-Ok-clause-ran
+returns-in-Ok-clause-ran g c =
+    let n = c.args.workers in
+    let o = c.args.ordered in
+    let taken = c.in-Ok.ensures.taken in
+    let crew = c.args.crew.now.items in
+    let members = c.in-Ok.members.items in
+    let back = c.run_members-ran.result.members.items in
+    let ran = c.run_members-ran.result.ran in
+    many_of (λ (m : Crew g.row.T.Denot g.row.G.Denot). g.T.Tool.faults m.tool) crew c.put_back.new.crew.items members back n
+    (λ (x y : ℕ). working g.T.Tool.apply g.T.Tool.known (work_moment g.H.Host c.args.host x) (work_moment g.H.Host ran.host y))
+    o.plan (task_numbers o.tasks.items) ran.text.items ran.end taken.0 (taken_many crew members n taken.0 c.requires.crew c.requires.workers.1) c.requires.workers.0 c.run_members-ran.ensures.members
+    (c.put_back.ensures ∙ ap (λ (rest : List (Crew g.row.T.Denot g.row.G.Denot)). back ++ rest) taken.1)
+    c.run_members-ran.ensures.ran
+
+pub returns-in-Ok-clause-others : goal.returns-in-Ok-clause-others
+returns-in-Ok-clause-others g c =
+    let taken = c.in-Ok.ensures.taken in
+    let crew = c.args.crew.now.items in
+    let members = c.in-Ok.members.items in
+    let back = c.run_members-ran.result.members.items in
+    others_stay c.args.workers crew c.put_back.new.crew.items back members
+    (c.put_back.ensures ∙ ap (λ (rest : List (Crew g.row.T.Denot g.row.G.Denot)). back ++ rest) taken.1) c.run_members-ran.ensures.members
+    (taken_many crew members c.args.workers taken.0 c.requires.crew c.requires.workers.1)

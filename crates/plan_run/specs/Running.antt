@@ -1,0 +1,128 @@
+-- A run of a plan by workers: what its one record says, what the host and the tools show of it, and how the end and the text
+-- are read off it.
+use Rattle.std.specs.Prelude.{◌≡◌, ◌⊎◌, ℕ, ◌+◌, ◌≤◌, ◌<◌, true, List, [], length, take, option_map, Option, Some, IfSome, MatchOption, Result, Ok, Err}
+use Rattle.outside.specs.declared.store.Store.{Store}
+use Rattle.outside.specs.Tool.{Apply}
+use Rattle.plan_core.specs.declared.plan.Plan.{Plan}
+use Rattle.plan_core.specs.Words.{retries}
+use Rattle.lease_book.specs.Law.{IsSafeState, reserved_at, stored_at}
+use Rattle.lease_book.specs.Legal.{IsComplete, Legal}
+use Rattle.lease_book.specs.State.{now}
+use Rattle.run_record.specs.Events.{Event}
+use Rattle.site_yard.specs.Changes.{carries}
+use Rattle.site_yard.specs.Delivered.{AreDigests, AreFiles, AreLengths, AreLong, arrivals}
+use Rattle.site_yard.specs.Ending.{first_fault}
+use Rattle.site_yard.specs.Failures.{AreCounted, RoseBy, tool_faults}
+use Rattle.site_yard.specs.Faults.{AllBelow}
+use Rattle.site_yard.specs.Law.{Agrees}
+use Rattle.site_yard.specs.Leaving.{left_in}
+use Rattle.site_yard.specs.Opening.{AreUnused, Refuses, fault_of_opening}
+use Rattle.site_yard.specs.Trace.{trace_of}
+use Rattle.site_yard.specs.declared.delivered.Delivered.{Delivered}
+use Rattle.run_record.specs.declared.run_fault.RunFault.{RunFault}
+use Rattle.run_record.specs.declared.run_fault.RunFault.TheVariants as faults
+use Rattle.site_yard.specs.declared.opening.OpenFault.{OpenFault}
+use Rattle.worker_gate.specs.Alone.{NoneOpen, begun}
+use Rattle.worker_gate.specs.Inputs.{AreOfInputs}
+use Rattle.plan_run.specs.Moments.{Tools, Work, count_of, first_tool}
+use Rattle.plan_run.specs.RunText.{run_text}
+
+-- how a run ends: all was done, or this is why not; want of memory is one of the reasons
+abbrev pub End : Type 0
+End = Result (Unit {0}) RunFault
+
+abbrev pub ended_by : RunFault → End
+ended_by fault = Err fault
+
+-- where the host told what it held, it still tells, and shows the record
+abbrev pub IsShown : Work → Plan → List Event → Type 0
+IsShown w p r = IfSome w.before.told (λ m. MatchOption w.after.told ⊥ (λ s. Agrees w.apply p r m s))
+
+-- Of a run by n workers, whatever its answer: r is its one record.
+pub record IsRun (w : Work) (t : Tools) (n : ℕ) (p : Plan) (order : List ℕ) (r : List Event) : Type 0 where
+  -- each entry is allowed after those before it, and by one of the workers
+  pub legal : Legal p order r
+  pub below : AllBelow n r
+  -- nothing was begun, or all was done, or something failed; and no task is open
+  pub over : (r ≡ []) ⊎ (IsComplete p (now p order r) ⊎ ((now p order r).failing ≡ true))
+  pub none_open : NoneOpen (now p order r)
+  -- after every entry each site is within its bound, and the kept order would finish what is left within every bound
+  pub safe : (k : ℕ) → IsSafeState p (now p order (take k r))
+  -- and what the operations have left at a site is no more than is stored and reserved there
+  pub left : (k s : ℕ) → left_in p (trace_of p (take k r)) s ≤ stored_at p (now p order (take k r)).held s + reserved_at p (now p order (take k r)).held s
+  -- the operations are those that the record says, and no others
+  pub shown : IsShown w p r
+  -- told or not, what entries say of a Run's jobs and outputs is so of some bytes, one text for each of its reads
+  pub inputs : AreOfInputs w.apply p r
+  -- the host's count rose as often as entries lay a failure on it, and each worker's tool's as often as that worker's do
+  pub counted : AreCounted w.before.told w.before.counts.faults w.before.counts.misses w.after.counts r
+  pub tools : (k : ℕ) → k < n → RoseBy (tool_faults k r) (count_of t.before k) (count_of t.after k)
+
+-- the sites that the plan uses were empty
+abbrev pub IsOpened : Work → Plan → Type 0
+IsOpened w p = AreUnused p w.before.told
+
+-- the opening was refused, with this fault
+pub record IsUnopened (w : Work) (p : Plan) (fault : RunFault) : Type 0 where
+  pub opening : OpenFault
+  pub refuses : Refuses p w.before.told w.before.counts w.after.counts opening
+  pub fault_is : fault ≡ fault_of_opening p opening
+
+-- The fault is that of the record's first Fail, or of an opening that was refused.
+abbrev pub Fails : Work → Plan → List Event → RunFault → Type 0
+Fails w p r fault = (IsOpened w p × (first_fault p r ≡ Some fault)) ⊎ ((r ≡ []) × IsUnopened w p fault)
+
+-- The end of a run, read off its record. Want of memory is free.
+abbrev pub Tells : Work → Plan → List ℕ → List Event → End → Type 0
+Tells w p order r (Ok done) = IsOpened w p × IsComplete p (now p order r)
+Tells w p order r (Err faults.Memory) = Unit {0}
+Tells w p order r (Err fault) = Fails w p r fault
+
+-- What was delivered, in order: the files and sizes of the record's arrivals, with the digests of what tasks carry over a
+-- store, where that is told.
+pub record AreDeliveries (apply : Apply) (p : Plan) (r : List Event) (told : Option Store) (ds : List Delivered) : Type 0 where
+  pub files : AreFiles ds (arrivals p r)
+  pub lengths : AreLengths ds (arrivals p r)
+  pub long : AreLong ds
+  pub digests : IfSome told (λ m. AreDigests (carries apply p m) ds (arrivals p r))
+
+-- the text of a record with its deliveries
+pub record IsRunText (apply : Apply) (p : Plan) (r : List Event) (told : Option Store) (text : List ℕ) : Type 0 where
+  pub delivered : List Delivered
+  pub are : AreDeliveries apply p r told delivered
+  pub text_is : text ≡ run_text p r delivered
+
+-- The text of a run. At want of memory nothing of it is written, so it is free.
+abbrev pub Prints : Apply → Plan → List Event → Option Store → List ℕ → End → Type 0
+Prints apply p r told text (Err faults.Memory) = Unit {0}
+Prints apply p r told text _ = IsRunText apply p r told text
+
+-- A run by n workers with its end and its text.
+pub record HasRun (w : Work) (t : Tools) (n : ℕ) (p : Plan) (order : List ℕ) (text : List ℕ) (end : End) : Type 0 where
+  pub r : List Event
+  pub run : IsRun w t n p order r
+  pub tells : Tells w p order r end
+  pub prints : Prints w.apply p r w.before.told text end
+
+-- A run by one worker alone.
+pub record HasRunAlone (w : Work) (p : Plan) (order : List ℕ) (text : List ℕ) (end : End) : Type 0 where
+  pub ran : HasRun w (first_tool w) 1 p order text end
+  -- where nothing is tried again, tasks are begun in the kept order
+  pub in_order : retries p ≡ 0 → begun ran.r ≡ take (length (begun ran.r)) order
+
+-- ---- the end of a run
+
+-- the end of a run that is over
+abbrev pub EndsAs : Plan → List ℕ → List Event → End → Type 0
+EndsAs p order r (Ok done) = IsComplete p (now p order r)
+EndsAs p order r (Err faults.Memory) = Unit {0}
+EndsAs p order r (Err fault) = first_fault p r ≡ Some fault
+
+-- the store that was marked, where the host tells
+abbrev pub marked_if : Option Store → Store → Option Store
+marked_if told m = option_map (λ s. m) told
+
+-- the end and the text of a run whose opening was refused
+pub record IsRefusal (p : Plan) (opening : OpenFault) (text : List ℕ) (end : End) : Type 0 where
+  pub ends : (end ≡ ended_by faults.Memory) ⊎ (end ≡ ended_by (fault_of_opening p opening))
+  pub says : (end ≡ ended_by faults.Memory) ⊎ (text ≡ run_text p [] [])

@@ -1,0 +1,124 @@
+//! A run of a plan by one worker, and how a run ends.
+
+ghost use Rattle.std.specs.Prelude.{◌≡◌, ◌≤◌, ◌⊎◌, [], Err, IfOk, true};
+ghost use Rattle.plan_core.specs.Words.{retries, task_numbers};
+ghost use Rattle.lease_book.specs.Book.{state_at};
+ghost use Rattle.lease_book.specs.Legal.{IsComplete};
+ghost use Rattle.run_record.specs.declared.run_fault.RunFault.TheVariants as faults;
+ghost use Rattle.plan_run.specs.Moments.{work_moment, working};
+ghost use Rattle.plan_run.specs.Running.{EndsAs, HasRunAlone, IsRefusal, IsRunText, Prints, ended_by, marked_if};
+
+use crate::run_text::{empty_text, run_text};
+use craft::{Crew, Gate};
+use lease_book::{legal_records_are_safe, ordered_plans_fit};
+use outside::{Host, Memory, Tool};
+use run_record::RunFault;
+use site_yard::{OpenRefused, Yard, opening_fault, what_is_left_is_held};
+use std::alloc::Global;
+use storage_simulation::Ordered;
+use worker_gate::run_alone;
+
+/// What came of a run, and the host after it.
+#[derive(Drop)]
+pub struct Ran<H> {
+    /// Whether all was done, else the first failure; want of memory is one of its own.
+    pub end: Result<(), RunFault>,
+    /// The record and then the deliveries; nothing is said of it at want of memory.
+    pub text: Vec<u8>,
+    pub host: H,
+}
+
+/// Memory ran out: there is no text.
+pub(crate) fn out_of_memory<H: Host>(alloc: Global, host: H) -> Ran<H>
+    ensures end { result.end ≡ ended_by faults.Memory }
+    ensures text { result.text.items ≡ [] }
+    ensures host { result.host ≡ host }
+{
+    Ran {
+        end: Err(RunFault::Memory),
+        text: Vec::new(alloc),
+        host,
+    }
+}
+
+/// How a run that is over ended.
+fn end_of<H: Host, T: Tool>(alloc: Global, yard: &Yard<H, T>) -> Result<(), RunFault>
+    requires over { IsComplete yard.now.ordered.plan (state_at yard.now.book) ⊎ ((state_at yard.now.book).failing ≡ true) }
+    ensures { EndsAs yard.now.ordered.plan (task_numbers yard.now.ordered.tasks.items) yard.now.book.history.events result }
+{
+    match yard.ending(alloc) {
+        Ok(()) => Ok(()),
+        Err(fault) => Err(fault),
+    }
+}
+
+/// The record of a run, and what it delivered.
+fn text_of<H: Host, T: Tool>(alloc: Global, yard: &Yard<H, T>) -> Result<Vec<u8>, Memory>
+    ensures { IfOk result (λ text. IsRunText T.apply yard.now.ordered.plan yard.now.book.history.events (marked_if (H.told yard.now.host) (H.marked yard.now.host)) text.items) }
+{
+    let record = yard.book().record();
+    run_text(alloc, yard.plan(), record, yard.delivered())
+}
+
+/// The end and the text of a run that is over, and its host.
+pub(crate) fn end_run<H: Host, T: Tool>(alloc: Global, yard: Yard<H, T>) -> Ran<H>
+    requires over { IsComplete yard.ordered.plan (state_at yard.book) ⊎ ((state_at yard.book).failing ≡ true) }
+    ensures ends { EndsAs yard.ordered.plan (task_numbers yard.ordered.tasks.items) yard.book.history.events result.end }
+    ensures prints { Prints T.apply yard.ordered.plan yard.book.history.events (marked_if (H.told yard.host) (H.marked yard.host)) result.text.items result.end }
+    ensures host { result.host ≡ yard.host }
+{
+    match text_of(alloc, &yard) {
+        Ok(text) => {
+            let end = end_of(alloc, &yard);
+            Ran {
+                end,
+                text,
+                host: yard.into_host(),
+            }
+        }
+        Err(Memory) => out_of_memory(alloc, yard.into_host()),
+    }
+}
+
+/// The end and the text of a run whose opening was refused, and its host.
+pub(crate) fn refuse_run<H: Host>(alloc: Global, refused: OpenRefused<H>) -> Ran<H>
+    ensures refusal { IsRefusal refused.ordered.plan refused.fault result.text.items result.end }
+    ensures host { result.host ≡ refused.host }
+{
+    let fault = opening_fault(refused.ordered.plan(), alloc, refused.fault);
+    match empty_text(alloc, refused.ordered.plan()) {
+        Ok(text) => Ran {
+            end: Err(fault),
+            text,
+            host: refused.host,
+        },
+        Err(Memory) => out_of_memory(alloc, refused.host),
+    }
+}
+
+/// Runs a plan with its order, with one worker. It starts no thread and waits for nobody.
+pub fn run_plan<H: Host, T: Tool, G: Gate>(
+    alloc: Global,
+    ordered: Ordered,
+    host: H,
+    crew: &mut Crew<T, G>,
+) -> Ran<H>
+    requires { retries ordered.plan ≤ 10 }
+    ensures ran { ∥ HasRunAlone (working T.apply T.known (work_moment H.Host host (T.faults crew.old.tool)) (work_moment H.Host result.host (T.faults crew.new.tool)))
+        ordered.plan (task_numbers ordered.tasks.items) result.text.items result.end ∥₁ }
+    ensures gate { crew.new.gate ≡ crew.old.gate }
+{
+    // Laws for the proof: they do nothing.
+    ordered_plans_fit();
+    legal_records_are_safe();
+    what_is_left_is_held();
+    match Yard::<H, T>::open(alloc, ordered, host) {
+        Ok(yard) => {
+            let yard = run_alone(alloc, yard, crew);
+            // What holds of every yard, for the proof.
+            yard.agrees();
+            end_run(alloc, yard)
+        }
+        Err(refused) => refuse_run(alloc, refused),
+    }
+}

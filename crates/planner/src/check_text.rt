@@ -1,0 +1,168 @@
+//! The text of a check.
+
+ghost use Rattle.std.specs.Prelude.{◌≡◌, ◌++◌, List, ℕ, IfOk, OnOk};
+ghost use Rattle.std.specs.List.{flat_map};
+ghost use Rattle.planner.specs.CheckText.{all_ignored_lines, check_lines, counted_line, directory_line, directory_lines, has_lines, ignored_line, ignored_lines, server_lines, site_line, site_lines, workflow_line};
+
+use crate::document::Document;
+use crate::inputs::Survey;
+use outside::{Memory, Text, Word, push_line};
+use site_catalog::{Directory, FileServer, SiteEntry};
+use std::alloc::Global;
+use workflow_core::Workflow;
+
+#[tactic(auto, unfolding(crate::specs::CheckText::workflow_line))]
+fn push_workflow(alloc: Global, text: &mut Vec<u8>, workflow: &Workflow) -> Result<(), Memory>
+    ensures { OnOk result (text.new.items ≡ text.old.items ++ workflow_line workflow.now) }
+{
+    let name = Word::Name(workflow.name.as_bytes());
+    let jobs = Word::Number(workflow.jobs.as_slice().len() as u64);
+    let files = Word::Number(workflow.files.as_slice().len() as u64);
+    let pairs = Word::Number(workflow.pairs.as_slice().len() as u64);
+    push_line(alloc, text, "workflow", &[name, jobs, files, pairs])
+}
+
+/// What has lines of its own.
+trait Lines {
+    ghost lines: { Self → List ℕ };
+
+    fn push(&self, alloc: Global, text: &mut Vec<u8>) -> Result<(), Memory>
+        ensures { OnOk result (text.new.items ≡ text.old.items ++ lines self.now) };
+}
+
+fn push_each<T: Lines>(alloc: Global, text: &mut Vec<u8>, all: &[T]) -> Result<(), Memory>
+    ensures { OnOk result (text.new.items ≡ text.old.items ++ flat_map T.lines all.now) }
+{
+    for one in all {
+        one.push(alloc, text)?;
+    }
+    Ok(())
+}
+
+impl Lines for FileServer {
+    ghost lines = { server_lines };
+
+    #[tactic(auto, unfolding(crate::specs::CheckText::server_lines))]
+    fn push(&self, alloc: Global, text: &mut Vec<u8>) -> Result<(), Memory> {
+        let operation = Word::Name(self.operation.as_bytes());
+        let url = Word::Name(self.url.as_bytes());
+        push_line(alloc, text, "server", &[operation, url])
+    }
+}
+
+fn push_directory(alloc: Global, text: &mut Vec<u8>, directory: &Directory) -> Result<(), Memory>
+    ensures { OnOk result (text.new.items ≡ text.old.items ++ directory_line directory.now) }
+{
+    let kind = Word::Name(directory.kind.as_bytes());
+    match &directory.path {
+        Some(path) => push_line(
+            alloc,
+            text,
+            "directory",
+            &[kind, Word::Name(path.as_bytes())],
+        ),
+        None => push_line(alloc, text, "directory", &[kind, Word::Name(b"")]),
+    }
+}
+
+impl Lines for Directory {
+    ghost lines = { directory_lines };
+
+    #[tactic(auto, unfolding(crate::specs::CheckText::directory_lines))]
+    fn push(&self, alloc: Global, text: &mut Vec<u8>) -> Result<(), Memory> {
+        push_directory(alloc, text, self)?;
+        push_each(alloc, text, self.servers.as_slice())
+    }
+}
+
+fn push_site(alloc: Global, text: &mut Vec<u8>, site: &SiteEntry) -> Result<(), Memory>
+    ensures { OnOk result (text.new.items ≡ text.old.items ++ site_line site.now) }
+{
+    push_line(alloc, text, "site", &[Word::Name(site.name.as_bytes())])
+}
+
+impl Lines for SiteEntry {
+    ghost lines = { site_lines };
+
+    #[tactic(auto, unfolding(crate::specs::CheckText::site_lines))]
+    fn push(&self, alloc: Global, text: &mut Vec<u8>) -> Result<(), Memory> {
+        push_site(alloc, text, self)?;
+        push_each(alloc, text, self.directories.as_slice())
+    }
+}
+
+#[tactic(auto, unfolding(crate::specs::CheckText::counted_line))]
+fn push_counted(
+    alloc: Global,
+    text: &mut Vec<u8>,
+    which: Document,
+    count: u64,
+) -> Result<(), Memory>
+    ensures { OnOk result (text.new.items ≡ text.old.items ++ counted_line which count) }
+{
+    push_line(alloc, text, which.word(), &[Word::Number(count)])
+}
+
+#[tactic(auto, unfolding(crate::specs::CheckText::ignored_line))]
+fn push_ignored(
+    alloc: Global,
+    text: &mut Vec<u8>,
+    which: Document,
+    path: &Text,
+) -> Result<(), Memory>
+    ensures { OnOk result (text.new.items ≡ text.old.items ++ ignored_line which path.now) }
+{
+    push_line(
+        alloc,
+        text,
+        "ignored",
+        &[Word::Plain(which.word()), Word::Name(path.as_bytes())],
+    )
+}
+
+fn push_all_ignored(
+    alloc: Global,
+    text: &mut Vec<u8>,
+    which: Document,
+    paths: &[Text],
+) -> Result<(), Memory>
+    ensures { OnOk result (text.new.items ≡ text.old.items ++ ignored_lines which paths.now) }
+{
+    for path in paths {
+        push_ignored(alloc, text, which, path)?;
+    }
+    Ok(())
+}
+
+fn push_what_is(alloc: Global, text: &mut Vec<u8>, survey: &Survey) -> Result<(), Memory>
+    ensures { OnOk result (text.new.items ≡ text.old.items ++ has_lines survey.now) }
+{
+    push_workflow(alloc, text, &survey.workflow)?;
+    push_each(alloc, text, survey.sites.sites.as_slice())?;
+    push_counted(alloc, text, Document::Replicas, survey.replicas.listed)?;
+    let transformations = survey.transformations.entries.as_slice().len() as u64;
+    push_counted(alloc, text, Document::Transformations, transformations)
+}
+
+fn push_what_is_ignored(alloc: Global, text: &mut Vec<u8>, survey: &Survey) -> Result<(), Memory>
+    ensures { OnOk result (text.new.items ≡ text.old.items ++ all_ignored_lines survey.now) }
+{
+    let workflow = survey.workflow.ignored.as_slice();
+    let sites = survey.sites.ignored.as_slice();
+    let replicas = survey.replicas.ignored.as_slice();
+    let transformations = survey.transformations.ignored.as_slice();
+    push_all_ignored(alloc, text, Document::Workflow, workflow)?;
+    push_all_ignored(alloc, text, Document::Sites, sites)?;
+    push_all_ignored(alloc, text, Document::Replicas, replicas)?;
+    push_all_ignored(alloc, text, Document::Transformations, transformations)
+}
+
+/// What the documents have, and the paths that aren't acted on.
+pub fn check_text(alloc: Global, survey: &Survey) -> Result<Vec<u8>, Memory>
+    ensures { IfOk result (λ text. text.items ≡ check_lines survey.now) }
+{
+    let mut text = Vec::new(alloc);
+    push_what_is(alloc, &mut text, survey)?;
+    push_what_is_ignored(alloc, &mut text, survey)?;
+    Ok(text)
+}

@@ -1,0 +1,98 @@
+//! The line of a failed run.
+
+ghost use Rattle.std.specs.Prelude.{◌≡◌, ◌++◌, OnOk};
+ghost use Rattle.run_record.specs.declared.run_fault.RunFault.TheVariants.{ChecksumDiffers, Oversize};
+ghost use Rattle.run_record.specs.FailedLine.{failed_line};
+
+use crate::run_fault::RunFault;
+use hex::encode;
+use outside::{Memory, Text, Word, push_line};
+use std::alloc::Global;
+
+fn push_differs(
+    alloc: Global,
+    text: &mut Vec<u8>,
+    lfn: &Text,
+    wanted: &[u8; 32],
+    got: &[u8; 32],
+) -> Result<(), Memory>
+    ensures { OnOk result (text.new.items ≡ text.old.items ++ failed_line (ChecksumDiffers lfn.now wanted.now got.now)) }
+{
+    let wanted = encode(alloc, wanted.as_slice())?;
+    let got = encode(alloc, got.as_slice())?;
+    let lfn = Word::Name(lfn.as_bytes());
+    let wanted = Word::Plain(wanted.as_str());
+    let got = Word::Plain(got.as_str());
+    push_line(alloc, text, "failed checksum", &[lfn, wanted, got])
+}
+
+fn push_oversize<'a>(
+    alloc: Global,
+    text: &mut Vec<u8>,
+    id: &'a Text,
+    lfn: &'a Text,
+    declared: u64,
+    length: u64,
+) -> Result<(), Memory>
+    ensures { OnOk result (text.new.items ≡ text.old.items ++ failed_line (Oversize id.now lfn.now declared length)) }
+{
+    let id = Word::Name(id.as_bytes());
+    let lfn = Word::Name(lfn.as_bytes());
+    let declared = Word::Number(declared);
+    let length = Word::Number(length);
+    push_line(alloc, text, "failed oversize", &[id, lfn, declared, length])
+}
+
+/// Adds the line of a failed run.
+pub fn push_failed(alloc: Global, text: &mut Vec<u8>, fault: &RunFault) -> Result<(), Memory>
+    ensures { OnOk result (text.new.items ≡ text.old.items ++ failed_line fault.now) }
+{
+    match fault {
+        RunFault::ReplicaAbsent(lfn, pfn) => push_line(
+            alloc,
+            text,
+            "failed absent",
+            &[Word::Name(lfn.as_bytes()), Word::Name(pfn.as_bytes())],
+        ),
+        RunFault::ReplicaTooLong(lfn, limit, length) => push_line(
+            alloc,
+            text,
+            "failed replica",
+            &[
+                Word::Name(lfn.as_bytes()),
+                Word::Number(*limit),
+                Word::Number(*length),
+            ],
+        ),
+        RunFault::ChecksumDiffers(lfn, wanted, got) => push_differs(alloc, text, lfn, wanted, got),
+        RunFault::Oversize(id, lfn, declared, length) => {
+            push_oversize(alloc, text, id, lfn, *declared, *length)
+        }
+        RunFault::Declined(id) => push_line(
+            alloc,
+            text,
+            "failed declined",
+            &[Word::Name(id.as_bytes())],
+        ),
+        RunFault::ToolFailed(id) => push_line(
+            alloc,
+            text,
+            "failed tool",
+            &[Word::Name(id.as_bytes())],
+        ),
+        RunFault::HostFailed(None) => push_line(alloc, text, "failed host -", &[]),
+        RunFault::HostFailed(Some(task)) => push_line(
+            alloc,
+            text,
+            "failed host",
+            &[Word::Number(u64::from(task.0))],
+        ),
+        RunFault::ScratchInUse(site) => push_line(
+            alloc,
+            text,
+            "failed scratch",
+            &[Word::Name(site.as_bytes())],
+        ),
+        RunFault::Memory => Ok(()),
+    }
+}

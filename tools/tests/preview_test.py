@@ -1,0 +1,60 @@
+"""Tests of tools/preview, with a stand-in for rt on the path: what is handed over, and how it ends."""
+import os
+import pathlib
+import subprocess
+import sys
+
+work = pathlib.Path(sys.argv[1])
+TOP = pathlib.Path.cwd()
+RT = """#!/usr/bin/env bash
+[ "$1" = try ] && [ -f src/main.rt ] && [ ! -e data ] && [ ! -e out ] || exit 9
+shift
+for word in "$@"; do echo "$word"; done
+. "$HOW"
+"""
+ENDS = "echo 'checked: ended' >&2; echo 'run=ended status=5 runners=1 races=unchecked proved=no' >&2; exit 5\n"
+
+
+def call(folder, *words, ends=ENDS):
+    (work / "how").write_text(ends)
+    env = {**os.environ, "PATH": f"{work / 'bin'}:{os.environ['PATH']}", "HOW": str(work / "how"), "TMPDIR": str(work / "tmp")}
+    ran = subprocess.run([sys.executable, str(TOP / "tools/preview"), *words], cwd=folder, capture_output=True, text=True, check=False, env=env)
+    assert not list((work / "tmp").iterdir())
+    return ran.returncode, ran.stdout.splitlines(), ran.stderr.splitlines()
+
+
+def handed(lines):
+    """The names handed over and the words of the call."""
+    place = lines.index("--")
+    assert lines[:place:2] == ["--data"] * (place // 2)
+    return [it.split("=", 1)[0] for it in lines[1:place:2]], lines[place + 1 :]
+
+
+for folder in ("bin", "tmp", "mine/data", "mine/inner"):
+    (work / folder).mkdir(parents=True)
+(work / "bin/rt").write_text(RT)
+(work / "bin/rt").chmod(0o755)
+
+status, lines, told = call(TOP, "examples/diamond/request.json")
+assert status == 5 and "not proved" in told[0] and "nothing is left behind" in told[0], (status, told)
+documents = [f"examples/diamond/{it}" for it in ("request.json", "diamond.json", "sites.json", "replicas.json", "transformations.json", "f.a")]
+assert handed(lines) == (documents, ["alone", "examples/diamond/request.json"]), lines
+
+# Replicas that the workflow lists; names that can't be handed over, and what isn't there or is no JSON.
+mine = work / "mine"
+workflow = '{"replicaCatalog": {"replicas": [{"lfn": "a", "pfns": [{"pfn": "data/a"}, {"pfn": "file://data/../data/b"}, {"pfn": "http://x/y"}, {"pfn": "../c"}, 7]}, 3]}}'
+(mine / "w.json").write_text(workflow)
+(mine / "r.json").write_text('{"workflow": "./w.json", "sites": "stdin", "transformations": "none.json", "replicas": null}')
+for name in ("data/a", "data/b", "stdin", "../c"):
+    (mine / name).write_text("x\n")
+status, lines, told = call(mine, "r.json", "run", "--workers", "4")
+assert handed(lines) == (["r.json", "w.json", "data/a", "data/b"], ["run", "r.json", "--workers", "4"]), lines
+assert sorted(it for it in told if "can't be handed over" in it) == [f"preview: {it} can't be handed over, so the program won't find it" for it in ("../c", "stdin")], told
+(mine / "torn.json").write_text("{")
+assert handed(call(mine, "torn.json", "plan")[1]) == (["torn.json"], ["plan", "torn.json"])
+assert handed(call(mine, "nowhere.json")[1]) == ([], ["alone", "nowhere.json"])
+
+status, _, told = call(mine, "r.json", ends="echo 'error: a fault' >&2; echo 'run=none proved=no' >&2; exit 4\n")
+assert status == 70 and told[-2:] == ["error: a fault", "run=none proved=no"], (status, told)
+assert call(mine)[0] == 2
+print("preview: ok")
