@@ -7,7 +7,7 @@ ghost use Rattle.run_record.specs.Events.{Event, Arrive, Clean, End, event, is_s
 ghost use Rattle.lease_book.specs.Book.{state_at};
 ghost use Rattle.lease_book.specs.Law.{FitsFromStart};
 ghost use Rattle.lease_book.specs.Legal.{Allowed};
-ghost use Rattle.record_audit.specs.Replay.{EndsSo, Grew, failing, granting};
+ghost use Rattle.record_audit.specs.Replaying.{EndsSo, Grew, failing, granting};
 
 use crate::causes::cause_fits;
 use crate::law::legal_records_are_consistent;
