@@ -1,5 +1,5 @@
 -- What is held of each pair, and what it comes to at each site.
-use Rattle.std.proofs.Common.{◌≡◌, ℕ, zero, suc, ◌+◌, ◌-◌, ◌*◌, ◌^◌, ◌≤◌, ◌<◌, ◌≢◌, ◌&&◌, ◌||◌, Bool, true, false, cond, nat_eq, nat_lt, eqb-true, List, [], ◌∷◌, length, take, drop, get_or, refl, sym, ap, ◌∙◌, arith}
+use Rattle.std.proofs.Common.{◌≡◌, ℕ, zero, suc, ◌+◌, ◌-◌, ◌^◌, ◌≤◌, ◌<◌, ◌≢◌, ◌&&◌, ◌||◌, Bool, true, false, cond, nat_eq, nat_lt, eqb-true, List, [], ◌∷◌, length, drop, get_or, refl, sym, ap, ◌∙◌, arith}
 use Rattle.std.specs.Prelude.{Option, Some, None, is_some, replicate, slice_get}
 use Rattle.std.proofs.lemmas.Bool.{ltb-false, ltb-true, ne_eqb}
 use Rattle.std.proofs.lemmas.Option.{slice_get_past}
@@ -11,7 +11,6 @@ use Rattle.storage_simulation.specs.declared.standing.Held.{Held}
 use Rattle.storage_simulation.specs.declared.standing.Held.TheVariants.{Nothing, Reserved, Stored}
 use Rattle.storage_simulation.specs.Goods.{IsWithinLimits, count_sites, goods, is_delivery, lies_at, makes}
 use Rattle.storage_simulation.specs.Standings.{at_in, held_size}
-use Rattle.storage_simulation.specs.Usage.{total}
 use Rattle.storage_simulation.proofs.FollowingLemmas.{is_itself}
 use Rattle.lease_book.specs.State.{State, put, reserved_size, stored_among, stored_size}
 use Rattle.lease_book.proofs.ArrayLemmas.{has_at}
@@ -64,7 +63,7 @@ load_changes : (p : Plan) (w : ℕ → ℕ) (a n q : ℕ) → a < count_pairs p 
 unfolding goods
 load_changes p w a n q l =
     let all = total_change (λ g. cond (lies_at p g q) (put w a n g) 0) (λ g. cond (lies_at p g q) (w g) 0) (goods p) a (omega (arith, l))
-        (λ x off. ap (λ (y : ℕ). cond (lies_at p x q) y 0) (put_there w a n x off)) in
+    (λ x off. ap (λ (y : ℕ). cond (lies_at p x q) y 0) (put_there w a n x off)) in
     let here = ap (λ (y : ℕ). cond (lies_at p a q) y 0) (put_here w a n) in
     omega (arith, all, here)
 
@@ -172,14 +171,14 @@ set_nowhere p h k a n l small adds lies long sizes sums = record {
   sites = ap (λ (v : _). length v.items) sums ∙ adds.sites;
   small = sizes_small (at_in 0 h.sizes.items) (at_in 0 k.sizes.items) a n small adds.small sizes;
   sums = λ q m.
-    let there = lies q m in
-    let one = load_changes p (at_in 0 h.sizes.items) a n q l in
-    let old = ap (λ (b : Bool). cond b (at_in 0 h.sizes.items a) 0) there in
-    let new = ap (λ (b : Bool). cond b n 0) there in
-    let sum = adds.sums q m in
-    let now = ap (λ (v : _). at_in 0 v.items q) sums in
-    let whole = load_same p (at_in 0 k.sizes.items) (put (at_in 0 h.sizes.items) a n) q sizes in
-    omega (arith, one, old, new, sum, now, whole);
+      let there = lies q m in
+      let one = load_changes p (at_in 0 h.sizes.items) a n q l in
+      let old = ap (λ (b : Bool). cond b (at_in 0 h.sizes.items a) 0) there in
+      let new = ap (λ (b : Bool). cond b n 0) there in
+      let sum = adds.sums q m in
+      let now = ap (λ (v : _). at_in 0 v.items q) sums in
+      let whole = load_same p (at_in 0 k.sizes.items) (put (at_in 0 h.sizes.items) a n) q sizes in
+      omega (arith, one, old, new, sum, now, whole);
 }
 
 -- ---- the pairs that a task writes, one by one

@@ -1,5 +1,5 @@
 -- What holds after every entry of a Legal record.
-use Rattle.std.proofs.Common.{◌≡◌, ℕ, zero, suc, ◌+◌, ◌-◌, ◌*◌, ◌++◌, take, ◌^◌, ◌≤◌, ◌<◌, ◌||◌, ◌&&◌, Bool, true, false, cond, eqb, List, [], ◌∷◌, length, get_or, refl, sym, ap, subst, ◌∙◌, arith}
+use Rattle.std.proofs.Common.{◌≡◌, ℕ, zero, suc, ◌+◌, ◌-◌, ◌*◌, ◌++◌, take, ◌^◌, ◌≤◌, ◌||◌, ◌&&◌, Bool, true, false, cond, eqb, List, [], ◌∷◌, length, get_or, refl, sym, ap, subst, ◌∙◌, arith}
 use Rattle.std.specs.Prelude.{Option, Some, None, slice_get, sum_by}
 use Rattle.std.specs.List.{list_any}
 use Rattle.std.proofs.lemmas.List.Sums.{sum_by-append}
@@ -12,7 +12,7 @@ use Rattle.plan_core.specs.Kinds.{kind_writes, writes_file}
 use Rattle.plan_core.specs.Numbers.{has}
 use Rattle.plan_core.specs.Proper.{IsProper}
 use Rattle.plan_core.specs.Words.{count_pairs, count_tasks, is_pair, is_run, is_run_kind, is_transfer, is_transfer_kind, kind, pair_at, retries, task_numbers, writes}
-use Rattle.storage_simulation.specs.Goods.{IsWithinLimits, good_size, is_delivery, is_delivery_kind, makes}
+use Rattle.storage_simulation.specs.Goods.{IsWithinLimits, is_delivery, is_delivery_kind, makes}
 use Rattle.run_record.specs.Events.{Event, Again, Arrive, Clean as Sweep, End, Fail, Grant, Regrant}
 use Rattle.lease_book.specs.Law.{FitsFromStart, IsConsistent, IsSoundState}
 use Rattle.lease_book.specs.Legal.{Allowed, AreDeclared, IsComplete, Legal, LegalFrom}

@@ -6,7 +6,6 @@ use Rattle.plan_core.specs.declared.plan.Plan.{Plan}
 use Rattle.storage_simulation.specs.Goods.{goods, lies_at}
 use Rattle.storage_simulation.specs.Standings.{at_in}
 use Rattle.run_record.specs.Events.{Event}
-use Rattle.lease_book.specs.Law.{reserved_at, stored_at}
 use Rattle.lease_book.specs.State.{State, held_after, now, opened}
 use Rattle.std.proofs.lemmas.List.Sums.{count_by-le-length, sum_by-append}
 use Rattle.storage_simulation.specs.declared.standing.Held.{Held}

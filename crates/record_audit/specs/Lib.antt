@@ -8,5 +8,5 @@ pub mod Part
 -- How the sums are kept from entry to entry
 pub mod Holdings
 -- Steps of a replay
-pub mod Replay
+pub mod Replaying
 pub mod Causes

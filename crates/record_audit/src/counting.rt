@@ -29,11 +29,7 @@ fn raise(holdings: &Holdings, peaks: &mut Vec<u64>)
 }
 
 /// What the entries of a legal record come to. It takes memory once, before the first entry.
-pub fn statistics(
-    alloc: Global,
-    ordered: &Ordered,
-    history: &Record,
-) -> Result<Statistics, Memory>
+pub fn statistics(alloc: Global, ordered: &Ordered, history: &Record) -> Result<Statistics, Memory>
     requires retries { retries ordered.now.plan ≤ 10 }
     requires legal { Legal ordered.now.plan (task_numbers ordered.now.tasks.items) history.now.events }
     ensures { IfOk result (AreSums ordered.now.plan (task_numbers ordered.now.tasks.items) history.now.events) }

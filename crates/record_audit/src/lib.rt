@@ -11,14 +11,14 @@ mod counting;
 mod holdings;
 mod law;
 mod part;
-mod replay;
+mod replaying;
 mod sums;
 mod text;
 mod verdict;
 
 pub use counting::statistics;
 pub use part::record_part;
-pub use replay::replay;
+pub use replaying::replay;
 pub use sums::Statistics;
 pub use text::{push_statistics, push_verdict};
 pub use verdict::{Verdict, audit};

@@ -3,14 +3,13 @@
 ghost use Rattle.std.specs.Prelude.{◌≡◌, ◌≤◌, IfOk, Decides};
 ghost use Rattle.plan_core.specs.Proper.{IsProper};
 ghost use Rattle.plan_core.specs.Words.{retries, task_numbers};
-ghost use Rattle.storage_simulation.specs.Goods.{IsWithinLimits};
 ghost use Rattle.lease_book.specs.Book.{state_at};
 ghost use Rattle.lease_book.specs.Law.{FitsFromStart};
 ghost use Rattle.lease_book.specs.Legal.{IsComplete};
 ghost use Rattle.record_audit.specs.Verdict.{IsJudged};
 
 use crate::law::legal_records_are_consistent;
-use crate::replay::replay;
+use crate::replaying::replay;
 use lease_book::{Book, Next, ordered_plans_fit};
 use outside::Memory;
 use run_record::Record;

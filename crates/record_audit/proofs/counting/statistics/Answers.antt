@@ -1,10 +1,9 @@
-use Rattle.std.proofs.Common.{◌≡◌, ◌+◌, ◌<◌, ◌≤◌, ◌*◌, ◌^◌, ℕ, List, [], ◌∷◌, ◌++◌, length, take, arith, sym, ap, subst, ◌∙◌}
+use Rattle.std.proofs.Common.{◌≡◌, ◌+◌, ◌≤◌, ◌*◌, ◌^◌, ℕ, List, [], ◌∷◌, ◌++◌, length, take, arith, sym, ap, subst, ◌∙◌}
 use Rattle.std.specs.Prelude.{sum_by}
 use Rattle.plan_core.specs.declared.plan.Plan.{Plan}
 use Rattle.plan_core.specs.Words.{task_numbers}
 use Rattle.storage_simulation.specs.Standings.{at_in}
 use Rattle.run_record.specs.Events.{Event, event}
-use Rattle.lease_book.specs.Legal.{Legal}
 use Rattle.lease_book.specs.State.{now, opened}
 use Rattle.record_audit.specs.Holdings.{AddsUp, IsSized, Shows}
 use Rattle.record_audit.specs.Sums.{AreCounts, ArePeaks, arrived}
@@ -51,7 +50,7 @@ loop-k-preserved c =
     let adds_up : AddsUp c.args.ordered.now.plan c.follow.new.self = subst (λ (p : Plan). AddsUp p c.follow.new.self) c.plan-plan.ensures c.follow.ensures.adds_up in
     let shows : Shows c.args.ordered.now.plan c.follow.new.self (now c.args.ordered.now.plan (task_numbers c.args.ordered.now.tasks.items) (take (c.loop-k.k + 1) c.args.history.now.events)).held
     = follow_next c.args.ordered.now.plan c.plan-plan.result.now (task_numbers c.args.ordered.now.tasks.items) c.args.history.now.events c.loop-k.k (event c.entry-entry.result) c.loop-k.holdings c.follow.new.self
-        c.plan-plan.ensures c.entry-entry.ensures c.loop-k.invariant.shows c.follow.ensures.shows in
+    c.plan-plan.ensures c.entry-entry.ensures c.loop-k.invariant.shows c.follow.ensures.shows in
     let counts : AreCounts (take (c.loop-k.k + 1) c.args.history.now.events) c.count.new.self
     = subst (λ (r : List Event). AreCounts r c.count.new.self) (sym (take_next c.args.history.now.events c.loop-k.k (event c.entry-entry.result) c.entry-entry.ensures)) (counts_more (take c.loop-k.k c.args.history.now.events) (event c.entry-entry.result) c.loop-k.sums c.count.new.self c.loop-k.invariant.counts c.count.ensures.counted) in
     record {

@@ -1,4 +1,4 @@
-use Rattle.std.proofs.Common.{ℕ, ◌≤◌, ◌-◌, length}
+use Rattle.std.proofs.Common.{◌≤◌, ◌-◌, length}
 use Rattle.record_audit.proofs.PartLemmas.{HasCome}
 use Rattle.record_audit.proofs.part.part_length.Given as goal
 
