@@ -8,6 +8,22 @@ OF_DOCUMENTS = re.compile(
 )
 
 
+def commands(page):
+    """Each command of a page with the lines below it."""
+    found, is_open = [], False
+    for line in pathlib.Path(page).read_text(encoding="utf-8").splitlines():
+        if line.startswith("    $ "):
+            found.append([line[6:], []])
+            is_open = True
+        elif not line.startswith("    "):
+            is_open = False
+        elif is_open and found[-1][0].endswith("\\"):
+            found[-1][0] = found[-1][0][:-1] + line.strip()
+        elif is_open:
+            found[-1][1].append(line[4:])
+    return found
+
+
 def blocks(page, command):
     """The texts printed after `./pegasus COMMAND`: the request, the pattern of a `grep` behind it, and the lines."""
     found, is_inside = [], False

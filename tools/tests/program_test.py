@@ -13,7 +13,7 @@ import pages
 PROGRAM = pathlib.Path("crates/pegasus/out/pegasus").absolute()
 TOOLS = pathlib.Path("tools").absolute()
 EXAMPLES = pathlib.Path("examples").absolute()
-STATUS = {"done": 0, "usage:": 2, "no": 3, "document": 3, "refused": 4, "exceeds": 5, "failed": 6}
+STATUS = {"done": 0, "usage:": 2, "no": 3, "document": 3, "refused": 4, "exceeds": 5, "failed": 6, "bad": 8}
 CYCLE = """{
   "pegasus": "5.0", "name": "wait for each other",
   "siteCatalog": {"sites": [{"name": "local"}]},
@@ -26,22 +26,6 @@ CYCLE = """{
   "jobDependencies": [{"id": "b", "children": ["a"]}]
 }
 """
-
-
-def commands(page):
-    """Each command of a page with the lines below it."""
-    found, is_open = [], False
-    for line in pathlib.Path(page).read_text(encoding="utf-8").splitlines():
-        if line.startswith("    $ "):
-            found.append([line[6:], []])
-            is_open = True
-        elif not line.startswith("    "):
-            is_open = False
-        elif is_open and found[-1][0].endswith("\\"):
-            found[-1][0] = found[-1][0][:-1] + line.strip()
-        elif is_open:
-            found[-1][1].append(line[4:])
-    return found
 
 
 def folder(place):
@@ -65,7 +49,7 @@ def is_as_printed(lines, printed):
 
 def page_holds(page, place, has_yaml):
     tried = 0
-    for command, printed in commands(page):
+    for command, printed in pages.commands(page):
         if printed[:1] and printed[0].startswith("pegasus: "):
             continue
         if not has_yaml and ("from-pegasus" in command or "mine/" in command):
@@ -85,7 +69,7 @@ def others_hold(place):
     request = '{"workflow": "cycle.json", "execute": [{"site": "local", "bound": 1000}], "default_size": 100}'
     (place / "request.json").write_text(request)
     assert call("./pegasus check request.json", place) == (4, ["refused cycle a b"])
-    status, lines = call("./pegasus audit request.json now", place)
+    status, lines = call("./pegasus rehearse 4", place)
     assert status == 2 and len(lines) == 1 and lines[0].startswith("usage: "), (status, lines)
     assert call("./pegasus check nowhere.json", place) == (3, ["no document nowhere.json"])
     assert call("./pegasus check examples", place) == (3, ["document failed examples"])

@@ -1,13 +1,16 @@
-"""Tests of tools/record-model: records of the diamond, right and wrong."""
+"""Tests of tools/record-model: records of the diamond, right and wrong, those of the files of cases, and those on the pages."""
 import importlib.machinery
 import importlib.util
+import os
 import pathlib
 import re
+import shutil
 import subprocess
 import sys
 import tempfile
 
 import case_files
+import pages
 
 sys.dont_write_bytecode = True
 LOADER = importlib.machinery.SourceFileLoader("record_model", "tools/record-model")
@@ -105,4 +108,39 @@ for case in cases:
     for status, lines in answers(case):
         assert (status, "".join(line + "\n" for line in lines)) == (case.status, case.text), (case.name, status, lines)
 assert len(cases) >= 35, len(cases)
-print(f"record-model: ok, {len(VERDICTS)} records and {len(cases)} cases")
+# The commands of the pages that judge records or make texts for it, typed as they stand there, with the three models in the
+# program's place.
+MODELS = """#!/usr/bin/env bash
+case $1 in
+  alone | run) exec tools/run-model "$2" ;;
+  plan) exec tools/plan-model "$2" ;;
+  *) tools/plan-model "$2" >"$2.plan"; exec tools/record-model "$1" "$2.plan" "$3" ;;
+esac
+"""
+JUDGES = re.compile(r"\./pegasus (audit|stat) ")
+MAKES = re.compile(r" > \w+\.txt$")
+
+
+def folder(place):
+    shutil.copytree("examples", place / "examples")
+    (place / "tools").symlink_to(pathlib.Path("tools").absolute())
+    (place / "pegasus").write_text(MODELS)
+    (place / "pegasus").chmod(0o755)
+    return place
+
+
+def page_holds(page, place):
+    """Types them in their order, and counts the judgements."""
+    count = 0
+    for command, printed in pages.commands(page):
+        if JUDGES.search(command) or MAKES.search(command):
+            done = subprocess.run(["bash", "-c", command], cwd=place, capture_output=True, text=True, env={**os.environ, "PYTHONDONTWRITEBYTECODE": "1"})
+            assert done.stdout.splitlines() == printed and not done.stderr, (page, command, done.stdout, done.stderr)
+            count += JUDGES.search(command) is not None
+    return count
+
+
+with tempfile.TemporaryDirectory() as work:
+    judged_there = sum(page_holds(page, folder(pathlib.Path(work, page.replace("/", "_")))) for page in pages.PAGES)
+assert judged_there >= 6, judged_there
+print(f"record-model: ok, {len(VERDICTS)} records, {len(cases)} cases and {judged_there} on the pages")
