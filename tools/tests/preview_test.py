@@ -52,6 +52,7 @@ assert handed(lines) == (["r.json", "w.json", "data/a", "data/b"], ["run", "r.js
 assert sorted(it for it in told if "can't be handed over" in it) == [f"preview: {it} can't be handed over, so the program won't find it" for it in ("../c", "stdin")], told
 (mine / "torn.json").write_text("{")
 assert handed(call(mine, "torn.json", "plan")[1]) == (["torn.json"], ["plan", "torn.json"])
+assert handed(call(mine, "torn.json", "stat", "data/a")[1]) == (["torn.json", "data/a"], ["stat", "torn.json", "data/a"])
 assert handed(call(mine, "nowhere.json")[1]) == ([], ["alone", "nowhere.json"])
 
 status, _, told = call(mine, "r.json", ends="echo 'error: a fault' >&2; echo 'run=none proved=no' >&2; exit 4\n")
