@@ -1,9 +1,11 @@
 pub mod FaultLemmas
 pub mod CourseLemmas
 pub mod SurveyLemmas
+pub mod RecordedLemmas
 pub mod CheckLemmas
 pub mod PlanLemmas
 pub mod EvalLemmas
+pub mod AuditLemmas
 pub mod PlanRunLemmas
 pub mod AloneLemmas
 pub mod RunLemmas

@@ -15,6 +15,7 @@ use craft::{Crew, Gate};
 use evaluation::evaluations_finish;
 use outside::{Docs, Host, Memory, Sink, SinkFault, Tool, write_all};
 use plan_run::runs_finish;
+use run_record::malformed_line_is_one;
 use std::alloc::Global;
 
 /// Writes the text and the answer's line, and tells how the call ends.
@@ -79,6 +80,7 @@ pub fn quick<D: Docs, K: Sink, H: Host, T: Tool, G: Gate>(
     // Laws for the proof: they do nothing.
     runs_finish();
     evaluations_finish();
+    malformed_line_is_one();
     let mut crew = crew;
     match quick_command(words) {
         Some(command) => {

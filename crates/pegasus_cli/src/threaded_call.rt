@@ -15,6 +15,7 @@ use craft::{Crew, Gate};
 use evaluation::evaluations_finish;
 use outside::{Docs, Host, Sink, Tool};
 use plan_run::runs_finish;
+use run_record::malformed_line_is_one;
 use std::alloc::Global;
 use std::sync::Wait;
 use std::thread::Threads;
@@ -48,6 +49,7 @@ fn in_threads<
     // Laws for the proof: they do nothing.
     runs_finish();
     evaluations_finish();
+    malformed_line_is_one();
     let mut crew = crew;
     match threaded_command(words) {
         Some(Threaded::Run(name, workers)) => {
