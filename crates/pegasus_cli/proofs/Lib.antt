@@ -10,6 +10,5 @@ pub mod PlanRunLemmas
 pub mod AloneLemmas
 pub mod RunLemmas
 pub mod CommandsLemmas
-pub mod WordsLemmas
 pub mod CallLemmas
 pub mod HeadlineLemmas
