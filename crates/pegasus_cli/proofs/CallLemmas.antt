@@ -1,7 +1,7 @@
 -- The clause of a call.
-use Rattle.std.proofs.Common.{◌≡◌, ℕ, ◌++◌, List, [], ◌∷◌, length, map, get_or, take, refl, sym, ap, subst, ◌∙◌, inl, inr, arith}
-use Rattle.std.specs.Prelude.{◌⊎◌, Option, Some, None, Err, slice_set}
-use Rattle.std.specs.Io.KnownBytes.{Appends}
+use Rattle.std.proofs.Common.{◌≡◌, true, ℕ, ◌++◌, List, [], ◌∷◌, length, map, get_or, take, refl, sym, ap, subst, ◌∙◌, inl, inr, arith}
+use Rattle.std.specs.Prelude.{◌⊎◌, Option, Some, None, Err, is_some, slice_set}
+use Rattle.std.specs.Io.KnownBytes.{Appends, Keeps}
 use Rattle.outside.specs.Counts.{Rose}
 use Rattle.outside.specs.Sink.{WroteAll}
 use Rattle.outside.specs.declared.sink.SinkFault.{SinkFault}
@@ -12,11 +12,12 @@ use Rattle.pegasus_cli.specs.declared.outcome.Outcome.TheVariants as outcomes
 use Rattle.pegasus_cli.specs.Call.{Ends, IsAnswered, IsDoneBy, IsDoneOrMemory, IsUsage, MayFinish, NoneRose, doing_of}
 use Rattle.pegasus_cli.specs.Commands.{spec_of}
 use Rattle.pegasus_cli.specs.CommandSpec.{Does, NoneRoseIn}
-use Rattle.pegasus_cli.specs.Fault.{Answer}
-use Rattle.pegasus_cli.specs.Moments.{Call, Output}
+use Rattle.pegasus_cli.specs.Fault.{Answer, not_for}
+use Rattle.pegasus_cli.specs.declared.fault.CallFault.TheVariants.{Memory}
+use Rattle.pegasus_cli.specs.Moments.{Call, DocsMoment, Output}
 use Rattle.pegasus_cli.specs.Outcome.{IsAnswer, line_of, outcome_of}
-use Rattle.pegasus_cli.specs.Words.{Command, command as command_of}
-use Rattle.pegasus_cli.proofs.CommandsLemmas.{Laws, finishes}
+use Rattle.command_words.specs.Words.{Command, command as command_of}
+use Rattle.pegasus_cli.proofs.CommandsLemmas.{Laws, finishes, unbegun}
 use Rattle.pegasus_cli.proofs.FaultLemmas.{no_usage, outcome_done}
 
 pub ends_as : (o : Output) (text : List ℕ) (a : Outcome) → (a ≡ outcomes.Memory → ⊥) → IsAnswer a → Appends o.before.written o.after.written (text ++ line_of a) → Ends o text a a
@@ -66,6 +67,13 @@ command_answered law c k says outcome text is does ends = record {
       let can = subst (λ (x : Command). (spec_of x).CanFinish c.asked.before.told c.work) same may.can_finish in
       ends_done c.output text (outcome_of says) outcome ends (outcome_done says (finishes law k (doing_of c) text says does can (none_rose c still))) still.sink;
 }
+
+-- Memory ran out as the words were read, which are a command.
+pub unread_answered : (law : Laws) (c : Call) (o : Option Command) → command_of c.asked.words ≡ o → is_some o ≡ true → c.asked.after ≡ c.asked.before → c.work.after ≡ c.work.before → c.tools.after ≡ c.tools.before → Keeps c.output.before.written c.output.after.written → IsAnswered c outcomes.Memory
+unread_answered law c None is there asked work tools kept = absurd cc
+unread_answered law c (Some k) is there asked work tools kept =
+    command_answered law c k (not_for Memory) outcomes.Memory [] is
+    (inl (record { fault = Memory; comes = subst (λ (m : DocsMoment). (spec_of k).Comes c.asked.before m (Err Memory)) (sym asked) (unbegun k c.asked.before); answers = refl; untouched = work; unused = tools; no_text = refl })) kept
 
 -- Usage comes only where the words are no command.
 pub usage_is_no_command : (c : Call) → IsAnswered c outcomes.Usage → command_of c.asked.words ≡ None

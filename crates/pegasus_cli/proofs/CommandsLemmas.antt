@@ -1,8 +1,14 @@
 -- What is said of every command, command by command.
+use Rattle.std.proofs.Common.{inl, refl, arith}
+use Rattle.std.specs.Prelude.{Err}
+use Rattle.pegasus_cli.specs.declared.fault.CallFault.TheVariants.{Memory}
+use Rattle.pegasus_cli.specs.Course.{Course, IsStep, documents, documents_with}
+use Rattle.pegasus_cli.specs.Moments.{DocsMoment}
 use Rattle.pegasus_cli.specs.Commands.{quick_spec, spec_of, threaded_spec}
 use Rattle.pegasus_cli.specs.CommandSpec.{Finishes}
-use Rattle.pegasus_cli.specs.Words.{Command, Quick, Threaded, Check, Plan, Eval, Alone, Run, Quickly, InThreads}
+use Rattle.command_words.specs.Words.{Command, Quick, Threaded, Check, Plan, Eval, Alone, Audit, Stat, Run, Quickly, InThreads}
 use Rattle.pegasus_cli.proofs.AloneLemmas.{alone_finishes}
+use Rattle.pegasus_cli.proofs.AuditLemmas.{NoneMalformed, audit_finishes, stat_finishes}
 use Rattle.pegasus_cli.proofs.CheckLemmas.{check_finishes}
 use Rattle.pegasus_cli.proofs.EvalLemmas.{EvaluationsFinish, eval_finishes}
 use Rattle.pegasus_cli.proofs.PlanLemmas.{plan_finishes}
@@ -13,12 +19,15 @@ use Rattle.pegasus_cli.proofs.RunLemmas.{run_finishes}
 pub record Laws : Type 0 where
   pub runs : RunsFinish
   pub evaluations : EvaluationsFinish
+  pub records : NoneMalformed
 
 quick_finishes : Laws → (q : Quick) → Finishes (quick_spec q)
 quick_finishes law (Check name) = check_finishes name
 quick_finishes law (Plan name) = plan_finishes name
 quick_finishes law (Eval name) = eval_finishes law.evaluations name
 quick_finishes law (Alone name) = alone_finishes law.runs name
+quick_finishes law (Audit name history) = audit_finishes law.records name history
+quick_finishes law (Stat name history) = stat_finishes law.records name history
 
 threaded_finishes : Laws → (t : Threaded) → Finishes (threaded_spec t)
 threaded_finishes law (Run name workers) = run_finishes law.runs name workers
@@ -26,3 +35,22 @@ threaded_finishes law (Run name workers) = run_finishes law.runs name workers
 pub finishes : Laws → (k : Command) → Finishes (spec_of k)
 finishes law (Quickly q) = quick_finishes law q
 finishes law (InThreads t) = threaded_finishes law t
+
+-- Memory ran out before a document was asked for.
+still_stops : {A : Type 0} (c : Course A) (m : DocsMoment) → IsStep c m m (Err Memory)
+still_stops c m = record { told = refl; later = record { done = omega arith; faults = omega arith; misses = omega arith }; gives = tt }
+
+quick_unbegun : (q : Quick) (m : DocsMoment) → (quick_spec q).Comes m m (Err Memory)
+quick_unbegun (Check name) m = inl (still_stops (documents name) m)
+quick_unbegun (Plan name) m = inl (still_stops (documents name) m)
+quick_unbegun (Eval name) m = inl (still_stops (documents name) m)
+quick_unbegun (Alone name) m = inl (still_stops (documents name) m)
+quick_unbegun (Audit name history) m = inl (still_stops (documents_with name history) m)
+quick_unbegun (Stat name history) m = inl (still_stops (documents_with name history) m)
+
+threaded_unbegun : (t : Threaded) (m : DocsMoment) → (threaded_spec t).Comes m m (Err Memory)
+threaded_unbegun (Run name workers) m = inl (still_stops (documents name) m)
+
+pub unbegun : (k : Command) (m : DocsMoment) → (spec_of k).Comes m m (Err Memory)
+unbegun (Quickly q) m = quick_unbegun q m
+unbegun (InThreads t) m = threaded_unbegun t m

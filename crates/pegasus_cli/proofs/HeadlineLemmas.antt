@@ -26,7 +26,7 @@ use Rattle.pegasus_cli.specs.Moments.{Call}
 use Rattle.pegasus_cli.specs.Outcome.{line_of}
 use Rattle.pegasus_cli.specs.PlanRun.{AllDelivered, AreHonestIn, DeliversRequested, HasRunPlan, IsUnrun, value_in}
 use Rattle.pegasus_cli.specs.Survey.{GoesOn}
-use Rattle.pegasus_cli.specs.Words.{Command, InThreads, Run, command as command_of}
+use Rattle.command_words.specs.Words.{Command, InThreads, Run, command as command_of}
 use Rattle.pegasus_cli.proofs.CallLemmas.{same_command}
 use Rattle.pegasus_cli.proofs.FaultLemmas.{done_is, no_fault_is_done}
 

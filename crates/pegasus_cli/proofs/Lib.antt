@@ -1,13 +1,14 @@
 pub mod FaultLemmas
 pub mod CourseLemmas
 pub mod SurveyLemmas
+pub mod RecordedLemmas
 pub mod CheckLemmas
 pub mod PlanLemmas
 pub mod EvalLemmas
+pub mod AuditLemmas
 pub mod PlanRunLemmas
 pub mod AloneLemmas
 pub mod RunLemmas
 pub mod CommandsLemmas
-pub mod WordsLemmas
 pub mod CallLemmas
 pub mod HeadlineLemmas

@@ -18,25 +18,25 @@ use Rattle.pegasus_cli.specs.declared.course.Requested.{Requested}
 use Rattle.pegasus_cli.specs.declared.fault.CallFault.{CallFault}
 use Rattle.pegasus_cli.specs.declared.fault.CallFault.TheVariants as faults
 use Rattle.pegasus_cli.specs.CommandSpec.{Does, Doing, Finishes, NoneRoseAtWork, NoneRoseIn}
-use Rattle.pegasus_cli.specs.Course.{ButMemory, Gives, HasFailed, IsStep, documents, read_from}
+use Rattle.pegasus_cli.specs.Course.{ButMemory, Course, Gives, HasFailed, IsStep, documents, read_from}
 use Rattle.pegasus_cli.specs.Fault.{Answer, IsDoneOrMemory, not_for, plan_answer}
 use Rattle.pegasus_cli.specs.Moments.{DocsMoment}
 use Rattle.pegasus_cli.specs.Survey.{GoesOn, IsSurveyed, MaySurvey, Stops, Surveys, over_survey}
 use Rattle.pegasus_cli.proofs.CourseLemmas.{result_again, told_gives}
 
 -- told documents give what they read, where no fault was counted
-told_step : (name : List ℕ) (before after : DocsMoment) (files : Files) (requested : Requested) (r : Result Requested CallFault) → before.told ≡ Some files → read_from files (documents name) ≡ Ok requested → (Rose before.counts.faults after.counts.faults → ⊥)
-    → IsStep (documents name) before after r → ButMemory r (r ≡ Ok requested)
-told_step name before after files requested r told reads still step =
-    result_again r _ _ (λ (m : (r ≡ read_from files (documents name)) ⊎ HasFailed before.counts after.counts r). came_so m) (told_so r (subst (λ t. ButMemory r (Gives t (documents name) before.counts after.counts r)) told step.gives))
+pub told_step : {A : Type 0} (c : Course A) (before after : DocsMoment) (files : Files) (a : A) (r : Result A CallFault) → before.told ≡ Some files → read_from files c ≡ Ok a → (Rose before.counts.faults after.counts.faults → ⊥)
+    → IsStep c before after r → ButMemory r (r ≡ Ok a)
+told_step {A} c before after files a r told reads still step =
+    result_again r _ _ (λ (m : (r ≡ read_from files c) ⊎ HasFailed before.counts after.counts r). came_so m) (told_so r (subst (λ t. ButMemory r (Gives t c before.counts after.counts r)) told step.gives))
   where
-    came_so : (r ≡ read_from files (documents name)) ⊎ HasFailed before.counts after.counts r → r ≡ Ok requested
+    came_so : (r ≡ read_from files c) ⊎ HasFailed before.counts after.counts r → r ≡ Ok a
     came_so (inl m) = m ∙ reads
     came_so (inr failed) = absurd (still failed.0)
 
-    told_so : (r : Result Requested CallFault) → ButMemory r (Gives (Some files) (documents name) before.counts after.counts r) → ButMemory r ((r ≡ read_from files (documents name)) ⊎ HasFailed before.counts after.counts r)
+    told_so : (r : Result A CallFault) → ButMemory r (Gives (Some files) c before.counts after.counts r) → ButMemory r ((r ≡ read_from files c) ⊎ HasFailed before.counts after.counts r)
     told_so (Err faults.Memory) h = tt
-    told_so r h = told_gives files (documents name) before.counts after.counts r h
+    told_so r h = told_gives files c before.counts after.counts r h
 
 -- a file of a sound workflow has no two producers
 not_contested : (w : Workflow) (lfn one two : List ℕ) → IsSound w → AreTwoProducers w lfn one two → ⊥
@@ -57,30 +57,30 @@ no_fault : (given : Result SurveyEntry PlanFault) (a : SurveyEntry) (fault : Pla
 no_fault given a fault i j = absurd cc
 
 -- what planning may refuse where the documents have no fault and their workflow is sound
-refused_short : (r : PlanRequest) (d : Documents) (said : SurveyEntry) (fault : PlanFault) → surveyed r d ≡ Ok said → ((w : Workflow) → view w ≡ said.workflow → IsSound w) → Refuses r d fault → fault ≡ plan.Memory
+pub refused_short : (r : PlanRequest) (d : Documents) (said : SurveyEntry) (fault : PlanFault) → surveyed r d ≡ Ok said → ((w : Workflow) → view w ≡ said.workflow → IsSound w) → Refuses r d fault → fault ≡ plan.Memory
 refused_short r d said plan.Memory says sound h = refl
 refused_short r d said fault says sound (inl h) = absurd (no_fault (surveyed r d) said fault says h)
 refused_short r d said fault says sound (inr h) = absurd (not_refused fault h.workflow (sound h.workflow (h.is ∙ ap (λ (e : SurveyEntry). e.workflow) (same_entry (surveyed r d) h.said said h.says says))) h.holds)
 
-no_answer : (e : CallFault) (a : Requested) → ◌≡◌ {A = Result Requested CallFault} (Err e) (Ok a) → ⊥
+no_answer : {A : Type 0} (e : CallFault) (a : A) → ◌≡◌ {A = Result A CallFault} (Err e) (Ok a) → ⊥
 no_answer e a is = absurd cc
 
-came_as : (a b : Requested) → ◌≡◌ {A = Result Requested CallFault} (Ok a) (Ok b) → a ≡ b
+pub came_as : {A : Type 0} (a b : A) → ◌≡◌ {A = Result A CallFault} (Ok a) (Ok b) → a ≡ b
 came_as a b is = cc
 
-nothing_came : (e : CallFault) (a : Requested) → ButMemory {A = Requested} (Err e) (◌≡◌ {A = Result Requested CallFault} (Err e) (Ok a)) → e ≡ faults.Memory
+pub nothing_came : {A : Type 0} (e : CallFault) (a : A) → ButMemory {A = A} (Err e) (◌≡◌ {A = Result A CallFault} (Err e) (Ok a)) → e ≡ faults.Memory
 nothing_came faults.Memory a h = refl
-nothing_came e a h = absurd (no_answer e a h)
+nothing_came {A} e a h = absurd (no_answer {A = A} e a h)
 
 -- documents that go on stop a command for want of memory alone
 stops_short : (name : List ℕ) (CanWork : Work → Surveyed → Type 0) (d : Doing) (e : CallFault) → MaySurvey name CanWork d.before.told d.work → NoneRoseIn d → Stops name d.before d.after e → e ≡ faults.Memory
-stops_short name CanWork d e may still (inl step) = nothing_came e may.requested (told_step name d.before d.after may.files may.requested (Err e) may.told_is may.reads still.docs step)
+stops_short name CanWork d e may still (inl step) = nothing_came {A = Requested} e may.requested (told_step (documents name) d.before d.after may.files may.requested (Err e) may.told_is may.reads still.docs step)
 stops_short name CanWork d e may still (inr h) =
-    let same = came_as h.requested may.requested (told_step name d.before d.after may.files may.requested (Ok h.requested) may.told_is may.reads still.docs h.came) in
+    let same = came_as {A = Requested} h.requested may.requested (told_step (documents name) d.before d.after may.files may.requested (Ok h.requested) may.told_is may.reads still.docs h.came) in
     let refuses = subst (λ (x : Requested). Refuses x.request x.documents h.fault) same h.refuses in
     h.answers ∙ ap plan_answer (refused_short may.requested.request may.requested.documents may.said h.fault may.says may.sound refuses)
 
-of_memory : (e : CallFault) → e ≡ faults.Memory → IsDoneOrMemory (not_for e)
+pub of_memory : (e : CallFault) → e ≡ faults.Memory → IsDoneOrMemory (not_for e)
 of_memory e h = subst (λ (z : CallFault). IsDoneOrMemory (not_for z)) (sym h) tt
 
 -- The documents ended the command.
@@ -99,6 +99,6 @@ pub survey_finishes : (name : List ℕ) (Works : Work → Tools → Surveyed →
 survey_finishes name Works CanWork each d text a (inl h) may still = subst IsDoneOrMemory (sym h.answers) (of_memory h.fault (stops_short name CanWork d h.fault may still h.comes))
 survey_finishes name Works CanWork each d text a (inr h) may still =
     let on : GoesOn name d.before d.after h.inputs = h.comes in
-    let came = came_as on.requested may.requested (told_step name d.before d.after may.files may.requested (Ok on.requested) may.told_is may.reads still.docs on.came) in
+    let came = came_as {A = Requested} on.requested may.requested (told_step (documents name) d.before d.after may.files may.requested (Ok on.requested) may.told_is may.reads still.docs on.came) in
     let surveyed = subst (λ (x : Requested). IsSurveyed x h.inputs) came on.surveyed in
     each d.work d.tools h.inputs text a h.works (may.can_work h.inputs surveyed) still.work

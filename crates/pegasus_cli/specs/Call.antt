@@ -10,7 +10,7 @@ use Rattle.pegasus_cli.specs.CommandSpec.{Does, Doing, doing}
 use Rattle.pegasus_cli.specs.Fault.{Answer}
 use Rattle.pegasus_cli.specs.Moments.{Call, Output}
 use Rattle.pegasus_cli.specs.Outcome.{line_of, outcome_of}
-use Rattle.pegasus_cli.specs.Words.{Command, command as command_of}
+use Rattle.command_words.specs.Words.{Command, command as command_of}
 
 -- what a call's command meets
 abbrev pub doing_of : Call → Doing

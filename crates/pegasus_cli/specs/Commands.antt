@@ -1,6 +1,6 @@
 -- The table of the commands.
 use Rattle.pegasus_cli.specs.CommandSpec.{CommandSpec}
-use Rattle.pegasus_cli.specs.Words.{Command, Quick, Threaded, Check, Plan, Eval, Alone, Audit, Stat, Run, Quickly, InThreads}
+use Rattle.command_words.specs.Words.{Command, Quick, Threaded, Check, Plan, Eval, Alone, Audit, Stat, Run, Quickly, InThreads}
 use Rattle.pegasus_cli.specs.Commands.Check.{check}
 use Rattle.pegasus_cli.specs.Commands.Plan.{plan}
 use Rattle.pegasus_cli.specs.Commands.Eval.{eval}

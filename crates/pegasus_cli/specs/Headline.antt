@@ -29,7 +29,7 @@ use Rattle.pegasus_cli.specs.Moments.{Call}
 use Rattle.pegasus_cli.specs.Outcome.{line_of}
 use Rattle.pegasus_cli.specs.PlanRun.{AreHonestIn, lfn, value_in}
 use Rattle.pegasus_cli.specs.Survey.{GoesOn}
-use Rattle.pegasus_cli.specs.Words.{InThreads, Run, command}
+use Rattle.command_words.specs.Words.{InThreads, Run, command}
 use Rattle.pegasus_cli.specs.declared.outcome.Outcome.{Outcome}
 use Rattle.pegasus_cli.specs.declared.outcome.Outcome.TheVariants.{Done}
 

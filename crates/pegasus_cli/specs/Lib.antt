@@ -4,7 +4,6 @@ pub mod Call
 pub mod CommandSpec
 pub mod Commands
 pub mod Moments
-pub mod Words
 -- What commands share: the documents and their survey, and the run of a plan.
 pub mod Course
 pub mod Survey

@@ -6,15 +6,16 @@ ghost use Rattle.pegasus_cli.specs.declared.outcome.Outcome.TheVariants.{Usage a
 ghost use Rattle.pegasus_cli.specs.Call.{Ends, IsAnswered};
 ghost use Rattle.pegasus_cli.specs.Moments.{call_of, objects, sink_moment, writing};
 ghost use Rattle.pegasus_cli.specs.Outcome.{IsAnswer, outcome_of};
-ghost use Rattle.pegasus_cli.specs.Words.{is_threaded};
+ghost use Rattle.command_words.specs.Words.{is_threaded};
 
 use crate::commands::{Told, work};
 use crate::outcome::{Outcome, of_answer, push_outcome};
-use crate::words::quick_command;
+use command_words::quick_command;
 use craft::{Crew, Gate};
 use evaluation::evaluations_finish;
 use outside::{Docs, Host, Memory, Sink, SinkFault, Tool, write_all};
 use plan_run::runs_finish;
+use run_record::malformed_line_is_one;
 use std::alloc::Global;
 
 /// Writes the text and the answer's line, and tells how the call ends.
@@ -79,13 +80,15 @@ pub fn quick<D: Docs, K: Sink, H: Host, T: Tool, G: Gate>(
     // Laws for the proof: they do nothing.
     runs_finish();
     evaluations_finish();
+    malformed_line_is_one();
     let mut crew = crew;
-    match quick_command(words) {
-        Some(command) => {
+    match quick_command(alloc, words) {
+        Ok(Some(command)) => {
             let worked = work(alloc, command, docs, host, &mut crew[0]);
             let outcome = answer(alloc, out, worked.told);
             (outcome, worked.host, crew)
         }
-        None => (refuse_words(alloc, out), host, crew),
+        Ok(None) => (refuse_words(alloc, out), host, crew),
+        Err(Memory) => (Outcome::Memory, host, crew),
     }
 }

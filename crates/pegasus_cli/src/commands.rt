@@ -6,7 +6,7 @@ ghost use Rattle.pegasus_cli.specs.Commands.{quick_spec};
 ghost use Rattle.pegasus_cli.specs.CommandSpec.{Does, OfFirst, doing};
 ghost use Rattle.pegasus_cli.specs.Fault.{not_for};
 ghost use Rattle.pegasus_cli.specs.Moments.{docs_moment};
-ghost use Rattle.pegasus_cli.specs.Words.{quick_of};
+ghost use Rattle.command_words.specs.Words.{quick_of};
 
 mod alone;
 mod audit;
@@ -17,36 +17,13 @@ pub(crate) mod run;
 mod stat;
 
 use crate::fault::CallFault;
+use command_words::Quick;
 use craft::{Crew, Gate};
 use outside::{Docs, Host, Tool};
 use std::alloc::Global;
 
 /// The most tasks that a plan may have.
 pub(crate) const TASK_LIMIT: u64 = 2000;
-
-/// What starts no thread and waits for nobody, with the names that its words say.
-#[derive(Clone, Copy, Debug)]
-pub enum Quick<'a> {
-    /// Reads the workflow and lists what isn't acted on.
-    Check(&'a str),
-    /// Plans the workflow and prints the plan.
-    Plan(&'a str),
-    /// Evaluates the workflow and tells the requested files.
-    Eval(&'a str),
-    /// Plans the workflow and runs the plan with one worker.
-    Alone(&'a str),
-    /// Plans the workflow and judges a record by the plan.
-    Audit(&'a str, &'a str),
-    /// Plans the workflow, judges a record by the plan, and tells what it sums up to.
-    Stat(&'a str, &'a str),
-}
-
-/// What starts threads, with the name that its words say, and how many workers.
-#[derive(Clone, Copy, Debug)]
-pub enum Threaded<'a> {
-    /// Plans the workflow and runs the plan with so many workers, each in a thread of its own.
-    Run(&'a str, u32),
-}
 
 /// What a command tells: its answer, and the text before the answer's line.
 #[derive(Drop)]

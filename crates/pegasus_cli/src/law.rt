@@ -10,7 +10,7 @@ ghost use Rattle.pegasus_cli.specs.declared.outcome.Outcome.TheVariants as outco
 ghost use Rattle.pegasus_cli.specs.Call.{IsAnswered};
 ghost use Rattle.pegasus_cli.specs.Course.{ButMemory, Gives, HasFailed, documents, read_from};
 ghost use Rattle.pegasus_cli.specs.Moments.{Call};
-ghost use Rattle.pegasus_cli.specs.Words.{command};
+ghost use Rattle.command_words.specs.Words.{command};
 
 /// Told documents decide what comes of them, but where a fetch failed, which was counted, or memory ran out.
 pub fn told_documents_decide()

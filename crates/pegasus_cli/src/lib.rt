@@ -19,10 +19,9 @@ mod ready_plan;
 mod recorded;
 mod survey;
 mod threaded_call;
-mod words;
 
 pub use call::quick;
+pub use command_words::{threaded, user_words};
 pub use law::{told_documents_decide, usage_is_no_command};
 pub use outcome::Outcome;
 pub use threaded_call::pegasus;
-pub use words::{threaded, user_words};

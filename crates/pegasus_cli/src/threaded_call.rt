@@ -5,16 +5,17 @@ ghost use Rattle.craft.specs.declared.crew.Crew.{Crew};
 ghost use Rattle.pegasus_cli.specs.Call.{IsAnswered};
 ghost use Rattle.pegasus_cli.specs.Headline.{HoldsOf};
 ghost use Rattle.pegasus_cli.specs.Moments.{call_of, objects};
-ghost use Rattle.pegasus_cli.specs.Words.{command, is_threaded, members_of};
+ghost use Rattle.command_words.specs.Words.{command, is_threaded, members_of};
 
 use crate::call::{answer, quick, refuse_words};
-use crate::commands::{Threaded, run};
+use crate::commands::run;
 use crate::outcome::Outcome;
-use crate::words::{threaded, threaded_command};
+use command_words::{Threaded, threaded, threaded_command};
 use craft::{Crew, Gate};
 use evaluation::evaluations_finish;
-use outside::{Docs, Host, Sink, Tool};
+use outside::{Docs, Host, Memory, Sink, Tool};
 use plan_run::runs_finish;
+use run_record::malformed_line_is_one;
 use std::alloc::Global;
 use std::sync::Wait;
 use std::thread::Threads;
@@ -48,14 +49,16 @@ fn in_threads<
     // Laws for the proof: they do nothing.
     runs_finish();
     evaluations_finish();
+    malformed_line_is_one();
     let mut crew = crew;
-    match threaded_command(words) {
-        Some(Threaded::Run(name, workers)) => {
+    match threaded_command(alloc, words) {
+        Ok(Some(Threaded::Run(name, workers))) => {
             let worked = run::work(rt, alloc, name, workers, docs, host, &mut crew);
             let outcome = answer(alloc, out, worked.told);
             (outcome, worked.host, crew)
         }
-        None => (refuse_words(alloc, out), host, crew),
+        Ok(None) => (refuse_words(alloc, out), host, crew),
+        Err(Memory) => (Outcome::Memory, host, crew),
     }
 }
 

@@ -1,15 +1,17 @@
 -- What is known of a request and of what its documents say.
 use Rattle.std.proofs.Props.{props}
-use Rattle.std.proofs.lemmas.Map.Keys.{IsDistinct-prop}
-use Rattle.std.specs.Prelude.{◌≡◌, ℕ, ◌≤◌, IfErr, IfOk, Result}
-use Rattle.outside.specs.declared.documents.Documents.{Documents}
-use Rattle.workflow_core.specs.WellFormed.{IsSmallSize, IsSmallSize-prop, IsWellFormed}
+use Rattle.std.specs.Prelude.{◌≡◌, ℕ, ◌≤◌, List, [], ◌∷◌, MatchOption, Option, Some, None}
+use Rattle.std.specs.Coded.{Unit-prop, le_prop}
+use Rattle.outside.specs.declared.numbers.JobId.{JobId}
+use Rattle.workflow_core.specs.WellFormed.{IsSmallSize, IsWellFormed}
 use Rattle.workflow_core.specs.declared.workflow.Workflow.{Workflow}
-use Rattle.dependency_graph.specs.Graph.{IsGraphOf, Links}
+use Rattle.digraph.specs.Adjacency.{IsRising-prop}
+use Rattle.dependency_graph.specs.Edges.{makers}
+use Rattle.dependency_graph.specs.Graph.{IsGraphOf, Links, made_at}
+use Rattle.plan_request.specs.Limits.{IsSmallDefault, IsWithinLimits}
 use Rattle.plan_request.specs.declared.request.PlanRequest.{PlanRequest}
 use Rattle.plan_core.specs.declared.plan.Plan.{Plan}
 use Rattle.planner.specs.declared.inputs.Survey.{Survey}
-use Rattle.planner.specs.Course.{IsSurvey, Refuses}
 use Rattle.planner.specs.Meaning.{MeansWorkflow}
 use Rattle.planner.specs.Planning.{IsPlanOf}
 
@@ -17,11 +19,32 @@ use Rattle.planner.specs.Planning.{IsPlanOf}
 abbrev pub PlansMeanWorkflow : PlanRequest → Survey → Type 0
 PlansMeanWorkflow r s = (limit : ℕ) (p : Plan) → limit ≤ 120000 → IsPlanOf r s limit p → MeansWorkflow r s p
 
+small_size-prop : (o : Option ℕ) → IsProp (IsSmallSize o)
+small_size-prop None = Unit-prop
+small_size-prop (Some n) = le_prop
+
 pub IsWellFormed-prop : (w : Workflow) → IsProp (IsWellFormed w)
-IsWellFormed-prop w = Prim.hlevel (props, IsDistinct-prop)
+IsWellFormed-prop w = Prim.hlevel (props, small_size-prop)
+
+list-prop : (xs ys : List ℕ) → IsProp (xs ≡ ys)
+list-prop xs ys = Prim.hlevel (props)
+
+made-prop : (o : Option JobId) (xs : List ℕ) → IsProp (MatchOption o (xs ≡ []) (λ (j : JobId). xs ≡ j.0 ∷ []))
+made-prop None xs = list-prop xs []
+made-prop (Some j) xs = list-prop xs (j.0 ∷ [])
+
+producer-prop : (w : Workflow) (g : Links) (f : ℕ) → IsProp (MatchOption (made_at g.producers f) (makers w f ≡ []) (λ (j : JobId). makers w f ≡ j.0 ∷ []))
+producer-prop w g f = made-prop (made_at g.producers f) (makers w f)
 
 pub IsGraphOf-prop : (w : Workflow) (g : Links) → IsProp (IsGraphOf w g)
-IsGraphOf-prop w g = Prim.hlevel (props, IsDistinct-prop)
+IsGraphOf-prop w g = Prim.hlevel (props, producer-prop, IsRising-prop)
+
+small_default-prop : (o : Option ℕ) → IsProp (IsSmallDefault o)
+small_default-prop None = Unit-prop
+small_default-prop (Some n) = le_prop
+
+pub IsWithinLimits-prop : (r : PlanRequest) → IsProp (IsWithinLimits r)
+IsWithinLimits-prop r = Prim.hlevel (props, small_default-prop)
 
 pub PlansMeanWorkflow-prop : (r : PlanRequest) (s : Survey) → IsProp (PlansMeanWorkflow r s)
-PlansMeanWorkflow-prop r s = Prim.hlevel (props, IsDistinct-prop)
+PlansMeanWorkflow-prop r s = Prim.hlevel (props)

@@ -7,7 +7,7 @@ ghost use Rattle.dependency_graph.specs.Graph.{IsGraphOf};
 ghost use Rattle.plan_request.specs.Limits.{IsWithinLimits};
 ghost use Rattle.plan_request.specs.Reader.{execute_checked};
 ghost use Rattle.planner.specs.Course.{IsSurvey, Refuses};
-ghost use Rattle.planner.specs.Surveyed.{IsGraphOf-prop, IsWellFormed-prop, PlansMeanWorkflow, PlansMeanWorkflow-prop};
+ghost use Rattle.planner.specs.Surveyed.{IsGraphOf-prop, IsWellFormed-prop, IsWithinLimits-prop, PlansMeanWorkflow, PlansMeanWorkflow-prop};
 
 use crate::course::survey;
 use crate::inputs::Survey;
@@ -25,7 +25,7 @@ pub struct Surveyed {
     ghost well_formed: { IsWellFormed survey.workflow } by { IsWellFormed-prop survey.workflow },
     ghost graph: { IsGraphOf survey.workflow survey.graph } by { IsGraphOf-prop survey.workflow survey.graph },
     ghost sites: { execute_checked request.execute ≡ Ok tt },
-    ghost limits: { IsWithinLimits request },
+    ghost limits: { IsWithinLimits request } by { IsWithinLimits-prop request },
     ghost policy: { request.policy ≡ plain },
     ghost means: { PlansMeanWorkflow request survey } by { PlansMeanWorkflow-prop request survey },
 }

@@ -6,7 +6,7 @@ ghost use Rattle.plan_run.specs.Moments.{counting, first_count, work_moment, wor
 ghost use Rattle.pegasus_cli.specs.Commands.Run.{RunsMany, run};
 ghost use Rattle.pegasus_cli.specs.CommandSpec.{Does, doing};
 ghost use Rattle.pegasus_cli.specs.Moments.{docs_moment};
-ghost use Rattle.pegasus_cli.specs.Words.{AreFew};
+ghost use Rattle.command_words.specs.Words.{AreFew};
 
 use crate::commands::Worked;
 use crate::ready_plan::{ended, ready_plan, unrun};

@@ -1,7 +1,7 @@
 use Rattle.std.proofs.Common.{map, sym, ◌∙◌}
 use Rattle.std.specs.Prelude.{string_bytes}
 use Rattle.pegasus_cli.proofs.HeadlineLemmas.{holds}
-use Rattle.pegasus_cli.proofs.WordsLemmas.{one_member}
+use Rattle.command_words.proofs.WordsLemmas.{one_member}
 use Rattle.pegasus_cli.proofs.threaded_call.pegasus.Goals as goal
 
 pub returns-then-threaded-clause-headline : goal.returns-then-threaded-clause-headline

@@ -1,6 +1,15 @@
 use Rattle.planner.proofs.MeaningLemmas.{said_joined}
 use Rattle.planner.proofs.surveyed.survey_request.Goals as goal
 
-pub result-in-Ok-means : goal.result-in-Ok-means
-result-in-Ok-means c = λ limit p few planned. c.plans_mean_the_workflow.ensures c.args.request c.in-Ok.survey limit p c.requires.sites few c.in-Ok.ensures.well_formed
-    c.in-Ok.ensures.answer.graph (said_joined c.args.request c.args.documents.now _ c.in-Ok.ensures.answer.says) planned
+pub invariant_of-result : goal.invariant_of-result
+invariant_of-result c =
+    let s = c.in-Ok.survey in
+    let answer = c.in-Ok.ensures.answer in
+    record {
+      well_formed = c.in-Ok.ensures.well_formed;
+      graph = answer.graph;
+      sites = c.requires.sites;
+      limits = c.requires.limits;
+      policy = c.requires.policy;
+      means = λ limit p few planned. c.plans_mean_the_workflow.ensures c.args.request s limit p c.requires.sites few c.in-Ok.ensures.well_formed answer.graph (said_joined c.args.request c.args.documents.now _ answer.says) planned;
+    }

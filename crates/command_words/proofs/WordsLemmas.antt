@@ -1,7 +1,7 @@
 -- Which command words are.
 use Rattle.std.proofs.Common.{◌≡◌, ℕ, Bool, true, false, List, refl, sym, ap, ◌∙◌}
 use Rattle.std.specs.Prelude.{Option, Some, None, option_map}
-use Rattle.pegasus_cli.specs.Words.{Command, InThreads, Quick, Quickly, Threaded, command, command_if, is_threaded, members_of, quick_command, threaded_command, threaded_members}
+use Rattle.command_words.specs.Words.{InThreads, Quick, Quickly, Threaded, command, command_if, is_threaded, members_of, quick_command, threaded_command}
 
 pub is_quick : (words : List (List ℕ)) → is_threaded words ≡ false → command words ≡ option_map Quickly (quick_command words)
 is_quick words e = ap (λ (b : Bool). command_if b words) e

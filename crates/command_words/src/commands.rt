@@ -1,0 +1,89 @@
+//! The commands, and the table of their words.
+
+ghost use Rattle.std.specs.Prelude.{◌≡◌, IfSome, option_map};
+ghost use Rattle.command_words.specs.Words.{AreFew, by_workers as of_workers, one_word as of_one, quick_in, quick_of, said_of, threaded_in, threaded_members, threaded_of, two_words as of_two};
+
+use crate::numbers::workers_in;
+use crate::said::Said;
+
+/// What starts no thread and waits for nobody, with what its words say.
+#[derive(Clone, Copy, Debug)]
+pub enum Quick<'a> {
+    /// Reads the workflow of a request.
+    Check(&'a str),
+    /// Plans the workflow of a request.
+    Plan(&'a str),
+    /// Evaluates the workflow of a request.
+    Eval(&'a str),
+    /// Runs the plan of a request with one worker.
+    Alone(&'a str),
+    /// Judges a record by the plan of a request.
+    Audit(&'a str, &'a str),
+    /// Sums up a record by the plan of a request.
+    Stat(&'a str, &'a str),
+}
+
+/// What may start threads and wait, with what its words say, and how many workers.
+#[derive(Clone, Copy, Debug)]
+pub enum Threaded<'a> {
+    /// Runs the plan of a request with so many workers.
+    Run(&'a str, u32),
+}
+
+fn one_word<'a>(word: &str, a: &'a str) -> Option<Quick<'a>>
+    ensures { option_map quick_of result ≡ of_one word.now a.now }
+{
+    match word {
+        "check" => Some(Quick::Check(a)),
+        "plan" => Some(Quick::Plan(a)),
+        "eval" => Some(Quick::Eval(a)),
+        "alone" => Some(Quick::Alone(a)),
+        _ => None,
+    }
+}
+
+fn two_words<'a>(word: &str, a: &'a str, b: &'a str) -> Option<Quick<'a>>
+    ensures { option_map quick_of result ≡ of_two word.now a.now b.now }
+{
+    match word {
+        "audit" => Some(Quick::Audit(a, b)),
+        "stat" => Some(Quick::Stat(a, b)),
+        _ => None,
+    }
+}
+
+/// The command without threads of what words say.
+pub(crate) fn find_quick<'a>(said: Said<'a>) -> Option<Quick<'a>>
+    ensures { option_map quick_of result ≡ quick_in (said_of said.entry) }
+{
+    match said {
+        Said::One(word, a) => one_word(word, a),
+        Said::Two(word, a, b) => two_words(word, a, b),
+        Said::WithWorkers(_, _, _) => None,
+    }
+}
+
+fn by_workers<'a>(word: &str, a: &'a str, workers: u32) -> Option<Threaded<'a>>
+    requires { AreFew workers }
+    ensures is { option_map threaded_of result ≡ of_workers word.now a.now workers }
+    ensures few { IfSome result (λ c. AreFew (threaded_members (threaded_of c))) }
+{
+    match word {
+        "run" => Some(Threaded::Run(a, workers)),
+        _ => None,
+    }
+}
+
+/// The command by workers of what words say.
+pub(crate) fn find_threaded<'a>(said: Said<'a>) -> Option<Threaded<'a>>
+    ensures is { option_map threaded_of result ≡ threaded_in (said_of said.entry) }
+    ensures few { IfSome result (λ c. AreFew (threaded_members (threaded_of c))) }
+{
+    match said {
+        Said::WithWorkers(word, a, digits) => match workers_in(digits) {
+            Some(workers) => by_workers(word, a, workers),
+            None => None,
+        },
+        _ => None,
+    }
+}

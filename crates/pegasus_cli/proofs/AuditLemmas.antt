@@ -1,0 +1,95 @@
+-- The answers of `audit` and `stat`.
+use Rattle.std.proofs.Common.{◌≡◌, ℕ, ◌++◌, List, [], refl, sym, ap, subst, ◌∙◌}
+use Rattle.std.specs.Prelude.{Ok, Err}
+use Rattle.plan_core.specs.declared.plan.Plan.{Plan}
+use Rattle.planner.specs.declared.plan_fault.PlanFault.{PlanFault}
+use Rattle.planner.specs.declared.plan_fault.PlanFault.TheVariants as plan_faults
+use Rattle.planner.specs.declared.surveyed.Surveyed.{Surveyed}
+use Rattle.run_record.specs.Events.{Event}
+use Rattle.run_record.specs.Fault.{IsMalformedAt}
+use Rattle.run_record.specs.RecordText.{AreEntries, record_text}
+use Rattle.record_audit.specs.Part.{record_part}
+use Rattle.record_audit.specs.Sums.{AreSums}
+use Rattle.record_audit.specs.Text.{statistics_lines, verdict_line}
+use Rattle.record_audit.specs.Verdict.{IsJudged}
+use Rattle.record_audit.specs.declared.sums.Statistics.{Statistics}
+use Rattle.record_audit.specs.declared.verdict.Verdict.{Verdict}
+use Rattle.record_audit.specs.declared.verdict.Verdict.TheVariants as verdict
+use Rattle.lease_book.specs.Legal.{Legal}
+use Rattle.plan_run.specs.Moments.{Work}
+use Rattle.pegasus_cli.specs.declared.fault.CallFault.{CallFault}
+use Rattle.pegasus_cli.specs.declared.fault.CallFault.TheVariants.{BadRecord, Memory}
+use Rattle.pegasus_cli.specs.declared.recorded.Recorded.{Recorded}
+use Rattle.pegasus_cli.specs.Commands.Audit.{CanJudge, IsBad, IsJudgedBy, IsJudgment, IsOrdered, IsUnjudged, IsUnread, Judges, PrintsVerdict, SaysOf, audit}
+use Rattle.pegasus_cli.specs.Commands.Plan.{IsRefusal, IsUnplanned}
+use Rattle.pegasus_cli.specs.Commands.Stat.{PrintsSums, stat}
+use Rattle.pegasus_cli.specs.CommandSpec.{Finishes}
+use Rattle.pegasus_cli.specs.Fault.{Answer, IsDoneOrMemory, not_for, plan_answer}
+use Rattle.pegasus_cli.proofs.RecordedLemmas.{record_finishes}
+
+-- no fault of planning is a bad record
+no_bad_record : (k : ℕ) (fault : PlanFault) → BadRecord k ≡ plan_answer fault → ⊥
+no_bad_record k plan_faults.Memory e = (let clash : ◌≡◌ {A = CallFault} (BadRecord k) Memory = e in absurd cc)
+no_bad_record k (plan_faults.Exceeds site task needed bound) e = absurd cc
+no_bad_record k fault e = absurd cc
+
+pub refusal_unjudged : (i : Recorded) (fault : CallFault) → IsRefusal i.surveyed fault → IsUnjudged i fault
+refusal_unjudged i Memory h = tt
+refusal_unjudged i (BadRecord k) h = absurd (no_bad_record k h.fault h.answers)
+refusal_unjudged i fault h = h
+
+pub unread_unjudged : (i : Recorded) (p : Plan) (order : List ℕ) (fault : CallFault) → IsOrdered i.surveyed p order → IsUnread i.bytes fault → IsUnjudged i fault
+unread_unjudged i p order Memory ordered h = tt
+unread_unjudged i p order (BadRecord k) ordered h = record { plan = p; order = order; ordered = ordered; malformed = h }
+unread_unjudged i p order fault ordered h = absurd h
+
+pub says_unjudged : (Prints : Plan → List ℕ → List Event → Verdict → List ℕ → Type 0) (i : Recorded) (fault : CallFault) → IsUnjudged i fault → SaysOf Prints i [] (not_for fault)
+says_unjudged Prints i Memory h = tt
+says_unjudged Prints i fault h = (h, refl)
+
+pub says_none : (Prints : Plan → List ℕ → List Event → Verdict → List ℕ → Type 0) (i : Recorded) (fault : CallFault) (text : List ℕ) (a : Answer) → IsUnjudged i fault → text ≡ [] → a ≡ not_for fault → SaysOf Prints i text a
+says_none Prints i fault text a h none is = rw (none, is) (says_unjudged Prints i fault h)
+
+pub says_memory : (Prints : Plan → List ℕ → List Event → Verdict → List ℕ → Type 0) (i : Recorded) (text : List ℕ) (a : Answer) → a ≡ not_for Memory → SaysOf Prints i text a
+says_memory Prints i text a is = subst (SaysOf Prints i text) (sym is) tt
+
+-- what is printed of a verdict
+pub prints_illegal : (p : Plan) (order : List ℕ) (r : List Event) (v : Verdict) (k : ℕ) (text : List ℕ) → v ≡ verdict.Illegal k → text ≡ verdict_line v → PrintsSums p order r v text
+prints_illegal p order r v k text is text_is = rw is (text_is ∙ ap verdict_line is)
+
+pub prints_sums : (p : Plan) (order : List ℕ) (r : List Event) (v : Verdict) (sums : Statistics) (text : List ℕ) → ((k : ℕ) → v ≡ verdict.Illegal k → ⊥) → AreSums p order r sums → text ≡ verdict_line v ++ statistics_lines sums → PrintsSums p order r v text
+prints_sums p order r (verdict.Illegal k) sums text legal are text_is = absurd (legal k refl)
+prints_sums p order r v sums text legal are text_is = (sums, are, text_is)
+
+pub judged_legal : (p : Plan) (order : List ℕ) (r : List Event) (v : Verdict) → ((k : ℕ) → v ≡ verdict.Illegal k → ⊥) → IsJudged p order r v → Legal p order r
+judged_legal p order r verdict.Complete legal h = h.0
+judged_legal p order r verdict.Legal legal h = h.0
+judged_legal p order r (verdict.Illegal k) legal h = absurd (legal k refl)
+
+-- ---- what keeps them from Done
+
+-- no line of a record's text is malformed
+abbrev pub NoneMalformed : Type 0
+NoneMalformed = (es : List Event) (k : ℕ) → AreEntries es → IsMalformedAt (record_text es) k → ⊥
+
+not_bad : (law : NoneMalformed) (i : Recorded) (k : ℕ) → CanJudge i → IsBad i k → ⊥
+not_bad law i k can bad = law can.history k can.is_record.entries (subst (λ (text : List ℕ). IsMalformedAt text k) (sym can.is_record.text) bad.malformed)
+
+unplanned_short : (i : Recorded) (fault : CallFault) → CanJudge i → IsUnplanned i.surveyed fault → IsDoneOrMemory (not_for fault)
+unplanned_short i fault can h = subst (λ (f : CallFault). IsDoneOrMemory (not_for f)) (sym (h.answers ∙ ap plan_answer (can.no_fault h.fault h.comes))) tt
+
+unjudged_short : (law : NoneMalformed) (i : Recorded) (fault : CallFault) → CanJudge i → IsUnjudged i fault → IsDoneOrMemory (not_for fault)
+unjudged_short law i Memory can h = tt
+unjudged_short law i (BadRecord k) can h = absurd (not_bad law i k can h)
+unjudged_short law i fault can h = unplanned_short i fault can h
+
+says_done : (law : NoneMalformed) (Prints : Plan → List ℕ → List Event → Verdict → List ℕ → Type 0) (i : Recorded) (text : List ℕ) (a : Answer) → SaysOf Prints i text a → CanJudge i → IsDoneOrMemory a
+says_done law Prints i text (Ok done) h can = tt
+says_done law Prints i text (Err Memory) h can = tt
+says_done law Prints i text (Err fault) h can = unjudged_short law i fault can h.0
+
+pub audit_finishes : NoneMalformed → (name history : List ℕ) → Finishes (audit name history)
+audit_finishes law name history = record_finishes name history (Judges PrintsVerdict) CanJudge (λ w i text a works can. says_done law PrintsVerdict i text a works.says can)
+
+pub stat_finishes : NoneMalformed → (name history : List ℕ) → Finishes (stat name history)
+stat_finishes law name history = record_finishes name history (Judges PrintsSums) CanJudge (λ w i text a works can. says_done law PrintsSums i text a works.says can)
