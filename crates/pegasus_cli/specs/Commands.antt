@@ -1,6 +1,7 @@
 -- The table of the commands.
 use Rattle.pegasus_cli.specs.CommandSpec.{CommandSpec}
-use Rattle.command_words.specs.Words.{Command, Quick, Threaded, Check, Plan, Eval, Alone, Audit, Stat, Run, Quickly, InThreads}
+use Rattle.command_words.specs.Words as words
+use Rattle.command_words.specs.Words.{Command, Quick, Threaded}
 use Rattle.pegasus_cli.specs.Commands.Check.{check}
 use Rattle.pegasus_cli.specs.Commands.Plan.{plan}
 use Rattle.pegasus_cli.specs.Commands.Eval.{eval}
@@ -17,16 +18,16 @@ pub mod Stat
 pub mod Run
 
 abbrev pub quick_spec : Quick → CommandSpec
-quick_spec (Check name) = check name
-quick_spec (Plan name) = plan name
-quick_spec (Eval name) = eval name
-quick_spec (Alone name) = alone name
-quick_spec (Audit name history) = audit name history
-quick_spec (Stat name history) = stat name history
+quick_spec (words.Check name) = check name
+quick_spec (words.Plan name) = plan name
+quick_spec (words.Eval name) = eval name
+quick_spec (words.Alone name) = alone name
+quick_spec (words.Audit name history) = audit name history
+quick_spec (words.Stat name history) = stat name history
 
 abbrev pub threaded_spec : Threaded → CommandSpec
-threaded_spec (Run name workers) = run name workers
+threaded_spec (words.Run name workers) = run name workers
 
 abbrev pub spec_of : Command → CommandSpec
-spec_of (Quickly q) = quick_spec q
-spec_of (InThreads t) = threaded_spec t
+spec_of (words.Quickly q) = quick_spec q
+spec_of (words.InThreads t) = threaded_spec t

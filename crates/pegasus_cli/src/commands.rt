@@ -59,7 +59,7 @@ pub(crate) fn work<D: Docs, H: Host, T: Tool, G: Gate>(
     crew: &mut Crew<T, G>,
 ) -> Worked<H>
     ensures does { let w = working T.apply T.known (work_moment H.Host host (T.faults crew.old.tool)) (work_moment H.Host result.host (T.faults crew.new.tool)) in
-        (t : Tools) → OfFirst w t → Does (quick_spec (quick_of command)) (doing (docs_moment D.Docs docs.old) (docs_moment D.Docs docs.new) w t) result.told.text.items result.told.answer }
+        (t : Tools) → OfFirst w t → Does (quick_spec (quick_of command.entry)) (doing (docs_moment D.Docs docs.old) (docs_moment D.Docs docs.new) w t) result.told.text.items result.told.answer }
     ensures gate { crew.new.gate ≡ crew.old.gate }
 {
     let mut host = host;

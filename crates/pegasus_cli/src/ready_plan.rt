@@ -13,6 +13,7 @@ use crate::kept_tools::unknown_tool;
 use outside::{Host, Memory, Tool};
 use plan_run::Ran;
 use planner::{Surveyed, plan_survey, plans_deliver_requests};
+use run_record::RunFault;
 use std::alloc::Global;
 use storage_simulation::Ordered;
 
@@ -62,21 +63,26 @@ pub(crate) fn unrun<H: Host>(alloc: Global, fault: CallFault, host: H) -> Worked
     }
 }
 
+/// The answer for the end of a run.
+fn of_end(end: Result<(), RunFault>) -> Result<(), CallFault>
+    ensures { result ≡ end_answer end }
+{
+    match end {
+        Ok(()) => Ok(()),
+        Err(fault) => Err(of_run_fault(fault)),
+    }
+}
+
 /// What a command tells of its run.
 pub(crate) fn ended<H: Host>(ran: Ran<H>) -> Worked<H>
     ensures answer { result.told.answer ≡ end_answer ran.end }
     ensures text { result.told.text.items ≡ ran.text.items }
     ensures host { result.host ≡ ran.host }
 {
-    let answer = match ran.end {
-        Ok(()) => Ok(()),
-        Err(fault) => Err(of_run_fault(fault)),
-    };
+    let Ran { end, text, host } = ran;
+    let answer = of_end(end);
     Worked {
-        told: Told {
-            answer,
-            text: ran.text,
-        },
-        host: ran.host,
+        told: Told { answer, text },
+        host,
     }
 }

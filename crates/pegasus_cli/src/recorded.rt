@@ -3,7 +3,7 @@
 ghost use Rattle.pegasus_cli.specs.Moments.{docs_moment};
 ghost use Rattle.pegasus_cli.specs.Recorded.{Surveys};
 
-use crate::course::fetch_with_record;
+use crate::course::{WithRecord, fetch_with_record};
 use crate::fault::{CallFault, of_plan_fault};
 use outside::{Blob, Docs};
 use planner::{Surveyed, survey_request};
@@ -29,11 +29,9 @@ pub(crate) fn read_recorded<D: Docs>(
         Ok(given) => given,
         Err(fault) => return Err(fault),
     };
-    match survey_request(alloc, given.requested.request, &given.requested.documents) {
-        Ok(surveyed) => Ok(Recorded {
-            surveyed,
-            bytes: given.bytes,
-        }),
+    let WithRecord { requested, bytes } = given;
+    match survey_request(alloc, requested.request, &requested.documents) {
+        Ok(surveyed) => Ok(Recorded { surveyed, bytes }),
         Err(fault) => Err(of_plan_fault(fault)),
     }
 }

@@ -12,3 +12,9 @@ returns-in-Eval-clause-does g c = λ t first. rw c.in-Eval.is (c.work-told-in-Ev
 
 pub returns-in-Alone-clause-does : goal.returns-in-Alone-clause-does
 returns-in-Alone-clause-does g c = λ t first. rw c.in-Alone.is (c.work.ensures.does t first)
+
+pub returns-in-Audit-clause-does : goal.returns-in-Audit-clause-does
+returns-in-Audit-clause-does g c = λ t first. rw c.in-Audit.is (c.work-told-in-Audit.ensures _ t refl (first refl))
+
+pub returns-in-Stat-clause-does : goal.returns-in-Stat-clause-does
+returns-in-Stat-clause-does g c = λ t first. rw c.in-Stat.is (c.work-told-in-Stat.ensures _ t refl (first refl))
