@@ -1,5 +1,5 @@
 -- The answers of `alone`.
-use Rattle.std.proofs.Common.{◌≡◌, ℕ, ◌<◌, zero, suc, List, inl, inr, arith, subst, sym}
+use Rattle.std.proofs.Common.{ℕ, ◌<◌, zero, suc, List, inl, inr, arith}
 use Rattle.std.proofs.Math.Logic.{∥∥₁_elim, ∥∥₁_map}
 use Rattle.outside.specs.Counts.{Rose}
 use Rattle.outside.specs.declared.numbers.TaskId.{TaskId}

@@ -1,28 +1,24 @@
 -- The answers of `audit` and `stat`.
 use Rattle.std.proofs.Common.{◌≡◌, ℕ, ◌++◌, List, [], refl, sym, ap, subst, ◌∙◌}
-use Rattle.std.specs.Prelude.{Ok, Err}
+use Rattle.std.specs.Prelude.{Result, Ok, Err, OnOk}
+use Rattle.outside.specs.declared.memory.Memory.{Memory as Lacks}
 use Rattle.plan_core.specs.declared.plan.Plan.{Plan}
 use Rattle.planner.specs.declared.plan_fault.PlanFault.{PlanFault}
 use Rattle.planner.specs.declared.plan_fault.PlanFault.TheVariants as plan_faults
-use Rattle.planner.specs.declared.surveyed.Surveyed.{Surveyed}
 use Rattle.run_record.specs.Events.{Event}
 use Rattle.run_record.specs.Fault.{IsMalformedAt}
 use Rattle.run_record.specs.RecordText.{AreEntries, record_text}
-use Rattle.record_audit.specs.Part.{record_part}
 use Rattle.record_audit.specs.Sums.{AreSums}
 use Rattle.record_audit.specs.Text.{statistics_lines, verdict_line}
-use Rattle.record_audit.specs.Verdict.{IsJudged}
 use Rattle.record_audit.specs.declared.sums.Statistics.{Statistics}
 use Rattle.record_audit.specs.declared.verdict.Verdict.{Verdict}
 use Rattle.record_audit.specs.declared.verdict.Verdict.TheVariants as verdict
-use Rattle.lease_book.specs.Legal.{Legal}
-use Rattle.plan_run.specs.Moments.{Work}
 use Rattle.pegasus_cli.specs.declared.fault.CallFault.{CallFault}
 use Rattle.pegasus_cli.specs.declared.fault.CallFault.TheVariants.{BadRecord, Memory}
 use Rattle.pegasus_cli.specs.declared.recorded.Recorded.{Recorded}
-use Rattle.pegasus_cli.specs.Commands.Audit.{CanJudge, IsBad, IsJudgedBy, IsJudgment, IsOrdered, IsUnjudged, IsUnread, Judges, PrintsVerdict, SaysOf, audit}
+use Rattle.pegasus_cli.specs.Commands.Audit.{CanJudge, IsBad, IsOrdered, IsUnjudged, IsUnread, Judges, PrintsVerdict, SaysOf, audit}
 use Rattle.pegasus_cli.specs.Commands.Plan.{IsRefusal, IsUnplanned}
-use Rattle.pegasus_cli.specs.Commands.Stat.{PrintsSums, stat}
+use Rattle.pegasus_cli.specs.Commands.Stat.{AddsSums, PrintsSums, stat}
 use Rattle.pegasus_cli.specs.CommandSpec.{Finishes}
 use Rattle.pegasus_cli.specs.Fault.{Answer, IsDoneOrMemory, not_for, plan_answer}
 use Rattle.pegasus_cli.proofs.RecordedLemmas.{record_finishes}
@@ -54,17 +50,15 @@ pub says_memory : (Prints : Plan → List ℕ → List Event → Verdict → Lis
 says_memory Prints i text a is = subst (SaysOf Prints i text) (sym is) tt
 
 -- what is printed of a verdict
-pub prints_illegal : (p : Plan) (order : List ℕ) (r : List Event) (v : Verdict) (k : ℕ) (text : List ℕ) → v ≡ verdict.Illegal k → text ≡ verdict_line v → PrintsSums p order r v text
-prints_illegal p order r v k text is text_is = rw is (text_is ∙ ap verdict_line is)
+pub adds_so : (result : Result (Unit {0}) Lacks) (p : Plan) (order : List ℕ) (r : List Event) (sums : Statistics) (front text : List ℕ) → AreSums p order r sums → OnOk result (text ≡ front ++ statistics_lines sums) → OnOk result (AddsSums p order r front text)
+adds_so (Ok x) p order r sums front text are h = (sums, are, h)
+adds_so (Err e) p order r sums front text are h = tt
 
-pub prints_sums : (p : Plan) (order : List ℕ) (r : List Event) (v : Verdict) (sums : Statistics) (text : List ℕ) → ((k : ℕ) → v ≡ verdict.Illegal k → ⊥) → AreSums p order r sums → text ≡ verdict_line v ++ statistics_lines sums → PrintsSums p order r v text
-prints_sums p order r (verdict.Illegal k) sums text legal are text_is = absurd (legal k refl)
-prints_sums p order r v sums text legal are text_is = (sums, are, text_is)
+pub prints_legal : (p : Plan) (order : List ℕ) (r : List Event) (v : Verdict) (front text : List ℕ) → v ≡ verdict.Legal → front ≡ verdict_line v → AddsSums p order r front text → PrintsSums p order r v text
+prints_legal p order r v front text is f h = rw is (subst (λ (z : List ℕ). AddsSums p order r z text) (f ∙ ap verdict_line is) h)
 
-pub judged_legal : (p : Plan) (order : List ℕ) (r : List Event) (v : Verdict) → ((k : ℕ) → v ≡ verdict.Illegal k → ⊥) → IsJudged p order r v → Legal p order r
-judged_legal p order r verdict.Complete legal h = h.0
-judged_legal p order r verdict.Legal legal h = h.0
-judged_legal p order r (verdict.Illegal k) legal h = absurd (legal k refl)
+pub prints_complete : (p : Plan) (order : List ℕ) (r : List Event) (v : Verdict) (front text : List ℕ) → v ≡ verdict.Complete → front ≡ verdict_line v → AddsSums p order r front text → PrintsSums p order r v text
+prints_complete p order r v front text is f h = rw is (subst (λ (z : List ℕ). AddsSums p order r z text) (f ∙ ap verdict_line is) h)
 
 -- ---- what keeps them from Done
 

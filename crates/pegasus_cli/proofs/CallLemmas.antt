@@ -1,6 +1,6 @@
 -- The clause of a call.
 use Rattle.std.proofs.Common.{◌≡◌, true, ℕ, ◌++◌, List, [], ◌∷◌, length, map, get_or, take, refl, sym, ap, subst, ◌∙◌, inl, inr, arith}
-use Rattle.std.specs.Prelude.{◌⊎◌, Option, Some, None, Err, is_some, slice_set}
+use Rattle.std.specs.Prelude.{◌⊎◌, Option, Some, None, Err, is_some, option_map, slice_set}
 use Rattle.std.specs.Io.KnownBytes.{Appends, Keeps}
 use Rattle.outside.specs.Counts.{Rose}
 use Rattle.outside.specs.Sink.{WroteAll}
@@ -9,7 +9,7 @@ use Rattle.outside.specs.declared.sink.SinkFault.TheVariants as sink_faults
 use Rattle.plan_run.specs.Moments.{first_count}
 use Rattle.pegasus_cli.specs.declared.outcome.Outcome.{Outcome}
 use Rattle.pegasus_cli.specs.declared.outcome.Outcome.TheVariants as outcomes
-use Rattle.pegasus_cli.specs.Call.{Ends, IsAnswered, IsDoneBy, IsDoneOrMemory, IsUsage, MayFinish, NoneRose, doing_of}
+use Rattle.pegasus_cli.specs.Call.{Ends, IsAnswered, IsDoneBy, IsDoneOrMemory, IsUsage, NoneRose, doing_of}
 use Rattle.pegasus_cli.specs.Commands.{spec_of}
 use Rattle.pegasus_cli.specs.CommandSpec.{Does, NoneRoseIn}
 use Rattle.pegasus_cli.specs.Fault.{Answer, not_for}
@@ -74,6 +74,14 @@ unread_answered law c None is there asked work tools kept = absurd cc
 unread_answered law c (Some k) is there asked work tools kept =
     command_answered law c k (not_for Memory) outcomes.Memory [] is
     (inl (record { fault = Memory; comes = subst (λ (m : DocsMoment). (spec_of k).Comes c.asked.before m (Err Memory)) (sym asked) (unbegun k c.asked.before); answers = refl; untouched = work; unused = tools; no_text = refl })) kept
+
+pub keeps_same : (written : Option (List ℕ)) → Keeps written written
+keeps_same None = tt
+keeps_same (Some bytes) = refl
+
+pub some_mapped : {A B : Type 0} (f : A → B) (o : Option A) → is_some o ≡ true → is_some (option_map f o) ≡ true
+some_mapped f None h = absurd cc
+some_mapped f (Some a) h = refl
 
 -- Usage comes only where the words are no command.
 pub usage_is_no_command : (c : Call) → IsAnswered c outcomes.Usage → command_of c.asked.words ≡ None

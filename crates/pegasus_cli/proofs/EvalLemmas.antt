@@ -11,7 +11,7 @@ use Rattle.run_record.specs.declared.run_fault.RunFault.TheVariants as run
 use Rattle.plan_run.specs.Moments.{Tools, Work}
 use Rattle.pegasus_cli.specs.declared.fault.CallFault.{CallFault}
 use Rattle.pegasus_cli.specs.declared.fault.CallFault.TheVariants.{Memory}
-use Rattle.pegasus_cli.specs.Commands.Eval.{CanEvaluate, Evaluates, IsUnvalued, Says, eval, meeting_of, subject_of}
+use Rattle.pegasus_cli.specs.Commands.Eval.{CanEvaluate, Evaluates, Says, eval, meeting_of, subject_of}
 use Rattle.pegasus_cli.specs.CommandSpec.{Finishes, NoneRoseAtWork}
 use Rattle.pegasus_cli.specs.Fault.{Answer, IsDoneOrMemory, not_for, value_answer}
 use Rattle.pegasus_cli.proofs.SurveyLemmas.{survey_finishes}

@@ -1,4 +1,5 @@
--- What the clause Rattle.std.proofs.Common.{◌≡◌, ◌⊎◌, ℕ, ◌+◌, ◌++◌, Bool, List, sym, ap, subst, ◌∙◌, inl, inr}
+-- What the clause of a call comes to for a run that ended Done.
+use Rattle.std.proofs.Common.{◌≡◌, ◌⊎◌, ℕ, ◌++◌, List, sym, subst, ◌∙◌, inl, inr}
 use Rattle.std.proofs.Math.Logic.{∥∥₁_map}
 use Rattle.std.specs.Prelude.{Option, Some, None, IfSome, MatchOption, Ok, Err}
 use Rattle.std.specs.Io.KnownBytes.{Appends}

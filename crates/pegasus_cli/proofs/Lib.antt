@@ -1,5 +1,6 @@
 pub mod FaultLemmas
 pub mod CourseLemmas
+pub mod RequestLemmas
 pub mod SurveyLemmas
 pub mod RecordedLemmas
 pub mod CheckLemmas

@@ -1,16 +1,16 @@
 -- Commands over the documents of one request and a record: what ends them, and what keeps them from Done.
-use Rattle.std.proofs.Common.{◌≡◌, ℕ, List, [], refl, sym, ap, subst, ◌∙◌, inl, inr}
-use Rattle.std.specs.Prelude.{◌⊎◌, Option, Some, Result, Ok, Err}
+use Rattle.std.proofs.Common.{◌≡◌, ℕ, List, [], sym, ap, subst, ◌∙◌, inl, inr}
+use Rattle.std.specs.Prelude.{Ok, Err}
 use Rattle.planner.specs.Course.{Refuses}
 use Rattle.plan_run.specs.Moments.{Work}
 use Rattle.pegasus_cli.specs.declared.course.WithRecord.{WithRecord}
 use Rattle.pegasus_cli.specs.declared.fault.CallFault.{CallFault}
 use Rattle.pegasus_cli.specs.declared.fault.CallFault.TheVariants as faults
 use Rattle.pegasus_cli.specs.declared.recorded.Recorded.{Recorded}
-use Rattle.pegasus_cli.specs.CommandSpec.{Does, Doing, Finishes, NoneRoseAtWork, NoneRoseIn}
-use Rattle.pegasus_cli.specs.Course.{IsStep, documents_with}
+use Rattle.pegasus_cli.specs.CommandSpec.{Does, Doing, Finishes, NoneRoseIn}
+use Rattle.pegasus_cli.specs.Course.{documents_with}
 use Rattle.pegasus_cli.specs.Fault.{Answer, IsDoneOrMemory, not_for, plan_answer}
-use Rattle.pegasus_cli.specs.Recorded.{GoesOn, IsRecorded, IsUnsurveyed, MayJudge, Surveys, over_record}
+use Rattle.pegasus_cli.specs.Recorded.{GoesOn, IsRecorded, MayJudge, Surveys, over_record}
 use Rattle.pegasus_cli.proofs.SurveyLemmas.{came_as, nothing_came, of_memory, refused_short, told_step}
 
 stops_short : (name history : List ℕ) (CanWork : Recorded → Type 0) (d : Doing) (e : CallFault) → MayJudge name history CanWork d.before.told → NoneRoseIn d → Surveys name history d.before d.after (Err e) → e ≡ faults.Memory

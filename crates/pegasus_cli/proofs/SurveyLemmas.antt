@@ -1,6 +1,6 @@
 -- Commands over the documents of one request: what ends them, and what keeps them from Done.
 use Rattle.std.proofs.Common.{◌≡◌, ℕ, List, [], length, refl, sym, ap, subst, ◌∙◌, inl, inr, arith}
-use Rattle.std.specs.Prelude.{◌⊎◌, Option, Some, Result, Ok, Err}
+use Rattle.std.specs.Prelude.{◌⊎◌, Some, Result, Ok, Err}
 use Rattle.outside.specs.Counts.{Rose}
 use Rattle.outside.specs.FileMap.{Files}
 use Rattle.outside.specs.declared.documents.Documents.{Documents}
@@ -21,7 +21,7 @@ use Rattle.pegasus_cli.specs.CommandSpec.{Does, Doing, Finishes, NoneRoseAtWork,
 use Rattle.pegasus_cli.specs.Course.{ButMemory, Course, Gives, HasFailed, IsStep, documents, read_from}
 use Rattle.pegasus_cli.specs.Fault.{Answer, IsDoneOrMemory, not_for, plan_answer}
 use Rattle.pegasus_cli.specs.Moments.{DocsMoment}
-use Rattle.pegasus_cli.specs.Survey.{GoesOn, IsSurveyed, MaySurvey, Stops, Surveys, over_survey}
+use Rattle.pegasus_cli.specs.Survey.{GoesOn, IsSurveyed, MaySurvey, Stops, over_survey}
 use Rattle.pegasus_cli.proofs.CourseLemmas.{result_again, told_gives}
 
 -- told documents give what they read, where no fault was counted

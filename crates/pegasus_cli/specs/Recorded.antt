@@ -6,8 +6,7 @@ use Rattle.workflow_core.specs.declared.workflow.Workflow.{Workflow}
 use Rattle.dependency_graph.specs.Graph.{IsSound}
 use Rattle.planner.specs.Course.{Refuses, SurveyEntry, surveyed}
 use Rattle.planner.specs.declared.plan_fault.PlanFault.{PlanFault}
-use Rattle.plan_run.specs.Moments.{Tools, Work}
-use Rattle.pegasus_cli.specs.declared.course.Requested.{Requested}
+use Rattle.plan_run.specs.Moments.{Work}
 use Rattle.pegasus_cli.specs.declared.course.WithRecord.{WithRecord}
 use Rattle.pegasus_cli.specs.declared.fault.CallFault.{CallFault}
 use Rattle.pegasus_cli.specs.declared.recorded.Recorded.{Recorded}

@@ -1,26 +1,29 @@
 //! The commands.
 
-ghost use Rattle.std.specs.Prelude.{◌≡◌, []};
-ghost use Rattle.plan_run.specs.Moments.{Tools, work_moment, working};
-ghost use Rattle.pegasus_cli.specs.Commands.{quick_spec};
+ghost use Rattle.std.specs.Prelude.{◌≡◌, [], drop, length, map as list_map};
+ghost use Rattle.craft.specs.declared.crew.Crew.{Crew};
+ghost use Rattle.plan_run.specs.Moments.{Tools, counting, first_count, work_moment, working};
+ghost use Rattle.pegasus_cli.specs.Commands.{quick_spec, threaded_spec};
 ghost use Rattle.pegasus_cli.specs.CommandSpec.{Does, OfFirst, doing};
 ghost use Rattle.pegasus_cli.specs.Fault.{not_for};
 ghost use Rattle.pegasus_cli.specs.Moments.{docs_moment};
-ghost use Rattle.command_words.specs.Words.{quick_of};
+ghost use Rattle.command_words.specs.Words.{AreFew, quick_of, threaded_members, threaded_of};
 
 mod alone;
 mod audit;
 mod check;
 mod eval;
 mod plan;
-pub(crate) mod run;
+mod run;
 mod stat;
 
 use crate::fault::CallFault;
-use command_words::Quick;
+use command_words::{Quick, Threaded};
 use craft::{Crew, Gate};
 use outside::{Docs, Host, Tool};
 use std::alloc::Global;
+use std::sync::Wait;
+use std::thread::Threads;
 
 /// The most tasks that a plan may have.
 pub(crate) const TASK_LIMIT: u64 = 2000;
@@ -85,5 +88,35 @@ pub(crate) fn work<D: Docs, H: Host, T: Tool, G: Gate>(
             let told = stat::work(alloc, name, history, docs);
             Worked { told, host }
         }
+    }
+}
+
+/// Does a command that may start threads, with a member of the crew for each worker.
+pub(crate) fn work_in_threads<
+    R: Threads + Wait + Sync,
+    D: Docs,
+    H: Host + Send,
+    T: Tool + Send,
+    G: Gate + Send,
+>(
+    rt: &R,
+    alloc: Global,
+    command: Threaded<'_>,
+    docs: &mut D,
+    host: H,
+    crew: &mut Vec<Crew<T, G>>,
+) -> Worked<H>
+    requires few { AreFew (threaded_members (threaded_of command)) }
+    requires crew { length crew.old.items ≡ 16 }
+    ensures does { let before = list_map (λ (c : Crew T G). T.faults c.tool) crew.old.items in
+        let after = list_map (λ (c : Crew T G). T.faults c.tool) crew.new.items in
+        Does (threaded_spec (threaded_of command.entry)) (doing (docs_moment D.Docs docs.old) (docs_moment D.Docs docs.new)
+        (working T.apply T.known (work_moment H.Host host (first_count before)) (work_moment H.Host result.host (first_count after)))
+        (counting before after)) result.told.text.items result.told.answer }
+    ensures crew { length crew.new.items ≡ 16 }
+    ensures others { let used = threaded_members (threaded_of command.entry) in drop used crew.new.items ≡ drop used crew.old.items }
+{
+    match command {
+        Threaded::Run(name, workers) => run::work(rt, alloc, name, workers, docs, host, crew),
     }
 }

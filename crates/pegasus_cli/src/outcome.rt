@@ -145,8 +145,6 @@ pub(crate) fn push_outcome(
             bound,
         } => push_exceeds(alloc, text, site, *task, *needed, *bound),
         Outcome::Failed(fault) => push_failed(alloc, text, fault),
-        Outcome::BadRecord(line) => {
-            push_line(alloc, text, "bad record", &[Word::Number(*line)])
-        }
+        Outcome::BadRecord(line) => { push_line(alloc, text, "bad record", &[Word::Number(*line)]) }
     }
 }

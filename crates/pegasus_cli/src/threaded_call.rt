@@ -8,9 +8,9 @@ ghost use Rattle.pegasus_cli.specs.Moments.{call_of, objects};
 ghost use Rattle.command_words.specs.Words.{command, is_threaded, members_of};
 
 use crate::call::{answer, quick, refuse_words};
-use crate::commands::run;
+use crate::commands::work_in_threads;
 use crate::outcome::Outcome;
-use command_words::{Threaded, threaded, threaded_command};
+use command_words::{threaded, threaded_command};
 use craft::{Crew, Gate};
 use evaluation::evaluations_finish;
 use outside::{Docs, Host, Memory, Sink, Tool};
@@ -52,8 +52,8 @@ fn in_threads<
     malformed_line_is_one();
     let mut crew = crew;
     match threaded_command(alloc, words) {
-        Ok(Some(Threaded::Run(name, workers))) => {
-            let worked = run::work(rt, alloc, name, workers, docs, host, &mut crew);
+        Ok(Some(command)) => {
+            let worked = work_in_threads(rt, alloc, command, docs, host, &mut crew);
             let outcome = answer(alloc, out, worked.told);
             (outcome, worked.host, crew)
         }

@@ -1,8 +1,6 @@
 -- `audit`: judges a record by the plan and the order of the documents. It touches nothing.
 use Rattle.std.specs.Prelude.{◌≡◌, ℕ, List, [], Ok, Err}
-use Rattle.outside.specs.declared.numbers.TaskId.{TaskId}
 use Rattle.plan_core.specs.declared.plan.Plan.{Plan}
-use Rattle.plan_core.specs.Words.{task_numbers}
 use Rattle.storage_simulation.specs.Ordering.{IsOrder, at_start}
 use Rattle.planner.specs.Planning.{IsPlanOf}
 use Rattle.planner.specs.declared.surveyed.Surveyed.{Surveyed}

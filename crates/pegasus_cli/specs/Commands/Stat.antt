@@ -11,10 +11,14 @@ use Rattle.pegasus_cli.specs.Commands.Audit.{CanJudge, Judges}
 use Rattle.pegasus_cli.specs.CommandSpec.{CommandSpec}
 use Rattle.pegasus_cli.specs.Recorded.{over_record}
 
+-- a text to which the sums of a record were added
+abbrev pub AddsSums : Plan → List ℕ → List Event → List ℕ → List ℕ → Type 0
+AddsSums p order r front text = (sums : Statistics) × AreSums p order r sums × (text ≡ front ++ statistics_lines sums)
+
 -- the verdict, and the sums of a record that isn't illegal
 abbrev pub PrintsSums : Plan → List ℕ → List Event → Verdict → List ℕ → Type 0
 PrintsSums p order r (verdict.Illegal k) text = text ≡ verdict_line (verdict.Illegal k)
-PrintsSums p order r v text = (sums : Statistics) × AreSums p order r sums × (text ≡ verdict_line v ++ statistics_lines sums)
+PrintsSums p order r v text = AddsSums p order r (verdict_line v) text
 
 abbrev pub stat : List ℕ → List ℕ → CommandSpec
 stat name history = over_record name history (Judges PrintsSums) CanJudge

@@ -1,11 +1,12 @@
 //! `stat`.
 
-ghost use Rattle.std.specs.Prelude.{◌≡◌, ◌≤◌, IfOk};
+ghost use Rattle.std.specs.Prelude.{◌≡◌, ◌≤◌, IfOk, OnOk};
 ghost use Rattle.plan_core.specs.Words.{retries, task_numbers};
+ghost use Rattle.lease_book.specs.Legal.{Legal};
 ghost use Rattle.record_audit.specs.Verdict.{IsJudged};
 ghost use Rattle.plan_run.specs.Moments.{Tools, Work};
 ghost use Rattle.pegasus_cli.specs.Commands.Audit.{SaysOf};
-ghost use Rattle.pegasus_cli.specs.Commands.Stat.{PrintsSums, stat};
+ghost use Rattle.pegasus_cli.specs.Commands.Stat.{AddsSums, PrintsSums, stat};
 ghost use Rattle.pegasus_cli.specs.CommandSpec.{Does, doing};
 ghost use Rattle.pegasus_cli.specs.Moments.{docs_moment};
 
@@ -18,6 +19,16 @@ use outside::{Docs, Memory};
 use record_audit::{Verdict, push_statistics, statistics};
 use std::alloc::Global;
 
+/// Adds what a legal record sums up to.
+fn push_sums(alloc: Global, text: &mut Vec<u8>, judged: &Judged) -> Result<(), Memory>
+    requires legal { Legal judged.now.ordered.plan (task_numbers judged.now.ordered.tasks.items) judged.now.history.events }
+    requires retries { retries judged.now.ordered.plan ≤ 10 }
+    ensures { OnOk result (AddsSums judged.now.ordered.plan (task_numbers judged.now.ordered.tasks.items) judged.now.history.events text.old.items text.new.items) }
+{
+    let sums = statistics(alloc, &judged.ordered, &judged.history)?;
+    push_statistics(alloc, text, &sums)
+}
+
 /// The verdict on a record, and what a record that isn't illegal sums up to.
 fn sums_text(alloc: Global, judged: &Judged) -> Result<Vec<u8>, Memory>
     requires judged { IsJudged judged.now.ordered.plan (task_numbers judged.now.ordered.tasks.items) judged.now.history.events judged.now.verdict }
@@ -25,12 +36,17 @@ fn sums_text(alloc: Global, judged: &Judged) -> Result<Vec<u8>, Memory>
     ensures { IfOk result (λ text. PrintsSums judged.now.ordered.plan (task_numbers judged.now.ordered.tasks.items) judged.now.history.events judged.now.verdict text.items) }
 {
     let mut text = verdict_text(alloc, judged.verdict)?;
-    if let Verdict::Illegal(_) = judged.verdict {
-        return Ok(text);
+    match judged.verdict {
+        Verdict::Illegal(_) => Ok(text),
+        Verdict::Legal => {
+            push_sums(alloc, &mut text, judged)?;
+            Ok(text)
+        }
+        Verdict::Complete => {
+            push_sums(alloc, &mut text, judged)?;
+            Ok(text)
+        }
     }
-    let sums = statistics(alloc, &judged.ordered, &judged.history)?;
-    push_statistics(alloc, &mut text, &sums)?;
-    Ok(text)
 }
 
 /// The verdict and the sums of the record that was read.

@@ -6,7 +6,7 @@ use Rattle.pegasus_cli.proofs.course.fetch_named.Goals as goal
 pub returns-in-Err-clause-answer : goal.returns-in-Err-clause-answer
 returns-in-Err-clause-answer g c =
     let workflow = rw c.as_str.ensures at c.in-Err.ensures in
-    step_stop (document c.args.request.workflow Ok) _ _ _ c.in-Err.early workflow
+    step_stop (document c.args.request.workflow Ok) _ _ _ c.in-Err.fault workflow
 
 pub returns-in-Err-fetch_if_named-clause-answer : goal.returns-in-Err-fetch_if_named-clause-answer
 returns-in-Err-fetch_if_named-clause-answer g c =

@@ -4,6 +4,6 @@ use Rattle.pegasus_cli.proofs.PlanRunLemmas.{few_retries}
 use Rattle.pegasus_cli.proofs.ready_plan.plan_request.Goals as goal
 
 pub returns-in-Ok-clause-retries : goal.returns-in-Ok-clause-retries
-returns-in-Ok-clause-retries g c =
+returns-in-Ok-clause-retries c =
     let s = c.args.surveyed.now in
     few_retries c.in-Ok.ordered.plan ((c.plans_deliver_requests.ensures s.request s.survey task_limit c.in-Ok.ordered.plan c.in-Ok.ensures.planned).policy ∙ s.policy)

@@ -1,29 +1,36 @@
 use Rattle.std.proofs.Common.{map, refl}
-use Rattle.std.specs.Prelude.{string_bytes}
+use Rattle.std.specs.Prelude.{option_map, string_bytes}
 use Rattle.pegasus_cli.specs.Moments.{call_of}
-use Rattle.command_words.specs.Words.{InThreads, Run, members_of}
-use Rattle.pegasus_cli.proofs.CallLemmas.{command_answered, usage_answered}
-use Rattle.command_words.proofs.WordsLemmas.{threaded_is, threaded_is_none}
+use Rattle.command_words.specs.Words.{InThreads, threaded_command, threaded_of}
+use Rattle.pegasus_cli.proofs.CallLemmas.{command_answered, keeps_same, some_mapped, unread_answered, usage_answered}
+use Rattle.command_words.proofs.WordsLemmas.{is_in_threads, threaded_is, threaded_is_none}
 use Rattle.pegasus_cli.proofs.threaded_call.in_threads.Goals as goal
 
-pub returns-in-Ok-Some-Run-clause-answered : goal.returns-in-Ok-Some-Run-clause-answered
+pub returns-in-Ok-Some-clause-answered : goal.returns-in-Ok-Some-clause-answered
 unfolding call_of
-returns-in-Ok-Some-Run-clause-answered g c =
+returns-in-Ok-Some-clause-answered g c =
     let words = map string_bytes c.args.words.now in
-    let t = Run c.in-Ok-Some-Run.name.now c.in-Ok-Some-Run.workers in
-    let is = threaded_is words t c.requires.words (rw c.in-Ok-Some-Run.is at c.threaded_command.ensures.is) in
-    let told = c.work-worked.result.told in
+    let t = threaded_of c.in-Ok-Some.command in
+    let is = threaded_is words t c.requires.words (rw c.in-Ok-Some.field-0-is at c.in-Ok-Some.ensures.is) in
+    let told = c.work_in_threads-worked.result.told in
     command_answered (record { runs = c.runs_finish.ensures; evaluations = c.evaluations_finish.ensures; records = c.malformed_line_is_one.ensures.none })
-    _ (InThreads t) told.answer c.answer-outcome.result told.text.items is c.work-worked.ensures.does c.answer-outcome.ensures
+    _ (InThreads t) told.answer c.answer-outcome.result told.text.items is c.work_in_threads-worked.ensures.does c.answer-outcome.ensures
+
+pub returns-in-Ok-Some-clause-others : goal.returns-in-Ok-Some-clause-others
+returns-in-Ok-Some-clause-others g c =
+    let words = map string_bytes c.args.words.now in
+    let t = threaded_of c.in-Ok-Some.command in
+    rw (threaded_is words t c.requires.words (rw c.in-Ok-Some.field-0-is at c.in-Ok-Some.ensures.is)) c.work_in_threads-worked.ensures.others
 
 pub returns-in-Ok-None-clause-answered : goal.returns-in-Ok-None-clause-answered
 unfolding call_of
 returns-in-Ok-None-clause-answered g c =
     let words = map string_bytes c.args.words.now in
-    usage_answered _ c.refuse_words.result (threaded_is_none words c.requires.words (rw c.in-Ok-None.is at c.threaded_command.ensures.is)) refl refl refl c.refuse_words.ensures
+    usage_answered _ c.refuse_words.result (threaded_is_none words c.requires.words (rw c.in-Ok-None.field-0-is at c.in-Ok-None.ensures.is)) refl refl refl c.refuse_words.ensures
 
-pub returns-in-Ok-Some-Run-clause-others : goal.returns-in-Ok-Some-Run-clause-others
-returns-in-Ok-Some-Run-clause-others g c =
+pub returns-in-Err-clause-answered : goal.returns-in-Err-clause-answered
+unfolding call_of
+returns-in-Err-clause-answered g c =
     let words = map string_bytes c.args.words.now in
-    let t = Run c.in-Ok-Some-Run.name.now c.in-Ok-Some-Run.workers in
-    rw (threaded_is words t c.requires.words (rw c.in-Ok-Some-Run.is at c.threaded_command.ensures.is)) c.work-worked.ensures.others
+    unread_answered (record { runs = c.runs_finish.ensures; evaluations = c.evaluations_finish.ensures; records = c.malformed_line_is_one.ensures.none })
+    _ (option_map InThreads (threaded_command words)) (is_in_threads words c.requires.words) (some_mapped InThreads (threaded_command words) c.in-Err.ensures.memory) refl refl refl (keeps_same _)

@@ -1,4 +1,4 @@
-use Rattle.std.proofs.Common.{inl, refl}
+use Rattle.std.proofs.Common.{inl, refl, arith}
 use Rattle.plan_core.specs.Words.{task_numbers}
 use Rattle.plan_run.specs.Moments.{first_tool, work_moment, working}
 use Rattle.pegasus_cli.specs.Commands.Plan.{task_limit}

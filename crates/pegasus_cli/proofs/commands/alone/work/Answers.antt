@@ -1,5 +1,4 @@
 use Rattle.std.proofs.Common.{refl}
-use Rattle.plan_run.specs.Moments.{work_moment, working}
 use Rattle.pegasus_cli.specs.Commands.Alone.{RunsAlone}
 use Rattle.pegasus_cli.specs.PlanRun.{CanRun}
 use Rattle.pegasus_cli.proofs.SurveyLemmas.{survey_stops, survey_works}

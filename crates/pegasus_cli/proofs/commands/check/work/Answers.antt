@@ -1,4 +1,3 @@
-use Rattle.std.proofs.Common.{refl}
 use Rattle.pegasus_cli.specs.Commands.Check.{Checks}
 use Rattle.pegasus_cli.proofs.SurveyLemmas.{survey_stops, survey_works}
 use Rattle.pegasus_cli.proofs.commands.check.work.Goals as goal
@@ -8,6 +7,3 @@ returns-in-Err g c = λ w t same unused. survey_stops c.args.name.now Checks (λ
 
 pub returns-in-Ok-check_text : goal.returns-in-Ok-check_text
 returns-in-Ok-check_text g c = λ w t same unused. survey_works c.args.name.now Checks (λ w s. Unit {0}) _ _ _ c.in-Ok.surveyed c.in-Ok.ensures (record { untouched = same; says = c.in-Ok-check_text.ensures })
-
-pub returns-in-Err-check_text : goal.returns-in-Err-check_text
-returns-in-Err-check_text g c = λ w t same unused. survey_works c.args.name.now Checks (λ w s. Unit {0}) _ _ _ c.in-Ok.surveyed c.in-Ok.ensures (record { untouched = same; says = rw c.at_once-2.ensures.answer tt })

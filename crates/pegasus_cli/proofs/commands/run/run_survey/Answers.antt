@@ -1,4 +1,4 @@
-use Rattle.std.proofs.Common.{map, inl, refl}
+use Rattle.std.proofs.Common.{map, inl, refl, arith}
 use Rattle.craft.specs.declared.crew.Crew.{Crew}
 use Rattle.plan_core.specs.Words.{task_numbers}
 use Rattle.plan_run.specs.Moments.{counting, first_count, work_moment, working}

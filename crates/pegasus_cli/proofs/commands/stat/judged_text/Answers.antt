@@ -1,6 +1,6 @@
 use Rattle.plan_core.specs.Words.{task_numbers}
 use Rattle.pegasus_cli.specs.Commands.Stat.{PrintsSums}
-use Rattle.pegasus_cli.proofs.AuditLemmas.{says_memory, says_none}
+use Rattle.pegasus_cli.proofs.AuditLemmas.{says_none}
 use Rattle.pegasus_cli.proofs.commands.stat.judged_text.Goals as goal
 
 pub returns-in-Err : goal.returns-in-Err
@@ -10,6 +10,3 @@ pub returns-in-Ok-sums_text : goal.returns-in-Ok-sums_text
 returns-in-Ok-sums_text c =
     let j = c.in-Ok.judged in
     record { plan = j.ordered.plan; order = task_numbers j.ordered.tasks.items; history = j.history.events; verdict = j.verdict; judgment = c.in-Ok.ensures.judgment; holds = c.in-Ok-sums_text.ensures }
-
-pub returns-in-Err-sums_text : goal.returns-in-Err-sums_text
-returns-in-Err-sums_text c = says_memory PrintsSums c.args.recorded.now _ _ c.at_once-2.ensures.answer
