@@ -17,7 +17,7 @@ use Rattle.command_words.specs.declared.said.Said.TheVariants as said_words
 
 -- ---- what is asked for
 
--- what starts no thread and waits for nobody, with the names that its words say
+-- what starts no thread and waits for nobody, with the names or the number of images that its words say
 pub data Quick : Type 0 where
   Check : List ℕ → Quick
   Plan : List ℕ → Quick
@@ -25,10 +25,12 @@ pub data Quick : Type 0 where
   Alone : List ℕ → Quick
   Audit : List ℕ → List ℕ → Quick
   Stat : List ℕ → List ℕ → Quick
+  Rehearse : ℕ → Quick
 
--- what may start threads and wait, with a name, and how many workers
+-- what may start threads and wait, with a name or a number of images, and how many workers
 pub data Threaded : Type 0 where
   Run : List ℕ → ℕ → Threaded
+  RehearseBy : ℕ → ℕ → Threaded
 
 pub data Command : Type 0 where
   Quickly : Quick → Command
@@ -42,9 +44,11 @@ quick_of (quick_words.Eval name) = Eval name.now
 quick_of (quick_words.Alone name) = Alone name.now
 quick_of (quick_words.Audit name file) = Audit name.now file.now
 quick_of (quick_words.Stat name file) = Stat name.now file.now
+quick_of (quick_words.Rehearse images) = Rehearse images
 
 abbrev pub threaded_of : ThreadedWords → Threaded
 threaded_of (threaded_words.Run name workers) = Run name.now workers
+threaded_of (threaded_words.Rehearse images workers) = RehearseBy images workers
 
 -- ---- numbers
 
@@ -66,6 +70,9 @@ number_in low high _ = None
 
 abbrev pub workers_in : List ℕ → Option ℕ
 workers_in digits = number_in 1 16 digits
+
+abbrev pub images_in : List ℕ → Option ℕ
+images_in digits = number_in 2 3000 digits
 
 -- ---- what words say: a command's word, one or two words more, and the digits of the option for workers
 
@@ -125,6 +132,7 @@ one_word word a =
     else if bytes_eq word (codes "plan") then Some (Plan a)
     else if bytes_eq word (codes "eval") then Some (Eval a)
     else if bytes_eq word (codes "alone") then Some (Alone a)
+    else if bytes_eq word (codes "rehearse") then option_map Rehearse (images_in a)
     else None
 
 abbrev pub two_words : List ℕ → List ℕ → List ℕ → Option Quick
@@ -136,6 +144,7 @@ two_words word a b =
 abbrev pub by_workers : List ℕ → List ℕ → ℕ → Option Threaded
 by_workers word a workers =
     if bytes_eq word (codes "run") then Some (Run a workers)
+    else if bytes_eq word (codes "rehearse") then option_map (λ n. RehearseBy n workers) (images_in a)
     else None
 
 abbrev pub quick_in : Said → Option Quick
@@ -170,6 +179,7 @@ command words = command_if (is_threaded words) words
 -- how many members of a crew a command may use: a member for each worker, else the first one
 abbrev pub threaded_members : Threaded → ℕ
 threaded_members (Run name n) = n
+threaded_members (RehearseBy images n) = n
 
 abbrev pub members_of : Option Command → ℕ
 members_of (Some (InThreads t)) = threaded_members t
@@ -178,6 +188,19 @@ members_of _ = 1
 -- from 1 to 16 workers
 abbrev pub AreFew : ℕ → Type 0
 AreFew n = (0 < n) × (n ≤ 16)
+
+-- from 2 to 3,000 images
+abbrev pub AreImages : ℕ → Type 0
+AreImages n = (2 ≤ n) × (n ≤ 3000)
+
+-- what a command's bounds say of its images
+abbrev pub HasImages : Quick → Type 0
+HasImages (Rehearse n) = AreImages n
+HasImages _ = Unit {0}
+
+abbrev pub HasImagesBy : Threaded → Type 0
+HasImagesBy (RehearseBy n workers) = AreImages n
+HasImagesBy _ = Unit {0}
 
 -- ---- a program's arguments
 

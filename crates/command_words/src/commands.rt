@@ -1,9 +1,9 @@
 //! The commands, and the table of their words.
 
 ghost use Rattle.std.specs.Prelude.{◌≡◌, IfSome, option_map};
-ghost use Rattle.command_words.specs.Words.{AreFew, by_workers as of_workers, one_word as of_one, quick_in, quick_of, said_of, threaded_in, threaded_members, threaded_of, two_words as of_two};
+ghost use Rattle.command_words.specs.Words.{AreFew, HasImages, HasImagesBy, by_workers as of_workers, one_word as of_one, quick_in, quick_of, said_of, threaded_in, threaded_members, threaded_of, two_words as of_two};
 
-use crate::numbers::workers_in;
+use crate::numbers::{images_in, workers_in};
 use crate::said::Said;
 
 /// What starts no thread and waits for nobody, with what its words say.
@@ -21,6 +21,8 @@ pub enum Quick<'a> {
     Audit(&'a str, &'a str),
     /// Sums up a record by the plan of a request.
     Stat(&'a str, &'a str),
+    /// Runs the plan of a workflow over so many images with one worker.
+    Rehearse(u32),
 }
 
 /// What may start threads and wait, with what its words say, and how many workers.
@@ -28,22 +30,30 @@ pub enum Quick<'a> {
 pub enum Threaded<'a> {
     /// Runs the plan of a request with so many workers.
     Run(&'a str, u32),
+    /// Runs the plan of a workflow over so many images, the first number, with so many workers.
+    Rehearse(u32, u32),
 }
 
 fn one_word<'a>(word: &str, a: &'a str) -> Option<Quick<'a>>
-    ensures { option_map quick_of result ≡ of_one word.now a.now }
+    ensures is { option_map quick_of result ≡ of_one word.now a.now }
+    ensures images { IfSome result (λ c. HasImages (quick_of c)) }
 {
     match word {
         "check" => Some(Quick::Check(a)),
         "plan" => Some(Quick::Plan(a)),
         "eval" => Some(Quick::Eval(a)),
         "alone" => Some(Quick::Alone(a)),
+        "rehearse" => match images_in(a.as_bytes()) {
+            Some(images) => Some(Quick::Rehearse(images)),
+            None => None,
+        },
         _ => None,
     }
 }
 
 fn two_words<'a>(word: &str, a: &'a str, b: &'a str) -> Option<Quick<'a>>
-    ensures { option_map quick_of result ≡ of_two word.now a.now b.now }
+    ensures is { option_map quick_of result ≡ of_two word.now a.now b.now }
+    ensures images { IfSome result (λ c. HasImages (quick_of c)) }
 {
     match word {
         "audit" => Some(Quick::Audit(a, b)),
@@ -54,7 +64,8 @@ fn two_words<'a>(word: &str, a: &'a str, b: &'a str) -> Option<Quick<'a>>
 
 /// The command without threads of what words say.
 pub(crate) fn find_quick<'a>(said: Said<'a>) -> Option<Quick<'a>>
-    ensures { option_map quick_of result ≡ quick_in (said_of said.entry) }
+    ensures is { option_map quick_of result ≡ quick_in (said_of said.entry) }
+    ensures images { IfSome result (λ c. HasImages (quick_of c)) }
 {
     match said {
         Said::One(word, a) => one_word(word, a),
@@ -67,9 +78,14 @@ fn by_workers<'a>(word: &str, a: &'a str, workers: u32) -> Option<Threaded<'a>>
     requires { AreFew workers }
     ensures is { option_map threaded_of result ≡ of_workers word.now a.now workers }
     ensures few { IfSome result (λ c. AreFew (threaded_members (threaded_of c))) }
+    ensures images { IfSome result (λ c. HasImagesBy (threaded_of c)) }
 {
     match word {
         "run" => Some(Threaded::Run(a, workers)),
+        "rehearse" => match images_in(a.as_bytes()) {
+            Some(images) => Some(Threaded::Rehearse(images, workers)),
+            None => None,
+        },
         _ => None,
     }
 }
@@ -78,6 +94,7 @@ fn by_workers<'a>(word: &str, a: &'a str, workers: u32) -> Option<Threaded<'a>>
 pub(crate) fn find_threaded<'a>(said: Said<'a>) -> Option<Threaded<'a>>
     ensures is { option_map threaded_of result ≡ threaded_in (said_of said.entry) }
     ensures few { IfSome result (λ c. AreFew (threaded_members (threaded_of c))) }
+    ensures images { IfSome result (λ c. HasImagesBy (threaded_of c)) }
 {
     match said {
         Said::WithWorkers(word, a, digits) => match workers_in(digits) {

@@ -1,7 +1,7 @@
 //! Numbers of one to four digits, between bounds.
 
 ghost use Rattle.std.specs.Prelude.{◌≡◌, ◌≤◌, IfSome};
-ghost use Rattle.command_words.specs.Words.{AreFew, four_digits as of_digits, number_in as within, workers_in as workers};
+ghost use Rattle.command_words.specs.Words.{AreFew, AreImages, four_digits as of_digits, images_in as images, number_in as within, workers_in as workers};
 
 fn four_digits(low: u32, high: u32, a: u8, b: u8, c: u8, d: u8) -> Option<u32>
     ensures is { result ≡ of_digits low high a b c d }
@@ -38,4 +38,12 @@ pub(crate) fn workers_in(digits: &[u8]) -> Option<u32>
     ensures few { IfSome result AreFew }
 {
     number_in(1, 16, digits)
+}
+
+/// A number of images.
+pub(crate) fn images_in(digits: &[u8]) -> Option<u32>
+    ensures is { result ≡ images digits.now }
+    ensures bounds { IfSome result AreImages }
+{
+    number_in(2, 3000, digits)
 }

@@ -2,7 +2,7 @@
 
 ghost use Rattle.std.specs.Prelude.{◌≡◌, Some, true, IfErr, IfOk, IfSome, IsErr, is_some, map as list_map, option_map, string_bytes};
 ghost use Rattle.std.specs.List.{list_all, list_any};
-ghost use Rattle.command_words.specs.Words.{AreFew, IsForMemory, begins_with, is_threaded, keeps_the_rule as keeps, quick_command as quick_in, quick_of, said_in, said_of, threaded_command as threaded_in, threaded_members, threaded_of, words_given, workers_option};
+ghost use Rattle.command_words.specs.Words.{AreFew, HasImages, HasImagesBy, IsForMemory, begins_with, is_threaded, keeps_the_rule as keeps, quick_command as quick_in, quick_of, said_in, said_of, threaded_command as threaded_in, threaded_members, threaded_of, words_given, workers_option};
 
 use crate::commands::{Quick, Threaded, find_quick, find_threaded};
 use crate::line::read_by_clap;
@@ -41,6 +41,7 @@ fn read(alloc: Global, words: &[String]) -> Option<Said<'_>>
 fn unread_quick(words: &[String]) -> Result<Option<Quick<'_>>, Memory>
     ensures is { IfOk result (λ o. option_map quick_of o ≡ quick_in (list_map string_bytes words.now)) }
     ensures memory { IfErr result (λ e. is_some (quick_in (list_map string_bytes words.now)) ≡ true) }
+    ensures images { IfOk result (λ o. IfSome o (λ c. HasImages (quick_of c))) }
 {
     match read_words(words) {
         None => Ok(None),
@@ -56,6 +57,7 @@ fn unread_threaded(words: &[String]) -> Result<Option<Threaded<'_>>, Memory>
     ensures is { IfOk result (λ o. option_map threaded_of o ≡ threaded_in (list_map string_bytes words.now)) }
     ensures memory { IfErr result (λ e. is_some (threaded_in (list_map string_bytes words.now)) ≡ true) }
     ensures few { IfOk result (λ o. IfSome o (λ c. AreFew (threaded_members (threaded_of c)))) }
+    ensures images { IfOk result (λ o. IfSome o (λ c. HasImagesBy (threaded_of c))) }
 {
     match read_words(words) {
         None => Ok(None),
@@ -70,6 +72,7 @@ fn unread_threaded(words: &[String]) -> Result<Option<Threaded<'_>>, Memory>
 pub fn quick_command(alloc: Global, words: &[String]) -> Result<Option<Quick<'_>>, Memory>
     ensures is { IfOk result (λ o. option_map quick_of o ≡ quick_in (list_map string_bytes words.now)) }
     ensures memory { IfErr result (λ e. is_some (quick_in (list_map string_bytes words.now)) ≡ true) }
+    ensures images { IfOk result (λ o. IfSome o (λ c. HasImages (quick_of c))) }
 {
     match read(alloc, words) {
         Some(said) => Ok(find_quick(said)),
@@ -82,6 +85,7 @@ pub fn threaded_command(alloc: Global, words: &[String]) -> Result<Option<Thread
     ensures is { IfOk result (λ o. option_map threaded_of o ≡ threaded_in (list_map string_bytes words.now)) }
     ensures memory { IfErr result (λ e. is_some (threaded_in (list_map string_bytes words.now)) ≡ true) }
     ensures few { IfOk result (λ o. IfSome o (λ c. AreFew (threaded_members (threaded_of c)))) }
+    ensures images { IfOk result (λ o. IfSome o (λ c. HasImagesBy (threaded_of c))) }
 {
     match read(alloc, words) {
         Some(said) => Ok(find_threaded(said)),
