@@ -24,7 +24,7 @@ use Rattle.site_yard.specs.declared.opening.OpenFault.{OpenFault}
 use Rattle.site_yard.specs.declared.opening.OpenFault.TheVariants as openings
 use Rattle.plan_run.specs.Finishing.{CanEnd, IsDoneOrMemory, NoneFailed, replicas_of}
 use Rattle.plan_run.specs.Moments.{Tools, Work}
-use Rattle.plan_run.specs.Running.{End, HasRun, IsRun, IsShown, IsUnopened, Tells}
+use Rattle.plan_run.specs.Running.{End, HasRun, IsRun, IsShown, IsUnopened, Report, Tells}
 
 abbrev pub NothingElseFails : Type 0
 NothingElseFails = (apply : Apply) (told : Bytes → Option Bytes) (p : Plan) (order : List ℕ) (r : List Event) (fault : RunFault) (n : ℕ) → IsProper p → Legal p order r → Truthful apply told p (carried apply told p) r → AllCarried apply told p → AllBelow n r
@@ -71,8 +71,8 @@ no_fail law w t n p order r fault proper can run first none =
     by faults.Memory h = refl
     by f h = absurd h
 
-pub run_finishes : (law : NothingElseFails) (w : Work) (t : Tools) (n : ℕ) (p : Plan) (order text : List ℕ) (end : End) → IsProper p → CanEnd w p → NoneFailed w t n → HasRun w t n p order text end → IsDoneOrMemory end
-run_finishes law w t n p order text end proper can none h = by end h.tells
+pub run_finishes : (law : NothingElseFails) (w : Work) (t : Tools) (n : ℕ) (p : Plan) (order : List ℕ) (x : Report) (end : End) → IsProper p → CanEnd w p → NoneFailed w t n → HasRun w t n p order x end → IsDoneOrMemory end
+run_finishes law w t n p order x end proper can none h = by end h.tells
   where
     of_memory : (fault : RunFault) → fault ≡ faults.Memory → IsDoneOrMemory (Err fault)
     of_memory fault is = subst (λ (f : RunFault). IsDoneOrMemory (Err f)) (sym is) tt

@@ -1,3 +1,4 @@
+pub mod RecordCopyLemmas
 pub mod RunningLemmas
 pub mod RunningManyLemmas
 pub mod MembersLemmas

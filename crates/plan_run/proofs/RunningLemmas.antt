@@ -34,7 +34,7 @@ use Rattle.site_yard.specs.declared.opening.OpenFault.{OpenFault}
 use Rattle.worker_gate.specs.Alone.{AllBy, IsOver, NoneOpen, WorksAlone, begun}
 use Rattle.worker_gate.specs.Inputs.{AddsOfInputs, AreOfInputs}
 use Rattle.plan_run.specs.Moments.{Tools, Work, count_of, first_tool}
-use Rattle.plan_run.specs.Running.{AreDeliveries, End, EndsAs, HasRun, HasRunAlone, IsRefusal, IsRun, IsRunText, IsShown, Prints, Tells, ended_by, marked_if}
+use Rattle.plan_run.specs.Running.{AreDeliveries, End, EndsAs, HasRun, HasRunAlone, IsEmptyReport, IsRefusal, IsReport, IsRun, IsRunText, IsShown, Report, Reports, Tells, ended_by, marked_if}
 use Rattle.plan_run.specs.RunText.{run_text}
 
 -- what the laws of lease_book and site_yard say of a record
@@ -86,9 +86,12 @@ deliveries_so apply p r old new m ds tells marked are = record { files = are.fil
     by (Some x) None tells marked digests = absurd cc
     by (Some x) (Some s) tells marked digests = subst (λ (y : Store). AreDigests (carries apply p y) ds (arrivals p r)) marked digests
 
-prints_so : (w : Work) (p : Plan) (r : List Event) (new : Option Store) (m : Store) (text : List ℕ) (a : End) → is_some new ≡ is_some w.before.told → IfSome w.before.told (λ s. m ≡ s) → Prints w.apply p r (marked_if new m) text a → Prints w.apply p r w.before.told text a
-prints_so w p r new m text (Err faults.Memory) tells marked h = tt
-prints_so w p r new m text a tells marked h = record { delivered = h.delivered; are = deliveries_so w.apply p r w.before.told new m h.delivered tells marked h.are; text_is = h.text_is }
+text_so : (w : Work) (p : Plan) (r : List Event) (new : Option Store) (m : Store) (text : List ℕ) → is_some new ≡ is_some w.before.told → IfSome w.before.told (λ s. m ≡ s) → IsRunText w.apply p r (marked_if new m) text → IsRunText w.apply p r w.before.told text
+text_so w p r new m text tells marked h = record { delivered = h.delivered; are = deliveries_so w.apply p r w.before.told new m h.delivered tells marked h.are; text_is = h.text_is }
+
+reports_so : (w : Work) (p : Plan) (r : List Event) (new : Option Store) (m : Store) (x : Report) (a : End) → is_some new ≡ is_some w.before.told → IfSome w.before.told (λ s. m ≡ s) → Reports w.apply p r (marked_if new m) x a → Reports w.apply p r w.before.told x a
+reports_so w p r new m x (Err faults.Memory) tells marked h = tt
+reports_so w p r new m x a tells marked h = record { entries = h.entries; history = h.history; text = text_so w p r new m x.text tells marked h.text }
 
 tells_so : (w : Work) (p : Plan) (order : List ℕ) (r : List Event) (a : End) → AreUnused p w.before.told → EndsAs p order r a → Tells w p order r a
 tells_so w p order r (Ok done) unused h = (unused, h)
@@ -109,9 +112,9 @@ text_is apply p r told m ds text are_files are_lengths are_long digests is = rec
     by None h = tt
     by (Some s) h = h
 
-pub prints_text : (apply : Apply) (p : Plan) (r : List Event) (told : Option Store) (text : List ℕ) (a : End) → IsRunText apply p r told text → Prints apply p r told text a
-prints_text apply p r told text (Err faults.Memory) h = tt
-prints_text apply p r told text a h = h
+pub reports_all : (apply : Apply) (p : Plan) (r : List Event) (told : Option Store) (x : Report) (a : End) → IsReport apply p r told x → Reports apply p r told x a
+reports_all apply p r told x (Err faults.Memory) h = tt
+reports_all apply p r told x a h = h
 
 pub if_ok : {A E : Type 0} (r : Result A E) (P Q : A → Type 0) → ((a : A) → P a → Q a) → IfOk r P → IfOk r Q
 if_ok (Ok a) P Q f h = f a h
@@ -151,13 +154,13 @@ run_so w t n p order r told marked faults misses end laws legal agrees counted =
 }
 
 -- A run whose opening was accepted.
-pub ran : (w : Work) (t : Tools) (n : ℕ) (p : Plan) (order : List ℕ) (r : List Event) (told : Option Store) (marked : Store) (faults misses : ℕ) (text : List ℕ) (a : End) → IsYardEnd w t n p order r told marked faults misses → HasLaws p order r
-    → Legal p order r → IfSome told (Agrees w.apply p r marked) → AreCounted told faults misses w.after.counts r → EndsAs p order r a → Prints w.apply p r (marked_if told marked) text a → HasRun w t n p order text a
-ran w t n p order r told marked faults misses text a end laws legal agrees counted answers prints = record {
+pub ran : (w : Work) (t : Tools) (n : ℕ) (p : Plan) (order : List ℕ) (r : List Event) (told : Option Store) (marked : Store) (faults misses : ℕ) (x : Report) (a : End) → IsYardEnd w t n p order r told marked faults misses → HasLaws p order r
+    → Legal p order r → IfSome told (Agrees w.apply p r marked) → AreCounted told faults misses w.after.counts r → EndsAs p order r a → Reports w.apply p r (marked_if told marked) x a → HasRun w t n p order x a
+ran w t n p order r told marked faults misses x a end laws legal agrees counted answers reports = record {
   r = r;
   run = run_so w t n p order r told marked faults misses end laws legal agrees counted;
   tells = tells_so w p order r a end.unused answers;
-  prints = prints_so w p r told marked text a end.tells end.marked_is prints;
+  reports = reports_so w p r told marked x a end.tells end.marked_is reports;
 }
 
 -- ---- one worker alone
@@ -193,14 +196,14 @@ of_all w p order r told marked faults misses end = record {
 }
 
 -- A run by one worker whose opening was accepted.
-pub ran_alone : (w : Work) (p : Plan) (order : List ℕ) (r : List Event) (told : Option Store) (marked : Store) (faults misses : ℕ) (text : List ℕ) (a : End) → IsAloneEnd w p order r told marked faults misses → HasLaws p order r
-    → Legal p order r → IfSome told (Agrees w.apply p r marked) → AreCounted told faults misses w.after.counts r → EndsAs p order r a → Prints w.apply p r (marked_if told marked) text a → HasRunAlone w p order text a
-ran_alone w p order r told marked faults misses text a end laws legal agrees counted answers prints = record {
+pub ran_alone : (w : Work) (p : Plan) (order : List ℕ) (r : List Event) (told : Option Store) (marked : Store) (faults misses : ℕ) (x : Report) (a : End) → IsAloneEnd w p order r told marked faults misses → HasLaws p order r
+    → Legal p order r → IfSome told (Agrees w.apply p r marked) → AreCounted told faults misses w.after.counts r → EndsAs p order r a → Reports w.apply p r (marked_if told marked) x a → HasRunAlone w p order x a
+ran_alone w p order r told marked faults misses x a end laws legal agrees counted answers reports = record {
   ran = record {
     r = r;
     run = run_so w (first_tool w) 1 p order r told marked faults misses (of_all w p order r told marked faults misses end) laws legal agrees counted;
     tells = tells_so w p order r a end.unused answers;
-    prints = prints_so w p r told marked text a end.tells end.marked_is prints;
+    reports = reports_so w p r told marked x a end.tells end.marked_is reports;
   };
   in_order = λ none. subst (λ (es : List Event). begun es ≡ take (length (begun es)) order) (sym end.works.is) (end.works.in_order none);
 }
@@ -251,10 +254,10 @@ no_deliveries apply p told = record { files = refl; lengths = refl; long = λ k 
     by None = tt
     by (Some m) = refl
 
-refusal_prints : (w : Work) (p : Plan) (text : List ℕ) (a : End) → (a ≡ ended_by faults.Memory) ⊎ (text ≡ run_text p [] []) → Prints w.apply p [] w.before.told text a
-refusal_prints w p text (Err faults.Memory) h = tt
-refusal_prints w p text a (inl e) = subst (Prints w.apply p [] w.before.told text) (sym e) tt
-refusal_prints w p text a (inr e) = record { delivered = []; are = no_deliveries w.apply p w.before.told; text_is = e }
+refusal_reports : (w : Work) (p : Plan) (x : Report) (a : End) → (a ≡ ended_by faults.Memory) ⊎ IsEmptyReport p x → Reports w.apply p [] w.before.told x a
+refusal_reports w p x (Err faults.Memory) h = tt
+refusal_reports w p x a (inl e) = subst (Reports w.apply p [] w.before.told x) (sym e) tt
+refusal_reports w p x a (inr e) = record { entries = tt; history = e.history; text = record { delivered = []; are = no_deliveries w.apply p w.before.told; text_is = e.text } }
 
 empty_run : (w : Work) (t : Tools) (n : ℕ) (p : Plan) (order : List ℕ) → HasLaws p order [] → w.after.told ≡ w.before.told → IsLater w.before.counts w.after.counts → t.after ≡ t.before → IsRun w t n p order []
 empty_run w t n p order laws told later tools = record {
@@ -271,27 +274,27 @@ empty_run w t n p order laws told later tools = record {
 }
 
 -- A run that was not begun.
-pub not_begun : (w : Work) (t : Tools) (n : ℕ) (p : Plan) (order : List ℕ) (opening : OpenFault) (text : List ℕ) (a : End) → HasLaws p order [] → w.after.told ≡ w.before.told → IsLater w.before.counts w.after.counts → t.after ≡ t.before
-    → Refuses p w.before.told w.before.counts w.after.counts opening → IsRefusal p opening text a → HasRun w t n p order text a
-not_begun w t n p order opening text a laws told later tools refuses refusal = record {
+pub not_begun : (w : Work) (t : Tools) (n : ℕ) (p : Plan) (order : List ℕ) (opening : OpenFault) (x : Report) (a : End) → HasLaws p order [] → w.after.told ≡ w.before.told → IsLater w.before.counts w.after.counts → t.after ≡ t.before
+    → Refuses p w.before.told w.before.counts w.after.counts opening → IsRefusal p opening x a → HasRun w t n p order x a
+not_begun w t n p order opening x a laws told later tools refuses refusal = record {
   r = [];
   run = empty_run w t n p order laws told later tools;
   tells = refusal_tells w p order opening a refuses refusal.ends;
-  prints = refusal_prints w p text a refusal.says;
+  reports = refusal_reports w p x a refusal.says;
 }
 
-pub not_begun_alone : (w : Work) (p : Plan) (order : List ℕ) (opening : OpenFault) (text : List ℕ) (a : End) → HasLaws p order [] → w.after.told ≡ w.before.told → IsLater w.before.counts w.after.counts → w.after.tool ≡ w.before.tool
-    → Refuses p w.before.told w.before.counts w.after.counts opening → IsRefusal p opening text a → HasRunAlone w p order text a
-not_begun_alone w p order opening text a laws told later tool refuses refusal = record {
+pub not_begun_alone : (w : Work) (p : Plan) (order : List ℕ) (opening : OpenFault) (x : Report) (a : End) → HasLaws p order [] → w.after.told ≡ w.before.told → IsLater w.before.counts w.after.counts → w.after.tool ≡ w.before.tool
+    → Refuses p w.before.told w.before.counts w.after.counts opening → IsRefusal p opening x a → HasRunAlone w p order x a
+not_begun_alone w p order opening x a laws told later tool refuses refusal = record {
   ran = record {
     r = [];
     run = empty_run w (first_tool w) 1 p order laws told later (ap (λ (n : ℕ). n ∷ []) tool);
     tells = refusal_tells w p order opening a refuses refusal.ends;
-    prints = refusal_prints w p text a refusal.says;
+    reports = refusal_reports w p x a refusal.says;
   };
   in_order = λ none. refl;
 }
 
 -- A run for which there was no memory to begin.
-pub no_room : (w : Work) (t : Tools) (n : ℕ) (p : Plan) (order text : List ℕ) → HasLaws p order [] → w.after.told ≡ w.before.told → IsLater w.before.counts w.after.counts → t.after ≡ t.before → HasRun w t n p order text (ended_by faults.Memory)
-no_room w t n p order text laws told later tools = record { r = []; run = empty_run w t n p order laws told later tools; tells = tt; prints = tt }
+pub no_room : (w : Work) (t : Tools) (n : ℕ) (p : Plan) (order : List ℕ) (x : Report) → HasLaws p order [] → w.after.told ≡ w.before.told → IsLater w.before.counts w.after.counts → t.after ≡ t.before → HasRun w t n p order x (ended_by faults.Memory)
+no_room w t n p order x laws told later tools = record { r = []; run = empty_run w t n p order laws told later tools; tells = tt; reports = tt }

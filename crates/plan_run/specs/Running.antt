@@ -1,5 +1,5 @@
--- A run of a plan by workers: what its one record says, what the host and the tools show of it, and how the end and the text
--- are read off it.
+-- A run of a plan by workers: what its one record says, what the host and the tools show of it, and how the end and the
+-- report are read off it.
 use Rattle.std.specs.Prelude.{◌≡◌, ◌⊎◌, ℕ, ◌+◌, ◌≤◌, ◌<◌, true, List, [], length, take, option_map, Option, Some, IfSome, MatchOption, Result, Ok, Err}
 use Rattle.outside.specs.declared.store.Store.{Store}
 use Rattle.outside.specs.Tool.{Apply}
@@ -8,7 +8,8 @@ use Rattle.plan_core.specs.Words.{retries}
 use Rattle.lease_book.specs.Law.{IsSafeState, reserved_at, stored_at}
 use Rattle.lease_book.specs.Legal.{IsComplete, Legal}
 use Rattle.lease_book.specs.State.{now}
-use Rattle.run_record.specs.Events.{Event}
+use Rattle.run_record.specs.Events.{Event, Log}
+use Rattle.run_record.specs.RecordText.{AreEntries}
 use Rattle.site_yard.specs.Changes.{carries}
 use Rattle.site_yard.specs.Delivered.{AreDigests, AreFiles, AreLengths, AreLong, arrivals}
 use Rattle.site_yard.specs.Ending.{first_fault}
@@ -92,21 +93,35 @@ pub record IsRunText (apply : Apply) (p : Plan) (r : List Event) (told : Option 
   pub are : AreDeliveries apply p r told delivered
   pub text_is : text ≡ run_text p r delivered
 
--- The text of a run. At want of memory nothing of it is written, so it is free.
-abbrev pub Prints : Apply → Plan → List Event → Option Store → List ℕ → End → Type 0
-Prints apply p r told text (Err faults.Memory) = Unit {0}
-Prints apply p r told text _ = IsRunText apply p r told text
+-- what a run hands out besides its end: its record, if it has one to hand out, and its text
+pub record Report : Type 0 where
+  pub history : Option (List Event)
+  pub text : List ℕ
 
--- A run by n workers with its end and its text.
-pub record HasRun (w : Work) (t : Tools) (n : ℕ) (p : Plan) (order : List ℕ) (text : List ℕ) (end : End) : Type 0 where
+abbrev pub reporting : Option Log → List ℕ → Report
+reporting log text = record { history = option_map (λ (h : Log). h.events) log; text = text }
+
+-- it is that of this record, whose entries are such as a record may have
+pub record IsReport (apply : Apply) (p : Plan) (r : List Event) (told : Option Store) (x : Report) : Type 0 where
+  pub entries : AreEntries r
+  pub history : x.history ≡ Some r
+  pub text : IsRunText apply p r told x.text
+
+-- The report of a run. At want of memory nothing of it is written, so it is free.
+abbrev pub Reports : Apply → Plan → List Event → Option Store → Report → End → Type 0
+Reports apply p r told x (Err faults.Memory) = Unit {0}
+Reports apply p r told x _ = IsReport apply p r told x
+
+-- A run by n workers with its end and its report.
+pub record HasRun (w : Work) (t : Tools) (n : ℕ) (p : Plan) (order : List ℕ) (x : Report) (end : End) : Type 0 where
   pub r : List Event
   pub run : IsRun w t n p order r
   pub tells : Tells w p order r end
-  pub prints : Prints w.apply p r w.before.told text end
+  pub reports : Reports w.apply p r w.before.told x end
 
 -- A run by one worker alone.
-pub record HasRunAlone (w : Work) (p : Plan) (order : List ℕ) (text : List ℕ) (end : End) : Type 0 where
-  pub ran : HasRun w (first_tool w) 1 p order text end
+pub record HasRunAlone (w : Work) (p : Plan) (order : List ℕ) (x : Report) (end : End) : Type 0 where
+  pub ran : HasRun w (first_tool w) 1 p order x end
   -- where nothing is tried again, tasks are begun in the kept order
   pub in_order : retries p ≡ 0 → begun ran.r ≡ take (length (begun ran.r)) order
 
@@ -122,7 +137,12 @@ EndsAs p order r (Err fault) = first_fault p r ≡ Some fault
 abbrev pub marked_if : Option Store → Store → Option Store
 marked_if told m = option_map (λ s. m) told
 
--- the end and the text of a run whose opening was refused
-pub record IsRefusal (p : Plan) (opening : OpenFault) (text : List ℕ) (end : End) : Type 0 where
+-- the report of a run that was not begun
+pub record IsEmptyReport (p : Plan) (x : Report) : Type 0 where
+  pub history : x.history ≡ Some []
+  pub text : x.text ≡ run_text p [] []
+
+-- the end and the report of a run whose opening was refused
+pub record IsRefusal (p : Plan) (opening : OpenFault) (x : Report) (end : End) : Type 0 where
   pub ends : (end ≡ ended_by faults.Memory) ⊎ (end ≡ ended_by (fault_of_opening p opening))
-  pub says : (end ≡ ended_by faults.Memory) ⊎ (text ≡ run_text p [] [])
+  pub says : (end ≡ ended_by faults.Memory) ⊎ IsEmptyReport p x

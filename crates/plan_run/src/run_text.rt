@@ -88,11 +88,3 @@ pub(crate) fn run_text(
     push_lines(alloc, &mut text, plan, &table)?;
     Ok(text)
 }
-
-/// The text of a run that was not begun.
-pub(crate) fn empty_text(alloc: Global, plan: &Plan) -> Result<Vec<u8>, Memory>
-    ensures { IfOk result (λ v. v.items ≡ run_text plan.now [] []) }
-{
-    let history = Record::with_room(alloc, 0, 0)?;
-    run_text(alloc, plan, &history, &[])
-}

@@ -1,18 +1,20 @@
 //! A run of a plan by one worker, and how a run ends.
 
-ghost use Rattle.std.specs.Prelude.{◌≡◌, ◌≤◌, ◌⊎◌, [], Err, IfOk, true};
+ghost use Rattle.std.specs.Prelude.{◌≡◌, ◌≤◌, ◌⊎◌, [], Err, IfOk, Some, true};
 ghost use Rattle.plan_core.specs.Words.{retries, task_numbers};
 ghost use Rattle.lease_book.specs.Book.{state_at};
 ghost use Rattle.lease_book.specs.Legal.{IsComplete};
 ghost use Rattle.run_record.specs.declared.run_fault.RunFault.TheVariants as faults;
 ghost use Rattle.plan_run.specs.Moments.{work_moment, working};
-ghost use Rattle.plan_run.specs.Running.{EndsAs, HasRunAlone, IsRefusal, IsRunText, Prints, ended_by, marked_if};
+ghost use Rattle.plan_run.specs.Running.{EndsAs, HasRunAlone, IsEmptyReport, IsRefusal, IsReport, Reports, ended_by, marked_if, reporting};
 
-use crate::run_text::{empty_text, run_text};
+use crate::record_copy::copy_of;
+use crate::run_text::run_text;
 use craft::{Crew, Gate};
 use lease_book::{legal_records_are_safe, ordered_plans_fit};
 use outside::{Host, Memory, Tool};
-use run_record::RunFault;
+use plan_core::Plan;
+use run_record::{Record, RunFault};
 use site_yard::{OpenRefused, Yard, opening_fault, what_is_left_is_held};
 use std::alloc::Global;
 use storage_simulation::Ordered;
@@ -23,9 +25,18 @@ use worker_gate::run_alone;
 pub struct Ran<H> {
     /// Whether all was done, else the first failure; want of memory is one of its own.
     pub end: Result<(), RunFault>,
+    /// The record of the run; nothing is said of it at want of memory.
+    pub history: Option<Record>,
     /// The record and then the deliveries; nothing is said of it at want of memory.
     pub text: Vec<u8>,
     pub host: H,
+}
+
+/// A record, and its text with what was delivered.
+#[derive(Drop)]
+struct Report {
+    history: Record,
+    text: Vec<u8>,
 }
 
 /// Memory ran out: there is no text.
@@ -36,6 +47,7 @@ pub(crate) fn out_of_memory<H: Host>(alloc: Global, host: H) -> Ran<H>
 {
     Ran {
         end: Err(RunFault::Memory),
+        history: None,
         text: Vec::new(alloc),
         host,
     }
@@ -53,25 +65,31 @@ fn end_of<H: Host, T: Tool>(alloc: Global, yard: &Yard<H, T>) -> Result<(), RunF
 }
 
 /// The record of a run, and what it delivered.
-fn text_of<H: Host, T: Tool>(alloc: Global, yard: &Yard<H, T>) -> Result<Vec<u8>, Memory>
-    ensures { IfOk result (λ text. IsRunText T.apply yard.now.ordered.plan yard.now.book.history.events (marked_if (H.told yard.now.host) (H.marked yard.now.host)) text.items) }
+fn report_of<H: Host, T: Tool>(alloc: Global, yard: &Yard<H, T>) -> Result<Report, Memory>
+    ensures { IfOk result (λ x. IsReport T.apply yard.now.ordered.plan yard.now.book.history.events (marked_if (H.told yard.now.host) (H.marked yard.now.host)) (reporting (Some x.history) x.text.items)) }
 {
     let record = yard.book().record();
-    run_text(alloc, yard.plan(), record, yard.delivered())
+    // What holds of every record, for the proof.
+    record.has_entries();
+    let text = run_text(alloc, yard.plan(), record, yard.delivered())?;
+    let history = copy_of(alloc, record)?;
+    Ok(Report { history, text })
 }
 
-/// The end and the text of a run that is over, and its host.
+/// The end and the report of a run that is over, and its host.
 pub(crate) fn end_run<H: Host, T: Tool>(alloc: Global, yard: Yard<H, T>) -> Ran<H>
     requires over { IsComplete yard.ordered.plan (state_at yard.book) ⊎ ((state_at yard.book).failing ≡ true) }
     ensures ends { EndsAs yard.ordered.plan (task_numbers yard.ordered.tasks.items) yard.book.history.events result.end }
-    ensures prints { Prints T.apply yard.ordered.plan yard.book.history.events (marked_if (H.told yard.host) (H.marked yard.host)) result.text.items result.end }
+    ensures reports { Reports T.apply yard.ordered.plan yard.book.history.events (marked_if (H.told yard.host) (H.marked yard.host)) (reporting result.history result.text.items) result.end }
     ensures host { result.host ≡ yard.host }
 {
-    match text_of(alloc, &yard) {
-        Ok(text) => {
+    match report_of(alloc, &yard) {
+        Ok(report) => {
+            let Report { history, text } = report;
             let end = end_of(alloc, &yard);
             Ran {
                 end,
+                history: Some(history),
                 text,
                 host: yard.into_host(),
             }
@@ -80,16 +98,26 @@ pub(crate) fn end_run<H: Host, T: Tool>(alloc: Global, yard: Yard<H, T>) -> Ran<
     }
 }
 
-/// The end and the text of a run whose opening was refused, and its host.
+/// The report of a run that was not begun.
+fn empty_report(alloc: Global, plan: &Plan) -> Result<Report, Memory>
+    ensures { IfOk result (λ x. IsEmptyReport plan.now (reporting (Some x.history) x.text.items)) }
+{
+    let history = Record::with_room(alloc, 0, 0)?;
+    let text = run_text(alloc, plan, &history, &[])?;
+    Ok(Report { history, text })
+}
+
+/// The end and the report of a run whose opening was refused, and its host.
 pub(crate) fn refuse_run<H: Host>(alloc: Global, refused: OpenRefused<H>) -> Ran<H>
-    ensures refusal { IsRefusal refused.ordered.plan refused.fault result.text.items result.end }
+    ensures refusal { IsRefusal refused.ordered.plan refused.fault (reporting result.history result.text.items) result.end }
     ensures host { result.host ≡ refused.host }
 {
     let fault = opening_fault(refused.ordered.plan(), alloc, refused.fault);
-    match empty_text(alloc, refused.ordered.plan()) {
-        Ok(text) => Ran {
+    match empty_report(alloc, refused.ordered.plan()) {
+        Ok(report) => Ran {
             end: Err(fault),
-            text,
+            history: Some(report.history),
+            text: report.text,
             host: refused.host,
         },
         Err(Memory) => out_of_memory(alloc, refused.host),
@@ -105,7 +133,7 @@ pub fn run_plan<H: Host, T: Tool, G: Gate>(
 ) -> Ran<H>
     requires { retries ordered.plan ≤ 10 }
     ensures ran { ∥ HasRunAlone (working T.apply T.known (work_moment H.Host host (T.faults crew.old.tool)) (work_moment H.Host result.host (T.faults crew.new.tool)))
-        ordered.plan (task_numbers ordered.tasks.items) result.text.items result.end ∥₁ }
+        ordered.plan (task_numbers ordered.tasks.items) (reporting result.history result.text.items) result.end ∥₁ }
     ensures gate { crew.new.gate ≡ crew.old.gate }
 {
     // Laws for the proof: they do nothing.

@@ -6,7 +6,7 @@ ghost use Rattle.plan_core.specs.Words.{retries, task_numbers};
 ghost use Rattle.lease_book.specs.Book.{state_at};
 ghost use Rattle.lease_book.specs.Legal.{IsComplete};
 ghost use Rattle.plan_run.specs.Moments.{counting, first_count, work_moment, working};
-ghost use Rattle.plan_run.specs.Running.{EndsAs, HasRun, Prints, marked_if};
+ghost use Rattle.plan_run.specs.Running.{EndsAs, HasRun, Reports, marked_if, reporting};
 
 use crate::members::{put_back, take_members};
 use crate::running::{Ran, end_run, out_of_memory, refuse_run};
@@ -26,11 +26,11 @@ struct RanBy<H: Host, T: Tool, G: Gate> {
     members: Vec<Crew<T, G>>,
 }
 
-/// The end and the text of a run that is over, or that there was no memory to begin, and its host.
+/// The end and the report of a run that is over, or that there was no memory to begin, and its host.
 fn end_many<H: Host, T: Tool>(alloc: Global, yard: Yard<H, T>, unstarted: bool) -> Ran<H>
     requires over { unstarted ≡ false → IsComplete yard.ordered.plan (state_at yard.book) ⊎ ((state_at yard.book).failing ≡ true) }
     ensures ends { EndsAs yard.ordered.plan (task_numbers yard.ordered.tasks.items) yard.book.history.events result.end }
-    ensures prints { Prints T.apply yard.ordered.plan yard.book.history.events (marked_if (H.told yard.host) (H.marked yard.host)) result.text.items result.end }
+    ensures reports { Reports T.apply yard.ordered.plan yard.book.history.events (marked_if (H.told yard.host) (H.marked yard.host)) (reporting result.history result.text.items) result.end }
     ensures host { result.host ≡ yard.host }
 {
     if unstarted {
@@ -52,7 +52,7 @@ fn run_members<R: Threads + Wait + Sync, H: Host + Send, T: Tool + Send, G: Gate
     ensures ran { let before = list_map (λ (c : Crew T G). T.faults c.tool) members.items in
         let after = list_map (λ (c : Crew T G). T.faults c.tool) result.members.items in
         ∥ HasRun (working T.apply T.known (work_moment H.Host host (first_count before)) (work_moment H.Host result.ran.host (first_count after)))
-        (counting before after) (length members.items) ordered.plan (task_numbers ordered.tasks.items) result.ran.text.items result.ran.end ∥₁ }
+        (counting before after) (length members.items) ordered.plan (task_numbers ordered.tasks.items) (reporting result.ran.history result.ran.text.items) result.ran.end ∥₁ }
     ensures members { length result.members.items ≡ length members.items }
 {
     // Laws for the proof: they do nothing.
@@ -95,7 +95,7 @@ pub fn run_plan_by<R: Threads + Wait + Sync, H: Host + Send, T: Tool + Send, G: 
     ensures ran { let before = list_map (λ (c : Crew T G). T.faults c.tool) crew.old.items in
         let after = list_map (λ (c : Crew T G). T.faults c.tool) crew.new.items in
         ∥ HasRun (working T.apply T.known (work_moment H.Host host (first_count before)) (work_moment H.Host result.host (first_count after)))
-        (counting before after) workers ordered.plan (task_numbers ordered.tasks.items) result.text.items result.end ∥₁ }
+        (counting before after) workers ordered.plan (task_numbers ordered.tasks.items) (reporting result.history result.text.items) result.end ∥₁ }
     ensures crew { length crew.new.items ≡ 16 }
     ensures others { drop workers crew.new.items ≡ drop workers crew.old.items }
 {

@@ -23,7 +23,9 @@ use Rattle.std.specs.declared.alloc.Global.{Global}
 use Rattle.outside.specs.declared.numbers.TaskId.{TaskId}
 use Rattle.lease_book.specs.Book.{state_at}
 use Rattle.lease_book.specs.declared.book.Book.{Book}
-use Rattle.record_audit.specs.Verdict.{IsIllegalAt}
+use Rattle.record_audit.specs.Verdict.{IsIllegalAt, IsJudged}
+use Rattle.record_audit.specs.declared.verdict.Verdict.{Verdict}
+use Rattle.record_audit.specs.declared.verdict.Verdict.TheVariants as verdict
 use Rattle.lease_book.proofs.GoodsLemmas.{good_small}
 use Rattle.lease_book.proofs.TotalLemmas.{total_bound}
 use Rattle.record_audit.specs.Holdings.{IsSized}
@@ -255,3 +257,16 @@ complete_all p order r k b e come complete = subst (IsComplete p) (come_state p 
 
 pub complete_back : (p : Plan) (order : List ℕ) (r : List Event) (k : ℕ) (b : Book) → k ≡ length r → HasCome p order r k b → IsComplete p (now p order r) → IsComplete b.plan (state_at b)
 complete_back p order r k b e come complete = subst (λ (q : Plan). IsComplete q (state_at b)) (sym come.plan) (subst (IsComplete p) (sym (come_state p order r k b come ∙ ap (now p order) (ap (λ (n : ℕ). take n r) e ∙ take_all r))) complete)
+
+-- ---- one verdict
+
+-- each entry of a legal record was allowed
+allowed_at : (p : Plan) (s : State) (r : List Event) (k : ℕ) (e : Event) → LegalFrom p s r → slice_get r k ≡ Some e → Allowed p (now_from p s (take k r)) e
+allowed_at p s [] k e legal at = absurd cc
+allowed_at p s (x ∷ r) zero e legal at = let same : x ≡ e = cc in subst (Allowed p s) same legal.0
+allowed_at p s (x ∷ r) (suc k) e legal at = allowed_at p (after p s x) r k e legal.1 at
+
+pub judged_complete : (p : Plan) (order : List ℕ) (r : List Event) (v : Verdict) → Legal p order r → IsComplete p (now p order r) → IsJudged p order r v → v ≡ verdict.Complete
+judged_complete p order r verdict.Complete legal complete judged = refl
+judged_complete p order r verdict.Legal legal complete judged = absurd (judged.1 complete)
+judged_complete p order r (verdict.Illegal k) legal complete judged = absurd (judged.not_allowed (allowed_at p (opened order) r (k - 1) judged.entry legal judged.is))

@@ -1,11 +1,16 @@
 -- The lines of a text, one after the other.
-use Rattle.std.proofs.Common.{◌≡◌, ℕ, zero, suc, ◌+◌, ◌≤◌, ◌<◌, ◌++◌, Bool, true, false, List, [], ◌∷◌, length, take, drop, if◌then◌else◌, nat_eq, refl, sym, ap, ◌∙◌, arith}
-use Rattle.std.specs.List.{concat, onto_first}
+use Rattle.std.proofs.Common.{◌≡◌, ℕ, zero, suc, ◌+◌, ◌≤◌, ◌<◌, ◌++◌, Bool, true, false, List, [], ◌∷◌, length, map, codes, take, drop, if◌then◌else◌, nat_eq, refl, sym, ap, ◌∙◌, arith}
+use Rattle.std.specs.List.{concat, list_any, onto_first}
 use Rattle.std.specs.Str.{bytes_eq}
 use Rattle.std.proofs.Math.Seq.{take-add}
 use Rattle.std.proofs.lemmas.List.{append-nil, append_assoc, drop-drop}
+use Rattle.std.proofs.lemmas.Slice.Eq.{bytes_eq-Decides}
 use Rattle.run_record.specs.Lines.{first_line, line_length, lines}
-use Rattle.run_record.specs.RecordText.{closed_line}
+use Rattle.run_record.specs.Events.{Event, is_second}
+use Rattle.run_record.specs.RecordText.{AreEntries, closed_line, entry_line, record_lines, record_text, version_line}
+use Rattle.run_record.proofs.LineLemmas.{lines_from_first}
+use Rattle.run_record.proofs.OneTextLemmas.{entry_lines, not_closed, version_cut}
+use Rattle.run_record.proofs.RecordTextLemmas.{lines_closed}
 use Rattle.record_audit.specs.Part.{record_part, up_to_closed}
 
 line_counts : (b : ℕ) (bs : List ℕ) → 0 < line_length (b ∷ bs)
@@ -83,3 +88,39 @@ come_last text n l come = sym (come ∙ ap (λ (rest : List ℕ). take n text ++
     none [] (suc m) h = refl
     none (x ∷ xs) zero h = absurd (omega (arith, h))
     none (x ∷ xs) (suc m) h = none xs m (omega (arith, h))
+
+-- ---- the part of a text that begins with that of a record
+
+other_line : (xs ys : List ℕ) → (xs ≡ ys → ⊥) → bytes_eq xs ys ≡ false
+other_line xs ys apart = by (bytes_eq xs ys) refl
+  where
+    by : (t : Bool) → bytes_eq xs ys ≡ t → bytes_eq xs ys ≡ false
+    by true e = absurd (apart ((bytes_eq-Decides xs ys).0 e))
+    by false e = e
+
+-- up to the line `closed` behind lines that are other ones
+up_to : (es : List Event) (others : List (List ℕ)) → AreEntries es → up_to_closed (map entry_line es ++ closed_line ∷ others) ≡ map entry_line es ++ closed_line ∷ []
+up_to [] others are = refl
+up_to (e ∷ es) others are =
+    ap (λ (t : Bool). if t then entry_line e ∷ [] else entry_line e ∷ up_to_closed (map entry_line es ++ closed_line ∷ others)) (other_line (entry_line e) closed_line (not_closed e are.0))
+    ∙ ap (λ (ls : List (List ℕ)). entry_line e ∷ ls) (up_to es others are.1)
+
+after_version : (second : Bool) (ls : List (List ℕ)) → up_to_closed (version_line second ∷ ls) ≡ version_line second ∷ up_to_closed ls
+after_version true ls = refl
+after_version false ls = refl
+
+pub part_of_record : (es : List Event) (rest : List ℕ) → AreEntries es → record_part (record_text es ++ rest) ≡ record_text es
+unfolding record_lines
+part_of_record es rest are =
+    let second = list_any is_second es in
+    let front = concat (map entry_line es) in
+    let cut : record_text es ++ rest ≡ version_line second ++ (front ++ (closed_line ++ rest)) =
+    append_assoc (version_line second) (concat (map entry_line es ++ closed_line ∷ [])) rest
+    ∙ ap (λ (l : List ℕ). version_line second ++ (l ++ rest)) (lines_closed (map entry_line es))
+    ∙ ap (λ (l : List ℕ). version_line second ++ l) (append_assoc front closed_line rest) in
+    let cut_lines : lines (record_text es ++ rest) ≡ version_line second ∷ (map entry_line es ++ closed_line ∷ lines rest) =
+    ap lines cut
+    ∙ version_cut second (front ++ (closed_line ++ rest))
+    ∙ ap (λ (ls : List (List ℕ)). version_line second ∷ ls) (entry_lines es (closed_line ++ rest) are ∙ ap (λ (ls : List (List ℕ)). map entry_line es ++ ls) (lines_from_first (codes "closed") rest refl)) in
+    ap (λ (ls : List (List ℕ)). concat (up_to_closed ls)) cut_lines
+    ∙ ap concat (after_version second (map entry_line es ++ closed_line ∷ lines rest) ∙ ap (λ (ls : List (List ℕ)). version_line second ∷ ls) (up_to es (lines rest) are))

@@ -1,6 +1,6 @@
 //! What the definitions come to.
 
-ghost use Rattle.std.specs.Prelude.{◌≤◌, ◌*◌, ◌^◌, ℕ, List, length, sum_by};
+ghost use Rattle.std.specs.Prelude.{◌≡◌, ◌≤◌, ◌*◌, ◌^◌, ◌++◌, ℕ, List, length, sum_by};
 ghost use Rattle.plan_core.specs.declared.plan.Plan.{Plan};
 ghost use Rattle.plan_core.specs.Proper.{IsProper};
 ghost use Rattle.plan_core.specs.Words.{retries};
@@ -11,6 +11,12 @@ ghost use Rattle.lease_book.specs.Legal.{Allowed, Legal};
 ghost use Rattle.lease_book.specs.State.{State, now};
 ghost use Rattle.record_audit.specs.Holdings.{IsSized};
 ghost use Rattle.record_audit.specs.Sums.{arrived};
+ghost use Rattle.run_record.specs.RecordText.{AreEntries, record_text};
+ghost use Rattle.lease_book.specs.Legal.{IsComplete};
+ghost use Rattle.record_audit.specs.Part.{record_part};
+ghost use Rattle.record_audit.specs.Verdict.{IsJudged};
+ghost use Rattle.record_audit.specs.declared.verdict.Verdict.{Verdict};
+ghost use Rattle.record_audit.specs.declared.verdict.Verdict.TheVariants as verdicts;
 
 use lease_book::{allowed_entries_keep_safe, entries_are_few};
 use plan_core::files_are_listed_by_pair;
@@ -39,3 +45,13 @@ pub(crate) fn allowed_entries_are_sized()
 {
     files_are_listed_by_pair();
 }
+
+/// What begins with the text of a record has that text as the part that is read.
+pub fn printed_records_are_read()
+    ensures { (r : List Event) (rest : List ℕ) → AreEntries r → record_part (record_text r ++ rest) ≡ record_text r }
+{}
+
+/// Of a legal and complete record there is no other verdict.
+pub fn complete_records_are_judged_so()
+    ensures { (p : Plan) (order : List ℕ) (r : List Event) (v : Verdict) → Legal p order r → IsComplete p (now p order r) → IsJudged p order r v → v ≡ verdicts.Complete }
+{}

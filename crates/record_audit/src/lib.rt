@@ -17,6 +17,7 @@ mod text;
 mod verdict;
 
 pub use counting::statistics;
+pub use law::{complete_records_are_judged_so, printed_records_are_read};
 pub use part::record_part;
 pub use replaying::replay;
 pub use sums::Statistics;

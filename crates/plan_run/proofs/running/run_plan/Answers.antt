@@ -3,6 +3,7 @@ use Rattle.std.proofs.Math.Logic.{∥∥₁_elim, ∥∥₁_map, ∥∥₁_prop}
 use Rattle.std.specs.Prelude.{is_some}
 use Rattle.plan_core.specs.Words.{task_numbers}
 use Rattle.plan_run.specs.Moments.{work_moment, working}
+use Rattle.plan_run.specs.Running.{reporting}
 use Rattle.plan_run.proofs.RunningLemmas.{marked_so, not_begun_alone, ran_alone}
 use Rattle.plan_run.proofs.running.run_plan.Goals as goal
 
@@ -12,13 +13,13 @@ returns-in-Ok-clause-ran g c =
     let order = task_numbers c.args.ordered.tasks.items in
     let y = c.run_alone-yard.result in
     let r = y.book.history.events in
-    let text = c.end_run.result.text.items in
+    let x = reporting c.end_run.result.history c.end_run.result.text.items in
     let end_ = c.end_run.result.end in
     let same = c.run_alone-yard.ensures.ordered ∙ c.in-Ok.ensures.ordered in
     let legal = rw same at c.agrees.ensures.legal in
     let shows = rw same at c.agrees.ensures.shows in
     let ends = rw same at c.end_run.ensures.ends in
-    let prints = rw same at c.end_run.ensures.prints in
+    let reports = rw same at c.end_run.ensures.reports in
     let works = rw (c.in-Ok.ensures.ordered, c.in-Ok.ensures.history) at c.run_alone-yard.ensures.works in
     let inputs = rw (c.in-Ok.ensures.ordered, c.in-Ok.ensures.history) at c.run_alone-yard.ensures.inputs in
     let fits = c.ordered_plans_fit.ensures c.args.ordered in
@@ -26,7 +27,7 @@ returns-in-Ok-clause-ran g c =
     let after = work_moment g.H.Host y.host (g.T.Tool.faults c.run_alone-yard.new.crew.tool) in
     let w = working g.T.Tool.apply g.T.Tool.known before after in
     rw c.end_run.ensures.host (∥∥₁_elim legal ∥∥₁_prop (λ l. ∥∥₁_elim shows ∥∥₁_prop (λ s. ∥∥₁_map c.agrees.ensures.counted (λ k.
-    ran_alone w p order r (g.H.Host.told y.host) (g.H.Host.marked y.host) y.faults y.misses text end_
+    ran_alone w p order r (g.H.Host.told y.host) (g.H.Host.marked y.host) y.faults y.misses x end_
     (record {
       told_is = refl;
       tells = c.run_alone-yard.ensures.tells ∙ ap is_some c.in-Ok.ensures.told;
@@ -41,7 +42,7 @@ returns-in-Ok-clause-ran g c =
       safe = λ n. c.legal_records_are_safe.ensures.always p order r c.args.ordered.proper fits l n;
       left = λ n site. c.what_is_left_is_held.ensures p order r c.args.ordered.proper fits l n site;
     })
-    l s k ends prints))))
+    l s k ends reports))))
 
 pub returns-in-Err-clause-ran : goal.returns-in-Err-clause-ran
 returns-in-Err-clause-ran g c =
@@ -53,7 +54,7 @@ returns-in-Err-clause-ran g c =
     let before = work_moment g.H.Host c.args.host faults in
     let after = work_moment g.H.Host c.in-Err.refused.host faults in
     let w = working g.T.Tool.apply g.T.Tool.known before after in
-    rw c.refuse_run.ensures.host (∣ not_begun_alone w p order c.in-Err.refused.fault c.refuse_run.result.text.items c.refuse_run.result.end
+    rw c.refuse_run.ensures.host (∣ not_begun_alone w p order c.in-Err.refused.fault (reporting c.refuse_run.result.history c.refuse_run.result.text.items) c.refuse_run.result.end
     (record {
       safe = λ n. c.legal_records_are_safe.ensures.always p order [] c.args.ordered.proper fits tt n;
       left = λ n site. c.what_is_left_is_held.ensures p order [] c.args.ordered.proper fits tt n site;

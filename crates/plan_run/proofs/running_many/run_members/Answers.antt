@@ -5,6 +5,7 @@ use Rattle.std.specs.Prelude.{is_some}
 use Rattle.craft.specs.declared.crew.Crew.{Crew}
 use Rattle.plan_core.specs.Words.{task_numbers}
 use Rattle.plan_run.specs.Moments.{counting, first_count, work_moment, working}
+use Rattle.plan_run.specs.Running.{reporting}
 use Rattle.plan_run.proofs.RunningLemmas.{marked_so, not_begun, ran}
 use Rattle.plan_run.proofs.RunningManyLemmas.{many_end}
 use Rattle.plan_run.proofs.running_many.run_members.Goals as goal
@@ -20,13 +21,13 @@ returns-in-Ok-clause-ran g c =
     let count = λ (m : Crew g.row.T.Denot g.row.G.Denot). g.T.Tool.faults m.tool in
     let old = map count c.args.members.items in
     let new = map count many.crew.items in
-    let text = c.end_many-ran.result.text.items in
+    let x = reporting c.end_many-ran.result.history c.end_many-ran.result.text.items in
     let end_ = c.end_many-ran.result.end in
     let same = c.run_many-end.ensures.ordered ∙ c.in-Ok.ensures.ordered in
     let legal = rw same at c.agrees.ensures.legal in
     let shows = rw same at c.agrees.ensures.shows in
     let ends = rw same at c.end_many-ran.ensures.ends in
-    let prints = rw same at c.end_many-ran.ensures.prints in
+    let reports = rw same at c.end_many-ran.ensures.reports in
     let works = rw c.in-Ok.ensures.ordered at c.run_many-end.ensures.works in
     let inputs = rw c.in-Ok.ensures.ordered at c.run_many-end.ensures.inputs in
     let fits = c.ordered_plans_fit.ensures c.args.ordered in
@@ -41,12 +42,12 @@ returns-in-Ok-clause-ran g c =
     (c.run_many-end.ensures.misses ∙ c.in-Ok.ensures.misses)
     c.in-Ok.ensures.unused works (λ u. (c.run_many-end.ensures.unstarted u).0) (length-map c.args.members.items count) c.run_many-end.ensures.tools inputs in
     rw c.end_many-ran.ensures.host (∥∥₁_elim legal ∥∥₁_prop (λ l. ∥∥₁_elim shows ∥∥₁_prop (λ s. ∥∥₁_map c.agrees.ensures.counted (λ k.
-    ran w t n p order r (g.H.Host.told y.host) (g.H.Host.marked y.host) y.faults y.misses text end_ end
+    ran w t n p order r (g.H.Host.told y.host) (g.H.Host.marked y.host) y.faults y.misses x end_ end
     (record {
       safe = λ j. c.legal_records_are_safe.ensures.always p order r c.args.ordered.proper fits l j;
       left = λ j site. c.what_is_left_is_held.ensures p order r c.args.ordered.proper fits l j site;
     })
-    l s k ends prints))))
+    l s k ends reports))))
 
 pub returns-in-Err-clause-ran : goal.returns-in-Err-clause-ran
 returns-in-Err-clause-ran g c =
@@ -59,7 +60,7 @@ returns-in-Err-clause-ran g c =
     let before = work_moment g.H.Host c.args.host (first_count old) in
     let after = work_moment g.H.Host c.in-Err.refused.host (first_count old) in
     let w = working g.T.Tool.apply g.T.Tool.known before after in
-    rw c.refuse_run.ensures.host (∣ not_begun w (counting old old) (length c.args.members.items) p order c.in-Err.refused.fault c.refuse_run.result.text.items c.refuse_run.result.end
+    rw c.refuse_run.ensures.host (∣ not_begun w (counting old old) (length c.args.members.items) p order c.in-Err.refused.fault (reporting c.refuse_run.result.history c.refuse_run.result.text.items) c.refuse_run.result.end
     (record {
       safe = λ n. c.legal_records_are_safe.ensures.always p order [] c.args.ordered.proper fits tt n;
       left = λ n site. c.what_is_left_is_held.ensures p order [] c.args.ordered.proper fits tt n site;
