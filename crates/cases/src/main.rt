@@ -7,9 +7,7 @@
 #![tactic(auto)]
 
 mod calling;
-mod comparing;
 mod report;
-mod trace;
 
 use host_files::StreamSink;
 use outside::{Memory, SinkFault, write_all};

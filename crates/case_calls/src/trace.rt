@@ -1,7 +1,7 @@
 //! The changes of a store as text.
 
 ghost use Rattle.std.specs.Prelude.{◌≡◌, ◌++◌, IfOk, OnOk};
-ghost use Rattle.cases.specs.Trace.{operation_line, operation_lines};
+ghost use Rattle.case_calls.specs.Trace.{operation_line, operation_lines};
 
 use outside::{Memory, Operation, Word, push_line};
 use std::alloc::Global;

@@ -2,9 +2,9 @@
 
 ghost use Rattle.std.specs.Prelude.{◌≡◌, ◌↔◌, IfSome, IsTrue, string_bytes, All};
 ghost use Rattle.outside.specs.MemorySink.{sink_bytes};
-ghost use Rattle.cases.specs.Comparing.{IsHeld, IsStored, IsWrittenAs};
+ghost use Rattle.case_calls.specs.Comparing.{IsHeld, IsStored, IsWrittenAs};
 
-use crate::calling::Ended;
+use crate::ended::Ended;
 use case_files::{Case, Delivered, Ending, Part, Stored};
 use outside::MemoryHost;
 

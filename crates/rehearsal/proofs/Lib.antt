@@ -1,0 +1,4 @@
+pub mod SummaryLemmas
+pub mod RegisteredLemmas
+pub mod MosaicLemmas
+pub mod PreparingLemmas

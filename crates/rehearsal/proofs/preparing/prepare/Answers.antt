@@ -1,0 +1,39 @@
+use Rattle.std.proofs.Common.{◌∙◌, ℕ, List, ap, subst}
+use Rattle.outside.specs.Store.{blank}
+use Rattle.outside.specs.declared.documents.Documents.{Documents}
+use Rattle.plan_request.specs.Reader.{read_of}
+use Rattle.planner.specs.Course.{Refuses}
+use Rattle.planner.specs.PlanFault.{FailsPlan, answered}
+use Rattle.planner.specs.declared.document.Document.TheVariants.{Request}
+use Rattle.rehearsal.specs.Preparing.{stored}
+use Rattle.rehearsal.specs.Registered.{RegistersImages}
+use Rattle.rehearsal.proofs.PreparingLemmas.{is_prepared, montage_documents, montage_request, refuses_documents, refuses_request, want_of_memory}
+use Rattle.rehearsal.proofs.preparing.prepare.Goals as goal
+
+pub returns-in-Err-clause-fault : goal.returns-in-Err-clause-fault
+returns-in-Err-clause-fault c =
+    let fault = c.in-Err.fault in
+    refuses_request c.args.images fault (subst (λ (text : List ℕ). FailsPlan fault (answered Request (read_of text))) c.in_ok-workload.ensures.request c.in-Err.ensures.answer)
+
+pub returns-in-Err-survey_request-clause-fault : goal.returns-in-Err-survey_request-clause-fault
+returns-in-Err-survey_request-clause-fault c =
+    let n = c.args.images in
+    let w = c.in_ok-workload.workload in
+    let request = c.in-Ok.request in
+    let fault = c.in-Err-survey_request.fault in
+    refuses_documents n request fault (montage_request n w request c.in_ok-workload.ensures c.in-Ok.ensures.answer)
+    (subst (λ (d : Documents). Refuses request d fault) (montage_documents n w c.in_ok-workload.ensures) c.in-Err-survey_request.ensures.fault)
+
+pub returns-in_err-host-clause-fault : goal.returns-in_err-host-clause-fault
+returns-in_err-host-clause-fault c =
+    want_of_memory c.args.images c.from_residual-in_err-host.result c.from_residual-in_err-host.ensures.1
+
+pub returns-clause-ready : goal.returns-clause-ready
+returns-clause-ready c =
+    let s = c.in-Ok-survey_request.surveyed in
+    let same = c.deref.ensures.value in
+    is_prepared c.args.images c.in_ok-workload.workload c.in-Ok.request s c.in_ok-host.host c.in_ok-workload.ensures c.in-Ok.ensures.answer c.in-Ok-survey_request.ensures.request c.in-Ok-survey_request.ensures.survey
+    (subst (RegistersImages s.survey.workflow s.survey.replicas.entries) same c.in_ok-host.ensures.registers)
+    c.in_ok-host.ensures.mosaic
+    (c.in_ok-host.ensures.store ∙ ap (λ (xs : List (List ℕ × List ℕ)). stored xs blank) same)
+    c.in_ok-host.ensures.counts
