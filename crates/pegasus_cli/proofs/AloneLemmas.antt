@@ -1,16 +1,18 @@
 -- The answers of `alone`.
 use Rattle.std.proofs.Common.{ℕ, ◌<◌, zero, suc, List, inl, inr, arith}
+use Rattle.std.specs.Prelude.{Option}
 use Rattle.std.proofs.Math.Logic.{∥∥₁_elim, ∥∥₁_map}
 use Rattle.outside.specs.Counts.{Rose}
 use Rattle.outside.specs.declared.numbers.TaskId.{TaskId}
 use Rattle.plan_core.specs.declared.plan.Plan.{Plan}
 use Rattle.plan_core.specs.Words.{task_numbers}
+use Rattle.run_record.specs.Events.{Log}
 use Rattle.planner.specs.Deliveries.{DeliversRequests}
 use Rattle.planner.specs.Meaning.{MeansWorkflow}
 use Rattle.planner.specs.declared.surveyed.Surveyed.{Surveyed}
 use Rattle.plan_run.specs.Finishing.{NoneFailed}
 use Rattle.plan_run.specs.Moments.{Tools, Work, count_of, first_tool}
-use Rattle.plan_run.specs.Running.{End, HasRunAlone}
+use Rattle.plan_run.specs.Running.{End, HasRunAlone, reporting}
 use Rattle.pegasus_cli.specs.Commands.Alone.{HasRunFirst, RunsAlone, alone}
 use Rattle.pegasus_cli.specs.CommandSpec.{Finishes, NoneRoseAtWork}
 use Rattle.pegasus_cli.specs.Fault.{Answer, IsDoneOrMemory, end_answer}
@@ -20,10 +22,10 @@ use Rattle.pegasus_cli.proofs.PlanRunLemmas.{HasDeliveryLaws, RunsFinish, plan_r
 use Rattle.pegasus_cli.proofs.SurveyLemmas.{survey_finishes}
 
 -- A plan was run by the first member of the crew.
-pub alone_is : (w : Work) (t : Tools) (s : Surveyed) (p : Plan) (order : List TaskId) (text : List ℕ) (e : End) → IsReady w.known s p order → HasDeliveryLaws p (task_numbers order) → DeliversRequests s.request s.survey p → MeansWorkflow s.request s.survey p
-    → ∥ HasRunAlone w p (task_numbers order) text e ∥₁ → RunsAlone w t s text (end_answer e)
-alone_is w t s p order text e ready laws requests means run = inr (∥∥₁_map run (λ (h : HasRunAlone w p (task_numbers order) text e). record {
-  planned = run_is w (first_tool w) 1 s p order text e ready laws requests means h.ran;
+pub alone_is : (w : Work) (t : Tools) (s : Surveyed) (p : Plan) (order : List TaskId) (log : Option Log) (text : List ℕ) (e : End) → IsReady w.known s p order → HasDeliveryLaws p (task_numbers order) → DeliversRequests s.request s.survey p → MeansWorkflow s.request s.survey p
+    → ∥ HasRunAlone w p (task_numbers order) (reporting log text) e ∥₁ → RunsAlone w t s text (end_answer e)
+alone_is w t s p order log text e ready laws requests means run = inr (∥∥₁_map run (λ (h : HasRunAlone w p (task_numbers order) (reporting log text) e). record {
+  planned = run_is w (first_tool w) 1 s p order (reporting log text) e ready laws requests means h.ran;
   in_order = h.in_order;
 }))
 

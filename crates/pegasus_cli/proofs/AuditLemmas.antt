@@ -1,26 +1,37 @@
 -- The answers of `audit` and `stat`.
 use Rattle.std.proofs.Common.{◌≡◌, ℕ, ◌++◌, List, [], refl, sym, ap, subst, ◌∙◌}
 use Rattle.std.specs.Prelude.{Result, Ok, Err, OnOk}
+use Rattle.std.proofs.lemmas.List.{append_assoc}
 use Rattle.outside.specs.declared.memory.Memory.{Memory as Lacks}
 use Rattle.plan_core.specs.declared.plan.Plan.{Plan}
+use Rattle.plan_core.specs.Words.{task_numbers}
 use Rattle.planner.specs.declared.plan_fault.PlanFault.{PlanFault}
 use Rattle.planner.specs.declared.plan_fault.PlanFault.TheVariants as plan_faults
+use Rattle.planner.specs.declared.surveyed.Surveyed.{Surveyed}
+use Rattle.plan_run.specs.Moments.{Tools, Work}
+use Rattle.plan_run.specs.RunText.{delivered_lines}
 use Rattle.run_record.specs.Events.{Event}
 use Rattle.run_record.specs.Fault.{IsMalformedAt}
 use Rattle.run_record.specs.RecordText.{AreEntries, record_text}
+use Rattle.lease_book.specs.Legal.{IsComplete, Legal}
+use Rattle.lease_book.specs.State.{now}
+use Rattle.record_audit.specs.Part.{record_part}
 use Rattle.record_audit.specs.Sums.{AreSums}
 use Rattle.record_audit.specs.Text.{statistics_lines, verdict_line}
 use Rattle.record_audit.specs.declared.sums.Statistics.{Statistics}
+use Rattle.record_audit.specs.Verdict.{IsJudged}
 use Rattle.record_audit.specs.declared.verdict.Verdict.{Verdict}
 use Rattle.record_audit.specs.declared.verdict.Verdict.TheVariants as verdict
 use Rattle.pegasus_cli.specs.declared.fault.CallFault.{CallFault}
 use Rattle.pegasus_cli.specs.declared.fault.CallFault.TheVariants.{BadRecord, Memory}
 use Rattle.pegasus_cli.specs.declared.recorded.Recorded.{Recorded}
-use Rattle.pegasus_cli.specs.Commands.Audit.{CanJudge, IsBad, IsOrdered, IsUnjudged, IsUnread, Judges, PrintsVerdict, SaysOf, audit}
+use Rattle.pegasus_cli.specs.Commands.Audit.{CanJudge, IsBad, IsJudgment, IsOrdered, IsUnjudged, IsUnread, Judges, PrintsVerdict, SaysOf, audit}
 use Rattle.pegasus_cli.specs.Commands.Plan.{IsRefusal, IsUnplanned}
 use Rattle.pegasus_cli.specs.Commands.Stat.{AddsSums, PrintsSums, stat}
 use Rattle.pegasus_cli.specs.CommandSpec.{Finishes}
-use Rattle.pegasus_cli.specs.Fault.{Answer, IsDoneOrMemory, not_for, plan_answer}
+use Rattle.pegasus_cli.specs.Fault.{Answer, IsDoneOrMemory, done, not_for, plan_answer}
+use Rattle.pegasus_cli.specs.PlanRun.{HasRunPlan}
+use Rattle.pegasus_cli.proofs.PlanRunLemmas.{ended_reports, ended_tells}
 use Rattle.pegasus_cli.proofs.RecordedLemmas.{record_finishes}
 
 -- no fault of planning is a bad record
@@ -78,7 +89,7 @@ unjudged_short law i (BadRecord k) can h = absurd (not_bad law i k can h)
 unjudged_short law i fault can h = unplanned_short i fault can h
 
 says_done : (law : NoneMalformed) (Prints : Plan → List ℕ → List Event → Verdict → List ℕ → Type 0) (i : Recorded) (text : List ℕ) (a : Answer) → SaysOf Prints i text a → CanJudge i → IsDoneOrMemory a
-says_done law Prints i text (Ok done) h can = tt
+says_done law Prints i text (Ok given) h can = tt
 says_done law Prints i text (Err Memory) h can = tt
 says_done law Prints i text (Err fault) h can = unjudged_short law i fault can h.0
 
@@ -87,3 +98,25 @@ audit_finishes law name history = record_finishes name history (Judges PrintsVer
 
 pub stat_finishes : NoneMalformed → (name history : List ℕ) → Finishes (stat name history)
 stat_finishes law name history = record_finishes name history (Judges PrintsSums) CanJudge (λ w i text a works can. says_done law PrintsSums i text a works.says can)
+
+-- ---- the record that a run has printed
+
+abbrev pub OneVerdict : Type 0
+OneVerdict = (p : Plan) (order : List ℕ) (r : List Event) (v : Verdict) → Legal p order r → IsComplete p (now p order r) → IsJudged p order r v → v ≡ verdict.Complete
+
+abbrev pub ReadsRecord : Type 0
+ReadsRecord = (r : List Event) (rest : List ℕ) → AreEntries r → record_part (record_text r ++ rest) ≡ record_text r
+
+abbrev pub OneRecord : Type 0
+OneRecord = (es fs : List Event) → AreEntries es → AreEntries fs → record_text es ≡ record_text fs → es ≡ fs
+
+pub judged_so : (one : OneVerdict) (reads : ReadsRecord) (same : OneRecord) (w : Work) (t : Tools) (n : ℕ) (s : Surveyed) (text rest : List ℕ) (run : HasRunPlan w t n s text done) (i : Recorded) (r : List Event) (v : Verdict)
+    → i.bytes ≡ text ++ rest → IsJudgment i run.plan (task_numbers run.order) r v → (r ≡ run.ran.r) × (v ≡ verdict.Complete)
+judged_so one reads same w t n s text rest run i r v bytes judgment =
+    let report = ended_reports w run.plan run.ran.r run.report run.end run.answers run.ran.reports in
+    let more = delivered_lines run.plan report.text.delivered in
+    let written : i.bytes ≡ record_text run.ran.r ++ (more ++ rest) = bytes ∙ ap (λ (l : List ℕ). l ++ rest) (run.text_is ∙ report.text.text_is) ∙ append_assoc (record_text run.ran.r) more rest in
+    let read : record_text r ≡ record_text run.ran.r = judgment.is_record.text ∙ ap record_part written ∙ reads run.ran.r (more ++ rest) report.entries in
+    let is = same r run.ran.r judgment.is_record.entries report.entries read in
+    let complete = (ended_tells w run.plan (task_numbers run.order) run.ran.r run.end run.answers run.ran.tells).1 in
+    (is, one run.plan (task_numbers run.order) run.ran.r v run.ran.run.legal complete (subst (λ (es : List Event). IsJudged run.plan (task_numbers run.order) es v) is judgment.judged))

@@ -9,7 +9,7 @@ use Rattle.pegasus_cli.specs.Fault.{Answer, IsDoneOrMemory}
 use Rattle.pegasus_cli.proofs.SurveyLemmas.{survey_finishes}
 
 says_done : (s : Survey) (text : List ℕ) (a : Answer) → Says s text a → IsDoneOrMemory a
-says_done s text (Ok done) h = tt
+says_done s text (Ok given) h = tt
 says_done s text (Err Memory) h = tt
 says_done s text (Err fault) h = absurd h
 

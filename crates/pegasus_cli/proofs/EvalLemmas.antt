@@ -29,7 +29,7 @@ pub says_unvalued : (w : Work) (s : Surveyed) (fault : EvaluationFault) (text : 
 says_unvalued w s fault text a h none is = rw (none, is) (says_none w s fault (value_answer fault) h refl)
 
 says_done : (law : EvaluationsFinish) (w : Work) (t : Tools) (s : Surveyed) (text : List ℕ) (a : Answer) → Says w s text a → CanEvaluate w s → NoneRoseAtWork w t → IsDoneOrMemory a
-says_done law w t s text (Ok done) h can still = tt
+says_done law w t s text (Ok given) h can still = tt
 says_done law w t s text (Err Memory) h can still = tt
 says_done law w t s text (Err fault) h can still =
     let memory = law (meeting_of w) (subject_of s) h.0.fault h.0.comes can still.host still.tool in

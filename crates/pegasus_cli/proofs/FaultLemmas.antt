@@ -1,6 +1,6 @@
 -- What answers come to.
 use Rattle.std.proofs.Common.{◌≡◌, refl}
-use Rattle.std.specs.Prelude.{Ok, Err}
+use Rattle.std.specs.Prelude.{Some, None, Ok, Err}
 use Rattle.planner.specs.declared.plan_fault.PlanFault.{PlanFault}
 use Rattle.planner.specs.declared.plan_fault.PlanFault.TheVariants as plan
 use Rattle.run_record.specs.declared.run_fault.RunFault.{RunFault}
@@ -25,13 +25,13 @@ run_answer_else run.Memory no_memory = absurd (no_memory refl)
 run_answer_else fault no_memory = refl
 
 pub done_prop : (a : Answer) → IsProp (IsDoneOrMemory a)
-done_prop (Ok ended) = λ x y. refl
+done_prop (Ok given) = λ x y. refl
 done_prop (Err Memory) = λ x y. refl
 done_prop (Err fault) = λ x y. absurd x
 
 -- an answer is no outcome of the words or of the sink
 pub no_usage : (a : Answer) → outcomes.Usage ≡ outcome_of a → ⊥
-no_usage (Ok ended) h = (let clash : ◌≡◌ {A = Outcome} outcomes.Usage outcomes.Done = h in absurd cc)
+no_usage (Ok given) h = (let clash : ◌≡◌ {A = Outcome} outcomes.Usage (outcomes.Done given) = h in absurd cc)
 no_usage (Err Memory) h = (let clash : ◌≡◌ {A = Outcome} outcomes.Usage outcomes.Memory = h in absurd cc)
 no_usage (Err (DocAbsent n)) h = (let clash : ◌≡◌ {A = Outcome} outcomes.Usage (outcomes.DocAbsent n) = h in absurd cc)
 no_usage (Err (DocTooLong n k)) h = (let clash : ◌≡◌ {A = Outcome} outcomes.Usage (outcomes.DocTooLong n k) = h in absurd cc)
@@ -42,20 +42,21 @@ no_usage (Err (Failed f)) h = (let clash : ◌≡◌ {A = Outcome} outcomes.Usag
 no_usage (Err (BadRecord k)) h = (let clash : ◌≡◌ {A = Outcome} outcomes.Usage (outcomes.BadRecord k) = h in absurd cc)
 
 -- only what is done is Done
-pub done_is : (a : Answer) → outcomes.Done ≡ outcome_of a → a ≡ done
-done_is (Ok ended) h = refl
-done_is (Err Memory) h = (let clash : ◌≡◌ {A = Outcome} outcomes.Done outcomes.Memory = h in absurd cc)
-done_is (Err (DocAbsent n)) h = (let clash : ◌≡◌ {A = Outcome} outcomes.Done (outcomes.DocAbsent n) = h in absurd cc)
-done_is (Err (DocTooLong n k)) h = (let clash : ◌≡◌ {A = Outcome} outcomes.Done (outcomes.DocTooLong n k) = h in absurd cc)
-done_is (Err (DocFailed n)) h = (let clash : ◌≡◌ {A = Outcome} outcomes.Done (outcomes.DocFailed n) = h in absurd cc)
-done_is (Err (Refused f)) h = (let clash : ◌≡◌ {A = Outcome} outcomes.Done (outcomes.Refused f) = h in absurd cc)
-done_is (Err (Exceeds s t n b)) h = (let clash : ◌≡◌ {A = Outcome} outcomes.Done (outcomes.Exceeds s t n b) = h in absurd cc)
-done_is (Err (Failed f)) h = (let clash : ◌≡◌ {A = Outcome} outcomes.Done (outcomes.Failed f) = h in absurd cc)
-done_is (Err (BadRecord k)) h = (let clash : ◌≡◌ {A = Outcome} outcomes.Done (outcomes.BadRecord k) = h in absurd cc)
+pub done_is : (a : Answer) → outcomes.Done None ≡ outcome_of a → a ≡ done
+done_is (Ok None) h = refl
+done_is (Ok (Some given)) h = (let clash : ◌≡◌ {A = Outcome} (outcomes.Done None) (outcomes.Done (Some given)) = h in absurd cc)
+done_is (Err Memory) h = (let clash : ◌≡◌ {A = Outcome} (outcomes.Done None) outcomes.Memory = h in absurd cc)
+done_is (Err (DocAbsent n)) h = (let clash : ◌≡◌ {A = Outcome} (outcomes.Done None) (outcomes.DocAbsent n) = h in absurd cc)
+done_is (Err (DocTooLong n k)) h = (let clash : ◌≡◌ {A = Outcome} (outcomes.Done None) (outcomes.DocTooLong n k) = h in absurd cc)
+done_is (Err (DocFailed n)) h = (let clash : ◌≡◌ {A = Outcome} (outcomes.Done None) (outcomes.DocFailed n) = h in absurd cc)
+done_is (Err (Refused f)) h = (let clash : ◌≡◌ {A = Outcome} (outcomes.Done None) (outcomes.Refused f) = h in absurd cc)
+done_is (Err (Exceeds s t n b)) h = (let clash : ◌≡◌ {A = Outcome} (outcomes.Done None) (outcomes.Exceeds s t n b) = h in absurd cc)
+done_is (Err (Failed f)) h = (let clash : ◌≡◌ {A = Outcome} (outcomes.Done None) (outcomes.Failed f) = h in absurd cc)
+done_is (Err (BadRecord k)) h = (let clash : ◌≡◌ {A = Outcome} (outcomes.Done None) (outcomes.BadRecord k) = h in absurd cc)
 
 -- done, or memory ran out, as an outcome
 pub outcome_done : (a : Answer) → IsDoneOrMemory a → IsDone (outcome_of a)
-outcome_done (Ok ended) h = tt
+outcome_done (Ok given) h = tt
 outcome_done (Err Memory) h = tt
 outcome_done (Err fault) h = absurd h
 

@@ -1,27 +1,25 @@
 -- What the clause of a call comes to for a run that ended Done.
 use Rattle.std.proofs.Common.{◌≡◌, ◌⊎◌, ℕ, ◌++◌, List, sym, subst, ◌∙◌, inl, inr}
 use Rattle.std.proofs.Math.Logic.{∥∥₁_map}
-use Rattle.std.specs.Prelude.{Option, Some, None, IfSome, MatchOption, Ok, Err}
+use Rattle.std.specs.Prelude.{Option, Some, None, IfSome, MatchOption}
 use Rattle.std.specs.Io.KnownBytes.{Appends}
 use Rattle.outside.specs.declared.store.Store.{Store}
 use Rattle.plan_core.specs.declared.plan.Plan.{Plan}
 use Rattle.plan_core.specs.Words.{task_numbers}
 use Rattle.planner.specs.declared.surveyed.Surveyed.{Surveyed}
 use Rattle.run_record.specs.Events.{Event}
-use Rattle.lease_book.specs.Legal.{IsComplete}
-use Rattle.lease_book.specs.State.{now}
 use Rattle.site_yard.specs.Changes.{carries}
 use Rattle.site_yard.specs.Law.{Agrees, IsDeliveryOf}
 use Rattle.site_yard.specs.Trace.{trace_of}
 use Rattle.plan_run.specs.Moments.{Tools, Work}
-use Rattle.plan_run.specs.Running.{End, IsOpened, IsRunText, IsShown, Prints, Tells}
+use Rattle.plan_run.specs.Running.{IsRunText, IsShown}
 use Rattle.pegasus_cli.specs.declared.outcome.Outcome.{Outcome}
 use Rattle.pegasus_cli.specs.declared.outcome.Outcome.TheVariants as outcomes
 use Rattle.pegasus_cli.specs.Call.{Ends, IsAnswered, IsDoneBy, IsUsage, doing_of}
 use Rattle.pegasus_cli.specs.Commands.{spec_of}
 use Rattle.pegasus_cli.specs.Commands.Run.{RunsMany, run}
 use Rattle.pegasus_cli.specs.CommandSpec.{Does}
-use Rattle.pegasus_cli.specs.Fault.{done, end_answer, run_answer}
+use Rattle.pegasus_cli.specs.Fault.{done}
 use Rattle.pegasus_cli.specs.Headline.{AreSet, EndsSo, Headline, HoldsOf, ShownBy}
 use Rattle.pegasus_cli.specs.Moments.{Call}
 use Rattle.pegasus_cli.specs.Outcome.{line_of}
@@ -30,6 +28,7 @@ use Rattle.pegasus_cli.specs.Survey.{GoesOn}
 use Rattle.command_words.specs.Words.{Command, InThreads, Run, command as command_of}
 use Rattle.pegasus_cli.proofs.CallLemmas.{same_command}
 use Rattle.pegasus_cli.proofs.FaultLemmas.{done_is, no_fault_is_done}
+use Rattle.pegasus_cli.proofs.PlanRunLemmas.{ended_reports, ended_tells}
 
 -- ---- the deliveries
 
@@ -54,15 +53,6 @@ told_so w p r Delivers Holds shown delivers so = by w.before.told w.after.told s
     by (Some m) None h d = absurd h
     by (Some m) (Some x) h d = so m x h d
 
--- what is done has ended, and printed its record
-ended_tells : (w : Work) (p : Plan) (order : List ℕ) (r : List Event) (e : End) → done ≡ end_answer e → Tells w p order r e → IsOpened w p × IsComplete p (now p order r)
-ended_tells w p order r (Ok x) is tells = tells
-ended_tells w p order r (Err fault) is tells = absurd (no_fault_is_done (run_answer fault) is)
-
-ended_prints : (w : Work) (p : Plan) (r : List Event) (text : List ℕ) (e : End) → done ≡ end_answer e → Prints w.apply p r w.before.told text e → IsRunText w.apply p r w.before.told text
-ended_prints w p r text (Ok x) is prints = prints
-ended_prints w p r text (Err fault) is prints = absurd (no_fault_is_done (run_answer fault) is)
-
 headline_of : (w : Work) (t : Tools) (n : ℕ) (s : Surveyed) (text : List ℕ) → HasRunPlan w t n s text done → Headline w n s text
 headline_of w t n s text h = record {
   plan = h.plan;
@@ -73,7 +63,7 @@ headline_of w t n s text h = record {
   legal = h.ran.run.legal;
   by_workers = h.ran.run.below;
   complete = (ended_tells w h.plan (task_numbers h.order) h.ran.r h.end h.answers h.ran.tells).1;
-  printed = ended_prints w h.plan h.ran.r text h.end h.answers h.ran.prints;
+  printed = subst (IsRunText w.apply h.plan h.ran.r w.before.told) (sym h.text_is) (ended_reports w h.plan h.ran.r h.report h.end h.answers h.ran.reports).text;
   operations = told_so w h.plan h.ran.r (DeliversRequested w s h.plan h.ran.r) (λ old new. new.trace ≡ old.trace ++ trace_of h.plan h.ran.r) h.ran.run.shown h.delivers (λ m new agrees d. agrees.trace);
   within = λ k q l. (h.ran.run.safe k).within q l;
   left = h.ran.run.left;
@@ -87,7 +77,7 @@ headline_of w t n s text h = record {
 not_refused : (s : Surveyed) (w : Work) (t : Tools) (text : List ℕ) → IsUnrun w t s text done → ⊥
 not_refused s w t text h = no_fault_is_done h.fault h.answers
 
-run_so : (c : Call) (n : ℕ) (request text : List ℕ) (s : Surveyed) → GoesOn request c.asked.before c.asked.after s → Appends c.output.before.written c.output.after.written (text ++ line_of outcomes.Done) → RunsMany n c.work c.tools s text done → ∥ EndsSo c request n ∥₁
+run_so : (c : Call) (n : ℕ) (request text : List ℕ) (s : Surveyed) → GoesOn request c.asked.before c.asked.after s → Appends c.output.before.written c.output.after.written (text ++ line_of (outcomes.Done None)) → RunsMany n c.work c.tools s text done → ∥ EndsSo c request n ∥₁
 run_so c n request text s goes_on written (inl h) = absurd (not_refused s c.work c.tools text h)
 run_so c n request text s goes_on written (inr h) = ∥∥₁_map h (λ (k : HasRunPlan c.work c.tools n s text done). record {
   surveyed = s;
@@ -97,7 +87,7 @@ run_so c n request text s goes_on written (inr h) = ∥∥₁_map h (λ (k : Has
   headline = headline_of c.work c.tools n s text k;
 })
 
-done_so : (c : Call) (n : ℕ) (request text : List ℕ) → Appends c.output.before.written c.output.after.written (text ++ line_of outcomes.Done) → Does (run request n) (doing_of c) text done → ∥ EndsSo c request n ∥₁
+done_so : (c : Call) (n : ℕ) (request text : List ℕ) → Appends c.output.before.written c.output.after.written (text ++ line_of (outcomes.Done None)) → Does (run request n) (doing_of c) text done → ∥ EndsSo c request n ∥₁
 done_so c n request text written (inl h) = absurd (no_fault_is_done h.fault h.answers)
 done_so c n request text written (inr h) = run_so c n request text h.inputs h.comes written h.works
 
@@ -105,14 +95,14 @@ done_so c n request text written (inr h) = run_so c n request text h.inputs h.co
 pub holds : (c : Call) (outcome : Outcome) → IsAnswered c outcome → HoldsOf c outcome
 holds c outcome answered n request is ended = by answered.came
   where
-    ends : (outcomes.Done ≡ answered.answer) × Appends c.output.before.written c.output.after.written (answered.text ++ line_of answered.answer)
+    ends : (outcomes.Done None ≡ answered.answer) × Appends c.output.before.written c.output.after.written (answered.text ++ line_of answered.answer)
     ends = subst (Ends c.output answered.text answered.answer) ended answered.ends
 
-    written : Appends c.output.before.written c.output.after.written (answered.text ++ line_of outcomes.Done)
+    written : Appends c.output.before.written c.output.after.written (answered.text ++ line_of (outcomes.Done None))
     written = subst (λ (a : Outcome). Appends c.output.before.written c.output.after.written (answered.text ++ line_of a)) (sym ends.0) ends.1
 
     by : IsUsage c answered.text answered.answer ⊎ IsDoneBy c answered.text answered.answer → ∥ EndsSo c request n ∥₁
-    by (inl usage) = absurd (let clash : ◌≡◌ {A = Outcome} outcomes.Done outcomes.Usage = ends.0 ∙ usage.answers in cc)
+    by (inl usage) = absurd (let clash : ◌≡◌ {A = Outcome} (outcomes.Done None) outcomes.Usage = ends.0 ∙ usage.answers in cc)
     by (inr came) =
         let same = same_command (command_of c.asked.words) came.command (InThreads (Run request n)) came.is_command is in
         let does = subst (λ (k : Command). Does (spec_of k) (doing_of c) answered.text came.says) same came.does in

@@ -6,10 +6,11 @@ pub mod RecordedLemmas
 pub mod CheckLemmas
 pub mod PlanLemmas
 pub mod EvalLemmas
-pub mod AuditLemmas
 pub mod PlanRunLemmas
+pub mod AuditLemmas
 pub mod AloneLemmas
 pub mod RunLemmas
+pub mod RehearseLemmas
 pub mod CommandsLemmas
 pub mod CallLemmas
 pub mod HeadlineLemmas

@@ -30,7 +30,7 @@ says_refused s fault text a h none is = rw (none, is) (refused_says s fault h)
 
 -- without a fault there is a plan, or memory runs out
 says_done : (s : Surveyed) (text : List ℕ) (a : Answer) → Says s text a → HasNoFault s → IsDoneOrMemory a
-says_done s text (Ok done) h none = tt
+says_done s text (Ok given) h none = tt
 says_done s text (Err Memory) h none = tt
 says_done s text (Err fault) h none = subst (λ (f : CallFault). IsDoneOrMemory (not_for f)) (sym (h.0.answers ∙ ap plan_answer (none h.0.fault h.0.comes))) tt
 

@@ -20,7 +20,7 @@ use Rattle.run_record.specs.Events.{Event}
 use Rattle.run_record.specs.declared.run_fault.RunFault.TheVariants as run
 use Rattle.planner.specs.Deliveries.{DeliversRequests, IsNamed, IsRequested}
 use Rattle.planner.specs.Meaning.{MeansWorkflow}
-use Rattle.planner.specs.Planning.{CannotPlan}
+use Rattle.planner.specs.Planning.{CannotPlan, IsPlanOf}
 use Rattle.planner.specs.declared.plan_fault.PlanFault.{PlanFault}
 use Rattle.planner.specs.declared.plan_fault.PlanFault.TheVariants as plan_faults
 use Rattle.planner.specs.declared.surveyed.Surveyed.{Surveyed}
@@ -30,12 +30,14 @@ use Rattle.site_yard.specs.Names.{file_name, lfn_in}
 use Rattle.site_yard.specs.Places.{is_delivered}
 use Rattle.plan_run.specs.Finishing.{CanEnd, IsDoneOrMemory as EndsOrMemory, NoneFailed, replicas_of}
 use Rattle.plan_run.specs.Moments.{Tools, Work}
-use Rattle.plan_run.specs.Running.{End, HasRun, IsShown, Tells}
+use Rattle.plan_run.specs.Running.{End, HasRun, IsOpened, IsReport, IsShown, Report, Reports, Tells}
 use Rattle.pegasus_cli.specs.declared.fault.CallFault.{CallFault}
 use Rattle.pegasus_cli.specs.declared.fault.CallFault.TheVariants.{Memory}
-use Rattle.pegasus_cli.specs.Commands.Plan.{task_limit}
-use Rattle.pegasus_cli.specs.Fault.{Answer, IsDoneOrMemory, end_answer, not_for, plan_answer}
+use Rattle.pegasus_cli.specs.Commands.Plan.{HasNoFault, task_limit}
+use Rattle.pegasus_cli.specs.Fault.{Answer, IsDoneOrMemory, done, end_answer, not_for, plan_answer, run_answer}
+use Rattle.pegasus_cli.specs.KeptTools.{unknown_tool}
 use Rattle.pegasus_cli.specs.PlanRun.{AllDelivered, CanRun, DeliversRequested, HasRunPlan, IsReady, IsUnrun, RefusedAs, lfn}
+use Rattle.pegasus_cli.proofs.FaultLemmas.{no_fault_is_done}
 
 -- ---- what is delivered
 
@@ -73,7 +75,7 @@ delivered_so w s p order r m new laws requests means agrees = record {
     at f h = subst (λ (n : List ℕ). IsDeliveryOf p (carries w.apply p m) f (files.get new.delivered n)) (name_is f h) (agrees.delivered f h)
 
 pub all_delivered : (w : Work) (s : Surveyed) (p : Plan) (order : List ℕ) (r : List Event) (e : End) → HasDeliveryLaws p order → DeliversRequests s.request s.survey p → Legal p order r → Tells w p order r e → AllDelivered s p r (end_answer e)
-all_delivered w s p order r (Ok done) laws requests legal tells = λ f asked. let task = requests.delivered f asked in laws.complete r legal tells.1 task.0 f task.1
+all_delivered w s p order r (Ok ended) laws requests legal tells = λ f asked. let task = requests.delivered f asked in laws.complete r legal tells.1 task.0 f task.1
 all_delivered w s p order r (Err fault) laws requests legal tells = tt
 
 pub shown_delivers : (w : Work) (s : Surveyed) (p : Plan) (order : List ℕ) (r : List Event) → HasDeliveryLaws p order → DeliversRequests s.request s.survey p → MeansWorkflow s.request s.survey p → IsShown w p r
@@ -99,18 +101,29 @@ refused_as known s fault h = inl (record { fault = fault; comes = h; answers = r
 -- ---- the run
 
 -- A plan was run.
-abbrev pub run_is : (w : Work) (t : Tools) (n : ℕ) (s : Surveyed) (p : Plan) (order : List TaskId) (text : List ℕ) (e : End) → IsReady w.known s p order → HasDeliveryLaws p (task_numbers order) → DeliversRequests s.request s.survey p → MeansWorkflow s.request s.survey p
-    → HasRun w t n p (task_numbers order) text e → HasRunPlan w t n s text (end_answer e)
-run_is w t n s p order text e ready laws requests means h = record {
+abbrev pub run_is : (w : Work) (t : Tools) (n : ℕ) (s : Surveyed) (p : Plan) (order : List TaskId) (x : Report) (e : End) → IsReady w.known s p order → HasDeliveryLaws p (task_numbers order) → DeliversRequests s.request s.survey p → MeansWorkflow s.request s.survey p
+    → HasRun w t n p (task_numbers order) x e → HasRunPlan w t n s x.text (end_answer e)
+run_is w t n s p order x e ready laws requests means h = record {
   plan = p;
   order = order;
   ready = ready;
   end = e;
+  report = x;
   ran = h;
+  text_is = refl;
   answers = refl;
   delivers = shown_delivers w s p (task_numbers order) h.r laws requests means h.run.shown;
   complete = all_delivered w s p (task_numbers order) h.r e laws requests h.run.legal h.tells;
 }
+
+-- what is done has ended, and printed its record
+pub ended_tells : (w : Work) (p : Plan) (order : List ℕ) (r : List Event) (e : End) → done ≡ end_answer e → Tells w p order r e → IsOpened w p × IsComplete p (now p order r)
+ended_tells w p order r (Ok x) is tells = tells
+ended_tells w p order r (Err fault) is tells = absurd (no_fault_is_done (run_answer fault) is)
+
+pub ended_reports : (w : Work) (p : Plan) (r : List Event) (x : Report) (e : End) → done ≡ end_answer e → Reports w.apply p r w.before.told x e → IsReport w.apply p r w.before.told x
+ended_reports w p r x (Ok ended) is reports = reports
+ended_reports w p r x (Err fault) is reports = absurd (no_fault_is_done (run_answer fault) is)
 
 -- Nothing was run.
 pub unrun_is : (w : Work) (t : Tools) (s : Surveyed) (text : List ℕ) (a : Answer) (fault : CallFault) → RefusedAs w.known s fault → a ≡ not_for fault → w.after ≡ w.before → t.after ≡ t.before → text ≡ [] → IsUnrun w t s text a
@@ -120,20 +133,21 @@ unrun_is w t s text a fault refused is same unused none = record { fault = fault
 
 -- nothing but a counted failure, or want of memory, keeps a run from its end
 abbrev pub RunsFinish : Type 0
-RunsFinish = (w : Work) (t : Tools) (n : ℕ) (p : Plan) (order text : List ℕ) (end : End) → IsProper p → CanEnd w p → NoneFailed w t n → HasRun w t n p order text end → EndsOrMemory end
+RunsFinish = (w : Work) (t : Tools) (n : ℕ) (p : Plan) (order : List ℕ) (x : Report) (end : End) → IsProper p → CanEnd w p → NoneFailed w t n → HasRun w t n p order x end → EndsOrMemory end
 
 end_done : (e : End) → EndsOrMemory e → IsDoneOrMemory (end_answer e)
-end_done (Ok done) h = tt
+end_done (Ok ended) h = tt
 end_done (Err run.Memory) h = tt
 end_done (Err fault) h = absurd h
 
 pub plan_run_finishes : (law : RunsFinish) (w : Work) (t : Tools) (n : ℕ) (s : Surveyed) (text : List ℕ) (a : Answer) → HasRunPlan w t n s text a → CanRun w s → NoneFailed w t n → IsDoneOrMemory a
-plan_run_finishes law w t n s text a h can none = subst IsDoneOrMemory (sym h.answers) (end_done h.end (law w t n h.plan (task_numbers h.order) text h.end h.ready.proper (can.plan h.plan h.ready.planned).ends none h.ran))
+plan_run_finishes law w t n s text a h can none = subst IsDoneOrMemory (sym h.answers) (end_done h.end (law w t n h.plan (task_numbers h.order) h.report h.end h.ready.proper (can.plan h.plan h.ready.planned).ends none h.ran))
 
-refused_finishes : (w : Work) (s : Surveyed) (fault : CallFault) → RefusedAs w.known s fault → CanRun w s → IsDoneOrMemory (not_for fault)
-refused_finishes w s Memory h can = tt
-refused_finishes w s fault (inl h) can = subst (λ (f : CallFault). IsDoneOrMemory (not_for f)) (sym (h.answers ∙ ap plan_answer (can.no_fault h.fault h.comes))) tt
-refused_finishes w s fault (inr h) can = absurd (let clash : ◌≡◌ {A = Option PlanFault} None (Some h.fault) = sym (can.plan h.plan h.planned).tools ∙ h.first in cc)
+-- where planning has no fault and the tools of each plan are known, nothing but want of memory keeps a plan from being run
+pub refused_short : (known : List ℕ → Bool) (s : Surveyed) (fault : CallFault) → RefusedAs known s fault → HasNoFault s → ((p : Plan) → IsPlanOf s.request s.survey task_limit p → unknown_tool known p.jobs ≡ None) → IsDoneOrMemory (not_for fault)
+refused_short known s Memory h none tools = tt
+refused_short known s fault (inl h) none tools = subst (λ (f : CallFault). IsDoneOrMemory (not_for f)) (sym (h.answers ∙ ap plan_answer (none h.fault h.comes))) tt
+refused_short known s fault (inr h) none tools = absurd (let clash : ◌≡◌ {A = Option PlanFault} None (Some h.fault) = sym (tools h.plan h.planned) ∙ h.first in cc)
 
 pub unrun_finishes : (w : Work) (t : Tools) (s : Surveyed) (text : List ℕ) (a : Answer) → IsUnrun w t s text a → CanRun w s → IsDoneOrMemory a
-unrun_finishes w t s text a h can = subst IsDoneOrMemory (sym h.answers) (refused_finishes w s h.fault h.refused can)
+unrun_finishes w t s text a h can = subst IsDoneOrMemory (sym h.answers) (refused_short w.known s h.fault h.refused can.no_fault (λ p planned. (can.plan p planned).tools))

@@ -54,7 +54,7 @@ pub record MayFinish (c : Call) : Type 0 where
   pub can_finish : (spec_of command).CanFinish c.asked.before.told c.work
 
 abbrev pub IsDoneOrMemory : Outcome → Type 0
-IsDoneOrMemory outcomes.Done = Unit {0}
+IsDoneOrMemory (outcomes.Done given) = Unit {0}
 IsDoneOrMemory outcomes.Memory = Unit {0}
 IsDoneOrMemory _ = ⊥
 

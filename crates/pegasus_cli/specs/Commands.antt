@@ -9,6 +9,7 @@ use Rattle.pegasus_cli.specs.Commands.Alone.{alone}
 use Rattle.pegasus_cli.specs.Commands.Audit.{audit}
 use Rattle.pegasus_cli.specs.Commands.Stat.{stat}
 use Rattle.pegasus_cli.specs.Commands.Run.{run}
+use Rattle.pegasus_cli.specs.Commands.Rehearse.{rehearse, rehearse_by}
 pub mod Check
 pub mod Plan
 pub mod Eval
@@ -16,6 +17,7 @@ pub mod Alone
 pub mod Audit
 pub mod Stat
 pub mod Run
+pub mod Rehearse
 
 abbrev pub quick_spec : Quick → CommandSpec
 quick_spec (words.Check name) = check name
@@ -24,9 +26,11 @@ quick_spec (words.Eval name) = eval name
 quick_spec (words.Alone name) = alone name
 quick_spec (words.Audit name history) = audit name history
 quick_spec (words.Stat name history) = stat name history
+quick_spec (words.Rehearse images) = rehearse images
 
 abbrev pub threaded_spec : Threaded → CommandSpec
 threaded_spec (words.Run name workers) = run name workers
+threaded_spec (words.RehearseBy images workers) = rehearse_by images workers
 
 abbrev pub spec_of : Command → CommandSpec
 spec_of (words.Quickly q) = quick_spec q

@@ -1,5 +1,5 @@
 -- What a run by several workers comes to that ended Done, in whatever order they worked.
-use Rattle.std.specs.Prelude.{◌≡◌, ℕ, ◌+◌, ◌≤◌, ◌<◌, ◌++◌, List, take, Option, Some, is_some, true, IfSome, MatchOption}
+use Rattle.std.specs.Prelude.{◌≡◌, ℕ, ◌+◌, ◌≤◌, ◌<◌, ◌++◌, List, take, Option, Some, None, is_some, true, IfSome, MatchOption}
 use Rattle.std.specs.FinMap as files
 use Rattle.std.specs.Io.KnownBytes.{Appends}
 use Rattle.outside.specs.FileMap.{Files}
@@ -73,8 +73,8 @@ pub record EndsSo (c : Call) (request : List ℕ) (workers : ℕ) : Type 0 where
   pub surveyed : Surveyed
   pub read : GoesOn request c.asked.before c.asked.after surveyed
   pub text : List ℕ
-  pub written : Appends c.output.before.written c.output.after.written (text ++ line_of Done)
+  pub written : Appends c.output.before.written c.output.after.written (text ++ line_of (Done None))
   pub headline : Headline c.work workers surveyed text
 
 abbrev pub HoldsOf : Call → Outcome → Type 0
-HoldsOf c outcome = (workers : ℕ) (request : List ℕ) → command c.asked.words ≡ Some (InThreads (Run request workers)) → outcome ≡ Done → ∥ EndsSo c request workers ∥₁
+HoldsOf c outcome = (workers : ℕ) (request : List ℕ) → command c.asked.words ≡ Some (InThreads (Run request workers)) → outcome ≡ Done None → ∥ EndsSo c request workers ∥₁

@@ -7,7 +7,7 @@ use Rattle.outside.specs.declared.docs.Docs as docs
 use Rattle.outside.specs.declared.host.Host as host
 use Rattle.outside.specs.declared.sink.Sink as sink
 use Rattle.outside.specs.declared.tool.Tool as tool
-use Rattle.plan_run.specs.Moments.{Tools, Work, counting, first_count, work_moment, working}
+use Rattle.plan_run.specs.Moments.{Tools, Work, WorkMoment, counting, first_count, work_moment, working}
 
 -- the documents, where they are told, and how often they were asked for
 pub record DocsMoment : Type 0 where
@@ -42,6 +42,10 @@ docs_moment g d = record { told = g.told d; counts = g.counts d }
 
 abbrev pub sink_moment : {K : Type 0} → sink.Ghosts K → K → SinkMoment
 sink_moment g k = record { written = g.written k; faults = g.faults k }
+
+-- a moment of the work, with this count of the first tool
+abbrev pub with_tool : WorkMoment → ℕ → WorkMoment
+with_tool m n = record { told = m.told; counts = m.counts; tool = n }
 
 -- a call, by its parts
 abbrev pub asking : List (List ℕ) → DocsMoment → DocsMoment → Asked

@@ -14,7 +14,7 @@ exceeds_line site task needed bound = codes "exceeds" ++ and_name site ++ and_nu
 
 -- the line of an outcome; want of memory and a failing sink have none
 abbrev pub line_of : Outcome → List ℕ
-line_of Done = codes "done\n"
+line_of (Done given) = codes "done\n"
 line_of Memory = []
 line_of Usage = codes "usage: pegasus check|plan|eval|alone REQ, run REQ --workers N, audit|stat REQ RECORD, rehearse N [--workers N]\n"
 line_of (DocAbsent name) = codes "no document " ++ printed_name name ++ codes "\n"
@@ -28,7 +28,7 @@ line_of SinkFailed = []
 
 -- the status that the program ends with
 abbrev pub status_of : Outcome → ℕ
-status_of Done = 0
+status_of (Done given) = 0
 status_of Memory = 1
 status_of Usage = 2
 status_of (DocAbsent name) = 3
@@ -42,7 +42,7 @@ status_of (BadRecord line) = 8
 
 -- a command's answer as an outcome
 abbrev pub outcome_of : Answer → Outcome
-outcome_of (Ok ended) = Done
+outcome_of (Ok given) = Done given
 outcome_of (Err faults.Memory) = Memory
 outcome_of (Err (faults.DocAbsent name)) = DocAbsent name
 outcome_of (Err (faults.DocTooLong name limit)) = DocTooLong name limit

@@ -22,7 +22,7 @@ use Rattle.site_yard.specs.Places.{is_delivered}
 use Rattle.planner.specs.declared.surveyed.Surveyed.{Surveyed}
 use Rattle.plan_run.specs.Finishing.{CanEnd, replicas_of}
 use Rattle.plan_run.specs.Moments.{Tools, Work}
-use Rattle.plan_run.specs.Running.{End, HasRun}
+use Rattle.plan_run.specs.Running.{End, HasRun, Report}
 use Rattle.pegasus_cli.specs.declared.fault.CallFault.{CallFault}
 use Rattle.pegasus_cli.specs.declared.fault.CallFault.TheVariants.{Memory, Refused}
 use Rattle.pegasus_cli.specs.Commands.Plan.{HasNoFault, IsUnplanned, task_limit}
@@ -49,7 +49,7 @@ pub record DeliversRequested (w : Work) (s : Surveyed) (p : Plan) (r : List Even
 
 -- Each requested file is delivered.
 abbrev pub AllDelivered : Surveyed → Plan → List Event → Answer → Type 0
-AllDelivered s p r (Ok done) = (f : ℕ) → IsRequested s.survey f → is_delivered p r f ≡ true
+AllDelivered s p r (Ok None) = (f : ℕ) → IsRequested s.survey f → is_delivered p r f ≡ true
 AllDelivered s p r _ = Unit {0}
 
 -- A plan of the documents with its order, all of whose tools are known.
@@ -60,13 +60,15 @@ pub record IsReady (known : List ℕ → Bool) (s : Surveyed) (p : Plan) (order 
   pub plain : IsPlain p
   pub tools : unknown_tool known p.jobs ≡ None
 
--- It was run by n workers.
+-- It was run by n workers, and this is the record that it hands out.
 pub record HasRunPlan (w : Work) (t : Tools) (n : ℕ) (s : Surveyed) (text : List ℕ) (answer : Answer) : Type 0 where
   pub plan : Plan
   pub order : List TaskId
   pub ready : IsReady w.known s plan order
   pub end : End
-  pub ran : HasRun w t n plan (task_numbers order) text end
+  pub report : Report
+  pub ran : HasRun w t n plan (task_numbers order) report end
+  pub text_is : text ≡ report.text
   pub answers : answer ≡ end_answer end
   pub delivers : IfSome w.before.told (λ m. IfSome w.after.told (λ new. DeliversRequested w s plan ran.r m new))
   pub complete : AllDelivered s plan ran.r answer

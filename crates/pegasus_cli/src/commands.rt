@@ -7,13 +7,14 @@ ghost use Rattle.pegasus_cli.specs.Commands.{quick_spec, threaded_spec};
 ghost use Rattle.pegasus_cli.specs.CommandSpec.{Does, OfFirst, doing};
 ghost use Rattle.pegasus_cli.specs.Fault.{not_for};
 ghost use Rattle.pegasus_cli.specs.Moments.{docs_moment};
-ghost use Rattle.command_words.specs.Words.{AreFew, quick_of, threaded_members, threaded_of};
+ghost use Rattle.command_words.specs.Words.{AreFew, HasImages, HasImagesBy, quick_of, threaded_members, threaded_of};
 
 mod alone;
 mod audit;
 mod check;
 mod eval;
 mod plan;
+mod rehearse;
 mod run;
 mod stat;
 
@@ -21,6 +22,7 @@ use crate::fault::CallFault;
 use command_words::{Quick, Threaded};
 use craft::{Crew, Gate};
 use outside::{Docs, Host, Tool};
+use rehearsal::Rehearsal;
 use std::alloc::Global;
 use std::sync::Wait;
 use std::thread::Threads;
@@ -31,7 +33,7 @@ pub(crate) const TASK_LIMIT: u64 = 2000;
 /// What a command tells: its answer, and the text before the answer's line.
 #[derive(Drop)]
 pub(crate) struct Told {
-    pub(crate) answer: Result<(), CallFault>,
+    pub(crate) answer: Result<Option<Rehearsal>, CallFault>,
     pub(crate) text: Vec<u8>,
 }
 
@@ -61,6 +63,7 @@ pub(crate) fn work<D: Docs, H: Host, T: Tool, G: Gate>(
     host: H,
     crew: &mut Crew<T, G>,
 ) -> Worked<H>
+    requires images { HasImages (quick_of command) }
     ensures does { let w = working T.apply T.known (work_moment H.Host host (T.faults crew.old.tool)) (work_moment H.Host result.host (T.faults crew.new.tool)) in
         (t : Tools) → OfFirst w t → Does (quick_spec (quick_of command.entry)) (doing (docs_moment D.Docs docs.old) (docs_moment D.Docs docs.new) w t) result.told.text.items result.told.answer }
     ensures gate { crew.new.gate ≡ crew.old.gate }
@@ -88,6 +91,10 @@ pub(crate) fn work<D: Docs, H: Host, T: Tool, G: Gate>(
             let told = stat::work(alloc, name, history, docs);
             Worked { told, host }
         }
+        Quick::Rehearse(images) => {
+            let told = rehearse::work(alloc, images, crew);
+            Worked { told, host }
+        }
     }
 }
 
@@ -107,6 +114,7 @@ pub(crate) fn work_in_threads<
     crew: &mut Vec<Crew<T, G>>,
 ) -> Worked<H>
     requires few { AreFew (threaded_members (threaded_of command)) }
+    requires images { HasImagesBy (threaded_of command) }
     requires crew { length crew.old.items ≡ 16 }
     ensures does { let before = list_map (λ (c : Crew T G). T.faults c.tool) crew.old.items in
         let after = list_map (λ (c : Crew T G). T.faults c.tool) crew.new.items in
@@ -118,5 +126,9 @@ pub(crate) fn work_in_threads<
 {
     match command {
         Threaded::Run(name, workers) => run::work(rt, alloc, name, workers, docs, host, crew),
+        Threaded::Rehearse(images, workers) => {
+            let told = rehearse::work_by(rt, alloc, images, workers, crew);
+            Worked { told, host }
+        }
     }
 }

@@ -22,6 +22,7 @@ mod threaded_call;
 
 pub use call::quick;
 pub use command_words::{threaded, user_words};
-pub use law::{told_documents_decide, usage_is_no_command};
+pub use law::{printed_runs_are_complete, told_documents_decide, usage_is_no_command};
 pub use outcome::Outcome;
+pub use rehearsal::Rehearsal;
 pub use threaded_call::pegasus;

@@ -6,6 +6,7 @@ ghost use Rattle.pegasus_cli.specs.Outcome.{IsAnswer, exceeds_line, line_of, out
 use crate::fault::CallFault;
 use outside::{Memory, TaskId, Text, Word, push_line};
 use planner::{PlanFault, push_refused};
+use rehearsal::Rehearsal;
 use run_record::{RunFault, push_failed};
 use std::alloc::Global;
 
@@ -15,7 +16,8 @@ const USAGE: &str =
 /// How a call ended.
 #[derive(Debug, Drop)]
 pub enum Outcome {
-    Done,
+    /// All was done; a rehearsal gives its record and its store back, and every other command nothing.
+    Done(Option<Rehearsal>),
     /// No memory was left, and nothing is written.
     Memory,
     /// The words are no command.
@@ -47,7 +49,7 @@ impl Outcome {
         ensures { result ≡ status_of self.now }
     {
         match self {
-            Outcome::Done => 0,
+            Outcome::Done(_) => 0,
             Outcome::Memory => 1,
             Outcome::Usage => 2,
             Outcome::DocAbsent(_) | Outcome::DocTooLong(_, _) | Outcome::DocFailed(_) => 3,
@@ -61,12 +63,13 @@ impl Outcome {
 }
 
 /// A command's answer as an outcome.
-pub(crate) fn of_answer(answer: Result<(), CallFault>) -> Outcome
+pub(crate) fn of_answer(answer: Result<Option<Rehearsal>, CallFault>) -> Outcome
     ensures is { result ≡ outcome_of answer }
     ensures answer { IsAnswer result }
 {
-    let Err(fault) = answer else {
-        return Outcome::Done;
+    let fault = match answer {
+        Ok(given) => return Outcome::Done(given),
+        Err(fault) => fault,
     };
     match fault {
         CallFault::Memory => Outcome::Memory,
@@ -116,7 +119,7 @@ pub(crate) fn push_outcome(
     ensures { OnOk result (text.new.items ≡ text.old.items ++ line_of outcome.now) }
 {
     match outcome {
-        Outcome::Done => push_line(alloc, text, "done", &[]),
+        Outcome::Done(_) => push_line(alloc, text, "done", &[]),
         Outcome::Memory | Outcome::SinkFailed => Ok(()),
         Outcome::Usage => push_line(alloc, text, USAGE, &[]),
         Outcome::DocAbsent(name) => push_line(

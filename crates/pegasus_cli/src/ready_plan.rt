@@ -13,6 +13,7 @@ use crate::kept_tools::unknown_tool;
 use outside::{Host, Memory, Tool};
 use plan_run::Ran;
 use planner::{Surveyed, plan_survey, plans_deliver_requests};
+use rehearsal::Rehearsal;
 use run_record::RunFault;
 use std::alloc::Global;
 use storage_simulation::Ordered;
@@ -64,11 +65,11 @@ pub(crate) fn unrun<H: Host>(alloc: Global, fault: CallFault, host: H) -> Worked
 }
 
 /// The answer for the end of a run.
-fn of_end(end: Result<(), RunFault>) -> Result<(), CallFault>
+fn of_end(end: Result<(), RunFault>) -> Result<Option<Rehearsal>, CallFault>
     ensures { result ≡ end_answer end }
 {
     match end {
-        Ok(()) => Ok(()),
+        Ok(()) => Ok(None),
         Err(fault) => Err(of_run_fault(fault)),
     }
 }
@@ -79,7 +80,12 @@ pub(crate) fn ended<H: Host>(ran: Ran<H>) -> Worked<H>
     ensures text { result.told.text.items ≡ ran.text.items }
     ensures host { result.host ≡ ran.host }
 {
-    let Ran { end, text, host } = ran;
+    let Ran {
+        end,
+        text,
+        host,
+        ..
+    } = ran;
     let answer = of_end(end);
     Worked {
         told: Told { answer, text },

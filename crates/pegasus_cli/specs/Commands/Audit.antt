@@ -1,5 +1,5 @@
 -- `audit`: judges a record by the plan and the order of the documents. It touches nothing.
-use Rattle.std.specs.Prelude.{◌≡◌, ℕ, List, [], Ok, Err}
+use Rattle.std.specs.Prelude.{◌≡◌, ℕ, List, [], Some, None, Ok, Err}
 use Rattle.plan_core.specs.declared.plan.Plan.{Plan}
 use Rattle.storage_simulation.specs.Ordering.{IsOrder, at_start}
 use Rattle.planner.specs.Planning.{IsPlanOf}
@@ -66,7 +66,8 @@ IsUnjudged i fault = IsUnplanned i.surveyed fault
 
 -- When each answer comes, and the text before its line, for what is printed of a judged record.
 abbrev pub SaysOf : (Plan → List ℕ → List Event → Verdict → List ℕ → Type 0) → Recorded → List ℕ → Answer → Type 0
-SaysOf Prints i text (Ok done) = IsJudgedBy i (λ p order r v. Prints p order r v text)
+SaysOf Prints i text (Ok None) = IsJudgedBy i (λ p order r v. Prints p order r v text)
+SaysOf Prints i text (Ok (Some given)) = ⊥
 SaysOf Prints i text (Err Memory) = Unit {0}
 SaysOf Prints i text (Err fault) = IsUnjudged i fault × (text ≡ [])
 

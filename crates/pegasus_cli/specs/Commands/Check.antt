@@ -1,5 +1,5 @@
 -- `check`: lists what the workflow has and what isn't acted on. It touches nothing.
-use Rattle.std.specs.Prelude.{◌≡◌, ℕ, List, Ok, Err}
+use Rattle.std.specs.Prelude.{◌≡◌, ℕ, List, None, Ok, Err}
 use Rattle.planner.specs.SurveyText.{check_lines}
 use Rattle.planner.specs.declared.inputs.Survey.{Survey}
 use Rattle.planner.specs.declared.surveyed.Surveyed.{Surveyed}
@@ -10,9 +10,9 @@ use Rattle.pegasus_cli.specs.Fault.{Answer}
 use Rattle.pegasus_cli.specs.Survey.{over_survey}
 
 abbrev pub Says : Survey → List ℕ → Answer → Type 0
-Says s text (Ok done) = text ≡ check_lines s
+Says s text (Ok None) = text ≡ check_lines s
 Says s text (Err Memory) = Unit {0}
-Says s text (Err fault) = ⊥
+Says s text _ = ⊥
 
 pub record Checks (w : Work) (t : Tools) (s : Surveyed) (text : List ℕ) (answer : Answer) : Type 0 where
   pub untouched : w.after ≡ w.before

@@ -1,5 +1,5 @@
 -- `eval`: tells the values of the requested files, by file number. It delivers nothing.
-use Rattle.std.specs.Prelude.{◌≡◌, ℕ, List, [], Ok, Err}
+use Rattle.std.specs.Prelude.{◌≡◌, ℕ, List, [], Some, None, Ok, Err}
 use Rattle.evaluation.specs.Evaluating.{AllDefined, HasNoValues, HasValues}
 use Rattle.evaluation.specs.Moments.{Meeting, Moment, Subject, subject}
 use Rattle.evaluation.specs.Values.{Valued, value_lines}
@@ -31,7 +31,8 @@ pub record IsUnvalued (w : Work) (s : Surveyed) (answer : CallFault) : Type 0 wh
 
 -- When each answer comes, and the text before its line.
 abbrev pub Says : Work → Surveyed → List ℕ → Answer → Type 0
-Says w s text (Ok done) = (all : List Valued) × HasValues (meeting_of w) (subject_of s) all × (text ≡ value_lines all)
+Says w s text (Ok None) = (all : List Valued) × HasValues (meeting_of w) (subject_of s) all × (text ≡ value_lines all)
+Says w s text (Ok (Some given)) = ⊥
 Says w s text (Err Memory) = Unit {0}
 Says w s text (Err fault) = IsUnvalued w s fault × (text ≡ [])
 

@@ -1,5 +1,5 @@
 -- `plan`: prints the plan of the documents with its order. It touches nothing.
-use Rattle.std.specs.Prelude.{◌≡◌, ◌<◌, ℕ, List, [], get_or, length, Ok, Err}
+use Rattle.std.specs.Prelude.{◌≡◌, ◌<◌, ℕ, List, [], get_or, length, Some, None, Ok, Err}
 use Rattle.outside.specs.declared.numbers.TaskId.{TaskId}
 use Rattle.plan_core.specs.declared.plan.Plan.{Plan}
 use Rattle.plan_core.specs.Printing.{plan_text}
@@ -55,7 +55,8 @@ IsRefusal s answer = IsUnplanned s answer
 
 -- When each answer comes, and the text before its line.
 abbrev pub Says : Surveyed → List ℕ → Answer → Type 0
-Says s text (Ok done) = HasPlan s text
+Says s text (Ok None) = HasPlan s text
+Says s text (Ok (Some given)) = ⊥
 Says s text (Err Memory) = Unit {0}
 Says s text (Err fault) = IsUnplanned s fault × (text ≡ [])
 

@@ -34,7 +34,7 @@ fn judged_text(alloc: Global, recorded: &Recorded) -> Told
     };
     match verdict_text(alloc, judged.verdict) {
         Ok(text) => Told {
-            answer: Ok(()),
+            answer: Ok(None),
             text,
         },
         Err(Memory) => at_once(alloc, CallFault::Memory),

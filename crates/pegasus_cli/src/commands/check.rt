@@ -23,7 +23,7 @@ pub(crate) fn work<D: Docs>(alloc: Global, name: &str, docs: &mut D) -> Told
     };
     match check_text(alloc, &surveyed.survey) {
         Ok(text) => Told {
-            answer: Ok(()),
+            answer: Ok(None),
             text,
         },
         Err(Memory) => at_once(alloc, CallFault::Memory),

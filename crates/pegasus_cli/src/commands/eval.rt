@@ -40,7 +40,7 @@ fn values_text<H: Host, T: Tool>(
     };
     match value_text(alloc, workflow, &values) {
         Ok(text) => Told {
-            answer: Ok(()),
+            answer: Ok(None),
             text,
         },
         Err(Memory) => at_once(alloc, CallFault::Memory),

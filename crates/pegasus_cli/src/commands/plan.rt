@@ -48,7 +48,7 @@ fn plan_text(alloc: Global, surveyed: &Surveyed) -> Told
     };
     match text_of(alloc, &ordered) {
         Ok(text) => Told {
-            answer: Ok(()),
+            answer: Ok(None),
             text,
         },
         Err(Memory) => at_once(alloc, CallFault::Memory),

@@ -59,7 +59,7 @@ fn judged_text(alloc: Global, recorded: &Recorded) -> Told
     };
     match sums_text(alloc, &judged) {
         Ok(text) => Told {
-            answer: Ok(()),
+            answer: Ok(None),
             text,
         },
         Err(Memory) => at_once(alloc, CallFault::Memory),

@@ -1,4 +1,5 @@
 use Rattle.std.proofs.Common.{refl}
+use Rattle.plan_run.specs.Moments.{work_moment}
 use Rattle.pegasus_cli.proofs.commands.work.Goals as goal
 
 pub returns-in-Check-clause-does : goal.returns-in-Check-clause-does
@@ -18,3 +19,6 @@ returns-in-Audit-clause-does g c = λ t first. rw c.in-Audit.is (c.work-told-in-
 
 pub returns-in-Stat-clause-does : goal.returns-in-Stat-clause-does
 returns-in-Stat-clause-does g c = λ t first. rw c.in-Stat.is (c.work-told-in-Stat.ensures _ t refl (first refl))
+
+pub returns-in-Rehearse-clause-does : goal.returns-in-Rehearse-clause-does
+returns-in-Rehearse-clause-does g c = λ t first. rw c.in-Rehearse.is (c.work-told-in-Rehearse.ensures.does _ (work_moment g.H.Host c.args.host 0) t first)
