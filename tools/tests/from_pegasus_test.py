@@ -1,4 +1,5 @@
-"""Tests of tools/from-pegasus: the example, and texts that YAML would read as something else."""
+"""Tests of tools/from-pegasus: the example, texts that YAML would read as something else, and what the program refuses, told
+with its place or taken out."""
 import json
 import pathlib
 import subprocess
@@ -35,7 +36,7 @@ assert request["tools"] == {"preprocess": "deal"} and request["replicas"] == str
 
 plain = work / "plain.yml"
 plain.write_text(
-    "pegasus: 5.0\nname: 007\njobs:\n- {type: job, id: 1, name: yes, version: 4.0, arguments: [010, on, 2026-01-02],\n"
+    "pegasus: 5.0\nname: 007\nsiteCatalog: {sites: []}\ntransformationCatalog: {transformations: []}\njobs:\n- {type: job, id: 1, name: yes, version: 4.0, arguments: [010, on, 2026-01-02],\n"
     "   uses: [{lfn: 1.50, type: output, stageOut: no, size: 12, color/x: red}]}\n",
     encoding="utf-8",
 )
@@ -49,5 +50,101 @@ assert job["uses"][0]["lfn"] == "1.50" and job["uses"][0]["stageOut"] is False a
 for name in ("list.yml", "torn.yml", "none.yml"):
     refused = turn(str(work / name), str(work / "nothing"))
     assert refused.returncode == 1 and refused.stderr.startswith("from-pegasus: "), name
+
+# All that the program refuses, with profiles in every place, grids, and inlined catalogues.
+FULL = """
+x-pegasus: {apiLang: python}
+pegasus: 5.0.4
+name: full
+hooks: {shell: [{_on: end, cmd: /bin/date}]}
+profiles: {env: {A: 1}, pegasus: {style: condor}}
+siteCatalog:
+  sites:
+  - {name: local, directories: []}
+  - name: condorpool
+    grids: [{type: batch, contact: pool, scheduler: slurm, jobtype: compute}]
+    directories: [{type: sharedScratch, path: /work, fileServers: [{operation: all, url: 'file:///work'}]}]
+    profiles: {env: {PATH: /bin}, condor: {universe: vanilla}}
+replicaCatalog:
+  replicas:
+  - {lfn: f.a, pfns: [{site: local, pfn: examples/diamond/f.a}], checksum: {sha256: SHA}}
+  - {lfn: 'f.*', pfns: [{site: local, pfn: /data/}], checksum: {sha256: 991234}, regex: true}
+  - {lfn: other, pfns: [{site: local, pfn: /data/other}], checksum: {sha256: 991234}, metadata: {owner: astronomer}}
+transformationCatalog:
+  transformations:
+  - namespace: diamond
+    name: make
+    version: 4.0
+    requires: ['diamond::lib:1.0']
+    profiles: {pegasus: {clusters.size: 3}, globus: {maxwalltime: 2}}
+    sites:
+    - {name: condorpool, pfn: /usr/bin/make, type: installed, container: box, profiles: {env: {B: 2}}}
+    - {name: condorpool, pfn: /usr/bin/make, type: static_binary, container: box}
+  - {name: make, sites: [{name: condorpool, pfn: /bin/make, type: stageable, bypass: true}]}
+  containers:
+  - {name: box, type: singularity, image: 'library://box', mounts: ['/a:/b:ro'], profiles: {env: {C: 3}}}
+jobs:
+- {type: job, id: one, namespace: diamond, name: make, version: 4.0, uses: [{lfn: f.a, type: input},
+   {lfn: saved, type: checkpoint, stageOut: true}, {lfn: part, type: output}], profiles: {pegasus: {runtime: 3}, dagman: {retry: 2}}}
+- {type: pegasusWorkflow, id: sub, file: sub.yml, arguments: ['--sites', condorpool], uses: [{lfn: sub.yml, type: input},
+   {lfn: inner, type: output}]}
+- {type: job, id: two, name: make, uses: [{lfn: part, type: input}, {lfn: both, type: inout}, {lfn: inner, type: input},
+   {lfn: whole, type: output}]}
+jobDependencies:
+- {id: one, children: [sub]}
+- {id: sub, children: [two]}
+""".replace("SHA", "aaa25abfbb97e1f9ed2074418d888dd216b4373ffdb5eb68a892edded2299b05")
+REFUSED = {
+    "subworkflows": ["/jobs/1"], "checkpoints": ["/jobs/0/uses/1"], "uses": ["/jobs/2/uses/1"],
+    "patterns": ["/replicaCatalog/replicas/1"], "checksums": [f"/replicaCatalog/replicas/{at}/checksum" for at in (1, 2)], "requires": ["/transformationCatalog/transformations/0/requires"],
+    "types": ["/transformationCatalog/transformations/0/sites/1"],
+    "containers": ["/transformationCatalog/containers", *(
+        f"/transformationCatalog/transformations/0/sites/{at}/container" for at in (0, 1))],
+}
+(work / "full.yml").write_text(FULL, encoding="utf-8")
+refused = turn(str(work / "full.yml"), str(work / "nothing"))
+assert refused.returncode == 4 and not refused.stdout, refused
+told = refused.stderr.splitlines()
+for kind, paths in REFUSED.items():
+    found = [line for line in told if line.endswith(f"; --drop {kind} takes it out")]
+    assert [line.split(" ")[3] for line in found] == sorted(paths), (kind, found)
+assert told[-1] == "from-pegasus: nothing was written" and len(told) == 1 + sum(map(len, REFUSED.values())), told
+some = turn("--drop", "containers", "--drop", "uses", str(work / "full.yml"), str(work / "nothing"))
+assert some.returncode == 4 and "container" not in some.stderr and "checkpoint" in some.stderr, some.stderr
+
+drops = [word for kind in REFUSED for word in ("--drop", kind)]
+tools = ["--tool", "diamond::make:4.0=sorted", "--tool", "make=join"]
+done = turn(*drops, *tools, str(work / "full.yml"), str(work / "full"))
+assert done.returncode == 0, done.stderr
+lines = done.stdout.splitlines()
+assert sorted(line.split(" ")[2] for line in lines if line.startswith("dropped ")) == sorted(sum(REFUSED.values(), []))
+for line in ("made by no job any more workflow /jobs/1/uses/1 inner", "not acted on workflow /siteCatalog/sites/1/grids",
+             "not acted on workflow /profiles", "not acted on workflow /jobs/0/profiles/dagman",
+             "not acted on workflow /transformationCatalog/transformations/0/profiles/globus"):
+    assert line in lines, (line, lines)
+workflow, request = read(work / "full", "workflow"), read(work / "full", "request")
+assert [job["name"] for job in workflow["jobs"]] == ["diamond::make:4.0", "make"]
+assert workflow["jobDependencies"] == [{"id": "one", "children": ["two"]}]
+assert request["tools"] == {"diamond::make:4.0": "sorted", "make": "join"}
+assert [site["site"] for site in request["execute"]] == ["condorpool"]
+# Once `inner` is registered, it is planned and run.
+workflow["replicaCatalog"]["replicas"].append({"lfn": "inner", "pfns": [{"site": "local", "pfn": "examples/diamond/f.a"}]})
+(work / "full" / "workflow.json").write_text(json.dumps(workflow), encoding="utf-8")
+(work / "full" / "request.json").write_text(json.dumps({**request, "workflow": str(work / "full" / "workflow.json")}), encoding="utf-8")
+ran = subprocess.run([sys.executable, "tools/run-model", str(work / "full" / "request.json")], capture_output=True, text=True, check=False)
+assert ran.stdout.splitlines()[-1] == "done" and "delivered whole 16 " in ran.stdout, ran.stdout
+
+# An inlined catalogue isn't looked at where a document stands in its place, and one that is missing is told.
+(work / "catalogue.yml").write_text("pegasus: 5.0\ntransformations: []\n", encoding="utf-8")
+left = turn("--transformations", str(work / "catalogue.yml"), "--drop", "subworkflows", "--drop", "uses", "--drop", "checkpoints",
+            "--drop", "patterns", "--drop", "checksums", str(work / "full.yml"), str(work / "other"))
+assert left.returncode == 0 and "/transformationCatalog" not in left.stdout, left
+(work / "bare.yml").write_text("pegasus: 4.9\nname: bare\njobs: []\n", encoding="utf-8")
+bare = turn(str(work / "bare.yml"), str(work / "nothing"))
+assert bare.returncode == 4 and "/pegasus 4.9" in bare.stderr and "no catalogue of sites" in bare.stderr, bare.stderr
+for words in (["--tool", "nobody=join"], ["--tool", "diamond::make:5.0=join"]):
+    assert turn(*drops, *words, str(work / "full.yml"), str(work / "nothing")).returncode == 1, words
+for words in (["--tool", "make"], ["--tool", "make=cat"], ["--drop", "jobs"], ["--size", "many"]):
+    assert turn(*words, str(work / "full.yml"), str(work / "nothing")).returncode == 2, words
 assert not (work / "nothing").exists()
 print("from-pegasus: ok")

@@ -69,7 +69,7 @@ def others_hold(place):
     request = '{"workflow": "cycle.json", "execute": [{"site": "local", "bound": 1000}], "default_size": 100}'
     (place / "request.json").write_text(request)
     assert call("./pegasus check request.json", place) == (4, ["refused cycle a b"])
-    status, lines = call("./pegasus rehearse 4", place)
+    status, lines = call("./pegasus rehearse 1", place)
     assert status == 2 and len(lines) == 1 and lines[0].startswith("usage: "), (status, lines)
     assert call("./pegasus check nowhere.json", place) == (3, ["no document nowhere.json"])
     assert call("./pegasus check examples", place) == (3, ["document failed examples"])

@@ -1,0 +1,76 @@
+"""The documents that the program reads, for the tools that write them: which keys it acts on, and what it refuses."""
+import argparse
+import json
+import os
+
+MOST_SIZE, MOST_BOUND = 2**40, 2**60
+TOOLS = ("text", "join", "take", "drop", "deal", "sorted", "distinct", "count", "holds", "column", "total", "digest")
+INLINED = {"sites": "siteCatalog", "replicas": "replicaCatalog", "transformations": "transformationCatalog"}
+
+# The tables of docs/FORMATS.md: a list has the table of its elements.
+PROFILES = {"pegasus": {"label": {}, "clusters.size": {}, "clusters.num": {}}, "selector": {"execution.site": {}}}
+JOB = {
+    "type": {}, "id": {}, "name": {}, "namespace": {}, "version": {}, "arguments": {},
+    "uses": [{"lfn": {}, "type": {}, "stageOut": {}, "registerReplica": {}, "size": {}}],
+    "profiles": PROFILES,
+}
+SITES = {
+    "pegasus": {},
+    "sites": [{"name": {}, "directories": [{"type": {}, "path": {}, "fileServers": [{"operation": {}, "url": {}}]}]}],
+}
+REPLICAS = {
+    "pegasus": {},
+    "replicas": [{"lfn": {}, "pfns": [{"site": {}, "pfn": {}}], "checksum": {"sha256": {}}, "regex": {}}],
+}
+TRANSFORMATIONS = {
+    "pegasus": {}, "containers": {},
+    "transformations": [{
+        "namespace": {}, "name": {}, "version": {}, "requires": {}, "profiles": PROFILES,
+        "sites": [{"name": {}, "pfn": {}, "type": {}, "container": {}}],
+    }],
+}
+WORKFLOW = {
+    "pegasus": {}, "name": {}, "jobs": [JOB], "jobDependencies": [{"id": {}, "children": {}}],
+    "siteCatalog": SITES, "replicaCatalog": REPLICAS, "transformationCatalog": TRANSFORMATIONS,
+}
+TABLES = {"workflow": WORKFLOW, "sites": SITES, "replicas": REPLICAS, "transformations": TRANSFORMATIONS}
+
+
+def escaped(key):
+    return key.replace("~", "~0").replace("/", "~1")
+
+
+def ignored(value, table, path=""):
+    """The paths of the keys that are in no table."""
+    if isinstance(table, list):
+        if isinstance(value, list):
+            for place, part in enumerate(value):
+                yield from ignored(part, table[0], f"{path}/{place}")
+    elif table and isinstance(value, dict):
+        for key, part in value.items():
+            here = f"{path}/{escaped(key)}"
+            if key in table:
+                yield from ignored(part, table[key], here)
+            else:
+                yield here
+
+
+def members(value, key):
+    """The places and objects of a list, if there is one under the key."""
+    found = value.get(key) if isinstance(value, dict) else None
+    return [(place, it) for place, it in enumerate(found) if isinstance(it, dict)] if isinstance(found, list) else []
+
+
+def write(folder, name, value):
+    with open(os.path.join(folder, f"{name}.json"), "w", encoding="utf-8") as file:
+        json.dump(value, file, ensure_ascii=False, indent=1)
+        file.write("\n")
+
+
+def natural(most):
+    """What a word of the command line has to be: a whole number up to this one."""
+    def read(text):
+        if not (text.isascii() and text.isdigit() and int(text) <= most):
+            raise argparse.ArgumentTypeError(f"{text} is no whole number up to {most}")
+        return int(text)
+    return read

@@ -1,0 +1,132 @@
+"""Tests of tools/report: pages of plans and of runs by the models, and by the program where it is built, which are the same."""
+import pathlib
+import subprocess
+import sys
+import xml.etree.ElementTree as tree
+
+sys.dont_write_bytecode = True
+sys.path.insert(0, "tools")
+import together
+
+work = pathlib.Path(sys.argv[1])
+PROGRAM = pathlib.Path("crates/pegasus/out/pegasus").absolute()
+STAND_IN = pathlib.Path("tools/tests/stand_in").absolute()
+TOOLS = pathlib.Path("tools").absolute()
+EXAMPLES = pathlib.Path("examples").absolute()
+SVG = "{http://www.w3.org/2000/svg}"
+DIGEST = "5262f5aa6a2519b3fd6ea80bf94571a32518ccab8dbcce33edb5b99a6070b20f"
+
+
+def folder(name, program):
+    place = work / name
+    place.mkdir(parents=True)
+    for link, target in (("examples", EXAMPLES), ("tools", TOOLS), ("pegasus", program)):
+        (place / link).symlink_to(target)
+    return place
+
+
+def call(place, *words):
+    return subprocess.run(words, cwd=place, capture_output=True, text=True, check=False)
+
+
+models = folder("models", STAND_IN)
+program = folder("program", PROGRAM) if PROGRAM.exists() else None
+
+
+def page(*words):
+    """The page, which stands alone and is one tree."""
+    made = call(models, "tools/report", *words)
+    assert made.returncode == 0 and not made.stderr, (words, made.stderr)
+    for far in ("<script", "<link", "<img", "@import", "src=", "href="):
+        assert far not in made.stdout, far
+    assert made.stdout.count("url(") == made.stdout.count("url(#stripes)")
+    assert made.stdout.replace("http://www.w3.org/2000/svg", "").count("://") == made.stdout.count("file://")
+    if program is not None:
+        assert call(program, "tools/report", *words).stdout == made.stdout, words
+    return tree.fromstring(made.stdout)
+
+
+def record(name, request):
+    """Keeps what a run prints where both can read it."""
+    text = call(models, "./pegasus", "alone", request).stdout
+    for place in filter(None, (models, program)):
+        (place / name).write_text(text, encoding="utf-8")
+    return text.splitlines()
+
+
+def texts(found):
+    return ["".join(it.itertext()) for it in found.iter() if it.tag in ("td", "p", "h1", "h2", "caption")]
+
+
+def rows(found, caption):
+    """The cells of the table whose caption begins so."""
+    table = next(it for it in found.iter("table") if it.find("caption").text.startswith(caption))
+    return [["".join(cell.itertext()) for cell in row] for row in table.iter("tr")]
+
+
+def count(found, *names):
+    return sum(set(names) <= set(part.get("class", "").split()) for part in found.iter())
+
+
+plan = page("examples/report/request.json")
+assert [it.text for it in plan.iter("h2")] == [
+    "The plan", "Storage against bounds", "Statistics", "To be delivered", "Keys that are ignored"]
+assert "Each key of the documents is acted on." in texts(page("examples/hello/request.json"))
+assert rows(plan, "Keys")[1:] == [["workflow", "/jobs/0/nodeLabel", "1", "/jobs/0/nodeLabel"],
+                                  ["workflow", "/x-pegasus", "1", "/x-pegasus"], ["sites", "/sites/0/arch", "1", "/sites/0/arch"]]
+
+record("two.txt", "examples/two_sites/request.json")
+two = page("examples/two_sites/request.json", "two.txt")
+assert rows(two, "What was done")[1:] == [
+    ["near", "7", "2", "1", "4", "8", "12", "0", "28", "30", "93.3 %"],
+    ["far", "8", "2", "2", "4", "8", "12", "0", "18", "30", "60.0 %"], ["output", "1", "0", "1", "0", "8", "0", "0", "", "", ""]]
+assert rows(two, "What each worker")[1:] == [["worker 0", "16", "4", "4", "8", "24", "24", "0"]]
+assert rows(two, "What was requested")[1:] == [["f.d", "10", "8", DIGEST]]
+assert "No attempt failed." in texts(two)
+assert len(list(two.iter(SVG + "svg"))) + len(list(two.iter("svg"))) == 4 and count(two, "bar") == 8
+
+failed = record("failed.txt", "examples/trouble/oversize.json")
+broken = page("examples/trouble/oversize.json", "failed.txt")
+assert rows(broken, "Attempts")[1:] == [["7", "0", "task 1: run ID0000002", "oversize 1 3 65", "for good"]]
+assert rows(broken, "What was requested")[1:] == [["f.d", "10", "", "not told as delivered"]]
+assert f"The call ended with {failed[-1]}." in texts(broken) and count(broken, "failed") == 2
+
+# An illegal record is shown up to its first entry that isn't allowed.
+for place in filter(None, (models, program)):
+    (place / "swapped.txt").write_text("record 1\ngrant 0 4\narrive 0 4 8\ngrant 1 99\nclosed\n", encoding="utf-8")
+    (place / "cut.txt").write_text("record 1\ngrant 0 4\n", encoding="utf-8")
+illegal = page("examples/diamond/request.json", "swapped.txt")
+assert any("The record is illegal 3: 2 entries" in it for it in texts(illegal)) and count(illegal, "bar") == 1
+
+# Above 300 tasks those of one kind are one box.
+for place in filter(None, (models, program)):
+    assert call(place, "examples/montage/make", "38", "mine").returncode == 0
+record("montage.txt", "mine/request.json")
+large = page("mine/request.json", "montage.txt")
+boxes = [it.text for it in large.iter(SVG + "text")]
+for label in ("replicas × 38", "mProject × 38", "mDiffFit × 37", "mAdd_0000", "runs of mProject: 38, entries 4 to 189", "runs of mAdd: 1, entry 423"):
+    assert label in boxes, (label, boxes)
+assert ["runs of mBackground", "38", "3 078".replace(" ", "\u202f"), "38"] in [row[:4] for row in rows(large, "Each kind")]
+
+
+def drawn_together(name_of, after_of, count=500):
+    """The labels of the boxes of a plan by hand, of so many runs."""
+    lines = ["plan 1", "workflow hand", "site 0 here 1000", *(f"file {at} f{at} 1" for at in range(count)),
+             *(f"job {at} J{at} site 0" for at in range(count)),
+             *(f"task {at} run 0 jobs {at} reads - writes {at} after {after_of(at)}" for at in range(count)),
+             "order " + " ".join(map(str, range(count))), "peak 0 500", "closed"]
+    plan = together.draw.read_plan("\n".join(lines))
+    return [task.named() for task in together.groups_of(plan, [name_of(at) for at in range(count)]).tasks]
+
+
+# A long chain has few columns, and of many kinds there is one box.
+assert drawn_together(lambda at: "step", lambda at: at - 1 if at else "-") == ["step × 21"] * 23 + ["step × 17"]
+assert drawn_together(lambda at: f"own{at}", lambda at: "-") == ["jobs × 500"]
+assert len(drawn_together(lambda at: f"t{at % 200}", lambda at: "-")) == 200
+
+for words in (["nowhere.json"], ["examples/diamond/tight.json"], ["examples/diamond/request.json", "nowhere.txt"],
+              ["examples/diamond/request.json", "cut.txt"], ["--program", "./nothing", "examples/diamond/request.json"]):
+    refused = call(models, "tools/report", *words)
+    assert refused.returncode == 1 and not refused.stdout and "report: " in refused.stderr, (words, refused)
+assert call(models, "tools/report").returncode == 2
+print("report: ok" + (", by the program too" if program else ""))

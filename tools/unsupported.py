@@ -1,0 +1,163 @@
+"""What documents of Pegasus 5.0 may hold and this program refuses as unsupported: where it is, what can be done, and how it
+is taken out.
+
+A document is an object of `{name: document}`; an inlined catalogue counts only where no document stands in its place.
+"""
+import copy
+import re
+from dataclasses import dataclass
+
+import documents
+
+# Of each kind what can be done.
+KINDS = {
+    "containers": "jobs are this program's own tools and need none",
+    "subworkflows": "plan it by itself and register what it makes as replicas, or put its jobs into this workflow",
+    "checkpoints": "no job is taken up again where it stood",
+    "uses": "say input or output",
+    "patterns": "give each file an entry of its own",
+    "checksums": "64 hexadecimal digits are wanted",
+    "requires": "jobs are this program's own tools and need no others",
+    "types": "say installed or stageable",
+    "version": "documents of another version than 5.0 have to be written anew",
+    "catalogue": "name one with --sites or --transformations",
+}
+DROPPED = [kind for kind in KINDS if kind not in ("version", "catalogue")]
+
+
+@dataclass
+class Place:
+    kind: str
+    document: str
+    path: str
+    what: str
+
+    def told(self):
+        dropped = f"; --drop {self.kind} takes it out" if self.kind in DROPPED else ""
+        return f"{self.document} {self.path or '%'} {self.what}: {KINDS[self.kind]}{dropped}"
+
+
+def catalogues(found, name):
+    """The catalogue that the program reads: the document and the path to it."""
+    if name in found:
+        yield name, "", found[name]
+    elif isinstance(found["workflow"].get(documents.INLINED[name]), dict):
+        key = documents.INLINED[name]
+        yield "workflow", f"/{key}", found["workflow"][key]
+
+
+def table(found, name):
+    """The keys of a document that are acted on. Of an inlined catalogue that isn't read none is looked at."""
+    unread = {key: {} for catalogue, key in documents.INLINED.items() if catalogue in found}
+    return {**documents.WORKFLOW, **unread} if name == "workflow" else documents.TABLES[name]
+
+
+# Where it is
+
+
+def of_version(document, name, path):
+    said = document.get("pegasus")
+    if isinstance(said, str) and not re.fullmatch(r"5\.0(\.[0-9]+)?", said):
+        yield Place("version", name, f"{path}/pegasus", said)
+
+
+def of_jobs(workflow):
+    for place, job in documents.members(workflow, "jobs"):
+        if isinstance(job.get("type"), str) and job["type"] != "job":
+            yield Place("subworkflows", "workflow", f"/jobs/{place}", f"a job of type {job['type']}")
+            continue
+        for at, use in documents.members(job, "uses"):
+            if isinstance(use.get("type"), str) and use["type"] not in ("input", "output"):
+                kind = "checkpoints" if use["type"] == "checkpoint" else "uses"
+                yield Place(kind, "workflow", f"/jobs/{place}/uses/{at}", f"a use of type {use['type']}")
+
+
+def of_replicas(catalogue, name, path):
+    for place, entry in documents.members(catalogue, "replicas"):
+        if entry.get("regex") is True:
+            yield Place("patterns", name, f"{path}/replicas/{place}", f"a pattern {entry.get('lfn')}")
+        checksum = entry.get("checksum")
+        digits = checksum.get("sha256") if isinstance(checksum, dict) else None
+        if digits is not None and not re.fullmatch("[0-9A-Fa-f]{64}", str(digits)):
+            yield Place("checksums", name, f"{path}/replicas/{place}/checksum", f"a SHA-256 {digits}")
+
+
+def of_transformations(catalogue, name, path):
+    if catalogue.get("containers"):
+        yield Place("containers", name, f"{path}/containers", "containers")
+    for place, entry in documents.members(catalogue, "transformations"):
+        here = f"{path}/transformations/{place}"
+        if entry.get("requires"):
+            yield Place("requires", name, f"{here}/requires", "a transformation that requires others")
+        for at, site in documents.members(entry, "sites"):
+            if isinstance(site.get("type"), str) and site["type"] not in ("installed", "stageable"):
+                yield Place("types", name, f"{here}/sites/{at}", f"a transformation of type {site['type']}")
+            if site.get("container") is not None:
+                yield Place("containers", name, f"{here}/sites/{at}/container", f"the container {site['container']}")
+
+
+def places(found):
+    """Each place that the program refuses, document by document; what holds a place comes before it."""
+    yield from of_version(found["workflow"], "workflow", "")
+    yield from of_jobs(found["workflow"])
+    for name in documents.INLINED:
+        if name != "replicas" and not list(catalogues(found, name)):
+            yield Place("catalogue", "workflow", "", f"no catalogue of {name}")
+        for document, path, catalogue in catalogues(found, name):
+            yield from of_version(catalogue, document, path)
+            if name == "replicas":
+                yield from of_replicas(catalogue, document, path)
+            elif name == "transformations":
+                yield from of_transformations(catalogue, document, path)
+
+
+# How it is taken out
+
+
+def parent_of(document, path):
+    """What the last key of a path stands in, and this key."""
+    *keys, last = [key.replace("~1", "/").replace("~0", "~") for key in path.split("/")[1:]]
+    here = document
+    for key in keys:
+        here = here[int(key) if isinstance(here, list) else key]
+    return here, int(last) if isinstance(here, list) else last
+
+
+def bridge(pairs, gone):
+    """Pairs of ids without those that are gone: what came before one of them comes before what came after it."""
+    for middle in gone:
+        before = [first for first, second in pairs if second == middle]
+        after = [second for first, second in pairs if first == middle]
+        pairs = [pair for pair in pairs if middle not in pair]
+        pairs += [pair for pair in ((first, second) for first in before for second in after) if pair not in pairs]
+    return pairs
+
+
+def drop_jobs(workflow, gone):
+    """Takes the dependencies of jobs that are gone out, and tells the files that no job makes any more."""
+    ids = [job.get("id") for job in gone]
+    entries = [it for _, it in documents.members(workflow, "jobDependencies")]
+    if any(it.get("id") == gone_id or gone_id in (it.get("children") or []) for it in entries for gone_id in ids):
+        pairs = bridge([(it.get("id"), child) for it in entries for child in it.get("children") or []], ids)
+        firsts = list(dict.fromkeys(first for first, _ in pairs))
+        workflow["jobDependencies"] = [{"id": first, "children": [to for at, to in pairs if at == first]} for first in firsts]
+    made = {use.get("lfn") for job in gone for _, use in documents.members(job, "uses") if use.get("type") == "output"}
+    for place, job in documents.members(workflow, "jobs"):
+        for at, use in documents.members(job, "uses"):
+            if use.get("type") == "input" and use.get("lfn") in made:
+                yield f"made by no job any more workflow /jobs/{place}/uses/{at} {use['lfn']}"
+
+
+def drop(found):
+    """Takes all of it out, the last place of a list first, and gives a line for each."""
+    dropped = list(places(found))
+    gone = []
+    for it in dropped:
+        if it.kind == "subworkflows":
+            inside, key = parent_of(found["workflow"], it.path)
+            gone.append(copy.deepcopy(inside[key]))
+    for it in reversed(dropped):
+        inside, key = parent_of(found[it.document], it.path)
+        del inside[key]
+    yield from (f"dropped {it.document} {it.path} {it.what}" for it in dropped)
+    yield from drop_jobs(found["workflow"], gone)
