@@ -4,18 +4,27 @@
 //! [`StreamSink`] meets `outside::Sink` over a writer. Nothing is assumed of real files: what they hold isn't
 //! told, and what a stream holds is told only where the writer tells it. A reading within a limit is defined in
 //! `specs/Reading.antt`, the path of a name in `specs/FileName.antt`.
+//!
+//! [`Progress`] is a line on a terminal: [`ShownTool`] counts a tool's runs in it, and [`WipingSink`] takes it away before
+//! a text is written.
 #![tactic(auto)]
 
 mod file_name;
 mod folder_docs;
 mod folder_host;
 mod law;
+mod progress;
 mod reading;
+mod shown_tool;
 mod standing;
 mod stream_sink;
+mod wiping_sink;
 mod writing;
 
 pub use folder_docs::FolderDocs;
 pub use folder_host::FolderHost;
 pub use law::escaped_names_stay_apart;
+pub use progress::Progress;
+pub use shown_tool::ShownTool;
 pub use stream_sink::StreamSink;
+pub use wiping_sink::WipingSink;

@@ -5,22 +5,27 @@
 ghost use Rattle.std.specs.Prelude.{◌≡◌, IfOk, length};
 
 use craft::{Crew, OpenGate};
-use host_files::{FolderDocs, FolderHost, StreamSink};
+use host_files::{FolderDocs, FolderHost, Progress, ShownTool, StreamSink, WipingSink};
 use outside::Memory;
 use pegasus_cli::{Outcome, pegasus, user_words};
 use std::alloc::Global;
+use std::io::IsTerminal;
 use std::process::ExitCode;
+use std::sync::Arc;
 use std::{env, io};
 use toolbox::Shipped;
 
-/// Sixteen members with the shipped tools.
-fn crew_of(alloc: Global) -> Result<Vec<Crew<Shipped, OpenGate>>, Memory>
+/// A member with the shipped tools, whose runs the terminal shows.
+type Member = Crew<ShownTool<Shipped, HostRuntime>, OpenGate>;
+
+/// Sixteen members, which share their progress.
+fn crew_of(alloc: Global, progress: &Arc<Progress<HostRuntime>>) -> Result<Vec<Member>, Memory>
     ensures { IfOk result (λ crew. length crew.items ≡ 16) }
 {
     let mut crew = Vec::new(alloc);
     for member in 0..16_usize {
         crew.push(Crew {
-            tool: Shipped::new(),
+            tool: ShownTool::new(Shipped::new(), progress.clone()?),
             gate: OpenGate,
         })?;
     }
@@ -32,12 +37,17 @@ fn main(rt: HostRuntime) -> ExitCode {
     let Ok(words) = user_words(alloc, env::args(&rt)) else {
         return ExitCode::from(Outcome::Memory.code());
     };
-    let Ok(crew) = crew_of(alloc) else {
+    let shows = rt.stderr().is_terminal();
+    let Ok(progress) = Arc::new(alloc, Progress::new(rt, shows)) else {
         return ExitCode::from(Outcome::Memory.code());
     };
-    let mut out = StreamSink::new(io::writer(&rt));
+    let Ok(crew) = crew_of(alloc, &progress) else {
+        return ExitCode::from(Outcome::Memory.code());
+    };
+    let mut out = WipingSink::new(StreamSink::new(io::writer(&rt)), &progress);
     let host = FolderHost::new(rt);
     let mut docs = FolderDocs::new(rt);
     let (outcome, _, _) = pegasus(&rt, alloc, &words, &mut docs, &mut out, host, crew);
+    progress.wipe();
     ExitCode::from(outcome.code())
 }
