@@ -1,5 +1,5 @@
 -- A request that was read is within the limits.
-use Rattle.std.proofs.Common.{◌≡◌, ℕ, ◌≤◌, Bool, true, false, cond, List, [], ◌∷◌, map, refl, subst, nat_lt, arith}
+use Rattle.std.proofs.Common.{◌≡◌, ℕ, ◌≤◌, Bool, true, false, cond, List, [], ◌∷◌, map, refl, subst, nat_eq, nat_lt, ◌≢◌, arith}
 use Rattle.std.specs.Prelude.{◌^◌, Option, Some, None, Ok, Err, codes, option_and_then, unwrap_or}
 use Rattle.std.specs.List.{AllByRecursion}
 use Rattle.serde_json.specs.Data.{Data}
@@ -14,9 +14,15 @@ use Rattle.plan_request.specs.declared.request.PlanRequest.{PlanRequest}
 use Rattle.plan_request.specs.declared.request.SizeOf.{SizeOf}
 use Rattle.plan_request.specs.Execution.{execution_rows, execution_of}
 use Rattle.plan_request.specs.Known.{only_known}
-use Rattle.plan_request.specs.Limits.{IsSmallDefault, IsWithinLimits}
+use Rattle.plan_request.specs.Limits.{IsRuntimeInRange, IsSmallDefault, IsWithinLimits}
 use Rattle.plan_request.specs.Modes.{cluster_at, cleanup_at}
 use Rattle.plan_request.specs.Root.{request_rows, request_of}
+use Rattle.plan_request.specs.Selection.{selector_at, rate_given, rate_at, runtimes_or_none}
+use Rattle.plan_request.specs.Positive.{positive}
+use Rattle.plan_request.specs.Runtime.{runtime_rows, runtime_of}
+use Rattle.plan_request.specs.declared.request.Runtime.{Runtime}
+use Rattle.peg_json.specs.Path.{key_path}
+use Rattle.std.proofs.lemmas.Bool.{eqb-false}
 use Rattle.plan_request.specs.SizeEntries.{size_of, size_entry, sizes_of, sizes_or_none}
 use Rattle.plan_request.specs.ToolEntries.{tools_or_none}
 use Rattle.plan_request.proofs.StepLemmas.{passed, unwrapped, Always, IfThere, required_has, optional_has, list_has, entries_have}
@@ -66,6 +72,44 @@ default_small : (o : Option ℕ) → IfThere (λ n. n ≤ 2 ^ 40) o → IsSmallD
 default_small None there = tt
 default_small (Some n) there = there
 
+positive_is : (path : List ℕ) (n m : ℕ) → positive path n ≡ Ok m → (1 ≤ m) × (m ≡ n)
+positive_is path n m h = by (nat_eq n 0) refl h
+  where
+    by : (b : Bool) → nat_eq n 0 ≡ b → cond b (Err (faults.OutOfRange path n)) (Ok n) ≡ Ok m → (1 ≤ m) × (m ≡ n)
+    by true e k = absurd cc
+    by false e k = let same : n ≡ m = unwrapped n m k in let some : n ≢ 0 = eqb-false n 0 e in (omega arith, omega arith)
+
+rate_in_range : (path : List ℕ) (d : Data) (key : List ℕ) (n : ℕ) → rate_at path d key ≡ Ok n → (1 ≤ n) × (n ≤ 2 ^ 40)
+rate_in_range path d key n h =
+    let step = passed (optional (number_of (2 ^ 40)) path d key) (rate_given (key_path path key)) n h in
+    by step.value (optional_has (number_of (2 ^ 40)) (λ m. m ≤ 2 ^ 40) (number_of_small (2 ^ 40)) path d key step.value step.is) step.rest
+  where
+    by : (o : Option ℕ) → IfThere (λ m. m ≤ 2 ^ 40) o → rate_given (key_path path key) o ≡ Ok n → (1 ≤ n) × (n ≤ 2 ^ 40)
+    by None there k = let one : 1 ≡ n = unwrapped 1 n k in (omega arith, omega arith)
+    by (Some m) there k = let is = positive_is (key_path path key) m n k in (is.0, omega (arith, is.1, there))
+
+runtime_in_range : Always runtime_of IsRuntimeInRange
+unfolding runtime_of
+runtime_in_range path d e h =
+    let one = passed (checks path d runtime_rows) _ e h in
+    let two = passed (only_known path d runtime_rows) _ e one.rest in
+    let three = passed (required name_of path d (codes "transformation")) _ e two.rest in
+    let four = passed (required name_of path d (codes "site")) _ e three.rest in
+    let five = passed (required (number_of (2 ^ 32)) path d (codes "seconds")) _ e four.rest in
+    let six = passed (positive (key_path path (codes "seconds")) five.value) _ e five.rest in
+    let small = required_has (number_of (2 ^ 32)) (λ m. m ≤ 2 ^ 32) (number_of_small (2 ^ 32)) path d (codes "seconds") five.value five.is in
+    let is = positive_is (key_path path (codes "seconds")) five.value six.value six.is in
+    subst IsRuntimeInRange (unwrapped (record { transformation = three.value; site = four.value; seconds = six.value }) e six.rest) (is.0, omega (arith, is.1, small))
+
+runtimes_in_range : (path : List ℕ) (d : Data) (key : List ℕ) (ts : List Runtime) → runtimes_or_none path d key ≡ Ok ts → AllByRecursion IsRuntimeInRange ts
+runtimes_in_range path d key ts h =
+    let step = passed (optional (list_in runtime_of) path d key) (λ found. Ok (unwrap_or found [])) ts h in
+    subst (λ (xs : List Runtime). AllByRecursion IsRuntimeInRange xs) (unwrapped (unwrap_or step.value []) ts step.rest) (by step.value (optional_has (list_in runtime_of) (AllByRecursion IsRuntimeInRange) (list_has runtime_of IsRuntimeInRange runtime_in_range) path d key step.value step.is))
+  where
+    by : (o : Option (List Runtime)) → IfThere (AllByRecursion IsRuntimeInRange) o → AllByRecursion IsRuntimeInRange (unwrap_or o [])
+    by None there = tt
+    by (Some xs) there = there
+
 pub request_small : (path : List ℕ) (d : Data) (r : PlanRequest) → request_of path d ≡ Ok r → IsWithinLimits r
 unfolding request_of
 request_small path d r h =
@@ -82,8 +126,13 @@ request_small path d r h =
     let j = passed (cleanup_at path d (codes "cleanup")) _ r i.rest in
     let k = passed (optional flag_of path d (codes "force")) _ r j.rest in
     let l = passed (tools_or_none path d (codes "tools")) _ r k.rest in
-    subst (λ (q : PlanRequest). IsWithinLimits q) (unwrapped _ r l.rest) (record {
+    let m = passed (selector_at path d (codes "selector")) _ r l.rest in
+    let rate = passed (rate_at path d (codes "rate")) _ r m.rest in
+    let runtimes = passed (runtimes_or_none path d (codes "runtimes")) _ r rate.rest in
+    subst (λ (q : PlanRequest). IsWithinLimits q) (unwrapped _ r runtimes.rest) (record {
       bounds = required_has (list_in execution_of) (AllByRecursion (λ (x : Execution). x.bound ≤ 2 ^ 60)) (list_has execution_of (λ (x : Execution). x.bound ≤ 2 ^ 60) execution_small) path d (codes "execute") execute.value execute.is;
       sizes = sizes_or_none_small path d (codes "sizes") sizes.value sizes.is;
       default_size = default_small default.value (optional_has (number_of (2 ^ 40)) (λ n. n ≤ 2 ^ 40) (number_of_small (2 ^ 40)) path d (codes "default_size") default.value default.is);
+      rate = rate_in_range path d (codes "rate") rate.value rate.is;
+      runtimes = runtimes_in_range path d (codes "runtimes") runtimes.value runtimes.is;
     })

@@ -11,6 +11,7 @@ use Rattle.plan_request.specs.Execution.{execution_of}
 use Rattle.plan_request.specs.Known.{only_known}
 use Rattle.plan_request.specs.Modes.{cleanup_at, cluster_at}
 use Rattle.plan_request.specs.Root.{request_of, request_rows}
+use Rattle.plan_request.specs.Selection.{selector_at, rate_at, runtimes_or_none}
 use Rattle.plan_request.specs.SizeEntries.{sizes_or_none}
 use Rattle.plan_request.specs.ToolEntries.{tools_or_none}
 use Rattle.plan_request.proofs.StepLemmas.{passed, unwrapped}
@@ -34,4 +35,7 @@ request_plain path d r h =
     let j = passed (cleanup_at path d (codes "cleanup")) _ r i.rest in
     let k = passed (optional flag_of path d (codes "force")) _ r j.rest in
     let l = passed (tools_or_none path d (codes "tools")) _ r k.rest in
-    subst HasPlain (unwrapped _ r l.rest) refl
+    let m = passed (selector_at path d (codes "selector")) _ r l.rest in
+    let rate = passed (rate_at path d (codes "rate")) _ r m.rest in
+    let runtimes = passed (runtimes_or_none path d (codes "runtimes")) _ r rate.rest in
+    subst HasPlain (unwrapped _ r runtimes.rest) refl

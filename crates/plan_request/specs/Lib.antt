@@ -3,6 +3,9 @@ pub mod Execution
 pub mod SizeEntries
 pub mod ToolEntries
 pub mod Modes
+pub mod Positive
+pub mod Runtime
+pub mod Selection
 pub mod Root
 pub mod Reader
 pub mod Index

@@ -11,6 +11,7 @@ use Rattle.plan_request.specs.declared.request.PlanRequest.{PlanRequest}
 use Rattle.plan_request.specs.Execution.{execution_of}
 use Rattle.plan_request.specs.Known.{only_known}
 use Rattle.plan_request.specs.Modes.{cluster_at, cleanup_at}
+use Rattle.plan_request.specs.Selection.{selector_at, rate_at, runtimes_or_none}
 use Rattle.plan_request.specs.SizeEntries.{sizes_or_none}
 use Rattle.plan_request.specs.ToolEntries.{tools_or_none}
 
@@ -27,6 +28,9 @@ request_rows =
     ∷ may_have (codes "cleanup") kinds.Text
     ∷ may_have (codes "force") kinds.Flag
     ∷ may_have (codes "tools") kinds.Object
+    ∷ may_have (codes "selector") kinds.Text
+    ∷ may_have (codes "rate") kinds.Number
+    ∷ may_have (codes "runtimes") kinds.List
     ∷ []
 
 -- a whole request; absent lists are empty, and nothing is forced
@@ -45,6 +49,9 @@ request_of path d = do
   cleanup ← cleanup_at path d (codes "cleanup")
   force ← optional flag_of path d (codes "force")
   tools ← tools_or_none path d (codes "tools")
+  selector ← selector_at path d (codes "selector")
+  rate ← rate_at path d (codes "rate")
+  runtimes ← runtimes_or_none path d (codes "runtimes")
   Ok (record {
     workflow = workflow;
     sites = sites;
@@ -58,4 +65,7 @@ request_of path d = do
     force = unwrap_or force false;
     tools = tools;
     policy = plain;
+    selector = selector;
+    rate = rate;
+    runtimes = runtimes;
   })

@@ -1,6 +1,6 @@
 //! Request documents: a request is the one that its document's definition gives, `read_of` of `specs/Reader.antt`.
 //!
-//! One file for each object of the format (`root`, `execution`, `size_entries`, `tool_entries`).
+//! One file for each object of the format (`root`, `execution`, `size_entries`, `tool_entries`, `runtime`).
 //! The format is this project's own, so a key that is in no table is a fault (`known`).
 #![tactic(auto)]
 
@@ -13,10 +13,14 @@ mod modes;
 mod reader;
 mod request;
 mod root;
+mod runtime;
+mod selection;
 mod size_entries;
 mod tool_entries;
 
 pub use file_sizes::declared_sizes;
 pub use job_tools::Tools;
 pub use reader::read;
-pub use request::{Cleanup, ClusterMode, Execution, PlanRequest, SizeOf, ToolOf};
+pub use request::{
+    Cleanup, ClusterMode, Execution, PlanRequest, Runtime, Selector, SizeOf, ToolOf,
+};

@@ -21,6 +21,10 @@ pub struct PlanRequest {
     /// In byte order of the transformations' names.
     pub tools: Items<ToolOf>,
     pub policy: Policy,
+    pub selector: Selector,
+    /// Bytes that are moved from one site to another in a second, from 1 to 2^40.
+    pub rate: u64,
+    pub runtimes: Items<Runtime>,
 }
 
 /// A site that runs jobs, with the bound on the bytes that it holds.
@@ -42,6 +46,22 @@ pub struct SizeOf {
 pub struct ToolOf {
     pub transformation: Text,
     pub tool: Text,
+}
+
+/// How long the jobs of a transformation run at a site, in seconds, from 1 to 2^32. Of two such
+/// entries the first one holds.
+#[derive(Debug, Drop)]
+pub struct Runtime {
+    pub transformation: Text,
+    pub site: Text,
+    pub seconds: u64,
+}
+
+/// How sites are chosen: in turns, or each job's where it would be finished first.
+#[derive(Clone, Copy, Debug, PartialEq, Eq)]
+pub enum Selector {
+    RoundRobin,
+    Heft,
 }
 
 /// Which jobs are put together into one task.

@@ -7,6 +7,7 @@ ghost use Rattle.plan_request.specs.Root.{request_rows};
 use crate::known::only_known;
 use crate::modes::{cleanup, cluster};
 use crate::request::{Execution, PlanRequest};
+use crate::selection::{rate, runtimes_or_none, selector};
 use crate::size_entries::sizes_or_none;
 use crate::tool_entries::tools_or_none;
 use outside::{Items, Policy, Text};
@@ -14,7 +15,7 @@ use peg_json::{FromTree, KeyRow, KeyTable, Kind, TreeFault, checked, row};
 use serde_json::Value;
 use std::alloc::Global;
 
-const REQUEST: [KeyRow; 11] = [
+const REQUEST: [KeyRow; 14] = [
     KeyRow {
         key: "workflow",
         kind: Kind::Name,
@@ -70,9 +71,24 @@ const REQUEST: [KeyRow; 11] = [
         kind: Kind::Object,
         required: false,
     },
+    KeyRow {
+        key: "selector",
+        kind: Kind::Text,
+        required: false,
+    },
+    KeyRow {
+        key: "rate",
+        kind: Kind::Number,
+        required: false,
+    },
+    KeyRow {
+        key: "runtimes",
+        kind: Kind::List,
+        required: false,
+    },
 ];
 
-fn request_table() -> KeyTable<11>
+fn request_table() -> KeyTable<14>
     ensures { rows_of result.rows.now ≡ request_rows }
 {
     KeyTable { rows: &REQUEST }
@@ -103,6 +119,9 @@ impl FromTree for PlanRequest {
         let cleanup = cleanup(alloc, value, path, "cleanup")?;
         let force = row!(alloc, value, path, "force", optional Flag);
         let tools = tools_or_none(alloc, value, path, "tools")?;
+        let selector = selector(alloc, value, path, "selector")?;
+        let rate = rate(alloc, value, path, "rate")?;
+        let runtimes = runtimes_or_none(alloc, value, path, "runtimes")?;
         Ok(PlanRequest {
             workflow,
             sites,
@@ -116,6 +135,9 @@ impl FromTree for PlanRequest {
             force: force.unwrap_or(false),
             tools,
             policy: Policy::plain(),
+            selector,
+            rate,
+            runtimes,
         })
     }
 }
