@@ -11,7 +11,7 @@ use Rattle.dependency_graph.specs.Levels.{is_kept}
 use Rattle.dependency_graph.proofs.TestLemmas.{by_bool}
 use Rattle.site_selector.specs.Turns.{turn_of}
 use Rattle.site_selector.specs.Offers.{sites_of}
-use Rattle.site_selector.specs.Candidates.{candidates, candidates_from, chosen, chosen_unless, is_candidate, site_id, site_of, unknown_site}
+use Rattle.site_selector.specs.Candidates.{candidates, candidates_from, chosen, chosen_unless, is_candidate, site_id, unknown_site}
 use Rattle.site_selector.specs.Selecting.{Selection, answer_of, Gets, IsSelected}
 
 candidate_below : (test : Execution → Bool) (s : ℕ) (es : List Execution) (k : ℕ) → k < length (candidates_from test s es) → get_or (candidates_from test s es) k 0 < s + length es

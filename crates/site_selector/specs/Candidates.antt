@@ -1,5 +1,6 @@
 -- The sites among which a job's turn chooses, and its choice.
-use Rattle.std.specs.Prelude.{◌≡◌, ℕ, suc, ◌%◌, ◌&&◌, Bool, true, false, if◌then◌else◌, List, [], ◌∷◌, length, get_or, Option, Some, None, Result, Ok, Err}
+use Rattle.std.specs.Prelude.{◌≡◌, ℕ, suc, ◌%◌, ◌&&◌, Bool, true, false, if◌then◌else◌, List, [], ◌∷◌, length, get_or, Vec, Option, Some, None, Result, Ok, Err}
+use Rattle.std.specs.declared.alloc.Global.{Global}
 use Rattle.std.specs.List.{list_any}
 use Rattle.std.specs.Str.{bytes_eq}
 use Rattle.outside.specs.declared.numbers.JobId.{JobId}
@@ -67,3 +68,28 @@ IsAnswer answer (Ok s) = answer ≡ Ok s
 IsAnswer answer (Err Memory) = Unit {0}
 IsAnswer answer (Err (NoSite a name)) = answer ≡ Err (NoSite a name)
 IsAnswer answer (Err (NoTransformation a)) = answer ≡ Err (NoTransformation a)
+
+-- the candidates of job a, or why it has none
+abbrev pub offered : ℕ → List ℕ → Result (List ℕ) SelectFault
+offered a [] = Err (NoTransformation (job_id a))
+offered a (s ∷ ss) = Ok (s ∷ ss)
+
+-- the same, unless an unknown site is named
+abbrev pub offered_unless : ℕ → Option (List ℕ) → List ℕ → Result (List ℕ) SelectFault
+offered_unless a (Some name) ss = Err (NoSite (job_id a) name)
+offered_unless a None ss = offered a ss
+
+-- the candidates of job a, or its fault
+abbrev pub candidates_of : List Execution → List TransformationEntry → ℕ → Job
+    → Result (List ℕ) SelectFault
+candidates_of execute entries a j =
+    offered_unless a (unknown_site execute j.pinned)
+    (candidates execute (sites_of entries j.transformation) j.pinned)
+
+-- One job's candidates are the definition's. Want of memory is free.
+abbrev pub AreFound : Result (List ℕ) SelectFault → Result (Vec ℕ Global) SelectFault
+    → Type 0
+AreFound answer (Ok v) = answer ≡ Ok v.items
+AreFound answer (Err Memory) = Unit {0}
+AreFound answer (Err (NoSite a name)) = answer ≡ Err (NoSite a name)
+AreFound answer (Err (NoTransformation a)) = answer ≡ Err (NoTransformation a)

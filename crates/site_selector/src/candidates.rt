@@ -3,7 +3,7 @@
 ghost use Rattle.std.specs.Prelude.{◌≡◌, ◌<◌, [], length, IfOk, option_map};
 ghost use Rattle.std.specs.List.{list_any};
 ghost use Rattle.site_selector.specs.Offers.{sites_of};
-ghost use Rattle.site_selector.specs.Candidates.{is_allowed, is_named, listed_from, candidates, unknown_site, chosen, site_of, IsAnswer};
+ghost use Rattle.site_selector.specs.Candidates.{is_allowed, is_named, listed_from, candidates, unknown_site, chosen, site_of, IsAnswer, candidates_of, offered, AreFound};
 
 use crate::offers::Offers;
 use outside::{JobId, Memory, SelectFault, SiteId, Text};
@@ -85,6 +85,32 @@ fn chosen(job: JobId, turn: usize, candidates: &[u32]) -> Result<SiteId, SelectF
         return Err(SelectFault::NoTransformation(job));
     }
     Ok(SiteId(candidates[turn % candidates.len()]))
+}
+
+fn offered(job: JobId, candidates: Vec<u32>) -> Result<Vec<u32>, SelectFault>
+    ensures { AreFound (offered job.0 candidates.items) result }
+{
+    if candidates.is_empty() {
+        return Err(SelectFault::NoTransformation(job));
+    }
+    Ok(candidates)
+}
+
+/// The sites where a job can run, in order; or why there is none.
+pub fn candidates_of(
+    alloc: Global,
+    offers: &Offers<'_>,
+    number: u32,
+    job: &Job,
+) -> Result<Vec<u32>, SelectFault>
+    requires few { length offers.now.execute < 65 }
+    ensures { AreFound (candidates_of offers.now.execute offers.now.entries number job.now) result }
+{
+    if let Some(name) = unknown_site(offers.execute(), &job.pinned) {
+        return Err(SelectFault::NoSite(JobId(number), name.copied(alloc)?));
+    }
+    let candidates = candidates(alloc, offers, job)?;
+    offered(JobId(number), candidates)
 }
 
 /// The site of a job at its turn.

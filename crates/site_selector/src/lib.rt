@@ -10,5 +10,7 @@ mod law;
 mod offers;
 mod selecting;
 
+pub use candidates::candidates_of;
 pub use law::selected_sites_are_placed;
+pub use offers::Offers;
 pub use selecting::select;
