@@ -1,0 +1,9 @@
+pub mod SetLemmas
+pub mod GraphLemmas
+pub mod RankLemmas
+pub mod OrderLemmas
+pub mod ArrivalLemmas
+pub mod ChoiceLemmas
+pub mod PlacingLemmas
+pub mod WalkLemmas
+pub mod LawLemmas

@@ -1,0 +1,6 @@
+use Rattle.std.proofs.Common.{◌≡◌, ◌≤◌, ◌*◌, ◌^◌, ◌-◌, take}
+use Rattle.std.specs.Prelude.{sum}
+use Rattle.list_schedule.proofs.ranks.mean.Given as goal
+
+abbrev pub invariant-loop-time : goal.invariant-loop-time
+invariant-loop-time l = record { total : l.total ≡ sum (take l.time-index l.times); small : l.total ≤ l.time-index * (2 ^ 64 - 1) }
