@@ -24,14 +24,22 @@ def is_told(case):
     return is_plain and case.status in (0, 4, 5) and not pages.OF_DOCUMENTS.match(case.text)
 
 
-def compare(path, least):
+def is_scheduled(case):
+    return "words schedule r.json" in case.words and not pages.OF_DOCUMENTS.match(case.text)
+
+
+def folder_of(case):
+    folder = work / case.name
+    folder.mkdir(parents=True, exist_ok=True)
+    for document, content in case.documents.items():
+        (folder / document).write_bytes(content)
+    return str(folder)
+
+
+def compare(path, least, is_one=is_told, *option):
     count = 0
-    for case in filter(is_told, case_files.read(path)):
-        folder = work / case.name
-        folder.mkdir(parents=True)
-        for document, content in case.documents.items():
-            (folder / document).write_bytes(content)
-        assert model("r.json", str(folder)) == (case.status, case.text), (path, case.name)
+    for case in filter(is_one, case_files.read(path)):
+        assert model(*option, "r.json", folder_of(case)) == (case.status, case.text), (path, case.name)
         count += 1
     assert count >= least, (path, count)
     return count
@@ -41,6 +49,7 @@ printed = list(pages.texts("plan"))
 assert ("examples/diamond/request.json", "") in [(request, pattern) for request, pattern, _ in printed]
 for request, pattern, lines in printed:
     assert [line for line in model(request)[1].splitlines() if re.search(pattern, line)] == lines, request
-least = {"plan": 20, "clusters": 30, "graph": 10}
+least = {"plan": 20, "clusters": 30, "graph": 10, "heft": 8}
 counts = [compare(f"crates/cases/data/{name}.cases", count) for name, count in least.items()]
-print(f"plan-model: ok, {len(printed)} plans and {sum(counts)} cases")
+schedules = compare("crates/cases/data/heft.cases", 15, is_scheduled, "--schedule")
+print(f"plan-model: ok, {len(printed)} plans, {sum(counts)} cases and {schedules} schedules")

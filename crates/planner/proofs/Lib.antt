@@ -1,5 +1,6 @@
 pub mod PlanFaultLemmas
 pub mod CourseLemmas
+pub mod SitesLemmas
 pub mod PlanningLemmas
 pub mod LawLemmas
 pub mod DraftLemmas

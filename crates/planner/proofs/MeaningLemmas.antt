@@ -59,7 +59,8 @@ use Rattle.planner.specs.declared.plan_fault.PlanFault.{PlanFault}
 use Rattle.planner.specs.Catalogue.{found, held}
 use Rattle.planner.specs.Course.{SurveyEntry, all_listed, or_empty, replicas_in, sites_in, surveyed, transformations_in, workflow_in}
 use Rattle.planner.specs.Meaning.{AreHonest, IsHonest, IsJoined, Told, basis_of, entry_named, value_of}
-use Rattle.planner.specs.Planning.{AreLeveled, draft}
+use Rattle.planner.specs.Planning.{draft}
+use Rattle.planner.specs.Sites.{AreLeveled}
 use Rattle.planner.specs.PlanFault.{answered}
 
 -- ---- what is registered has one entry for each name

@@ -8,7 +8,6 @@ use Rattle.outside.specs.declared.select_fault.SelectFault.TheVariants as select
 use Rattle.workflow_core.specs.declared.clusters.Clusters.{Clusters}
 use Rattle.workflow_core.specs.declared.workflow.Job.{Job}
 use Rattle.plan_request.specs.declared.request.PlanRequest.{PlanRequest}
-use Rattle.site_selector.specs.Selecting.{IsSelected, Selects}
 use Rattle.clustering.specs.declared.fault.ClusterFault.{ClusterFault}
 use Rattle.clustering.specs.declared.fault.ClusterFault.TheVariants as cluster
 use Rattle.plan_core.specs.declared.plan.Plan.{Plan}
@@ -22,7 +21,8 @@ use Rattle.planner.specs.declared.plan_fault.PlanFault.TheVariants as plan
 use Rattle.planner.specs.Course.{IsSurvey, Refuses}
 use Rattle.planner.specs.PlanFault.{cluster_fault, refine_fault, select_fault}
 use Rattle.planner.specs.Ordering.{CannotOrder}
-use Rattle.planner.specs.Planning.{AreClustered, AreLeveled, ArePlaced, CannotPlace, CannotPlan, CannotRefine, Fails, IsPlanOf, draft, selection_of}
+use Rattle.planner.specs.Planning.{AreClustered, ArePlaced, CannotPlace, CannotPlan, CannotRefine, Fails, IsPlanOf, draft}
+use Rattle.planner.specs.Sites.{AreLeveled, AreSelected, Chooses}
 
 -- the id of the job at a place, and none where there is no job
 abbrev pub id_in : Option Job → List ℕ
@@ -34,12 +34,12 @@ id_at [] a = refl
 id_at (j ∷ js) zero = refl
 id_at (j ∷ js) (suc a) = id_at js a
 
-pub unplaced : (r : PlanRequest) (s : Survey) (kept : List Bool) (levels : List ℕ) → AreLeveled r s kept levels → (f : SelectFault) → Selects (selection_of r s kept levels) (Err f) → CannotPlace r s (select_fault s.workflow f)
+pub unplaced : (r : PlanRequest) (s : Survey) (kept : List Bool) (levels : List ℕ) → AreLeveled r s kept levels → (f : SelectFault) → Chooses r.selector r s kept levels (Err f) → CannotPlace r s (select_fault s.workflow f)
 unplaced r s kept levels leveled (select.NoSite a name) h = inl (record { kept = kept; levels = levels; leveled = leveled; select = select.NoSite a name; first = h; fault_is = refl })
 unplaced r s kept levels leveled (select.NoTransformation a) h = inl (record { kept = kept; levels = levels; leveled = leveled; select = select.NoTransformation a; first = h; fault_is = refl })
 unplaced r s kept levels leveled select.Memory h = tt
 
-pub unclustered : (r : PlanRequest) (s : Survey) (kept : List Bool) (levels : List ℕ) (sites : List (Option SiteId)) → AreLeveled r s kept levels → IsSelected (selection_of r s kept levels) sites
+pub unclustered : (r : PlanRequest) (s : Survey) (kept : List Bool) (levels : List ℕ) (sites : List (Option SiteId)) → AreLeveled r s kept levels → AreSelected r s kept levels sites
     → (f : ClusterFault) → AreClustered r s kept levels sites (Err f) → CannotPlace r s (cluster_fault f)
 unclustered r s kept levels sites leveled selected (cluster.BadNumber id key) h = inr (record { kept = kept; levels = levels; leveled = leveled; sites = sites; selected = selected; cluster = cluster.BadNumber id key; first = h; fault_is = refl })
 unclustered r s kept levels sites leveled selected (cluster.LabelOverSites label one two) h = inr (record { kept = kept; levels = levels; leveled = leveled; sites = sites; selected = selected; cluster = cluster.LabelOverSites label one two; first = h; fault_is = refl })

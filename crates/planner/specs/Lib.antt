@@ -3,9 +3,11 @@ pub mod PlanFault
 pub mod Refused
 pub mod Catalogue
 pub mod Course
+pub mod Sites
 pub mod Ordering
 pub mod Planning
 pub mod Meaning
 pub mod Surveyed
+pub mod Scheduling
 pub mod Deliveries
 pub mod SurveyText

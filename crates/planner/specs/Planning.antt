@@ -2,13 +2,8 @@
 use Rattle.std.specs.Prelude.{◌≡◌, ◌⊎◌, ℕ, Bool, List, Option, Some, None, Result, Ok, Err}
 use Rattle.outside.specs.declared.documents.Documents.{Documents}
 use Rattle.outside.specs.declared.numbers.SiteId.{SiteId}
-use Rattle.outside.specs.declared.select_fault.SelectFault.{SelectFault}
 use Rattle.workflow_core.specs.declared.clusters.Clusters.{Clusters}
 use Rattle.plan_request.specs.declared.request.PlanRequest.{PlanRequest}
-use Rattle.dependency_graph.specs.Levels.{AreLevels}
-use Rattle.data_reuse.specs.Kept.{AreKept}
-use Rattle.data_reuse.specs.Registered.{absent_in}
-use Rattle.site_selector.specs.Selecting.{IsFirstFault, IsSelected, Selection, selection}
 use Rattle.clustering.specs.Basis.{basis}
 use Rattle.clustering.specs.Clusters.{ClustersAre}
 use Rattle.clustering.specs.declared.fault.ClusterFault.{ClusterFault}
@@ -24,19 +19,12 @@ use Rattle.cleanup_refiner.specs.Cleans.{cleaned}
 use Rattle.planner.specs.declared.inputs.Survey.{Survey}
 use Rattle.planner.specs.Course.{IsSurvey, Refuses}
 use Rattle.planner.specs.Ordering.{Passes}
-use Rattle.planner.specs.PlanFault.{cluster_fault, refine_fault, select_fault}
+use Rattle.planner.specs.PlanFault.{cluster_fault, refine_fault}
+use Rattle.planner.specs.Sites.{AreLeveled, AreSelected, IsUnplaced}
 use Rattle.planner.specs.declared.plan_fault.PlanFault.{PlanFault}
 use Rattle.planner.specs.declared.plan_fault.PlanFault.TheVariants as plan
 
 -- ---- the way to a plan
-
--- These jobs are kept, and these are their levels.
-pub record AreLeveled (r : PlanRequest) (s : Survey) (kept : List Bool) (levels : List ℕ) : Type 0 where
-  pub are_kept : AreKept (absent_in s.workflow s.replicas.entries r.force) s.workflow kept
-  pub are_levels : AreLevels s.graph kept levels
-
-abbrev pub selection_of : PlanRequest → Survey → List Bool → List ℕ → Selection
-selection_of r s kept levels = selection s.workflow kept levels r s.transformations
 
 -- The clusters of the kept jobs at their sites, or why they can't be clustered.
 abbrev pub AreClustered : PlanRequest → Survey → List Bool → List ℕ → List (Option SiteId) → Result Clusters ClusterFault → Type 0
@@ -47,7 +35,7 @@ pub record ArePlaced (r : PlanRequest) (s : Survey) (sites : List (Option SiteId
   pub kept : List Bool
   pub levels : List ℕ
   pub leveled : AreLeveled r s kept levels
-  pub selected : IsSelected (selection_of r s kept levels) sites
+  pub selected : AreSelected r s kept levels sites
   pub clustered : AreClustered r s kept levels sites (Ok clusters)
 
 -- what is refined
@@ -75,22 +63,13 @@ pub record IsPlanned (r : PlanRequest) (s : Survey) (limit : ℕ) (o : Ordered) 
 
 -- ---- its faults
 
--- that of the first kept job without a site
-pub record IsUnplaced (r : PlanRequest) (s : Survey) (fault : PlanFault) : Type 0 where
-  pub kept : List Bool
-  pub levels : List ℕ
-  pub leveled : AreLeveled r s kept levels
-  pub select : SelectFault
-  pub first : IsFirstFault (selection_of r s kept levels) select
-  pub fault_is : fault ≡ select_fault s.workflow select
-
 -- that of clusters
 pub record IsUnclustered (r : PlanRequest) (s : Survey) (fault : PlanFault) : Type 0 where
   pub kept : List Bool
   pub levels : List ℕ
   pub leveled : AreLeveled r s kept levels
   pub sites : List (Option SiteId)
-  pub selected : IsSelected (selection_of r s kept levels) sites
+  pub selected : AreSelected r s kept levels sites
   pub cluster : ClusterFault
   pub first : AreClustered r s kept levels sites (Err cluster)
   pub fault_is : fault ≡ cluster_fault cluster

@@ -1,10 +1,12 @@
 //! From a request and its documents to its plan, or to the first fault.
 //!
 //! `survey` reads the documents in their course, which `specs/Course.antt` states: the workflow, the
-//! catalogues that hold, the execution sites, the graph. `plan` goes on from there, as `specs/Planning.antt` says: the
-//! kept jobs, their sites and clusters, the tasks, the Cleans, the order. A [`Surveyed`] keeps what is known of a request and
-//! its survey, so that no caller says it again. `PlanFault` has every reason why planning ends, and `push_refused` its
-//! line; `check_text` tells what a survey has.
+//! catalogues that hold, the execution sites, the graph. `plan` goes on from there, as
+//! `specs/Planning.antt` says: the kept jobs, their sites by the request's selector
+//! (`specs/Sites.antt`), their clusters, the tasks, the Cleans, the order. A [`Surveyed`] keeps what
+//! is known of a request and its survey, so that no caller says it again. `PlanFault` has every
+//! reason why planning ends, and `push_refused` its line; `check_text` tells what a survey has,
+//! `schedule_survey` and `schedule_text` the list schedule of its jobs.
 #![tactic(auto)]
 
 mod catalogue;
@@ -18,6 +20,9 @@ mod ordering;
 mod plan_fault;
 mod planning;
 mod refused;
+mod schedule_lines;
+mod scheduling;
+mod sites;
 mod survey_text;
 mod surveyed;
 
@@ -29,5 +34,7 @@ pub use meaning::plans_mean_the_workflow;
 pub use plan_fault::{PlanFault, of_read_fault};
 pub use planning::{plan, plan_survey};
 pub use refused::push_refused;
+pub use schedule_lines::schedule_text;
+pub use scheduling::schedule_survey;
 pub use survey_text::check_text;
 pub use surveyed::{Surveyed, survey_request};

@@ -2,9 +2,7 @@
 
 ghost use Rattle.std.specs.Prelude.{◌≡◌, ◌<◌, ◌≤◌, ◌^◌, Ok, IfErr, IfOk, length};
 ghost use Rattle.workflow_core.specs.WellFormed.{IsWellFormed};
-ghost use Rattle.dependency_graph.specs.Built.{id_of};
 ghost use Rattle.dependency_graph.specs.Graph.{IsGraphOf};
-ghost use Rattle.site_selector.specs.Selecting.{IsSelected};
 ghost use Rattle.plan_request.specs.Limits.{IsWithinLimits};
 ghost use Rattle.plan_request.specs.Reader.{execute_checked};
 ghost use Rattle.plan_core.specs.Proper.{IsProper};
@@ -12,8 +10,8 @@ ghost use Rattle.transfer_refiner.specs.Conditions.{IsDraft};
 ghost use Rattle.cleanup_refiner.specs.Cleans.{cleaned};
 ghost use Rattle.planner.specs.declared.plan_fault.PlanFault.TheVariants as faults;
 ghost use Rattle.planner.specs.Meaning.{MeansWorkflow};
-ghost use Rattle.planner.specs.PlanFault.{select_fault};
-ghost use Rattle.planner.specs.Planning.{AreClustered, AreLeveled, ArePlaced, CannotPlace, CannotPlan, CannotRefine, IsFineFor, IsPlanOf, OfSurvey, Plans, PlansDocuments, draft, selection_of};
+ghost use Rattle.planner.specs.Planning.{AreClustered, ArePlaced, CannotPlace, CannotPlan, CannotRefine, IsFineFor, IsPlanOf, OfSurvey, Plans, PlansDocuments, draft};
+ghost use Rattle.planner.specs.Sites.{AreLeveled, AreSelected};
 
 use crate::course::survey;
 use crate::inputs::Survey;
@@ -21,87 +19,24 @@ use crate::law::{placed_jobs_are_a_draft, plans_can_be_ordered};
 use crate::meaning::plans_mean_the_workflow;
 use crate::ordering::with_order;
 use crate::plan_fault::PlanFault;
+use crate::sites::sites_of;
 use crate::surveyed::Surveyed;
 use cleanup_refiner::add_cleans;
 use clustering::cluster;
 use data_reuse::kept;
-use outside::{Documents, JobId, Memory, SelectFault, SiteId, Text};
+use outside::{Documents, SiteId};
 use plan_core::Plan;
 use plan_request::{Cleanup, PlanRequest};
-use site_selector::select;
 use std::alloc::Global;
 use storage_simulation::Ordered;
 use transfer_refiner::refine;
-use workflow_core::{Clusters, Workflow};
+use workflow_core::Clusters;
 
 /// The sites of a survey's kept jobs, and their clusters.
 #[derive(Drop)]
 struct Placed {
     sites: Vec<Option<SiteId>>,
     clusters: Clusters,
-}
-
-fn id_of(alloc: Global, workflow: &Workflow, job: JobId) -> Result<Text, Memory>
-    ensures { IfOk result (λ id. id ≡ id_of workflow.now job.0) }
-{
-    match workflow.jobs.as_slice().get(job.0 as usize) {
-        Some(found) => found.id.copied(alloc),
-        None => Text::copy_of(alloc, ""),
-    }
-}
-
-/// The fault of planning for a job without a site.
-fn of_select_fault(
-    alloc: Global,
-    workflow: &Workflow,
-    fault: SelectFault,
-) -> Result<PlanFault, Memory>
-    ensures { IfOk result (λ f. f ≡ select_fault workflow.now fault) }
-{
-    match fault {
-        SelectFault::NoSite(job, name) => {
-            let id = id_of(alloc, workflow, job)?;
-            Ok(PlanFault::NoSite(id, name))
-        }
-        SelectFault::NoTransformation(job) => {
-            let id = id_of(alloc, workflow, job)?;
-            Ok(PlanFault::NoTransformation(id))
-        }
-        SelectFault::Memory => Ok(PlanFault::Memory),
-    }
-}
-
-/// The sites of the kept jobs.
-fn sites_of(
-    alloc: Global,
-    request: &PlanRequest,
-    survey: &Survey,
-    kept: &[bool],
-    levels: &[u32],
-) -> Result<Vec<Option<SiteId>>, PlanFault>
-    requires well_formed { IsWellFormed survey.now.workflow }
-    requires sites { execute_checked request.now.execute ≡ Ok tt }
-    requires kept { length kept.now ≡ length survey.now.workflow.jobs }
-    requires levels { length levels.now ≡ length survey.now.workflow.jobs }
-    requires leveled { AreLeveled request.now survey.now kept.now levels.now }
-    ensures sites { IfOk result (λ v. IsSelected (selection_of request.now survey.now kept.now levels.now) v.items) }
-    ensures fault { IfErr result (CannotPlace request.now survey.now) }
-{
-    let transformations = &survey.transformations;
-    match select(
-        alloc,
-        &survey.workflow,
-        kept,
-        levels,
-        request,
-        transformations,
-    ) {
-        Ok(sites) => Ok(sites),
-        Err(fault) => {
-            let fault = of_select_fault(alloc, &survey.workflow, fault)?;
-            Err(fault)
-        }
-    }
 }
 
 /// The clusters of the kept jobs at their sites.
@@ -116,7 +51,7 @@ fn clusters_of(
     requires few { length kept.now ≤ 10000 }
     requires graph { IsGraphOf survey.now.workflow survey.now.graph }
     requires leveled { AreLeveled request.now survey.now kept.now levels.now }
-    requires selected { IsSelected (selection_of request.now survey.now kept.now levels.now) sites.now }
+    requires selected { AreSelected request.now survey.now kept.now levels.now sites.now }
     ensures clusters { IfOk result (λ c. AreClustered request.now survey.now kept.now levels.now sites.now (Ok c)) }
     ensures fault { IfErr result (CannotPlace request.now survey.now) }
 {
@@ -140,6 +75,7 @@ fn place_jobs(alloc: Global, request: &PlanRequest, survey: &Survey) -> Result<P
     requires well_formed { IsWellFormed survey.now.workflow }
     requires graph { IsGraphOf survey.now.workflow survey.now.graph }
     requires sites { execute_checked request.now.execute ≡ Ok tt }
+    requires limits { IsWithinLimits request.now }
     ensures placed { IfOk result (λ p. ArePlaced request.now survey.now p.sites.items p.clusters) }
     ensures fault { IfErr result (CannotPlace request.now survey.now) }
 {
@@ -213,6 +149,7 @@ fn plan_of(
     requires well_formed { IsWellFormed survey.now.workflow }
     requires graph { IsGraphOf survey.now.workflow survey.now.graph }
     requires sites { execute_checked request.now.execute ≡ Ok tt }
+    requires limits { IsWithinLimits request.now }
     requires few { limit ≤ 120000 }
     ensures plan { IfOk result (IsPlanOf request.now survey.now limit) }
     ensures fault { IfErr result (CannotPlan request.now survey.now limit) }
