@@ -3,7 +3,7 @@
 //! [`FolderDocs`] meets `outside::Docs` over files, [`FolderHost`] meets `outside::Host` over files, and
 //! [`StreamSink`] meets `outside::Sink` over a writer. Nothing is assumed of real files: what they hold isn't
 //! told, and what a stream holds is told only where the writer tells it. A reading within a limit is defined in
-//! `specs/Reading.antt`, the path of a name in `specs/FileName.antt`.
+//! `specs/Reading.antt`, the path of a name ([`path_in`]) in `specs/FileName.antt`.
 //!
 //! [`Progress`] is a line on a terminal: [`ShownTool`] counts a tool's runs in it, and [`WipingSink`] takes it away before
 //! a text is written.
@@ -21,6 +21,7 @@ mod stream_sink;
 mod wiping_sink;
 mod writing;
 
+pub use file_name::path_in;
 pub use folder_docs::FolderDocs;
 pub use folder_host::FolderHost;
 pub use law::escaped_names_stay_apart;

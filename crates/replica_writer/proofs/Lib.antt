@@ -1,0 +1,9 @@
+pub mod TextLemmas
+pub mod TreeLemmas
+pub mod ReadingLemmas
+pub mod JoiningLemmas
+pub mod RegistrationsLemmas
+pub mod WriterLemmas
+pub mod KeptLemmas
+pub mod ArrivalsLemmas
+pub mod DeliveriesLemmas

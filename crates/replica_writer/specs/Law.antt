@@ -1,0 +1,78 @@
+-- What a written catalogue is read as, and what planning with it comes to.
+use Rattle.std.specs.Prelude.{◌≡◌, ℕ, ◌==◌, ◌&&◌, Bool, true, false, List, map, Ok, slice_get}
+use Rattle.std.specs.List.{list_any}
+use Rattle.std.specs.Str.{IsUtf8, bytes_eq}
+use Rattle.workflow_core.specs.declared.workflow.Workflow.{Workflow}
+use Rattle.workflow_core.specs.Requested.{is_requested}
+use Rattle.dependency_graph.specs.Built.{name_of}
+use Rattle.replica_catalog.specs.declared.catalog.Replica.{Replica}
+use Rattle.replica_catalog.specs.Reader.{CatalogEntry, read_of}
+use Rattle.data_reuse.specs.Kept.{IsKept}
+use Rattle.data_reuse.specs.Registered.{absent_in, is_registered}
+use Rattle.plan_core.specs.declared.plan.Plan.{Plan}
+use Rattle.plan_core.specs.Proper.{IsProper}
+use Rattle.run_record.specs.Events.{Event}
+use Rattle.lease_book.specs.Law.{FitsFromStart}
+use Rattle.lease_book.specs.Legal.{Legal}
+use Rattle.site_yard.specs.Delivered.{AreFiles, arrivals}
+use Rattle.site_yard.specs.Names.{file_name}
+use Rattle.site_yard.specs.Places.{is_delivered}
+use Rattle.site_yard.specs.declared.delivered.Delivered.{Delivered}
+use Rattle.replica_writer.specs.Writer.{AreApart, AreDigests, AreInRange, AreNamed, catalogue_says, catalogue_text, delivered_name, has_flag, is_flagged}
+
+-- ---- reading
+
+-- The bytes are read as exactly the delivered files that have their flag, in order.
+abbrev pub ReadsBack : Plan → List Delivered → Type 0
+ReadsBack p ds =
+    AreApart p ds → AreNamed p ds → AreDigests ds → IsUtf8 (catalogue_text p ds)
+    → read_of (catalogue_text p ds) ≡ Ok (catalogue_says p ds)
+
+-- ---- planning again, without force
+
+-- these entries register every requested file
+abbrev pub RegisterRequested : Workflow → List Replica → Type 0
+RegisterRequested w es = (f : ℕ) → is_requested w f ≡ true → is_registered es (name_of w f) ≡ true
+
+abbrev pub KeepsNothing : Workflow → List Replica → Type 0
+KeepsNothing w es = (a : ℕ) → IsKept (absent_in w es false) w a → ⊥
+
+-- a delivered file has its flag, and has this name
+abbrev pub is_flagged_as : Plan → List ℕ → Delivered → Bool
+is_flagged_as p name d = has_flag p d && bytes_eq name (delivered_name p d)
+
+-- every requested file was delivered, and has its flag
+abbrev pub HoldRequested : Workflow → Plan → List Delivered → Type 0
+HoldRequested w p ds = (f : ℕ) → is_requested w f ≡ true → list_any (is_flagged_as p (name_of w f)) ds ≡ true
+
+-- With what is read of the bytes no job is kept where every requested file was delivered and has its flag.
+abbrev pub KeepsNothingAgain : Workflow → Plan → List Delivered → Type 0
+KeepsNothingAgain w p ds =
+    AreApart p ds → AreNamed p ds → AreDigests ds → HoldRequested w p ds
+    → (c : CatalogEntry) → read_of (catalogue_text p ds) ≡ Ok c → KeepsNothing w c.entries
+
+-- ---- what a run delivered
+
+abbrev pub has_file : ℕ → List Delivered → Bool
+has_file f ds = list_any (λ (d : Delivered). d.file.0 == f) ds
+
+-- The files of a Legal record's deliveries are in range, and none of them stands twice; a file that the record delivers is
+-- among them.
+pub record CanBeWritten (p : Plan) (r : List Event) (ds : List Delivered) : Type 0 where
+  pub in_range : AreInRange p ds
+  pub apart : AreApart p ds
+  pub held : (f : ℕ) → is_delivered p r f ≡ true → has_file f ds ≡ true
+
+abbrev pub RunsCanBeWritten : Plan → List ℕ → List Event → List Delivered → Type 0
+RunsCanBeWritten p order r ds =
+    IsProper p → FitsFromStart p order → Legal p order r → AreFiles ds (arrivals p r) → CanBeWritten p r ds
+
+-- a plan's files have the workflow's names, and those that are requested their flags
+pub record FlagsRequested (w : Workflow) (p : Plan) : Type 0 where
+  pub named : (f : ℕ) → is_requested w f ≡ true → file_name p f ≡ name_of w f
+  pub flagged : (f : ℕ) → is_requested w f ≡ true → is_flagged p f ≡ true
+
+-- Where each requested file is among the delivered ones, and has its flag in the plan, every one is held.
+abbrev pub FlagsHoldRequested : Workflow → Plan → List Delivered → Type 0
+FlagsHoldRequested w p ds =
+    FlagsRequested w p → ((f : ℕ) → is_requested w f ≡ true → has_file f ds ≡ true) → HoldRequested w p ds

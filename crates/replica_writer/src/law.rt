@@ -1,0 +1,38 @@
+//! What a written catalogue comes to.
+
+ghost use Rattle.std.specs.Prelude.{ℕ, List};
+ghost use Rattle.workflow_core.specs.declared.workflow.Workflow.{Workflow};
+ghost use Rattle.replica_catalog.specs.declared.catalog.Replica.{Replica};
+ghost use Rattle.plan_core.specs.declared.plan.Plan.{Plan};
+ghost use Rattle.run_record.specs.Events.{Event};
+ghost use Rattle.site_yard.specs.declared.delivered.Delivered.{Delivered};
+ghost use Rattle.replica_writer.specs.Law.{FlagsHoldRequested, KeepsNothing, KeepsNothingAgain, ReadsBack, RegisterRequested, RunsCanBeWritten};
+
+use lease_book::records_read;
+use plan_core::numbers_are_in_range;
+
+/// The bytes of a catalogue are read as exactly the delivered files that have their flag, each with its one pfn and its
+/// digest, in order.
+pub fn catalogues_read_back()
+    ensures { (p : Plan) (ds : List Delivered) → ReadsBack p ds }
+{}
+
+/// Where every requested file is registered, planning without force keeps no job.
+pub fn nothing_is_kept()
+    ensures { (w : Workflow) (es : List Replica) → RegisterRequested w es → KeepsNothing w es }
+{}
+
+/// With what is read of a written catalogue, planning without force keeps no job where every requested file was delivered
+/// and has its flag.
+pub fn written_files_keep_nothing()
+    ensures again { (w : Workflow) (p : Plan) (ds : List Delivered) → KeepsNothingAgain w p ds }
+    ensures held { (w : Workflow) (p : Plan) (ds : List Delivered) → FlagsHoldRequested w p ds }
+{}
+
+/// The deliveries of a Legal record are in range, none stands twice, and each file that the record delivers is among them.
+pub fn deliveries_can_be_written()
+    ensures { (p : Plan) (order : List ℕ) (r : List Event) (ds : List Delivered) → RunsCanBeWritten p order r ds }
+{
+    numbers_are_in_range();
+    records_read();
+}
