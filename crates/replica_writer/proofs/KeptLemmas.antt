@@ -17,9 +17,9 @@ use Rattle.data_reuse.specs.Registered.{absent_in, is_registered, registers}
 use Rattle.site_yard.specs.Names.{file_name}
 use Rattle.site_yard.specs.declared.delivered.Delivered.{Delivered}
 use Rattle.replica_writer.specs.Document.{Registration, replica}
-use Rattle.replica_writer.specs.Law.{FlagsHoldRequested, FlagsRequested, KeepsNothing, KeepsNothingAgain, RegisterRequested, has_file, is_flagged_as}
-use Rattle.replica_writer.specs.Writer.{catalogue_says, catalogue_text, delivered_name, has_flag, is_flagged, registration, registrations}
-use Rattle.replica_writer.proofs.WriterLemmas.{read_utf8, reads_back}
+use Rattle.replica_writer.specs.Law.{FlagsHoldRequested, FlagsRequested, KeepsNothing, KeepsNothingAgain, ReadsBack, RegisterRequested, has_file, is_flagged_as}
+use Rattle.replica_writer.specs.Writer.{catalogue_line, catalogue_text, delivered_name, has_flag, is_flagged, registration, registrations}
+use Rattle.replica_writer.proofs.WriterLemmas.{line_reads_back, read_utf8, text_reads_back}
 
 -- registered and absent at once
 never_both : (registered requested : Bool) → (requested ≡ true → registered ≡ true) → (not registered && requested) ≡ true → ⊥
@@ -59,14 +59,20 @@ abbrev entries_in : Result CatalogEntry ReadFault → List Replica
 entries_in (Ok c) = c.entries
 entries_in _ = []
 
-pub keeps_nothing_again : (w : Workflow) (p : Plan) (ds : List Delivered) → KeepsNothingAgain w p ds
-keeps_nothing_again w p ds apart named digests held c is = keeps_nothing w c.entries registered
+again : (bytes : Plan → List Delivered → List ℕ) → ((p : Plan) (ds : List Delivered) → ReadsBack bytes p ds) → (w : Workflow) (p : Plan) (ds : List Delivered) → KeepsNothingAgain bytes w p ds
+again bytes reads w p ds apart named digests held c is = keeps_nothing w c.entries registered
   where
     same : map replica (registrations p ds) ≡ c.entries
-    same = ap entries_in (sym (reads_back p ds apart named digests (read_utf8 (catalogue_text p ds) c is)) ∙ is)
+    same = ap entries_in (sym (reads p ds apart named digests (read_utf8 (bytes p ds) c is)) ∙ is)
 
     registered : RegisterRequested w c.entries
     registered f asked = subst (λ (es : List Replica). is_registered es (name_of w f) ≡ true) same (registers_flagged p (name_of w f) ds ∙ held f asked)
+
+pub text_again : (w : Workflow) (p : Plan) (ds : List Delivered) → KeepsNothingAgain catalogue_text w p ds
+text_again = again catalogue_text text_reads_back
+
+pub line_again : (w : Workflow) (p : Plan) (ds : List Delivered) → KeepsNothingAgain catalogue_line w p ds
+line_again = again catalogue_line line_reads_back
 
 -- ---- where each requested file was delivered
 

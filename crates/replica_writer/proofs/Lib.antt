@@ -1,4 +1,5 @@
 pub mod TextLemmas
+pub mod LineEndLemmas
 pub mod TreeLemmas
 pub mod ReadingLemmas
 pub mod JoiningLemmas

@@ -1,11 +1,14 @@
 -- The tree of a document has no number, is shallow, and has each object's keys in order.
-use Rattle.std.proofs.Common.{◌≡◌, ℕ, ◌≤◌, ◌||◌, Bool, true, false, List, [], ◌∷◌, Option, Some, map, codes, refl, sym, ap, ◌∙◌, arith, option_and_then, option_map}
+use Rattle.std.proofs.Common.{◌≡◌, ℕ, ◌≤◌, ◌||◌, ◌&&◌, ◌++◌, Bool, true, false, List, [], ◌∷◌, Option, Some, map, codes, refl, sym, ap, ◌∙◌, arith, option_and_then, option_map}
+use Rattle.std.proofs.lemmas.List.Folds.{list_all-append}
+use Rattle.json.specs.Token.{end_object}
 use Rattle.json.specs.Tree as tree
 use Rattle.serde_json.specs.Data.{Data, Items, array, item, member, no_members, object, string, put}
 use Rattle.serde_json.specs.Read.{of_json, of_items, read, max_depth}
 use Rattle.serde_json.specs.View.{items_of}
 use Rattle.serde_json.specs.Written.{has_float, items_have_float, outline, items_outline}
 use Rattle.replica_writer.specs.Document.{Registration, document_text, document_tree, entry_tree}
+use Rattle.replica_writer.proofs.LineEndLemmas.{are_plain, is_plain, read_line}
 use Rattle.replica_writer.proofs.TextLemmas.{read_text}
 
 entry_numbers : (r : Registration) → tree.HasNumbers (outline (entry_tree r))
@@ -50,3 +53,16 @@ document_plain rs = ap (λ (b : Bool). b || false) (entries_plain rs)
 
 pub text_back : (rs : List Registration) → read (document_text rs) ≡ Some (document_tree (map entry_tree rs))
 text_back rs = read_text (document_tree (map entry_tree rs)) (tt, (entries_numbers rs, tt)) (document_depth rs) (document_back rs)
+
+-- with a line feed behind it too
+entries_tokens : (rs : List Registration) → are_plain (tree.items_tokens (items_outline (items_of (map entry_tree rs)))) ≡ true
+entries_tokens [] = refl
+entries_tokens (r ∷ rs) = entries_tokens rs
+
+document_tokens : (rs : List Registration) → are_plain (tree.json_tokens (outline (document_tree (map entry_tree rs)))) ≡ true
+document_tokens rs =
+    list_all-append is_plain (tree.items_tokens (items_outline (items_of (map entry_tree rs)))) (end_object ∷ [])
+    ∙ ap (λ (b : Bool). b && true) (entries_tokens rs)
+
+pub line_back : (rs : List Registration) → read (document_text rs ++ codes "\n") ≡ Some (document_tree (map entry_tree rs))
+line_back rs = read_line (document_tree (map entry_tree rs)) (document_tokens rs) ∙ text_back rs

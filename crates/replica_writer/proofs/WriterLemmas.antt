@@ -1,9 +1,10 @@
 -- What is read of a document's bytes.
-use Rattle.std.proofs.Common.{◌≡◌, ℕ, Bool, true, false, cond, List, [], map, length, Ok, Err, Option, Result, refl, sym, ap, ap₂, subst, ◌∙◌, ◌<◌}
+use Rattle.std.proofs.Common.{◌≡◌, ℕ, Bool, true, false, cond, List, [], map, length, Ok, Err, Some, codes, Option, Result, refl, sym, ap, ap₂, subst, ◌∙◌, ◌<◌}
 use Rattle.std.specs.List.{AllByRecursion, IsDistinct}
 use Rattle.std.specs.Str.{IsUtf8, bytes_eq, is_utf8}
 use Rattle.std.proofs.lemmas.List.{length-map}
-use Rattle.std.proofs.lemmas.Str.{IsUtf8-from_is_utf8}
+use Rattle.std.proofs.lemmas.Str.{IsUtf8-append, IsUtf8-from_is_utf8}
+use Rattle.json.proofs.Printed.Utf8.{IsUtf8-are_ascii}
 use Rattle.serde_json.specs.Data.{Data}
 use Rattle.serde_json.specs.Read.{read}
 use Rattle.peg_json.specs.ReadFault.{then_read}
@@ -19,28 +20,34 @@ use Rattle.plan_core.specs.declared.plan.Plan.{Plan}
 use Rattle.serde_json.specs.Written.{compact_text, has_float}
 use Rattle.site_yard.specs.declared.delivered.Delivered.{Delivered}
 use Rattle.std.proofs.lemmas.List.Elements.{recursion_from_All}
-use Rattle.replica_writer.specs.Law.{ReadsBack}
-use Rattle.replica_writer.specs.Writer.{AreApart, AreDigests, AreNamed, IsDigest, catalogue_says, catalogue_text, delivered_name, registrations}
+use Rattle.replica_writer.specs.Law.{AreReadAs, ReadsBack}
+use Rattle.replica_writer.specs.Writer.{AreApart, AreDigests, AreNamed, IsDigest, catalogue_line, catalogue_text, delivered_name, registrations}
 use Rattle.replica_writer.proofs.JoiningLemmas.{joined_same}
 use Rattle.replica_writer.proofs.RegistrationsLemmas.{apart_kept, readable_kept}
 use Rattle.replica_writer.proofs.ReadingLemmas.{IsReadable, document_read}
-use Rattle.replica_writer.proofs.TreeLemmas.{document_plain, text_back}
+use Rattle.replica_writer.proofs.TreeLemmas.{document_plain, line_back, text_back}
 
 says_so : (rs : List Registration) → IsDistinct bytes_eq (map (λ (r : Registration). r.lfn) rs) → catalog_of (map replica rs) ≡ says rs
 says_so rs apart = ap₂ (λ (es : List Replica) (n : ℕ). record { entries = es; listed = n }) (joined_same rs apart) (length-map rs replica)
 
-pub text_read : (rs : List Registration) → AllByRecursion IsReadable rs → IsDistinct bytes_eq (map (λ (r : Registration). r.lfn) rs) → IsUtf8 (document_text rs) → read_of (document_text rs) ≡ Ok (says rs)
+bytes_say : (rs : List Registration) (bytes : List ℕ) → read bytes ≡ Some (document_tree (map entry_tree rs)) → AllByRecursion IsReadable rs → IsDistinct bytes_eq (map (λ (r : Registration). r.lfn) rs) → IsUtf8 bytes → read_of bytes ≡ Ok (says rs)
 unfolding read_of from_tree_of
-text_read rs all apart utf8 =
-    ap (λ (tree : Result Data TreeFault). then_read tree (from_tree_of [])) (is_tree (document_text rs) (document_tree (map entry_tree rs)) utf8 (text_back rs))
+bytes_say rs bytes back all apart utf8 =
+    ap (λ (tree : Result Data TreeFault). then_read tree (from_tree_of [])) (is_tree bytes (document_tree (map entry_tree rs)) utf8 back)
     ∙ ap (λ (es : Result (List Replica) TreeFault). then_read es (λ es. Ok (catalog_of es))) (document_read rs all)
     ∙ ap Ok (says_so rs apart)
 
-pub reads_back : (p : Plan) (ds : List Delivered) → ReadsBack p ds
-reads_back p ds apart named digests utf8 =
-    text_read (registrations p ds)
-    (readable_kept p ds (recursion_from_All (λ (d : Delivered). 0 < length (delivered_name p d)) ds named) (recursion_from_All (λ (d : Delivered). IsDigest d.digest) ds digests))
-    (apart_kept p ds apart) utf8
+all_readable : (p : Plan) (ds : List Delivered) → AreNamed p ds → AreDigests ds → AllByRecursion IsReadable (registrations p ds)
+all_readable p ds named digests =
+    readable_kept p ds (recursion_from_All (λ (d : Delivered). 0 < length (delivered_name p d)) ds named) (recursion_from_All (λ (d : Delivered). IsDigest d.digest) ds digests)
+
+pub text_reads_back : (p : Plan) (ds : List Delivered) → ReadsBack catalogue_text p ds
+text_reads_back p ds apart named digests utf8 =
+    bytes_say (registrations p ds) (catalogue_text p ds) (text_back (registrations p ds)) (all_readable p ds named digests) (apart_kept p ds apart) utf8
+
+pub line_reads_back : (p : Plan) (ds : List Delivered) → ReadsBack catalogue_line p ds
+line_reads_back p ds apart named digests utf8 =
+    bytes_say (registrations p ds) (catalogue_line p ds) (line_back (registrations p ds)) (all_readable p ds named digests) (apart_kept p ds apart) utf8
 
 -- bytes that are read are a text
 pub read_utf8 : (bytes : List ℕ) (c : CatalogEntry) → read_of bytes ≡ Ok c → IsUtf8 bytes
@@ -58,6 +65,12 @@ text_is rs entries d bytes result same tree are text =
     let whole : d ≡ document_tree (map entry_tree rs) = tree ∙ ap document_tree are in
     same ∙ text (ap has_float whole ∙ document_plain rs) ∙ ap compact_text whole
 
-pub bytes_read : (p : Plan) (ds : List Delivered) (bytes result : List ℕ) → AreApart p ds → AreNamed p ds → AreDigests ds → result ≡ bytes → result ≡ catalogue_text p ds → IsUtf8 bytes → read_of result ≡ Ok (catalogue_says p ds)
-bytes_read p ds bytes result apart named digests same text utf8 =
-    ap read_of text ∙ reads_back p ds apart named digests (subst IsUtf8 (sym same ∙ text) utf8)
+pub text_utf8 : (bytes result text : List ℕ) → result ≡ bytes → result ≡ text → IsUtf8 bytes → IsUtf8 text
+text_utf8 bytes result text same is utf8 = subst IsUtf8 (sym same ∙ is) utf8
+
+pub result_read : (p : Plan) (ds : List Delivered) (result : List ℕ) → AreApart p ds → AreNamed p ds → AreDigests ds → result ≡ catalogue_text p ds → IsUtf8 (catalogue_text p ds) → AreReadAs result p ds
+result_read p ds result apart named digests is utf8 = ap read_of is ∙ text_reads_back p ds apart named digests utf8
+
+pub line_read : (p : Plan) (ds : List Delivered) → AreApart p ds → AreNamed p ds → AreDigests ds → IsUtf8 (catalogue_text p ds) → AreReadAs (catalogue_line p ds) p ds
+line_read p ds apart named digests utf8 =
+    line_reads_back p ds apart named digests (IsUtf8-append (catalogue_text p ds) (codes "\n") utf8 (IsUtf8-are_ascii (codes "\n") refl))

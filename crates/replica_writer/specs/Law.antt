@@ -22,11 +22,12 @@ use Rattle.replica_writer.specs.Writer.{AreApart, AreDigests, AreInRange, AreNam
 
 -- ---- reading
 
--- The bytes are read as exactly the delivered files that have their flag, in order.
-abbrev pub ReadsBack : Plan → List Delivered → Type 0
-ReadsBack p ds =
-    AreApart p ds → AreNamed p ds → AreDigests ds → IsUtf8 (catalogue_text p ds)
-    → read_of (catalogue_text p ds) ≡ Ok (catalogue_says p ds)
+-- These bytes are read as exactly the delivered files that have their flag, in order.
+abbrev pub AreReadAs : List ℕ → Plan → List Delivered → Type 0
+AreReadAs bytes p ds = read_of bytes ≡ Ok (catalogue_says p ds)
+
+abbrev pub ReadsBack : (Plan → List Delivered → List ℕ) → Plan → List Delivered → Type 0
+ReadsBack bytes p ds = AreApart p ds → AreNamed p ds → AreDigests ds → IsUtf8 (bytes p ds) → AreReadAs (bytes p ds) p ds
 
 -- ---- planning again, without force
 
@@ -46,10 +47,10 @@ abbrev pub HoldRequested : Workflow → Plan → List Delivered → Type 0
 HoldRequested w p ds = (f : ℕ) → is_requested w f ≡ true → list_any (is_flagged_as p (name_of w f)) ds ≡ true
 
 -- With what is read of the bytes no job is kept where every requested file was delivered and has its flag.
-abbrev pub KeepsNothingAgain : Workflow → Plan → List Delivered → Type 0
-KeepsNothingAgain w p ds =
+abbrev pub KeepsNothingAgain : (Plan → List Delivered → List ℕ) → Workflow → Plan → List Delivered → Type 0
+KeepsNothingAgain bytes w p ds =
     AreApart p ds → AreNamed p ds → AreDigests ds → HoldRequested w p ds
-    → (c : CatalogEntry) → read_of (catalogue_text p ds) ≡ Ok c → KeepsNothing w c.entries
+    → (c : CatalogEntry) → read_of (bytes p ds) ≡ Ok c → KeepsNothing w c.entries
 
 -- ---- what a run delivered
 

@@ -1,5 +1,5 @@
 -- What is registered of the files that a run delivered.
-use Rattle.std.specs.Prelude.{◌≡◌, ℕ, ◌<◌, Bool, false, List, length, map, filter, Option, Some, None, slice_get}
+use Rattle.std.specs.Prelude.{◌≡◌, ℕ, ◌<◌, ◌++◌, Bool, false, List, codes, length, map, filter, Option, Some, None, slice_get}
 use Rattle.std.specs.List.{All, IsDistinct}
 use Rattle.std.specs.Str.{bytes_eq}
 use Rattle.hex.specs.Hex.{IsBytes}
@@ -33,6 +33,10 @@ registrations p ds = map (registration p) (filter (has_flag p) ds)
 
 abbrev pub catalogue_text : Plan → List Delivered → List ℕ
 catalogue_text p ds = document_text (registrations p ds)
+
+-- with the line feed that ends what a program writes
+abbrev pub catalogue_line : Plan → List Delivered → List ℕ
+catalogue_line p ds = catalogue_text p ds ++ codes "\n"
 
 abbrev pub catalogue_says : Plan → List Delivered → CatalogEntry
 catalogue_says p ds = says (registrations p ds)

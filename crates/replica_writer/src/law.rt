@@ -6,15 +6,17 @@ ghost use Rattle.replica_catalog.specs.declared.catalog.Replica.{Replica};
 ghost use Rattle.plan_core.specs.declared.plan.Plan.{Plan};
 ghost use Rattle.run_record.specs.Events.{Event};
 ghost use Rattle.site_yard.specs.declared.delivered.Delivered.{Delivered};
+ghost use Rattle.replica_writer.specs.Writer.{catalogue_line, catalogue_text};
 ghost use Rattle.replica_writer.specs.Law.{FlagsHoldRequested, KeepsNothing, KeepsNothingAgain, ReadsBack, RegisterRequested, RunsCanBeWritten};
 
 use lease_book::records_read;
 use plan_core::numbers_are_in_range;
 
-/// The bytes of a catalogue are read as exactly the delivered files that have their flag, each with its one pfn and its
-/// digest, in order.
+/// The bytes of a catalogue, with or without a line feed behind them, are read as exactly the delivered files that have
+/// their flag, each with its one pfn and its digest, in order.
 pub fn catalogues_read_back()
-    ensures { (p : Plan) (ds : List Delivered) → ReadsBack p ds }
+    ensures text { (p : Plan) (ds : List Delivered) → ReadsBack catalogue_text p ds }
+    ensures line { (p : Plan) (ds : List Delivered) → ReadsBack catalogue_line p ds }
 {}
 
 /// Where every requested file is registered, planning without force keeps no job.
@@ -25,7 +27,8 @@ pub fn nothing_is_kept()
 /// With what is read of a written catalogue, planning without force keeps no job where every requested file was delivered
 /// and has its flag.
 pub fn written_files_keep_nothing()
-    ensures again { (w : Workflow) (p : Plan) (ds : List Delivered) → KeepsNothingAgain w p ds }
+    ensures text { (w : Workflow) (p : Plan) (ds : List Delivered) → KeepsNothingAgain catalogue_text w p ds }
+    ensures line { (w : Workflow) (p : Plan) (ds : List Delivered) → KeepsNothingAgain catalogue_line w p ds }
     ensures held { (w : Workflow) (p : Plan) (ds : List Delivered) → FlagsHoldRequested w p ds }
 {}
 

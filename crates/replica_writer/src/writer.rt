@@ -1,11 +1,11 @@
 //! The replica catalogue of what a run delivered.
 
-ghost use Rattle.std.specs.Prelude.{◌≡◌, ◌<◌, ◌++◌, ◌∷◌, [], length, map, IfOk, OnOk, Ok};
+ghost use Rattle.std.specs.Prelude.{◌≡◌, ◌<◌, ◌++◌, ◌∷◌, [], length, map, IfOk, OnOk};
 ghost use Rattle.hex.specs.Hex.{IsBytes};
 ghost use Rattle.serde_json.specs.View.{view};
-ghost use Rattle.replica_catalog.specs.Reader.{read_of};
 ghost use Rattle.replica_writer.specs.Document.{entry_tree};
-ghost use Rattle.replica_writer.specs.Writer.{AreApart, AreDigests, AreInRange, AreNamed, IsDigest, catalogue_says, catalogue_text, registrations};
+ghost use Rattle.replica_writer.specs.Writer.{AreApart, AreDigests, AreInRange, AreNamed, IsDigest, catalogue_line, catalogue_text, registrations};
+ghost use Rattle.replica_writer.specs.Law.{AreReadAs};
 
 use crate::document::{document, entry};
 use outside::{Blob, Memory};
@@ -63,7 +63,8 @@ pub fn catalogue(alloc: Global, plan: &Plan, delivered: &[Delivered]) -> Result<
     requires apart { AreApart plan.now delivered.now }
     requires named { AreNamed plan.now delivered.now }
     ensures text { IfOk result (λ bytes. bytes ≡ catalogue_text plan.now delivered.now) }
-    ensures reads_back { IfOk result (λ bytes. read_of bytes ≡ Ok (catalogue_says plan.now delivered.now)) }
+    ensures reads_back { IfOk result (λ bytes. AreReadAs bytes plan.now delivered.now) }
+    ensures line { IfOk result (λ bytes. AreReadAs (catalogue_line plan.now delivered.now) plan.now delivered.now) }
 {
     let document = document(alloc, entries(alloc, plan, delivered)?)?;
     let bytes = document.to_vec(alloc)?;
