@@ -1,5 +1,5 @@
 -- In a Legal record of a proper plan no file arrives twice as a delivery, and each that does is in range.
-use Rattle.std.proofs.Common.{◌≡◌, ℕ, ◌<◌, ◌||◌, ◌&&◌, Bool, true, false, List, [], ◌∷◌, ◌++◌, map, length, refl, sym, ap, subst, ◌∙◌, ◌⊎◌, inl, inr, nat_eq, nat_lt, append_assoc, arith}
+use Rattle.std.proofs.Common.{◌≡◌, ℕ, ◌<◌, ◌||◌, ◌&&◌, Bool, true, false, List, [], ◌∷◌, ◌++◌, map, length, refl, sym, ap, subst, ◌∙◌, inl, inr, nat_eq, nat_lt, append_assoc}
 use Rattle.std.specs.Prelude.{Option, Some, None}
 use Rattle.std.specs.List.{AllByRecursion, IsDistinct, list_any}
 use Rattle.std.proofs.lemmas.Bool.{ltb-true}
@@ -13,7 +13,7 @@ use Rattle.plan_core.specs.declared.plan.Target.TheVariants.{Site as Into, Deliv
 use Rattle.plan_core.specs.Proper.{is_kind_in_range, is_source_below, is_target_below}
 use Rattle.plan_core.specs.Words.{delivers, kind, kind_delivers}
 use Rattle.plan_core.proofs.TestLemmas.{both, either, is_itself, or_left, or_right, same_number}
-use Rattle.run_record.specs.Events.{Event, Grant, Arrive, End, Clean, Fail, Again, Regrant}
+use Rattle.run_record.specs.Events.{Event, Arrive}
 use Rattle.lease_book.specs.Legal.{Allowed, Legal, LegalFrom}
 use Rattle.lease_book.specs.Reading.{IsRead, ends}
 use Rattle.lease_book.specs.State.{State, after, ended, now, now_from, opened}
@@ -125,7 +125,27 @@ module _ (p : Plan) (kinds : (t : ℕ) (k : TaskKind) → kind p t ≡ Some k �
   all_within [] = tt
   all_within (e ∷ r) = all_append (λ f. f < length p.files) (arrivals_of p e) (arrivals p r) (within_here e) (all_within r)
 
--- ---- a file that a record delivers
+-- ---- the files that a record delivers
+
+arrival_delivers : (p : Plan) (e : Event) → AllByRecursion (λ f. delivers_file p f e ≡ true) (files_of (arrivals_of p e))
+arrival_delivers p (Arrive w t n) = by (delivered_file (kind p t)) refl
+  where
+    by : (o : Option FileId) → delivered_file (kind p t) ≡ o → AllByRecursion (λ f. delivers p t f ≡ true) (files_of (arrival_at t n o))
+    by None is = tt
+    by (Some g) is = (delivers_so (kind p t) g is, tt)
+arrival_delivers p _ = tt
+
+all_map : (P Q : ℕ → Type 0) → ((f : ℕ) → P f → Q f) → (fs : List ℕ) → AllByRecursion P fs → AllByRecursion Q fs
+all_map P Q h [] all = tt
+all_map P Q h (f ∷ fs) all = (h f all.0, all_map P Q h fs all.1)
+
+pub all_delivered : (p : Plan) (r : List Event) → AllByRecursion (λ f. is_delivered p r f ≡ true) (files_of (arrivals p r))
+unfolding is_delivered
+all_delivered p [] = tt
+all_delivered p (e ∷ r) =
+    all_append (λ f. (delivers_file p f e || list_any (delivers_file p f) r) ≡ true) (arrivals_of p e) (arrivals p r)
+    (all_map (λ f. delivers_file p f e ≡ true) (λ f. (delivers_file p f e || list_any (delivers_file p f) r) ≡ true) (λ f h. or_left (delivers_file p f e) (list_any (delivers_file p f) r) h) (files_of (arrivals_of p e)) (arrival_delivers p e))
+    (all_map (λ f. list_any (delivers_file p f) r ≡ true) (λ f. (delivers_file p f e || list_any (delivers_file p f) r) ≡ true) (λ f h. or_right (delivers_file p f e) (list_any (delivers_file p f) r) h) (files_of (arrivals p r)) (all_delivered p r))
 
 file_so : (k : Option TaskKind) (f t n : ℕ) → kind_delivers k f ≡ true → list_any (λ g. nat_eq g f) (files_of (arrival_at t n (delivered_file k))) ≡ true
 file_so None f t n h = absurd cc

@@ -1,6 +1,6 @@
 -- What a run delivered can be written.
 use Rattle.std.proofs.Common.{◌≡◌, ℕ, ◌<◌, ◌||◌, Bool, true, false, List, [], ◌∷◌, map, length, get_or, refl, sym, ap, ap₂, subst, ◌∙◌, ◌⊎◌, inl, inr, nat_eq, arith}
-use Rattle.std.specs.Prelude.{Option, Some, slice_get, ◌≤◌}
+use Rattle.std.specs.Prelude.{Some, slice_get, ◌≤◌}
 use Rattle.std.specs.List.{AllByRecursion, IsDistinct, list_any}
 use Rattle.std.specs.Str.{bytes_eq}
 use Rattle.std.specs.Cmp.Lexicographic.{nat_list_eq_equiv}
@@ -20,13 +20,12 @@ use Rattle.lease_book.specs.Law.{FitsFromStart}
 use Rattle.lease_book.specs.Legal.{Legal}
 use Rattle.lease_book.specs.Reading.{IsRead}
 use Rattle.lease_book.specs.State.{now}
-use Rattle.site_yard.specs.Delivered.{AreFiles, arrivals}
-use Rattle.site_yard.specs.Names.{file_name, lfn_in}
 use Rattle.site_yard.specs.Places.{is_delivered}
+use Rattle.site_yard.specs.Names.{file_name, lfn_in}
 use Rattle.site_yard.specs.declared.delivered.Delivered.{Delivered}
-use Rattle.replica_writer.specs.Law.{CanBeWritten, RunsCanBeWritten, has_file}
+use Rattle.replica_writer.specs.Law.{RunsCanBeWritten, has_file}
 use Rattle.replica_writer.specs.Writer.{delivered_name}
-use Rattle.replica_writer.proofs.ArrivalsLemmas.{IsOther, all_within, arrives, files_of, once}
+use Rattle.replica_writer.proofs.ArrivalsLemmas.{IsOther, all_delivered, all_within, arrives, once}
 use Rattle.replica_writer.proofs.JoiningLemmas.{IsFar}
 
 abbrev numbers : List Delivered → List ℕ
@@ -70,9 +69,9 @@ distinct_names p distinct (d ∷ ds) within once_ =
     (distinct_names p distinct ds within.1 (IsDistinct-tail nat_eq d.file.0 (numbers ds) once_))
 
 -- the same of the files
-in_range_each : (n : ℕ) (ds : List Delivered) → AllByRecursion (λ g. g < n) (numbers ds) → AllByRecursion (λ (d : Delivered). d.file.0 < n) ds
-in_range_each n [] all = tt
-in_range_each n (d ∷ ds) all = (all.0, in_range_each n ds all.1)
+each_number : (P : ℕ → Type 0) (ds : List Delivered) → AllByRecursion P (numbers ds) → AllByRecursion (λ (d : Delivered). P d.file.0) ds
+each_number P [] all = tt
+each_number P (d ∷ ds) all = (all.0, each_number P ds all.1)
 
 has_so : (f : ℕ) (ds : List Delivered) → list_any (λ g. nat_eq g f) (numbers ds) ≡ has_file f ds
 has_so f [] = refl
@@ -82,8 +81,9 @@ pub can_be_written : ((p : Plan) → IsProper p → (t : ℕ) (k : TaskKind) →
     → ((p : Plan) (order : List ℕ) (r : List Event) → IsProper p → FitsFromStart p order → Legal p order r → IsRead p r (now p order r))
     → (p : Plan) (order : List ℕ) (r : List Event) (ds : List Delivered) → RunsCanBeWritten p order r ds
 can_be_written kinds reads p order r ds proper fits legal files = record {
-  in_range = All-from_recursion (λ (d : Delivered). d.file.0 < length p.files) ds (in_range_each (length p.files) ds within);
+  in_range = All-from_recursion (λ (d : Delivered). d.file.0 < length p.files) ds (each_number (λ g. g < length p.files) ds within);
   apart = distinct_names p proper.tables.file_names ds within (subst (IsDistinct nat_eq) (sym files) (once p order proper.flow.one_delivery (λ r legal. reads p order r proper fits legal) [] r legal));
+  delivered = All-from_recursion (λ (d : Delivered). is_delivered p r d.file.0 ≡ true) ds (each_number (λ g. is_delivered p r g ≡ true) ds (subst (AllByRecursion (λ g. is_delivered p r g ≡ true)) (sym files) (all_delivered p r)));
   held = λ f is. sym (has_so f ds) ∙ ap (list_any (λ g. nat_eq g f)) files ∙ arrives p r f is;
 }
   where

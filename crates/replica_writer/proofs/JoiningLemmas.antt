@@ -1,5 +1,5 @@
 -- Entries of which no two have one lfn are joined as they are.
-use Rattle.std.proofs.Common.{◌≡◌, ℕ, Bool, true, false, not, cond, List, [], ◌∷◌, map, filter, refl, sym, ap, ap₂, subst, ◌∙◌}
+use Rattle.std.proofs.Common.{◌≡◌, ℕ, Bool, false, not, cond, List, [], ◌∷◌, map, filter, refl, sym, ap, ap₂, subst, ◌∙◌}
 use Rattle.std.specs.List.{AllByRecursion, IsDistinct}
 use Rattle.std.specs.Str.{bytes_eq}
 use Rattle.std.specs.Cmp.Lexicographic.{bytes_decides, nat_list_eq_equiv}
@@ -25,9 +25,10 @@ alone_more h es (x ∷ xs) far all = (ap (λ (b : Bool). cond b (h ∷ entries_w
 alone : (es : List Replica) → IsDistinct bytes_eq (lfns_of es) → AreAlone es es
 alone [] apart = tt
 alone (e ∷ es) apart =
-    let far : IsFar e.lfn (lfns_of es) = IsDistinct-head bytes_eq e.lfn (lfns_of es) apart in
-    (ap (λ (b : Bool). cond b (e ∷ entries_with e.lfn es) (entries_with e.lfn es)) ((bytes_decides e.lfn e.lfn).1 refl) ∙ ap (λ (l : List Replica). e ∷ l) (none_with e.lfn es far),
-    alone_more e es es far (alone es (IsDistinct-tail bytes_eq e.lfn (lfns_of es) apart)))
+    let far : IsFar e.lfn (lfns_of es) = IsDistinct-head bytes_eq e.lfn (lfns_of es) apart in (
+      ap (λ (b : Bool). cond b (e ∷ entries_with e.lfn es) (entries_with e.lfn es)) ((bytes_decides e.lfn e.lfn).1 refl) ∙ ap (λ (l : List Replica). e ∷ l) (none_with e.lfn es far),
+      alone_more e es es far (alone es (IsDistinct-tail bytes_eq e.lfn (lfns_of es) apart)),
+    )
 
 all_kept : (n : List ℕ) (ns : List (List ℕ)) → IsFar n ns → filter (λ m. not (bytes_eq m n)) ns ≡ ns
 all_kept n [] far = refl

@@ -1,23 +1,25 @@
 -- No job is kept where every requested file is registered.
-use Rattle.std.proofs.Common.{◌≡◌, ℕ, ◌||◌, ◌&&◌, Bool, true, false, not, cond, List, [], ◌∷◌, map, filter, Ok, Result, refl, sym, ap, subst, ◌∙◌, ◌⊎◌, inl, inr, nat_eq}
-use Rattle.std.specs.List.{list_any}
+use Rattle.std.proofs.Common.{◌≡◌, ℕ, ◌||◌, ◌&&◌, Bool, true, false, not, cond, List, [], ◌∷◌, map, filter, Ok, Result, refl, sym, ap, subst, ◌∙◌, inl, inr, nat_eq, ◌<◌, length}
+use Rattle.std.specs.List.{AllByRecursion, list_any}
 use Rattle.std.specs.Str.{bytes_eq}
 use Rattle.std.specs.Cmp.Lexicographic.{bytes_decides}
 use Rattle.plan_core.specs.declared.plan.Plan.{Plan}
 use Rattle.plan_core.proofs.TestLemmas.{and_both, both, either, or_left, or_right, same_number}
 use Rattle.workflow_core.specs.declared.workflow.Workflow.{Workflow}
-use Rattle.workflow_core.specs.Requested.{is_requested}
+use Rattle.workflow_core.specs.Requested.{is_requested, requests}
+use Rattle.workflow_core.specs.WellFormed.{IsJobOver}
+use Rattle.workflow_core.specs.declared.workflow.Job.{Job}
+use Rattle.workflow_core.specs.declared.workflow.Output.{Output}
 use Rattle.dependency_graph.specs.Built.{name_of}
 use Rattle.dependency_graph.specs.Edges.{written_by}
 use Rattle.peg_json.specs.declared.read_fault.ReadFault.{ReadFault}
 use Rattle.replica_catalog.specs.declared.catalog.Replica.{Replica}
-use Rattle.replica_catalog.specs.Reader.{CatalogEntry, read_of}
-use Rattle.data_reuse.specs.Kept.{IsKept}
+use Rattle.replica_catalog.specs.Reader.{CatalogEntry}
 use Rattle.data_reuse.specs.Registered.{absent_in, is_registered, registers}
 use Rattle.site_yard.specs.Names.{file_name}
 use Rattle.site_yard.specs.declared.delivered.Delivered.{Delivered}
-use Rattle.replica_writer.specs.Document.{Registration, replica}
-use Rattle.replica_writer.specs.Law.{FlagsHoldRequested, FlagsRequested, KeepsNothing, KeepsNothingAgain, ReadsBack, RegisterRequested, has_file, is_flagged_as}
+use Rattle.replica_writer.specs.Document.{replica}
+use Rattle.replica_writer.specs.Law.{FlaggedAreHeld, KeepsNothing, ReadsBack, ReadsEnough, RegisterRequested, SaysEnough, has_file, is_flagged_as}
 use Rattle.replica_writer.specs.Writer.{catalogue_line, catalogue_text, delivered_name, has_flag, is_flagged, registration, registrations}
 use Rattle.replica_writer.proofs.WriterLemmas.{line_reads_back, read_utf8, text_reads_back}
 
@@ -59,22 +61,37 @@ abbrev entries_in : Result CatalogEntry ReadFault → List Replica
 entries_in (Ok c) = c.entries
 entries_in _ = []
 
-again : (bytes : Plan → List Delivered → List ℕ) → ((p : Plan) (ds : List Delivered) → ReadsBack bytes p ds) → (w : Workflow) (p : Plan) (ds : List Delivered) → KeepsNothingAgain bytes w p ds
-again bytes reads w p ds apart named digests held c is = keeps_nothing w c.entries registered
+-- what a catalogue says
+pub says_enough : (w : Workflow) (p : Plan) (ds : List Delivered) → SaysEnough w p ds
+says_enough w p ds held = keeps_nothing w (map replica (registrations p ds)) (λ f asked. registers_flagged p (name_of w f) ds ∙ held f asked)
+
+enough : (bytes : Plan → List Delivered → List ℕ) → ((p : Plan) (ds : List Delivered) → ReadsBack bytes p ds) → (w : Workflow) (p : Plan) (ds : List Delivered) → ReadsEnough bytes w p ds
+enough bytes reads w p ds apart named digests held c is = subst (KeepsNothing w) same (says_enough w p ds held)
   where
     same : map replica (registrations p ds) ≡ c.entries
     same = ap entries_in (sym (reads p ds apart named digests (read_utf8 (bytes p ds) c is)) ∙ is)
 
-    registered : RegisterRequested w c.entries
-    registered f asked = subst (λ (es : List Replica). is_registered es (name_of w f) ≡ true) same (registers_flagged p (name_of w f) ds ∙ held f asked)
+pub text_enough : (w : Workflow) (p : Plan) (ds : List Delivered) → ReadsEnough catalogue_text w p ds
+text_enough = enough catalogue_text text_reads_back
 
-pub text_again : (w : Workflow) (p : Plan) (ds : List Delivered) → KeepsNothingAgain catalogue_text w p ds
-text_again = again catalogue_text text_reads_back
-
-pub line_again : (w : Workflow) (p : Plan) (ds : List Delivered) → KeepsNothingAgain catalogue_line w p ds
-line_again = again catalogue_line line_reads_back
+pub line_enough : (w : Workflow) (p : Plan) (ds : List Delivered) → ReadsEnough catalogue_line w p ds
+line_enough = enough catalogue_line line_reads_back
 
 -- ---- where each requested file was delivered
+
+output_below : (n f : ℕ) (os : List Output) → AllByRecursion (λ g. g < n) (map (λ (o : Output). o.file.0) os) → list_any (λ (o : Output). o.stage_out && nat_eq o.file.0 f) os ≡ true → f < n
+output_below n f [] all h = absurd cc
+output_below n f (o ∷ os) all h = elim (either (o.stage_out && nat_eq o.file.0 f) (list_any (λ (q : Output). q.stage_out && nat_eq q.file.0 f) os) h) [
+  | inl here ↦ subst (λ x. x < n) (same_number o.file.0 f (both o.stage_out (nat_eq o.file.0 f) here).1) all.0
+  | inr there ↦ output_below n f os all.1 there
+]
+
+job_below : (n f : ℕ) (js : List Job) → AllByRecursion (IsJobOver n) js → list_any (requests f) js ≡ true → f < n
+job_below n f [] all h = absurd cc
+job_below n f (j ∷ js) all h = elim (either (requests f j) (list_any (requests f) js) h) [
+  | inl here ↦ output_below n f j.outputs all.0.outputs here
+  | inr there ↦ job_below n f js all.1 there
+]
 
 flagged_here : (p : Plan) (w : Workflow) (f g : ℕ) → f ≡ g → file_name p f ≡ name_of w f → is_flagged p f ≡ true → (is_flagged p g && bytes_eq (name_of w f) (file_name p g)) ≡ true
 flagged_here p w f g same named flag =
@@ -88,5 +105,7 @@ flagged_in w p f named flag (d ∷ ds) h = elim (either (nat_eq d.file.0 f) (has
   | inr there ↦ or_right (is_flagged_as p (name_of w f) d) (list_any (is_flagged_as p (name_of w f)) ds) (flagged_in w p f named flag ds there)
 ]
 
-pub flags_hold : (w : Workflow) (p : Plan) (ds : List Delivered) → FlagsHoldRequested w p ds
-flags_hold w p ds flags each f asked = flagged_in w p f (flags.named f asked) (flags.flagged f asked) ds (each f asked)
+pub flagged_are_held : (w : Workflow) (p : Plan) (ds : List Delivered) → FlaggedAreHeld w p ds
+flagged_are_held w p ds formed delivers f asked =
+    let low : f < length w.files = job_below (length w.files) f w.jobs formed.jobs asked in
+    flagged_in w p f (delivers.named f low) (delivers.flagged f low asked) ds (delivers.held f low asked)

@@ -1,11 +1,11 @@
 -- A line feed behind a JSON text of strings, keys and brackets changes nothing of what is read.
-use Rattle.std.proofs.Common.{◌≡◌, ℕ, ◌&&◌, Bool, true, false, cond, List, [], ◌∷◌, ◌++◌, Some, refl, sym, ap, ◌∙◌, append_assoc}
+use Rattle.std.proofs.Common.{◌≡◌, ℕ, ◌&&◌, Bool, true, false, cond, List, [], ◌∷◌, ◌++◌, refl, sym, ap, ◌∙◌, append_assoc}
 use Rattle.std.specs.Prelude.{option_and_then}
 use Rattle.std.specs.List.{list_all}
 use Rattle.std.proofs.lemmas.Bool.{and_parts}
 use Rattle.json.specs.Token.{Token, begin_object, end_object, begin_array, end_array, key, string, number, boolean, null, bad}
 use Rattle.json.specs.Lex.{Lexeme, between, colon, comma, fresh, in_string, lex, punctuate, string_token, token, tokens}
-use Rattle.json.specs.Print.{begins, ends, escape, print, print_from, quoted, token_text}
+use Rattle.json.specs.Print.{begins, ends, escape, print_from, quoted, token_text}
 use Rattle.json.specs.Json as json
 use Rattle.json.specs.Tree as tree
 use Rattle.json.proofs.Printed.Strings.{content-escape, lex-escape}
@@ -61,7 +61,7 @@ line_end c (t ∷ ts) plain =
     let both = and_parts (is_plain t) (are_plain ts) plain in
     ap (lex between) (append_assoc (cond (c && begins t) (44 ∷ []) []) (token_text t ++ print_from (ends t) ts) (10 ∷ []) ∙ ap (λ (l : List ℕ). cond (c && begins t) (44 ∷ []) [] ++ l) (append_assoc (token_text t) (print_from (ends t) ts) (10 ∷ [])))
     ∙ after_comma_if (c && begins t) (token_text t ++ (print_from (ends t) ts ++ 10 ∷ [])) (token_text t ++ print_from (ends t) ts)
-      (lex_along t (print_from (ends t) ts ++ 10 ∷ []) (print_from (ends t) ts) both.0 (line_end (ends t) ts both.1))
+    (lex_along t (print_from (ends t) ts ++ 10 ∷ []) (print_from (ends t) ts) both.0 (line_end (ends t) ts both.1))
 
 -- a value's text with a line feed reads as its text
 pub read_line : (d : Data) → are_plain (tree.json_tokens (outline d)) ≡ true → read (compact_text d ++ 10 ∷ []) ≡ read (compact_text d)

@@ -1,5 +1,5 @@
 -- The tree of a document has no number, is shallow, and has each object's keys in order.
-use Rattle.std.proofs.Common.{◌≡◌, ℕ, ◌≤◌, ◌||◌, ◌&&◌, ◌++◌, Bool, true, false, List, [], ◌∷◌, Option, Some, map, codes, refl, sym, ap, ◌∙◌, arith, option_and_then, option_map}
+use Rattle.std.proofs.Common.{◌≡◌, ◌≤◌, ◌||◌, ◌&&◌, ◌++◌, Bool, true, false, List, [], ◌∷◌, Option, Some, map, codes, refl, ap, ◌∙◌, arith, option_and_then, option_map}
 use Rattle.std.proofs.lemmas.List.Folds.{list_all-append}
 use Rattle.json.specs.Token.{end_object}
 use Rattle.json.specs.Tree as tree

@@ -1,5 +1,5 @@
 -- What is read of a document's bytes.
-use Rattle.std.proofs.Common.{◌≡◌, ℕ, Bool, true, false, cond, List, [], map, length, Ok, Err, Some, codes, Option, Result, refl, sym, ap, ap₂, subst, ◌∙◌, ◌<◌}
+use Rattle.std.proofs.Common.{◌≡◌, ℕ, Bool, true, false, cond, List, [], map, length, Ok, Err, Some, codes, Result, refl, sym, ap, ap₂, subst, ◌∙◌, ◌<◌}
 use Rattle.std.specs.List.{AllByRecursion, IsDistinct}
 use Rattle.std.specs.Str.{IsUtf8, bytes_eq, is_utf8}
 use Rattle.std.proofs.lemmas.List.{length-map}
@@ -11,7 +11,6 @@ use Rattle.peg_json.specs.ReadFault.{then_read}
 use Rattle.peg_json.specs.Tree.{some_or, tree_of}
 use Rattle.peg_json.specs.declared.fault.TreeFault.{TreeFault}
 use Rattle.peg_json.specs.declared.fault.TreeFault.TheVariants as faults
-use Rattle.peg_json.specs.declared.read_fault.ReadFault.{ReadFault}
 use Rattle.peg_json.proofs.TreeLemmas.{is_tree}
 use Rattle.replica_catalog.specs.declared.catalog.Replica.{Replica}
 use Rattle.replica_catalog.specs.Reader.{CatalogEntry, catalog_of, from_tree_of, read_of}

@@ -5,6 +5,7 @@ use Rattle.serde_json.specs.Data.{Data, array, member, no_members, object, strin
 use Rattle.serde_json.specs.View.{items_of}
 use Rattle.serde_json.specs.Written.{compact_text}
 use Rattle.replica_catalog.specs.Reader.{CatalogEntry}
+use Rattle.replica_catalog.specs.declared.catalog.Pfn.{Pfn}
 use Rattle.replica_catalog.specs.declared.catalog.Replica.{Replica}
 use Rattle.replica_writer.specs.Pfn.{pfn_of}
 
@@ -19,7 +20,8 @@ abbrev pub checksum_tree : List ℕ → Data
 checksum_tree digest = object (member (codes "sha256") (string (encode_lower digest)) no_members)
 
 abbrev pub pfn_tree : List ℕ → Data
-pfn_tree pfn = object (member (codes "pfn") (string pfn) (member (codes "site") (string (codes "local")) no_members))
+pfn_tree pfn =
+    object (member (codes "pfn") (string pfn) (member (codes "site") (string (codes "local")) no_members))
 
 abbrev pub entry_tree : Registration → Data
 entry_tree r =
@@ -42,8 +44,11 @@ document_text rs = compact_text (document_tree (map entry_tree rs))
 
 -- ---- the catalogue: each file with its one pfn and its digest
 
+abbrev pub local_pfn : List ℕ → Pfn
+local_pfn lfn = record { site = codes "local"; pfn = pfn_of lfn }
+
 abbrev pub replica : Registration → Replica
-replica r = record { lfn = r.lfn; pfns = record { site = codes "local"; pfn = pfn_of r.lfn } ∷ []; checksum = Some r.digest }
+replica r = record { lfn = r.lfn; pfns = local_pfn r.lfn ∷ []; checksum = Some r.digest }
 
 abbrev pub says : List Registration → CatalogEntry
 says rs = record { entries = map replica rs; listed = length rs }

@@ -1,9 +1,10 @@
 -- What a written catalogue is read as, and what planning with it comes to.
-use Rattle.std.specs.Prelude.{◌≡◌, ℕ, ◌==◌, ◌&&◌, Bool, true, false, List, map, Ok, slice_get}
-use Rattle.std.specs.List.{list_any}
+use Rattle.std.specs.Prelude.{◌≡◌, ℕ, ◌<◌, ◌==◌, ◌&&◌, Bool, true, false, List, Ok, length}
+use Rattle.std.specs.List.{All, list_any}
 use Rattle.std.specs.Str.{IsUtf8, bytes_eq}
 use Rattle.workflow_core.specs.declared.workflow.Workflow.{Workflow}
 use Rattle.workflow_core.specs.Requested.{is_requested}
+use Rattle.workflow_core.specs.WellFormed.{IsWellFormed}
 use Rattle.dependency_graph.specs.Built.{name_of}
 use Rattle.replica_catalog.specs.declared.catalog.Replica.{Replica}
 use Rattle.replica_catalog.specs.Reader.{CatalogEntry, read_of}
@@ -18,7 +19,7 @@ use Rattle.site_yard.specs.Delivered.{AreFiles, arrivals}
 use Rattle.site_yard.specs.Names.{file_name}
 use Rattle.site_yard.specs.Places.{is_delivered}
 use Rattle.site_yard.specs.declared.delivered.Delivered.{Delivered}
-use Rattle.replica_writer.specs.Writer.{AreApart, AreDigests, AreInRange, AreNamed, catalogue_says, catalogue_text, delivered_name, has_flag, is_flagged}
+use Rattle.replica_writer.specs.Writer.{AreApart, AreDigests, AreInRange, AreNamed, catalogue_says, delivered_name, has_flag, is_flagged}
 
 -- ---- reading
 
@@ -27,7 +28,8 @@ abbrev pub AreReadAs : List ℕ → Plan → List Delivered → Type 0
 AreReadAs bytes p ds = read_of bytes ≡ Ok (catalogue_says p ds)
 
 abbrev pub ReadsBack : (Plan → List Delivered → List ℕ) → Plan → List Delivered → Type 0
-ReadsBack bytes p ds = AreApart p ds → AreNamed p ds → AreDigests ds → IsUtf8 (bytes p ds) → AreReadAs (bytes p ds) p ds
+ReadsBack bytes p ds =
+    AreApart p ds → AreNamed p ds → AreDigests ds → IsUtf8 (bytes p ds) → AreReadAs (bytes p ds) p ds
 
 -- ---- planning again, without force
 
@@ -44,11 +46,16 @@ is_flagged_as p name d = has_flag p d && bytes_eq name (delivered_name p d)
 
 -- every requested file was delivered, and has its flag
 abbrev pub HoldRequested : Workflow → Plan → List Delivered → Type 0
-HoldRequested w p ds = (f : ℕ) → is_requested w f ≡ true → list_any (is_flagged_as p (name_of w f)) ds ≡ true
+HoldRequested w p ds =
+    (f : ℕ) → is_requested w f ≡ true → list_any (is_flagged_as p (name_of w f)) ds ≡ true
 
--- With what is read of the bytes no job is kept where every requested file was delivered and has its flag.
-abbrev pub KeepsNothingAgain : (Plan → List Delivered → List ℕ) → Workflow → Plan → List Delivered → Type 0
-KeepsNothingAgain bytes w p ds =
+-- No job is kept with the entries of the catalogue, where it holds every requested file.
+abbrev pub SaysEnough : Workflow → Plan → List Delivered → Type 0
+SaysEnough w p ds = HoldRequested w p ds → KeepsNothing w (catalogue_says p ds).entries
+
+-- The same with whatever these bytes are read as.
+abbrev pub ReadsEnough : (Plan → List Delivered → List ℕ) → Workflow → Plan → List Delivered → Type 0
+ReadsEnough bytes w p ds =
     AreApart p ds → AreNamed p ds → AreDigests ds → HoldRequested w p ds
     → (c : CatalogEntry) → read_of (bytes p ds) ≡ Ok c → KeepsNothing w c.entries
 
@@ -57,23 +64,24 @@ KeepsNothingAgain bytes w p ds =
 abbrev pub has_file : ℕ → List Delivered → Bool
 has_file f ds = list_any (λ (d : Delivered). d.file.0 == f) ds
 
--- The files of a Legal record's deliveries are in range, and none of them stands twice; a file that the record delivers is
--- among them.
+-- The files of a Legal record's deliveries are in range, and none of them stands twice. They are those that the record
+-- delivers.
 pub record CanBeWritten (p : Plan) (r : List Event) (ds : List Delivered) : Type 0 where
   pub in_range : AreInRange p ds
   pub apart : AreApart p ds
+  pub delivered : All (λ (d : Delivered). is_delivered p r d.file.0 ≡ true) ds
   pub held : (f : ℕ) → is_delivered p r f ≡ true → has_file f ds ≡ true
 
 abbrev pub RunsCanBeWritten : Plan → List ℕ → List Event → List Delivered → Type 0
 RunsCanBeWritten p order r ds =
     IsProper p → FitsFromStart p order → Legal p order r → AreFiles ds (arrivals p r) → CanBeWritten p r ds
 
--- a plan's files have the workflow's names, and those that are requested their flags
-pub record FlagsRequested (w : Workflow) (p : Plan) : Type 0 where
-  pub named : (f : ℕ) → is_requested w f ≡ true → file_name p f ≡ name_of w f
-  pub flagged : (f : ℕ) → is_requested w f ≡ true → is_flagged p f ≡ true
+-- A plan's files have the workflow's names, those that are requested have their flags and are among the delivered ones.
+pub record DeliversFlagged (w : Workflow) (p : Plan) (ds : List Delivered) : Type 0 where
+  pub named : (f : ℕ) → f < length w.files → file_name p f ≡ name_of w f
+  pub flagged : (f : ℕ) → f < length w.files → is_requested w f ≡ true → is_flagged p f ≡ true
+  pub held : (f : ℕ) → f < length w.files → is_requested w f ≡ true → has_file f ds ≡ true
 
--- Where each requested file is among the delivered ones, and has its flag in the plan, every one is held.
-abbrev pub FlagsHoldRequested : Workflow → Plan → List Delivered → Type 0
-FlagsHoldRequested w p ds =
-    FlagsRequested w p → ((f : ℕ) → is_requested w f ≡ true → has_file f ds ≡ true) → HoldRequested w p ds
+-- Then every requested file is held.
+abbrev pub FlaggedAreHeld : Workflow → Plan → List Delivered → Type 0
+FlaggedAreHeld w p ds = IsWellFormed w → DeliversFlagged w p ds → HoldRequested w p ds

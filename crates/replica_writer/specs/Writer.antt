@@ -3,12 +3,13 @@ use Rattle.std.specs.Prelude.{◌≡◌, ℕ, ◌<◌, ◌++◌, Bool, false, Li
 use Rattle.std.specs.List.{All, IsDistinct}
 use Rattle.std.specs.Str.{bytes_eq}
 use Rattle.hex.specs.Hex.{IsBytes}
+use Rattle.serde_json.specs.Data.{Data}
 use Rattle.plan_core.specs.declared.plan.Plan.{Plan}
 use Rattle.plan_core.specs.declared.plan.PlanFile.{PlanFile}
 use Rattle.replica_catalog.specs.Reader.{CatalogEntry}
 use Rattle.site_yard.specs.Names.{file_name}
 use Rattle.site_yard.specs.declared.delivered.Delivered.{Delivered}
-use Rattle.replica_writer.specs.Document.{Registration, document_text, says}
+use Rattle.replica_writer.specs.Document.{Registration, document_text, entry_tree, says}
 
 abbrev pub delivered_name : Plan → Delivered → List ℕ
 delivered_name p d = file_name p d.file.0
@@ -31,6 +32,10 @@ registration p d = record { lfn = delivered_name p d; digest = d.digest }
 abbrev pub registrations : Plan → List Delivered → List Registration
 registrations p ds = map (registration p) (filter (has_flag p) ds)
 
+-- their entries in the document
+abbrev pub entries_of : Plan → List Delivered → List Data
+entries_of p ds = map entry_tree (registrations p ds)
+
 abbrev pub catalogue_text : Plan → List Delivered → List ℕ
 catalogue_text p ds = document_text (registrations p ds)
 
@@ -41,7 +46,8 @@ catalogue_line p ds = catalogue_text p ds ++ codes "\n"
 abbrev pub catalogue_says : Plan → List Delivered → CatalogEntry
 catalogue_says p ds = says (registrations p ds)
 
--- ---- what a caller shows: the files are in range, none of them stands twice, and none has an empty name
+-- ---- what a caller shows: the files are in range, none of them stands twice, none has an empty name. Two numbers with
+-- one name would be one file that stands twice.
 
 abbrev pub AreInRange : Plan → List Delivered → Type 0
 AreInRange p ds = All (λ (d : Delivered). d.file.0 < length p.files) ds

@@ -27,7 +27,8 @@ fn local_pfn(alloc: Global, pfn: &Text) -> Result<Value, Memory>
 
 /// The entry of a file.
 pub fn entry(alloc: Global, lfn: &Text, digest: &[u8; 32]) -> Result<Value, Memory>
-    ensures { IfOk result (λ v. view v ≡ entry_tree (record { lfn = lfn.now; digest = digest.now })) }
+    ensures { IfOk result
+        (λ v. view v ≡ entry_tree (record { lfn = lfn.now; digest = digest.now })) }
 {
     let checksum = checksum(alloc, digest)?;
     let pfn = local_pfn(alloc, &pfn_of(alloc, lfn)?)?;

@@ -3,8 +3,7 @@
 ghost use Rattle.std.specs.Prelude.{◌≡◌, ◌<◌, ◌++◌, ◌∷◌, [], length, map, IfOk, OnOk};
 ghost use Rattle.hex.specs.Hex.{IsBytes};
 ghost use Rattle.serde_json.specs.View.{view};
-ghost use Rattle.replica_writer.specs.Document.{entry_tree};
-ghost use Rattle.replica_writer.specs.Writer.{AreApart, AreDigests, AreInRange, AreNamed, IsDigest, catalogue_line, catalogue_text, registrations};
+ghost use Rattle.replica_writer.specs.Writer.{AreApart, AreDigests, AreInRange, AreNamed, IsDigest, catalogue_line, catalogue_text, entries_of};
 ghost use Rattle.replica_writer.specs.Law.{AreReadAs};
 
 use crate::document::{document, entry};
@@ -33,7 +32,8 @@ fn add_entry(
     delivered: &Delivered,
 ) -> Result<(), Memory>
     requires { delivered.now.file.0 < length plan.now.files }
-    ensures entries { OnOk result (map view entries.new.items ≡ map view entries.old.items ++ map entry_tree (registrations plan.now (delivered.now ∷ []))) }
+    ensures entries { OnOk result (map view entries.new.items
+        ≡ map view entries.old.items ++ entries_of plan.now (delivered.now ∷ [])) }
     ensures digest { IsDigest delivered.now.digest }
 {
     digest_fits(&delivered.digest);
@@ -47,7 +47,7 @@ fn add_entry(
 /// The entries of the delivered files that have their flag.
 fn entries(alloc: Global, plan: &Plan, delivered: &[Delivered]) -> Result<Vec<Value>, Memory>
     requires { AreInRange plan.now delivered.now }
-    ensures entries { IfOk result (λ v. map view v.items ≡ map entry_tree (registrations plan.now delivered.now)) }
+    ensures entries { IfOk result (λ v. map view v.items ≡ entries_of plan.now delivered.now) }
     ensures digests { IfOk result (λ v. AreDigests delivered.now) }
 {
     let mut entries = Vec::new(alloc);
@@ -64,9 +64,11 @@ pub fn catalogue(alloc: Global, plan: &Plan, delivered: &[Delivered]) -> Result<
     requires named { AreNamed plan.now delivered.now }
     ensures text { IfOk result (λ bytes. bytes ≡ catalogue_text plan.now delivered.now) }
     ensures reads_back { IfOk result (λ bytes. AreReadAs bytes plan.now delivered.now) }
-    ensures line { IfOk result (λ bytes. AreReadAs (catalogue_line plan.now delivered.now) plan.now delivered.now) }
+    ensures line { IfOk result
+        (λ bytes. AreReadAs (catalogue_line plan.now delivered.now) plan.now delivered.now) }
 {
-    let document = document(alloc, entries(alloc, plan, delivered)?)?;
+    let entries = entries(alloc, plan, delivered)?;
+    let document = document(alloc, entries)?;
     let bytes = document.to_vec(alloc)?;
     Ok(Blob::new(bytes))
 }

@@ -6,7 +6,7 @@ use Rattle.replica_writer.proofs.writer.catalogue.Goals as goal
 
 pub returns-clause-text : goal.returns-clause-text
 returns-clause-text c =
-    text_is (registrations c.args.plan.now c.args.delivered.now) (map view c.in_ok-entries.field-0.items) (view c.in_ok-document.document) c.in_ok-bytes.bytes.items c.new.result
+    text_is (registrations c.args.plan.now c.args.delivered.now) (map view c.in_ok-entries.entries.items) (view c.in_ok-document.document) c.in_ok-bytes.bytes.items c.new.result
     c.new.ensures c.in_ok-document.ensures c.in_ok-entries.ensures.entries c.in_ok-bytes.ensures.text
 
 pub returns-clause-reads_back : goal.returns-clause-reads_back
