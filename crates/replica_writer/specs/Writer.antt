@@ -2,6 +2,8 @@
 use Rattle.std.specs.Prelude.{◌≡◌, ℕ, ◌<◌, ◌++◌, Bool, false, List, codes, length, map, filter, Option, Some, None, slice_get}
 use Rattle.std.specs.List.{All, IsDistinct}
 use Rattle.std.specs.Str.{bytes_eq}
+use Rattle.std.proofs.Props.{props}
+use Rattle.std.proofs.lemmas.Map.Keys.{IsDistinct-prop}
 use Rattle.hex.specs.Hex.{IsBytes}
 use Rattle.serde_json.specs.Data.{Data}
 use Rattle.plan_core.specs.declared.plan.Plan.{Plan}
@@ -57,6 +59,15 @@ AreApart p ds = IsDistinct bytes_eq (map (delivered_name p) ds)
 
 abbrev pub AreNamed : Plan → List Delivered → Type 0
 AreNamed p ds = All (λ (d : Delivered). 0 < length (delivered_name p d)) ds
+
+-- all three, for a caller that has them of some record
+pub record CanWrite (p : Plan) (ds : List Delivered) : Type 0 where
+  pub in_range : AreInRange p ds
+  pub apart : AreApart p ds
+  pub named : AreNamed p ds
+
+pub CanWrite-prop : (p : Plan) (ds : List Delivered) → IsProp (CanWrite p ds)
+CanWrite-prop p ds = Prim.hlevel (props, IsDistinct-prop)
 
 -- ---- what the type of a digest says: it has 32 bytes
 
