@@ -37,7 +37,7 @@ number_small limit path n m h = by (nat_lt limit n) refl h
 number_of_small : (limit : ℕ) → Always (number_of limit) (λ m. m ≤ limit)
 number_of_small limit path d m h = let step = passed (some_or (faults.WrongKind path) (option_and_then find.as_u64 (find.as_number d))) (number_within limit path) m h in number_small limit path step.value m step.rest
 
-execution_small : Always execution_of (λ (e : Execution). e.bound ≤ 2 ^ 60)
+pub execution_small : Always execution_of (λ (e : Execution). e.bound ≤ 2 ^ 60)
 unfolding execution_of
 execution_small path d e h =
     let one = passed (checks path d execution_rows) _ e h in

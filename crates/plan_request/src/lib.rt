@@ -20,6 +20,8 @@ mod tool_entries;
 
 pub use file_sizes::declared_sizes;
 pub use job_tools::Tools;
+pub use known::only_known;
+pub use modes::{cleanup, cluster};
 pub use reader::read;
 pub use request::{
     Cleanup, ClusterMode, Execution, PlanRequest, Runtime, Selector, SizeOf, ToolOf,

@@ -1,0 +1,9 @@
+mod ReaderLemmas
+mod PrefixLemmas
+mod DistinctLemmas
+mod JoinedLemmas
+mod JobsLemmas
+mod ProducerLemmas
+mod StatedLemmas
+mod LookupLemmas
+mod MadeLemmas

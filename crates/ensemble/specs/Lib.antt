@@ -1,0 +1,11 @@
+-- The document
+pub mod MemberEntry
+pub mod Root
+pub mod Reader
+pub mod Limits
+pub mod Applying
+-- The joint
+pub mod Prefix
+pub mod Jobs
+pub mod Entries
+pub mod Stated

@@ -1,0 +1,63 @@
+//! The requests of an ensemble and of its members.
+
+ghost use Rattle.std.specs.Prelude.{◌≡◌, Ok, IfOk};
+ghost use Rattle.outside.specs.Policy.{plain};
+ghost use Rattle.plan_request.specs.Limits.{IsWithinLimits};
+ghost use Rattle.plan_request.specs.Reader.{execute_checked};
+ghost use Rattle.ensemble.specs.Applying.{of_ensemble, own_request};
+ghost use Rattle.ensemble.specs.Limits.{IsFit};
+
+use crate::copying::{executions_copied, policy_copied};
+use crate::document::Ensemble;
+use outside::{Items, Memory, Text};
+use plan_request::PlanRequest;
+use std::alloc::Global;
+
+/// A member's request, with the ensemble's keys in place of its own.
+pub fn member_request(
+    alloc: Global,
+    ensemble: &Ensemble,
+    request: PlanRequest,
+) -> Result<PlanRequest, Memory>
+    requires fit { IsFit ensemble.now }
+    requires limits { IsWithinLimits request }
+    ensures request { IfOk result (λ r. r ≡ of_ensemble ensemble.now request) }
+    ensures sites { IfOk result (λ r. execute_checked r.execute ≡ Ok tt) }
+    ensures limits { IfOk result (λ r. IsWithinLimits r) }
+    ensures policy { IfOk result (λ r. r.policy ≡ plain) }
+{
+    let execute = executions_copied(alloc, ensemble.execute.as_slice())?;
+    Ok(PlanRequest {
+        execute,
+        cluster: ensemble.cluster,
+        cleanup: ensemble.cleanup,
+        force: ensemble.force,
+        policy: policy_copied(&ensemble.policy),
+        ..request
+    })
+}
+
+/// The request that the ensemble makes by itself.
+pub fn ensemble_request(alloc: Global, ensemble: &Ensemble) -> Result<PlanRequest, Memory>
+    requires fit { IsFit ensemble.now }
+    ensures request { IfOk result (λ r. r ≡ own_request ensemble.now) }
+    ensures sites { IfOk result (λ r. execute_checked r.execute ≡ Ok tt) }
+    ensures limits { IfOk result (λ r. IsWithinLimits r) }
+    ensures policy { IfOk result (λ r. r.policy ≡ plain) }
+{
+    let execute = executions_copied(alloc, ensemble.execute.as_slice())?;
+    Ok(PlanRequest {
+        workflow: Text::copy_of(alloc, "")?,
+        sites: None,
+        replicas: None,
+        transformations: None,
+        execute,
+        sizes: Items::new(Vec::new(alloc)),
+        default_size: None,
+        cluster: ensemble.cluster,
+        cleanup: ensemble.cleanup,
+        force: ensemble.force,
+        tools: Items::new(Vec::new(alloc)),
+        policy: policy_copied(&ensemble.policy),
+    })
+}
