@@ -7,3 +7,12 @@ mod ProducerLemmas
 mod StatedLemmas
 mod LookupLemmas
 mod MadeLemmas
+mod MembersLemmas
+mod FitLemmas
+mod CountLemmas
+mod WithinLemmas
+mod LawLemmas
+mod SizesLemmas
+mod MeansLemmas
+mod SoundLemmas
+mod SurveyedLemmas

@@ -1,8 +1,7 @@
 -- What is found under a member's name: in the member's own entries, and never in another's.
-use Rattle.std.proofs.Common.{◌≡◌, ℕ, ◌+◌, ◌<◌, ◌≤◌, Bool, true, false, cond, List, [], ◌∷◌, ◌++◌, length, map, refl, sym, ap, ◌∙◌, nat_eq}
-use Rattle.std.specs.Prelude.{Option, Some, None, find, option_map, unwrap_or}
+use Rattle.std.proofs.Common.{◌≡◌, ℕ, Bool, true, false, cond, List, [], ◌∷◌, ◌++◌, map, refl, sym, ap, ◌∙◌}
+use Rattle.std.specs.Prelude.{Option, Some, None, find, option_map}
 use Rattle.std.specs.Cmp.Lexicographic.{bytes_decides}
-use Rattle.std.specs.List.{AllByRecursion}
 use Rattle.std.specs.Map.{lookup}
 use Rattle.std.specs.Option.{option_or}
 use Rattle.std.specs.Str.{bytes_eq}
@@ -15,7 +14,7 @@ use Rattle.dependency_graph.specs.Edges.{has_output, producer}
 use Rattle.ensemble.specs.Entries.{replica_of}
 use Rattle.ensemble.specs.MemberEntry.{has_slash}
 use Rattle.ensemble.specs.Prefix.{prefixed}
-use Rattle.ensemble.specs.Stated.{stated_tool, stated_tools}
+use Rattle.ensemble.specs.Stated.{stated_tools}
 use Rattle.ensemble.proofs.PrefixLemmas.{other_prefixed, own_name, own_prefixed}
 
 pub or_nothing : {V : Type 0} (o : Option V) → option_or o None ≡ o

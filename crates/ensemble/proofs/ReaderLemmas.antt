@@ -1,5 +1,5 @@
 -- An ensemble that was read is fit.
-use Rattle.std.proofs.Common.{◌≡◌, ℕ, ◌≤◌, Bool, true, false, not, cond, ◌&&◌, List, [], ◌∷◌, ◌++◌, length, map, nat_lt, refl, sym, ap, ◌∙◌, subst}
+use Rattle.std.proofs.Common.{◌≡◌, ℕ, ◌≤◌, Bool, true, false, not, cond, ◌&&◌, List, [], ◌∷◌, ◌++◌, refl, sym, ap, ◌∙◌, subst}
 use Rattle.std.specs.Prelude.{◌^◌, Option, Some, None, Result, Ok, Err, codes}
 use Rattle.std.specs.List.{AllByRecursion, list_any}
 use Rattle.std.specs.Str.{bytes_eq}
@@ -8,16 +8,16 @@ use Rattle.serde_json.specs.Data.{Data}
 use Rattle.outside.specs.Policy.{plain}
 use Rattle.peg_json.specs.Duplicates.{first_repeat}
 use Rattle.peg_json.specs.Path.{key_path}
-use Rattle.peg_json.specs.ReadFault.{then_read, told_by}
+use Rattle.peg_json.specs.ReadFault.{then_read}
 use Rattle.peg_json.specs.Table.{checks}
-use Rattle.peg_json.specs.Tree.{◌>>=◌, list_in, some_or, tree_of}
-use Rattle.peg_json.specs.Typed.{flag_of, name_of, number_of, number_within, optional, required}
+use Rattle.peg_json.specs.Tree.{list_in, tree_of}
+use Rattle.peg_json.specs.Typed.{flag_of, name_of, optional, required}
 use Rattle.peg_json.specs.declared.fault.TreeFault.{TreeFault}
 use Rattle.peg_json.specs.declared.fault.TreeFault.TheVariants as faults
 use Rattle.peg_json.specs.declared.read_fault.ReadFault.{ReadFault}
-use Rattle.workflow_core.specs.WellFormed.{are_distinct, are_new}
+use Rattle.workflow_core.specs.WellFormed.{are_new}
 use Rattle.plan_request.specs.declared.request.Execution.{Execution}
-use Rattle.plan_request.specs.Execution.{execution_of, execution_rows}
+use Rattle.plan_request.specs.Execution.{execution_of}
 use Rattle.plan_request.specs.Known.{only_known}
 use Rattle.plan_request.specs.Modes.{cleanup_at, cluster_at}
 use Rattle.plan_request.specs.Reader.{execute_checked}
@@ -25,11 +25,9 @@ use Rattle.plan_request.proofs.LimitsLemmas.{execution_small}
 use Rattle.plan_request.proofs.StepLemmas.{Always, list_has, passed, required_has, unwrapped}
 use Rattle.ensemble.specs.declared.document.Ensemble.{Ensemble}
 use Rattle.ensemble.specs.declared.document.MemberEntry.{MemberEntry}
-use Rattle.ensemble.specs.declared.fault.EnsembleFault.{EnsembleFault}
-use Rattle.ensemble.specs.declared.fault.EnsembleFault.TheVariants.{Read}
 use Rattle.ensemble.specs.Limits.{IsFit}
 use Rattle.ensemble.specs.MemberEntry.{has_slash, member_of, member_rows, plain_name_at, without_slash}
-use Rattle.ensemble.specs.Reader.{few_members, members_distinct, named_once, names_of, read_of, sited_of, sites_distinct, twice_refused}
+use Rattle.ensemble.specs.Reader.{named_once, names_of, sited_of, sites_distinct, twice_refused}
 use Rattle.ensemble.specs.Root.{ensemble_of, ensemble_rows}
 
 -- ---- names
@@ -82,11 +80,10 @@ ensemble_plain d e h =
     let f = passed (cluster_at [] d (codes "cluster")) _ e execute.rest in
     let g = passed (cleanup_at [] d (codes "cleanup")) _ e f.rest in
     let i = passed (optional flag_of [] d (codes "force")) _ e g.rest in
-    subst (λ (q : Ensemble). AllByRecursion IsPlain q.members × AllByRecursion (λ (x : Execution). x.bound ≤ 2 ^ 60) q.execute × (q.policy ≡ plain)) (unwrapped _ e i.rest)
-    (
+    subst (λ (q : Ensemble). AllByRecursion IsPlain q.members × AllByRecursion (λ (x : Execution). x.bound ≤ 2 ^ 60) q.execute × (q.policy ≡ plain)) (unwrapped _ e i.rest) (
       required_has (list_in member_of) (AllByRecursion IsPlain) (list_has member_of IsPlain member_plain) [] d (codes "members") members.value members.is,
       required_has (list_in execution_of) (AllByRecursion (λ (x : Execution). x.bound ≤ 2 ^ 60)) (list_has execution_of (λ (x : Execution). x.bound ≤ 2 ^ 60) execution_small) [] d (codes "execute") execute.value execute.is,
-      refl
+      refl,
     )
 
 then_ok : {A B : Type 0} (m : Result A TreeFault) (k : A → Result B ReadFault) (y : B) → then_read m k ≡ Ok y → (x : A) × (m ≡ Ok x) × (k x ≡ Ok y)

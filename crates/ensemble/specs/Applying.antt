@@ -5,7 +5,13 @@ use Rattle.ensemble.specs.declared.document.Ensemble.{Ensemble}
 
 -- a member's request: its own, but for the keys that the ensemble has
 abbrev pub of_ensemble : Ensemble → PlanRequest → PlanRequest
-of_ensemble e r = record r { execute = e.execute; cluster = e.cluster; cleanup = e.cleanup; force = e.force; policy = e.policy }
+of_ensemble e r = record r {
+  execute = e.execute;
+  cluster = e.cluster;
+  cleanup = e.cleanup;
+  force = e.force;
+  policy = e.policy;
+}
 
 -- what the ensemble asks for by itself: it names no documents, and states no sizes and no tools
 abbrev pub own_request : Ensemble → PlanRequest

@@ -1,4 +1,4 @@
--- Jobs of a member, in the joint of all members: under the member's name, with files and jobs by their later numbers.
+-- Jobs of a member, in the joint of all members: under the member's name, with later numbers of files and jobs.
 use Rattle.std.specs.Prelude.{ℕ, ◌+◌, ◌<◌, ◌^◌, List, map}
 use Rattle.std.specs.List.{All}
 use Rattle.outside.specs.declared.numbers.FileId.{FileId}

@@ -1,5 +1,5 @@
 -- What every reader of an ensemble gives.
-use Rattle.std.specs.Prelude.{◌≡◌, ℕ, ◌^◌, ◌≤◌, true, false, Ok}
+use Rattle.std.specs.Prelude.{◌≡◌, ◌^◌, ◌≤◌, true, false, Ok}
 use Rattle.std.specs.List.{AllByRecursion}
 use Rattle.std.specs.Str.{bytes_eq}
 use Rattle.outside.specs.Policy.{plain}
@@ -11,7 +11,7 @@ use Rattle.ensemble.specs.declared.document.MemberEntry.{MemberEntry}
 use Rattle.ensemble.specs.MemberEntry.{has_slash}
 use Rattle.ensemble.specs.Reader.{names_of}
 
--- Members have distinct names without `/`, execution sites are few and distinct, and bounds are at most 2^60.
+-- Members have distinct names without `/`. Execution sites are few and distinct, with bounds of at most 2^60.
 pub record IsFit (e : Ensemble) : Type 0 where
   pub distinct : are_distinct bytes_eq (names_of e.members) ≡ true
   pub plain_names : AllByRecursion (λ (m : MemberEntry). has_slash m.name ≡ false) e.members

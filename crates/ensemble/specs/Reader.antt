@@ -55,6 +55,7 @@ FailsEnsemble (Read (reads.Tree faults.Memory)) read = Unit {0}
 FailsEnsemble fault read = read ≡ Err fault
 
 -- What was returned, seen by view, is what reading gives, unless memory ran out.
-abbrev pub GivesEnsemble : {X Y : Type 0} → (X → Y) → Result X EnsembleFault → Result Y EnsembleFault → Type 0
+abbrev pub GivesEnsemble : {X Y : Type 0}
+    → (X → Y) → Result X EnsembleFault → Result Y EnsembleFault → Type 0
 GivesEnsemble view (Ok x) read = read ≡ Ok (view x)
 GivesEnsemble view (Err fault) read = FailsEnsemble fault read

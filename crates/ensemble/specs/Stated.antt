@@ -1,4 +1,4 @@
--- What the joint request states for a member: the size of each file, and the tool of each job's transformation.
+-- What the joint request states for a member: the size of each file, the tool of each job's transformation.
 use Rattle.std.specs.Prelude.{ℕ, List, [], ◌∷◌, ◌++◌, map, Option, Some, None}
 use Rattle.workflow_core.specs.declared.workflow.Job.{Job}
 use Rattle.plan_request.specs.JobTools.{tool_of}
@@ -19,7 +19,10 @@ stated_sizes member (f ∷ fs) (s ∷ ss) = stated_size member f s ++ stated_siz
 
 -- the tool of a job's transformation, among the tools that the member's own request states
 abbrev pub stated_tool : List ℕ → List ToolOf → Job → ToolOf
-stated_tool member tools j = record { transformation = prefixed member j.transformation.name; tool = tool_of tools j.transformation.name }
+stated_tool member tools j = record {
+  transformation = prefixed member j.transformation.name;
+  tool = tool_of tools j.transformation.name;
+}
 
 abbrev pub stated_tools : List ℕ → List ToolOf → List Job → List ToolOf
 stated_tools member tools js = map (stated_tool member tools) js

@@ -6,10 +6,7 @@ use outside::{Items, Memory, Policy, Text};
 use plan_request::Execution;
 use std::alloc::Global;
 
-pub fn executions_copied(
-    alloc: Global,
-    execute: &[Execution],
-) -> Result<Items<Execution>, Memory>
+pub fn executions_copied(alloc: Global, execute: &[Execution]) -> Result<Items<Execution>, Memory>
     ensures { IfOk result (λ copy. copy ≡ execute.now) }
 {
     let mut copies = Vec::new(alloc);

@@ -40,7 +40,8 @@ pub fn add_replicas(
     member: &Text,
     more: &[Replica],
 ) -> Result<(), Memory>
-    ensures { OnOk result (entries.new.items ≡ entries.old.items ++ map (replica_of member.now) more.now) }
+    ensures { OnOk result
+        (entries.new.items ≡ entries.old.items ++ map (replica_of member.now) more.now) }
 {
     for entry in more {
         entries.push(replica_of(alloc, member, entry)?)?;
@@ -86,7 +87,8 @@ pub fn add_entries(
     member: &Text,
     more: &[TransformationEntry],
 ) -> Result<(), Memory>
-    ensures { OnOk result (entries.new.items ≡ entries.old.items ++ map (entry_of member.now) more.now) }
+    ensures { OnOk result
+        (entries.new.items ≡ entries.old.items ++ map (entry_of member.now) more.now) }
 {
     for entry in more {
         entries.push(entry_of(alloc, member, entry)?)?;

@@ -66,7 +66,8 @@ pub fn add_jobs(
     more: &[Job],
 ) -> Result<(), Memory>
     requires { All (FitsAfter first) more.now }
-    ensures { OnOk result (jobs.new.items ≡ jobs.old.items ++ map (job_of member.now first) more.now) }
+    ensures { OnOk result
+        (jobs.new.items ≡ jobs.old.items ++ map (job_of member.now first) more.now) }
 {
     for job in more {
         jobs.push(job_of(alloc, member, first, job)?)?;

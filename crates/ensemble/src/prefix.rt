@@ -25,7 +25,8 @@ pub fn add_names(
     member: &Text,
     more: &[Text],
 ) -> Result<(), Memory>
-    ensures { OnOk result (names.new.items ≡ names.old.items ++ map (prefixed member.now) more.now) }
+    ensures { OnOk result
+        (names.new.items ≡ names.old.items ++ map (prefixed member.now) more.now) }
 {
     for name in more {
         names.push(prefixed(alloc, member, name)?)?;

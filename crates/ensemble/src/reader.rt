@@ -9,8 +9,8 @@ ghost use Rattle.ensemble.specs.Reader.{GivesEnsemble, read_of, sited_of, sites_
 use crate::document::Ensemble;
 use crate::fault::EnsembleFault;
 use crate::member_names::{check_count, check_names};
-use plan_request::Execution;
 use peg_json::{FromTree, ReadFault, check_sites, parse, root};
+use plan_request::Execution;
 use std::alloc::Global;
 
 /// Refuses too many execution sites, and one that is there before.

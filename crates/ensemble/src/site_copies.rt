@@ -31,10 +31,7 @@ fn directory_copied(alloc: Global, directory: &Directory) -> Result<Directory, M
     })
 }
 
-fn directories_copied(
-    alloc: Global,
-    directories: &[Directory],
-) -> Result<Items<Directory>, Memory>
+fn directories_copied(alloc: Global, directories: &[Directory]) -> Result<Items<Directory>, Memory>
     ensures { IfOk result (λ copy. copy ≡ directories.now) }
 {
     let mut copies = Vec::new(alloc);

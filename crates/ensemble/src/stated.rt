@@ -17,7 +17,8 @@ fn add_size(
     file: &Text,
     size: Option<u64>,
 ) -> Result<(), Memory>
-    ensures { OnOk result (sizes.new.items ≡ sizes.old.items ++ stated_size member.now file.now size) }
+    ensures { OnOk result
+        (sizes.new.items ≡ sizes.old.items ++ stated_size member.now file.now size) }
 {
     if let Some(size) = size {
         let lfn = prefixed(alloc, member, file)?;
@@ -33,7 +34,8 @@ fn add_each(
     files: &[Text],
     declared: &[Option<u64>],
 ) -> Result<(), Memory>
-    ensures { OnOk result (sizes.new.items ≡ sizes.old.items ++ stated_sizes member.now files.now declared.now) }
+    ensures { OnOk result
+        (sizes.new.items ≡ sizes.old.items ++ stated_sizes member.now files.now declared.now) }
 {
     for (file, size) in files.iter().zip(declared.iter()) {
         add_size(alloc, sizes, member, file, *size)?;
@@ -51,19 +53,14 @@ pub fn add_sizes(
     stated: &[Option<u64>],
 ) -> Result<(), Memory>
     requires one_for_each_file { length files.now ≡ length stated.now }
-    ensures { OnOk result (sizes.new.items
-        ≡ sizes.old.items ++ stated_sizes member.now files.now (declared_sizes request.now files.now stated.now)) }
+    ensures { OnOk result (sizes.new.items ≡ sizes.old.items
+        ++ stated_sizes member.now files.now (declared_sizes request.now files.now stated.now)) }
 {
     let declared = declared_sizes(alloc, request, files, stated)?;
     add_each(alloc, sizes, member, files, &declared)
 }
 
-fn tool_of(
-    alloc: Global,
-    known: &Tools<'_>,
-    member: &Text,
-    job: &Job,
-) -> Result<ToolOf, Memory>
+fn tool_of(alloc: Global, known: &Tools<'_>, member: &Text, job: &Job) -> Result<ToolOf, Memory>
     ensures { IfOk result (λ t. t ≡ stated_tool member.now known.now job.now) }
 {
     let name = &job.transformation.name;

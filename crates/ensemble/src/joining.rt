@@ -1,0 +1,66 @@
+//! The joint of some members: one request and one survey, in which each part bears its member's name.
+
+ghost use Rattle.std.specs.Prelude.{◌≡◌, ◌≤◌, IfOk, Ok};
+ghost use Rattle.outside.specs.Policy.{plain};
+ghost use Rattle.workflow_core.specs.WellFormed.{IsWellFormed};
+ghost use Rattle.replica_catalog.specs.Reader.{view};
+ghost use Rattle.plan_request.specs.Limits.{IsWithinLimits};
+ghost use Rattle.plan_request.specs.Reader.{execute_checked};
+ghost use Rattle.planner.specs.Meaning.{IsJoined};
+ghost use Rattle.ensemble.specs.Joining.{IsJointSurvey, Joins};
+ghost use Rattle.ensemble.specs.Member.{AreMembers, count_files, count_jobs};
+
+use crate::catalogues::{first_sites, joint_replicas, joint_transformations};
+use crate::counting::check_counts;
+use crate::join_fault::JoinFault;
+use crate::member::Member;
+use crate::requests::joint_request;
+use crate::workflows::joint_workflow;
+use dependency_graph::{GraphFault, build};
+use outside::Memory;
+use plan_request::PlanRequest;
+use planner::{Survey, Surveyed, plans_mean_the_workflow};
+use std::alloc::Global;
+
+/// What the members' documents say together. Its workflow has a graph, as each member's has.
+#[tactic(auto, using(crate::proofs::SoundLemmas::never_refused))]
+fn joint_survey(alloc: Global, members: &[Member]) -> Result<Survey, Memory>
+    requires members { AreMembers members.now }
+    requires few_jobs { count_jobs members.now ≤ 10000 }
+    requires few_files { count_files members.now ≤ 50000 }
+    ensures joint { IfOk result (λ s. IsJointSurvey members.now s) }
+    ensures well_formed { IfOk result (λ s. IsWellFormed s.workflow) }
+    ensures joined { IfOk result (λ s. IsJoined (view s.replicas)) }
+{
+    let workflow = joint_workflow(alloc, members)?;
+    let sites = first_sites(alloc, members)?;
+    let replicas = joint_replicas(alloc, members)?;
+    let transformations = joint_transformations(alloc, members)?;
+    match build(alloc, &workflow) {
+        Ok(graph) => Ok(Survey {
+            workflow,
+            sites,
+            replicas,
+            transformations,
+            graph,
+        }),
+        Err(GraphFault::Memory) => Err(Memory),
+        Err(_) => unreachable!(),
+    }
+}
+
+/// The joint of some members, each surveyed with the ensemble's keys in its request.
+pub fn join(alloc: Global, members: &[Member], request: &PlanRequest) -> Result<Surveyed, JoinFault>
+    requires members { AreMembers members.now }
+    requires sites { execute_checked request.now.execute ≡ Ok tt }
+    requires limits { IsWithinLimits request.now }
+    requires policy { request.now.policy ≡ plain }
+    ensures { Joins members.now request.now result }
+{
+    // A law for the proof: it does nothing.
+    plans_mean_the_workflow();
+    check_counts(members)?;
+    let request = joint_request(alloc, members, request)?;
+    let survey = joint_survey(alloc, members)?;
+    Ok(Surveyed { request, survey })
+}
