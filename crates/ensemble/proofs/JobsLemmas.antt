@@ -1,9 +1,9 @@
 -- Jobs with later numbers: what they read and make, and what a workflow asks of them.
 use Rattle.std.proofs.Common.{◌≡◌, ℕ, ◌+◌, ◌<◌, ◌≤◌, Bool, true, false, ◌&&◌, ◌||◌, List, [], ◌∷◌, map, refl, sym, ap, subst, ◌∙◌, nat_eq, arith, ◌⊎◌, inl, inr}
 use Rattle.std.specs.Prelude.{◌^◌}
-use Rattle.std.specs.List.{All, AllByRecursion, list_any}
+use Rattle.std.specs.List.{AllByRecursion, list_any}
 use Rattle.std.proofs.lemmas.Bool.{and_right, or_parts}
-use Rattle.std.proofs.lemmas.List.Elements.{All-cons, All-nil}
+use Rattle.std.proofs.lemmas.List.Elements.{All-from_recursion}
 use Rattle.outside.specs.declared.numbers.FileId.{FileId}
 use Rattle.outside.specs.declared.numbers.JobId.{JobId}
 use Rattle.workflow_core.specs.declared.workflow.Job.{Job}
@@ -55,14 +55,10 @@ pair_below_after k n most p h low = let one : before p < n = low.0 in let two : 
 
 -- ---- the later numbers are numbers of 32 bits
 
-pub all_from : {X : Type 0} (P : X → Type 0) (xs : List X) → AllByRecursion P xs → All P xs
-all_from P [] h = All-nil P
-all_from P (x ∷ xs) h = All-cons P x xs h.0 (all_from P xs h.1)
-
 pub fits_after : (k n : ℕ) (j : Job) → k + n ≤ 50000 → IsJobOver n j → FitsAfter k j
 fits_after k n j h over = record {
-  inputs = all_from _ j.inputs (all_weaker (λ (f : FileId). f.0 < n) (λ (f : FileId). k + f.0 < 2 ^ 32) j.inputs (λ f l. omega (arith, l, h)) (all_unmapped (λ f. f < n) (λ (f : FileId). f.0) j.inputs over.inputs));
-  outputs = all_from _ j.outputs (all_weaker (λ (o : Output). o.file.0 < n) (λ (o : Output). k + o.file.0 < 2 ^ 32) j.outputs (λ o l. omega (arith, l, h)) (all_unmapped (λ f. f < n) (λ (o : Output). o.file.0) j.outputs over.outputs));
+  inputs = All-from_recursion _ j.inputs (all_weaker (λ (f : FileId). f.0 < n) (λ (f : FileId). k + f.0 < 2 ^ 32) j.inputs (λ f l. omega (arith, l, h)) (all_unmapped (λ f. f < n) (λ (f : FileId). f.0) j.inputs over.inputs));
+  outputs = All-from_recursion _ j.outputs (all_weaker (λ (o : Output). o.file.0 < n) (λ (o : Output). k + o.file.0 < 2 ^ 32) j.outputs (λ o l. omega (arith, l, h)) (all_unmapped (λ f. f < n) (λ (o : Output). o.file.0) j.outputs over.outputs));
 }
 
 pub pair_fits_after : (k n : ℕ) (p : JobId × JobId) → k + n ≤ 10000 → IsPairBelow n p → PairFitsAfter k p

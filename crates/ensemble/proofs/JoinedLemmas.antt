@@ -1,6 +1,6 @@
 -- A catalogue in which no name comes twice is its own joined one.
 use Rattle.std.proofs.Common.{◌≡◌, ℕ, Bool, true, false, not, cond, List, [], ◌∷◌, map, filter, refl, sym, ap, ◌∙◌}
-use Rattle.std.specs.Prelude.{Option, Some, None}
+use Rattle.std.specs.Prelude.{Option, None}
 use Rattle.std.specs.List.{AllByRecursion}
 use Rattle.std.specs.Option.{option_or}
 use Rattle.std.specs.Str.{bytes_eq}
@@ -12,6 +12,7 @@ use Rattle.replica_catalog.specs.declared.catalog.Pfn.{Pfn}
 use Rattle.replica_catalog.specs.declared.catalog.Replica.{Replica}
 use Rattle.replica_catalog.specs.Joining.{distinct, entries_with, first_checksum, joined, joined_entry, lfns_of, pfns_of}
 use Rattle.ensemble.proofs.DistinctLemmas.{all_unmapped, first_apart, rest_distinct}
+use Rattle.ensemble.proofs.LookupLemmas.{or_nothing}
 use Rattle.ensemble.proofs.PrefixLemmas.{not_same, own_name}
 
 -- ---- joined entries have distinct names
@@ -48,17 +49,13 @@ none_with : (lfn : List ℕ) (es : List Replica) → AllByRecursion (λ (e : Rep
 none_with lfn [] h = refl
 none_with lfn (e ∷ es) h = ap (λ (b : Bool). cond b (e ∷ entries_with lfn es) (entries_with lfn es)) h.0 ∙ none_with lfn es h.1
 
-or_none : (o : Option (List ℕ)) → option_or o None ≡ o
-or_none None = refl
-or_none (Some v) = refl
-
 abbrev entry_by : List ℕ → List Replica → Replica
 entry_by lfn es = record { lfn = lfn; pfns = pfns_of es; checksum = first_checksum es }
 
 alone : (e : Replica) → entry_by e.lfn (e ∷ []) ≡ e
 alone e =
     ap (λ (ps : List Pfn). (record { lfn = e.lfn; pfns = ps; checksum = option_or e.checksum None })) (append-nil e.pfns)
-    ∙ ap (λ (o : Option (List ℕ)). (record { lfn = e.lfn; pfns = e.pfns; checksum = o })) (or_none e.checksum)
+    ∙ ap (λ (o : Option (List ℕ)). (record { lfn = e.lfn; pfns = e.pfns; checksum = o })) (or_nothing e.checksum)
 
 first_joined : (e : Replica) (es : List Replica) → AllByRecursion (λ (x : Replica). bytes_eq x.lfn e.lfn ≡ false) es → joined_entry (e ∷ es) e.lfn ≡ e
 first_joined e es h =

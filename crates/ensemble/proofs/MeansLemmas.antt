@@ -25,7 +25,7 @@ use Rattle.ensemble.specs.declared.member.Member.{Member}
 use Rattle.ensemble.specs.Entries.{replica_of}
 use Rattle.ensemble.specs.Jobs.{job_of}
 use Rattle.ensemble.specs.Joining.{IsJoint}
-use Rattle.ensemble.specs.Law.{HasFile, IsOwned, MeansMembers, first_file}
+use Rattle.ensemble.specs.Law.{IsOwned, MeansMembers, first_file}
 use Rattle.ensemble.specs.Member.{AreMembers, IsMember, count_files, files_of}
 use Rattle.ensemble.specs.Prefix.{prefixed}
 use Rattle.ensemble.proofs.LookupLemmas.{name_of}

@@ -2,6 +2,7 @@
 use Rattle.std.proofs.Common.{◌≡◌, ℕ, zero, suc, ◌+◌, ◌-◌, ◌<◌, ◌≤◌, Bool, true, false, cond, ◌&&◌, ◌||◌, List, [], ◌∷◌, ◌++◌, length, map, get_or, refl, sym, ap, subst, ◌∙◌, nat_eq, ◌⊎◌, inl, inr, arith}
 use Rattle.std.specs.Prelude.{Err}
 use Rattle.std.specs.List.{AllByRecursion, list_any}
+use Rattle.std.proofs.Math.Bool.{or-false}
 use Rattle.std.proofs.Math.ListN.{get_or-append}
 use Rattle.std.proofs.Math.Path.{fun_ext}
 use Rattle.std.proofs.lemmas.Bool.{and_left, and_right, cases_lt}
@@ -169,10 +170,6 @@ joint_edge k q ms = edge_in q (joint_jobs k ms) (joint_pairs q ms)
 or_both : (a b c d : Bool) → a ≡ c → b ≡ d → (a || b) ≡ (c || d)
 or_both a b c d e f = ap (λ (t : Bool). t || b) e ∙ ap (λ (t : Bool). c || t) f
 
-or_false : (a : Bool) → (a || false) ≡ a
-or_false true = refl
-or_false false = refl
-
 among_first : (k q : ℕ) (m : Member) (ms : List Member) → AllByRecursion IsMember (m ∷ ms) → (a b : ℕ) → a < jobs_of m → b < jobs_of m → joint_edge k q (m ∷ ms) a b ≡ edge m.survey.workflow a b
 unfolding edge
 among_first k q m ms all a b ha hb = or_both _ _ _ _ passes pairs
@@ -191,7 +188,7 @@ among_first k q m ms all a b ha hb = or_both _ _ _ _ passes pairs
         list_any-append (λ (p : JobId × JobId). nat_eq (before p) (q + a) && nat_eq (after p) (q + b)) (map (pair_after q) m.survey.workflow.pairs) (joint_pairs (q + jobs_of m) ms)
         ∙ ap (λ (t : Bool). t || pairs_in (joint_pairs (q + jobs_of m) ms) (q + a) (q + b)) (pairs_after q a b m.survey.workflow.pairs)
         ∙ ap (λ (t : Bool). pairs_in m.survey.workflow.pairs a b || t) (no_pair (q + jobs_of m) (q + jobs_of m + count_jobs ms) (q + a) (q + b) (joint_pairs (q + jobs_of m) ms) (rest_pairs (q + jobs_of m) (q + jobs_of m) (q + jobs_of m + count_jobs ms) ms all.1 (omega arith) (omega arith)) (inl (inl (omega (arith, ha)))))
-        ∙ or_false (pairs_in m.survey.workflow.pairs a b)
+        ∙ or-false (pairs_in m.survey.workflow.pairs a b)
 
 -- pairs never lead from the first member to others, nor back
 pairs_apart : (k q : ℕ) (m : Member) (ms : List Member) → AllByRecursion IsMember (m ∷ ms) → (a b : ℕ) → ((a < jobs_of m) × (jobs_of m ≤ b)) ⊎ ((jobs_of m ≤ a) × (b < jobs_of m)) → pairs_in (joint_pairs q (m ∷ ms)) (q + a) (q + b) ≡ false

@@ -53,7 +53,7 @@ pub record MeansMembers (ms : List Member) (s : Surveyed) : Type 0 where
       → size_of s.request s.survey (first_file ms i + f) ≡ size_of m.request m.survey f
   pub values : (apply : Apply) (told : Told) (i : ℕ) (m : Member) (f : ℕ) → HasFile ms i m f
       → value_of apply told s.request s.survey (first_file ms i + f)
-          ≡ value_of apply told m.request m.survey f
+      ≡ value_of apply told m.request m.survey f
   pub requested : (i : ℕ) (m : Member) (f : ℕ) → HasFile ms i m f
       → is_requested s.survey.workflow (first_file ms i + f) ≡ is_requested m.survey.workflow f
   pub joined : IsJoined (view s.survey.replicas)
