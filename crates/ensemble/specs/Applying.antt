@@ -1,6 +1,7 @@
 -- The requests of an ensemble and of its members.
 use Rattle.std.specs.Prelude.{[], None}
 use Rattle.plan_request.specs.declared.request.PlanRequest.{PlanRequest}
+use Rattle.plan_request.specs.declared.request.Selector.TheVariants.{RoundRobin}
 use Rattle.ensemble.specs.declared.document.Ensemble.{Ensemble}
 
 -- a member's request: its own, but for the keys that the ensemble has
@@ -13,7 +14,7 @@ of_ensemble e r = record r {
   policy = e.policy;
 }
 
--- what the ensemble asks for by itself: it names no documents, and states no sizes and no tools
+-- what the ensemble asks for by itself: it names no documents, states no sizes and no tools, and has sites chosen in turns
 abbrev pub own_request : Ensemble → PlanRequest
 own_request e = record {
   workflow = [];
@@ -28,4 +29,7 @@ own_request e = record {
   force = e.force;
   tools = [];
   policy = e.policy;
+  selector = RoundRobin;
+  rate = 1;
+  runtimes = [];
 }

@@ -3,6 +3,7 @@ use Rattle.std.specs.Prelude.{List, [], None}
 use Rattle.std.specs.List.{flat_map}
 use Rattle.plan_request.specs.FileSizes.{declared_sizes}
 use Rattle.plan_request.specs.declared.request.PlanRequest.{PlanRequest}
+use Rattle.plan_request.specs.declared.request.Selector.TheVariants.{RoundRobin}
 use Rattle.plan_request.specs.declared.request.SizeOf.{SizeOf}
 use Rattle.plan_request.specs.declared.request.ToolOf.{ToolOf}
 use Rattle.ensemble.specs.declared.member.Member.{Member}
@@ -24,7 +25,8 @@ joint_sizes ms = flat_map sizes_of ms
 abbrev pub joint_tools : List Member → List ToolOf
 joint_tools ms = flat_map tools_of ms
 
--- what the ensemble asks for, with each size and each tool stated, so without a default; it names no documents
+-- what the ensemble asks for, with each size and each tool stated, so without a default; it names no documents, and has
+-- sites chosen in turns
 abbrev pub joint_request : List Member → PlanRequest → PlanRequest
 joint_request ms r = record {
   workflow = [];
@@ -39,4 +41,7 @@ joint_request ms r = record {
   force = r.force;
   tools = joint_tools ms;
   policy = r.policy;
+  selector = RoundRobin;
+  rate = 1;
+  runtimes = [];
 }

@@ -10,7 +10,7 @@ ghost use Rattle.ensemble.specs.Limits.{IsFit};
 use crate::copying::{executions_copied, policy_copied};
 use crate::document::Ensemble;
 use outside::{Items, Memory, Text};
-use plan_request::PlanRequest;
+use plan_request::{PlanRequest, Selector};
 use std::alloc::Global;
 
 /// A member's request, with the ensemble's keys in place of its own.
@@ -59,5 +59,8 @@ pub fn ensemble_request(alloc: Global, ensemble: &Ensemble) -> Result<PlanReques
         force: ensemble.force,
         tools: Items::new(Vec::new(alloc)),
         policy: policy_copied(&ensemble.policy),
+        selector: Selector::RoundRobin,
+        rate: 1,
+        runtimes: Items::new(Vec::new(alloc)),
     })
 }

@@ -34,8 +34,6 @@ pub use document::{Ensemble, MemberEntry};
 pub use fault::EnsembleFault;
 pub use join_fault::JoinFault;
 pub use joining::join;
-pub use law::{
-    joint_means_the_members, joint_workflows_are_sound, surveyed_members_are_members,
-};
+pub use law::{joint_means_the_members, joint_workflows_are_sound, surveyed_members_are_members};
 pub use member::Member;
 pub use reader::read;

@@ -10,7 +10,7 @@ use crate::copying::{executions_copied, policy_copied};
 use crate::member::Member;
 use crate::stated::{add_sizes, add_tools};
 use outside::{Items, Memory, Text};
-use plan_request::{PlanRequest, SizeOf, ToolOf};
+use plan_request::{PlanRequest, Selector, SizeOf, ToolOf};
 use std::alloc::Global;
 
 #[tactic(auto, using(crate::proofs::FitLemmas::one_size_each))]
@@ -46,7 +46,7 @@ fn joint_tools(alloc: Global, members: &[Member]) -> Result<Items<ToolOf>, Memor
     Ok(Items::new(tools))
 }
 
-/// The request of all members, where the ensemble asks for this.
+/// The request of all members, where the ensemble asks for this. Its sites are chosen in turns, whatever members ask for.
 pub fn joint_request(
     alloc: Global,
     members: &[Member],
@@ -74,5 +74,8 @@ pub fn joint_request(
         force: request.force,
         tools,
         policy: policy_copied(&request.policy),
+        selector: Selector::RoundRobin,
+        rate: 1,
+        runtimes: Items::new(Vec::new(alloc)),
     })
 }
