@@ -86,12 +86,12 @@ deliveries_so apply p r old new m ds tells marked are = record { files = are.fil
     by (Some x) None tells marked digests = absurd cc
     by (Some x) (Some s) tells marked digests = subst (λ (y : Store). AreDigests (carries apply p y) ds (arrivals p r)) marked digests
 
-text_so : (w : Work) (p : Plan) (r : List Event) (new : Option Store) (m : Store) (text : List ℕ) → is_some new ≡ is_some w.before.told → IfSome w.before.told (λ s. m ≡ s) → IsRunText w.apply p r (marked_if new m) text → IsRunText w.apply p r w.before.told text
+abbrev text_so : (w : Work) (p : Plan) (r : List Event) (new : Option Store) (m : Store) (text : List ℕ) → is_some new ≡ is_some w.before.told → IfSome w.before.told (λ s. m ≡ s) → IsRunText w.apply p r (marked_if new m) text → IsRunText w.apply p r w.before.told text
 text_so w p r new m text tells marked h = record { delivered = h.delivered; are = deliveries_so w.apply p r w.before.told new m h.delivered tells marked h.are; text_is = h.text_is }
 
 reports_so : (w : Work) (p : Plan) (r : List Event) (new : Option Store) (m : Store) (x : Report) (a : End) → is_some new ≡ is_some w.before.told → IfSome w.before.told (λ s. m ≡ s) → Reports w.apply p r (marked_if new m) x a → Reports w.apply p r w.before.told x a
 reports_so w p r new m x (Err faults.Memory) tells marked h = tt
-reports_so w p r new m x a tells marked h = record { entries = h.entries; history = h.history; text = text_so w p r new m x.text tells marked h.text }
+reports_so w p r new m x a tells marked h = record { entries = h.entries; history = h.history; text = text_so w p r new m x.text tells marked h.text; delivered = h.delivered }
 
 tells_so : (w : Work) (p : Plan) (order : List ℕ) (r : List Event) (a : End) → AreUnused p w.before.told → EndsAs p order r a → Tells w p order r a
 tells_so w p order r (Ok done) unused h = (unused, h)
@@ -104,7 +104,7 @@ ends_by p order r faults.Memory h = tt
 ends_by p order r fault h = h
 
 -- its text
-pub text_is : (apply : Apply) (p : Plan) (r : List Event) (told : Option Store) (m : Store) (ds : List Delivered) (text : List ℕ) → AreFiles ds (arrivals p r) → AreLengths ds (arrivals p r) → AreLong ds → IfSome told (λ s. AreDigests (carries apply p m) ds (arrivals p r)) → text ≡ run_text p r ds
+abbrev pub text_is : (apply : Apply) (p : Plan) (r : List Event) (told : Option Store) (m : Store) (ds : List Delivered) (text : List ℕ) → AreFiles ds (arrivals p r) → AreLengths ds (arrivals p r) → AreLong ds → IfSome told (λ s. AreDigests (carries apply p m) ds (arrivals p r)) → text ≡ run_text p r ds
     → IsRunText apply p r (marked_if told m) text
 text_is apply p r told m ds text are_files are_lengths are_long digests is = record { delivered = ds; are = record { files = are_files; lengths = are_lengths; long = are_long; digests = by told digests }; text_is = is }
   where
@@ -257,7 +257,7 @@ no_deliveries apply p told = record { files = refl; lengths = refl; long = λ k 
 refusal_reports : (w : Work) (p : Plan) (x : Report) (a : End) → (a ≡ ended_by faults.Memory) ⊎ IsEmptyReport p x → Reports w.apply p [] w.before.told x a
 refusal_reports w p x (Err faults.Memory) h = tt
 refusal_reports w p x a (inl e) = subst (Reports w.apply p [] w.before.told x) (sym e) tt
-refusal_reports w p x a (inr e) = record { entries = tt; history = e.history; text = record { delivered = []; are = no_deliveries w.apply p w.before.told; text_is = e.text } }
+refusal_reports w p x a (inr e) = record { entries = tt; history = e.history; text = record { delivered = []; are = no_deliveries w.apply p w.before.told; text_is = e.text }; delivered = e.delivered }
 
 empty_run : (w : Work) (t : Tools) (n : ℕ) (p : Plan) (order : List ℕ) → HasLaws p order [] → w.after.told ≡ w.before.told → IsLater w.before.counts w.after.counts → t.after ≡ t.before → IsRun w t n p order []
 empty_run w t n p order laws told later tools = record {

@@ -93,19 +93,23 @@ pub record IsRunText (apply : Apply) (p : Plan) (r : List Event) (told : Option 
   pub are : AreDeliveries apply p r told delivered
   pub text_is : text ≡ run_text p r delivered
 
--- what a run hands out besides its end: its record, if it has one to hand out, and its text
+-- what a run hands out besides its end: its record, if it has one to hand out, its text, and what it delivered
 pub record Report : Type 0 where
   pub history : Option (List Event)
   pub text : List ℕ
+  pub delivered : List Delivered
 
-abbrev pub reporting : Option Log → List ℕ → Report
-reporting log text = record { history = option_map (λ (h : Log). h.events) log; text = text }
+abbrev pub reporting : Option Log → List ℕ → List Delivered → Report
+reporting log text ds =
+    record { history = option_map (λ (h : Log). h.events) log; text = text; delivered = ds }
 
 -- it is that of this record, whose entries are such as a record may have
 pub record IsReport (apply : Apply) (p : Plan) (r : List Event) (told : Option Store) (x : Report) : Type 0 where
   pub entries : AreEntries r
   pub history : x.history ≡ Some r
   pub text : IsRunText apply p r told x.text
+  -- the deliveries are those of its text
+  pub delivered : x.delivered ≡ text.delivered
 
 -- The report of a run. At want of memory nothing of it is written, so it is free.
 abbrev pub Reports : Apply → Plan → List Event → Option Store → Report → End → Type 0
@@ -141,6 +145,7 @@ marked_if told m = option_map (λ s. m) told
 pub record IsEmptyReport (p : Plan) (x : Report) : Type 0 where
   pub history : x.history ≡ Some []
   pub text : x.text ≡ run_text p [] []
+  pub delivered : x.delivered ≡ []
 
 -- the end and the report of a run whose opening was refused
 pub record IsRefusal (p : Plan) (opening : OpenFault) (x : Report) (end : End) : Type 0 where

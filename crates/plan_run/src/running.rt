@@ -15,7 +15,7 @@ use lease_book::{legal_records_are_safe, ordered_plans_fit};
 use outside::{Host, Memory, Tool};
 use plan_core::Plan;
 use run_record::{Record, RunFault};
-use site_yard::{OpenRefused, Yard, opening_fault, what_is_left_is_held};
+use site_yard::{Delivered, OpenRefused, Yard, opening_fault, what_is_left_is_held};
 use std::alloc::Global;
 use storage_simulation::Ordered;
 use worker_gate::run_alone;
@@ -29,14 +29,17 @@ pub struct Ran<H> {
     pub history: Option<Record>,
     /// The record and then the deliveries; nothing is said of it at want of memory.
     pub text: Vec<u8>,
+    /// The deliveries, in the order of their arrival; nothing is said of them at want of memory.
+    pub delivered: Vec<Delivered>,
     pub host: H,
 }
 
-/// A record, and its text with what was delivered.
+/// A record, its text with what was delivered, and the deliveries.
 #[derive(Drop)]
 struct Report {
     history: Record,
     text: Vec<u8>,
+    delivered: Vec<Delivered>,
 }
 
 /// Memory ran out: there is no text.
@@ -49,6 +52,7 @@ pub(crate) fn out_of_memory<H: Host>(alloc: Global, host: H) -> Ran<H>
         end: Err(RunFault::Memory),
         history: None,
         text: Vec::new(alloc),
+        delivered: Vec::new(alloc),
         host,
     }
 }
@@ -66,31 +70,43 @@ fn end_of<H: Host, T: Tool>(alloc: Global, yard: &Yard<H, T>) -> Result<(), RunF
 
 /// The record of a run, and what it delivered.
 fn report_of<H: Host, T: Tool>(alloc: Global, yard: &Yard<H, T>) -> Result<Report, Memory>
-    ensures { IfOk result (λ x. IsReport T.apply yard.now.ordered.plan yard.now.book.history.events (marked_if (H.told yard.now.host) (H.marked yard.now.host)) (reporting (Some x.history) x.text.items)) }
+    ensures { IfOk result (λ x. IsReport T.apply yard.now.ordered.plan yard.now.book.history.events (marked_if (H.told yard.now.host) (H.marked yard.now.host)) (reporting (Some x.history) x.text.items x.delivered.items)) }
 {
     let record = yard.book().record();
     // What holds of every record, for the proof.
     record.has_entries();
-    let text = run_text(alloc, yard.plan(), record, yard.delivered())?;
+    let arrived = yard.delivered();
+    let text = run_text(alloc, yard.plan(), record, arrived)?;
     let history = copy_of(alloc, record)?;
-    Ok(Report { history, text })
+    let mut delivered = Vec::new(alloc);
+    delivered.extend_from_slice(arrived)?;
+    Ok(Report {
+        history,
+        text,
+        delivered,
+    })
 }
 
 /// The end and the report of a run that is over, and its host.
 pub(crate) fn end_run<H: Host, T: Tool>(alloc: Global, yard: Yard<H, T>) -> Ran<H>
     requires over { IsComplete yard.ordered.plan (state_at yard.book) ⊎ ((state_at yard.book).failing ≡ true) }
     ensures ends { EndsAs yard.ordered.plan (task_numbers yard.ordered.tasks.items) yard.book.history.events result.end }
-    ensures reports { Reports T.apply yard.ordered.plan yard.book.history.events (marked_if (H.told yard.host) (H.marked yard.host)) (reporting result.history result.text.items) result.end }
+    ensures reports { Reports T.apply yard.ordered.plan yard.book.history.events (marked_if (H.told yard.host) (H.marked yard.host)) (reporting result.history result.text.items result.delivered.items) result.end }
     ensures host { result.host ≡ yard.host }
 {
     match report_of(alloc, &yard) {
         Ok(report) => {
-            let Report { history, text } = report;
+            let Report {
+                history,
+                text,
+                delivered,
+            } = report;
             let end = end_of(alloc, &yard);
             Ran {
                 end,
                 history: Some(history),
                 text,
+                delivered,
                 host: yard.into_host(),
             }
         }
@@ -100,16 +116,21 @@ pub(crate) fn end_run<H: Host, T: Tool>(alloc: Global, yard: Yard<H, T>) -> Ran<
 
 /// The report of a run that was not begun.
 fn empty_report(alloc: Global, plan: &Plan) -> Result<Report, Memory>
-    ensures { IfOk result (λ x. IsEmptyReport plan.now (reporting (Some x.history) x.text.items)) }
+    ensures { IfOk result (λ x. IsEmptyReport plan.now (reporting (Some x.history) x.text.items x.delivered.items)) }
 {
     let history = Record::with_room(alloc, 0, 0)?;
     let text = run_text(alloc, plan, &history, &[])?;
-    Ok(Report { history, text })
+    let delivered = Vec::new(alloc);
+    Ok(Report {
+        history,
+        text,
+        delivered,
+    })
 }
 
 /// The end and the report of a run whose opening was refused, and its host.
 pub(crate) fn refuse_run<H: Host>(alloc: Global, refused: OpenRefused<H>) -> Ran<H>
-    ensures refusal { IsRefusal refused.ordered.plan refused.fault (reporting result.history result.text.items) result.end }
+    ensures refusal { IsRefusal refused.ordered.plan refused.fault (reporting result.history result.text.items result.delivered.items) result.end }
     ensures host { result.host ≡ refused.host }
 {
     let fault = opening_fault(refused.ordered.plan(), alloc, refused.fault);
@@ -118,6 +139,7 @@ pub(crate) fn refuse_run<H: Host>(alloc: Global, refused: OpenRefused<H>) -> Ran
             end: Err(fault),
             history: Some(report.history),
             text: report.text,
+            delivered: report.delivered,
             host: refused.host,
         },
         Err(Memory) => out_of_memory(alloc, refused.host),
@@ -133,7 +155,7 @@ pub fn run_plan<H: Host, T: Tool, G: Gate>(
 ) -> Ran<H>
     requires { retries ordered.plan ≤ 10 }
     ensures ran { ∥ HasRunAlone (working T.apply T.known (work_moment H.Host host (T.faults crew.old.tool)) (work_moment H.Host result.host (T.faults crew.new.tool)))
-        ordered.plan (task_numbers ordered.tasks.items) (reporting result.history result.text.items) result.end ∥₁ }
+        ordered.plan (task_numbers ordered.tasks.items) (reporting result.history result.text.items result.delivered.items) result.end ∥₁ }
     ensures gate { crew.new.gate ≡ crew.old.gate }
 {
     // Laws for the proof: they do nothing.

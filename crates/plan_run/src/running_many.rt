@@ -30,7 +30,7 @@ struct RanBy<H: Host, T: Tool, G: Gate> {
 fn end_many<H: Host, T: Tool>(alloc: Global, yard: Yard<H, T>, unstarted: bool) -> Ran<H>
     requires over { unstarted ≡ false → IsComplete yard.ordered.plan (state_at yard.book) ⊎ ((state_at yard.book).failing ≡ true) }
     ensures ends { EndsAs yard.ordered.plan (task_numbers yard.ordered.tasks.items) yard.book.history.events result.end }
-    ensures reports { Reports T.apply yard.ordered.plan yard.book.history.events (marked_if (H.told yard.host) (H.marked yard.host)) (reporting result.history result.text.items) result.end }
+    ensures reports { Reports T.apply yard.ordered.plan yard.book.history.events (marked_if (H.told yard.host) (H.marked yard.host)) (reporting result.history result.text.items result.delivered.items) result.end }
     ensures host { result.host ≡ yard.host }
 {
     if unstarted {
@@ -52,7 +52,7 @@ fn run_members<R: Threads + Wait + Sync, H: Host + Send, T: Tool + Send, G: Gate
     ensures ran { let before = list_map (λ (c : Crew T G). T.faults c.tool) members.items in
         let after = list_map (λ (c : Crew T G). T.faults c.tool) result.members.items in
         ∥ HasRun (working T.apply T.known (work_moment H.Host host (first_count before)) (work_moment H.Host result.ran.host (first_count after)))
-        (counting before after) (length members.items) ordered.plan (task_numbers ordered.tasks.items) (reporting result.ran.history result.ran.text.items) result.ran.end ∥₁ }
+        (counting before after) (length members.items) ordered.plan (task_numbers ordered.tasks.items) (reporting result.ran.history result.ran.text.items result.ran.delivered.items) result.ran.end ∥₁ }
     ensures members { length result.members.items ≡ length members.items }
 {
     // Laws for the proof: they do nothing.
@@ -95,7 +95,7 @@ pub fn run_plan_by<R: Threads + Wait + Sync, H: Host + Send, T: Tool + Send, G: 
     ensures ran { let before = list_map (λ (c : Crew T G). T.faults c.tool) crew.old.items in
         let after = list_map (λ (c : Crew T G). T.faults c.tool) crew.new.items in
         ∥ HasRun (working T.apply T.known (work_moment H.Host host (first_count before)) (work_moment H.Host result.host (first_count after)))
-        (counting before after) workers ordered.plan (task_numbers ordered.tasks.items) (reporting result.history result.text.items) result.end ∥₁ }
+        (counting before after) workers ordered.plan (task_numbers ordered.tasks.items) (reporting result.history result.text.items result.delivered.items) result.end ∥₁ }
     ensures crew { length crew.new.items ≡ 16 }
     ensures others { drop workers crew.new.items ≡ drop workers crew.old.items }
 {

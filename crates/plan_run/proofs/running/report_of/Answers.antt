@@ -11,6 +11,7 @@ returns g c =
     record {
       entries = rw (c.record-record.ensures.value, c.book.ensures) at c.has_entries.ensures;
       history = ap Some same;
-      text = text_is g.T.Tool.apply y.ordered.plan y.book.history.events (g.H.Host.told y.host) (g.H.Host.marked y.host) c.delivered.result.now c.in_ok-text.text.items
-          c.delivered.ensures.files c.delivered.ensures.lengths c.delivered.ensures.long c.delivered.ensures.digests is;
+      text = text_is g.T.Tool.apply y.ordered.plan y.book.history.events (g.H.Host.told y.host) (g.H.Host.marked y.host) c.delivered-arrived.result.now c.in_ok-text.text.items
+          c.delivered-arrived.ensures.files c.delivered-arrived.ensures.lengths c.delivered-arrived.ensures.long c.delivered-arrived.ensures.digests is;
+      delivered = rw c.new-delivered.ensures.items at c.in_ok-extend_from_slice.ensures.items;
     }

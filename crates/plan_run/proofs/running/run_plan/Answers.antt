@@ -13,7 +13,7 @@ returns-in-Ok-clause-ran g c =
     let order = task_numbers c.args.ordered.tasks.items in
     let y = c.run_alone-yard.result in
     let r = y.book.history.events in
-    let x = reporting c.end_run.result.history c.end_run.result.text.items in
+    let x = reporting c.end_run.result.history c.end_run.result.text.items c.end_run.result.delivered.items in
     let end_ = c.end_run.result.end in
     let same = c.run_alone-yard.ensures.ordered ∙ c.in-Ok.ensures.ordered in
     let legal = rw same at c.agrees.ensures.legal in
@@ -54,7 +54,7 @@ returns-in-Err-clause-ran g c =
     let before = work_moment g.H.Host c.args.host faults in
     let after = work_moment g.H.Host c.in-Err.refused.host faults in
     let w = working g.T.Tool.apply g.T.Tool.known before after in
-    rw c.refuse_run.ensures.host (∣ not_begun_alone w p order c.in-Err.refused.fault (reporting c.refuse_run.result.history c.refuse_run.result.text.items) c.refuse_run.result.end
+    rw c.refuse_run.ensures.host (∣ not_begun_alone w p order c.in-Err.refused.fault (reporting c.refuse_run.result.history c.refuse_run.result.text.items c.refuse_run.result.delivered.items) c.refuse_run.result.end
     (record {
       safe = λ n. c.legal_records_are_safe.ensures.always p order [] c.args.ordered.proper fits tt n;
       left = λ n site. c.what_is_left_is_held.ensures p order [] c.args.ordered.proper fits tt n site;

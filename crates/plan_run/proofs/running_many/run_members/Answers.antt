@@ -21,7 +21,7 @@ returns-in-Ok-clause-ran g c =
     let count = λ (m : Crew g.row.T.Denot g.row.G.Denot). g.T.Tool.faults m.tool in
     let old = map count c.args.members.items in
     let new = map count many.crew.items in
-    let x = reporting c.end_many-ran.result.history c.end_many-ran.result.text.items in
+    let x = reporting c.end_many-ran.result.history c.end_many-ran.result.text.items c.end_many-ran.result.delivered.items in
     let end_ = c.end_many-ran.result.end in
     let same = c.run_many-end.ensures.ordered ∙ c.in-Ok.ensures.ordered in
     let legal = rw same at c.agrees.ensures.legal in
@@ -60,7 +60,7 @@ returns-in-Err-clause-ran g c =
     let before = work_moment g.H.Host c.args.host (first_count old) in
     let after = work_moment g.H.Host c.in-Err.refused.host (first_count old) in
     let w = working g.T.Tool.apply g.T.Tool.known before after in
-    rw c.refuse_run.ensures.host (∣ not_begun w (counting old old) (length c.args.members.items) p order c.in-Err.refused.fault (reporting c.refuse_run.result.history c.refuse_run.result.text.items) c.refuse_run.result.end
+    rw c.refuse_run.ensures.host (∣ not_begun w (counting old old) (length c.args.members.items) p order c.in-Err.refused.fault (reporting c.refuse_run.result.history c.refuse_run.result.text.items c.refuse_run.result.delivered.items) c.refuse_run.result.end
     (record {
       safe = λ n. c.legal_records_are_safe.ensures.always p order [] c.args.ordered.proper fits tt n;
       left = λ n site. c.what_is_left_is_held.ensures p order [] c.args.ordered.proper fits tt n site;

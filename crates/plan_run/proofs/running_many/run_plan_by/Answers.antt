@@ -19,7 +19,7 @@ returns-in-Ok-clause-ran g c =
     let ran = c.run_members-ran.result.ran in
     many_of (λ (m : Crew g.row.T.Denot g.row.G.Denot). g.T.Tool.faults m.tool) crew c.put_back.new.crew.items members back n
     (λ (x y : ℕ). working g.T.Tool.apply g.T.Tool.known (work_moment g.H.Host c.args.host x) (work_moment g.H.Host ran.host y))
-    o.plan (task_numbers o.tasks.items) (reporting ran.history ran.text.items) ran.end taken.0 (taken_many crew members n taken.0 c.requires.crew c.requires.workers.1) c.requires.workers.0 c.run_members-ran.ensures.members
+    o.plan (task_numbers o.tasks.items) (reporting ran.history ran.text.items ran.delivered.items) ran.end taken.0 (taken_many crew members n taken.0 c.requires.crew c.requires.workers.1) c.requires.workers.0 c.run_members-ran.ensures.members
     (c.put_back.ensures ∙ ap (λ (rest : List (Crew g.row.T.Denot g.row.G.Denot)). back ++ rest) taken.1)
     c.run_members-ran.ensures.ran
 
@@ -43,7 +43,7 @@ returns-in-Err-clause-ran g c =
     let moment = work_moment g.H.Host c.args.host (first_count old) in
     let w = working g.T.Tool.apply g.T.Tool.known moment moment in
     rw (c.out_of_memory.ensures.host, c.out_of_memory.ensures.end, c.in-Err.ensures.refused)
-    (∣ no_room w (counting old old) c.args.workers o.plan order (reporting c.out_of_memory.result.history c.out_of_memory.result.text.items)
+    (∣ no_room w (counting old old) c.args.workers o.plan order (reporting c.out_of_memory.result.history c.out_of_memory.result.text.items c.out_of_memory.result.delivered.items)
     (record {
       safe = λ n. c.legal_records_are_safe.ensures.always o.plan order [] o.proper fits tt n;
       left = λ n site. c.what_is_left_is_held.ensures o.plan order [] o.proper fits tt n site;
