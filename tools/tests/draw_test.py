@@ -111,5 +111,13 @@ for bad in ("failed tool A\n", RECORD.replace("closed\n", ""), RECORD.replace("g
             RECORD.replace("end 1 0 4", "end 1 0 4 4"), RECORD.replace("clean 0 4", "sweep 0 4")):
     refused = draw("record", PLAN, bad)
     assert refused.returncode == 1 and refused.stdout == "" and refused.stderr.startswith("draw: "), bad
+SCHEDULE = python(["tools/plan-model", "--schedule", "examples/two_sites/heft.json"]).stdout
+schedule = picture("schedule", SCHEDULE)
+assert "4 jobs by a list schedule, 57 seconds in all" in words(schedule), words(schedule)
+assert count(schedule, "bar", "run") == 4 and "site 0" in words(schedule) and "site 1" in words(schedule)
+assert count(picture("schedule", "done\n"), "bar") == 0
+for bad in ("", SCHEDULE.replace("done\n", ""), SCHEDULE.replace("site 0 0", "site 0 -1"), SCHEDULE.replace("job 0", "task 0")):
+    refused = draw("schedule", bad)
+    assert refused.returncode == 1 and refused.stdout == "" and refused.stderr.startswith("draw: "), bad
 assert draw("colours", PLAN).returncode == 64 and python(["tools/draw", "record"]).returncode == 64
 print("draw: ok")

@@ -20,8 +20,8 @@ CATALOGUES = {"replicas": "replicaCatalog", "transformations": "transformationCa
 
 
 def is_told(case):
-    """Whether its calls of `alone` or `run` end with a run, or a refusal of what the documents say together."""
-    is_one = all(re.fullmatch(r"words alone \S+\.json|words run .*\.json.*", words) for words in case.words)
+    """Whether its calls of `alone`, `produce` or `run` end with a run, or a refusal of what the documents say together."""
+    is_one = all(re.fullmatch(r"words (alone|produce) \S+\.json|words run .*\.json.*", words) for words in case.words)
     is_known = not any(line.startswith(("failing fetch", "each")) for line in case.settings)
     return is_one and is_known and case.status not in (2, 3) and not pages.OF_DOCUMENTS.match(case.text)
 
@@ -40,7 +40,10 @@ def run(case):
     name = next(word for word in case.words[0].split(" ") if word.endswith(".json"))
     request = json.loads(case.documents[name])
     store = model.Store(case.replicas, scratch=dict(case.scratch), failing=case.failing("host"))
-    status, lines = model.run(request, documents_of(case, request), store, case.failing("run"))
+    documents = documents_of(case, request)
+    status, lines = model.run(request, documents, store, case.failing("run"))
+    if status == 0 and case.words[0].startswith("words produce "):
+        lines = [model.catalogue(documents["workflow"], store)]
     text = "".join(line + "\n" for line in lines)
     before = (min(case.failing("write"), default=WHOLE) - 1) * case.number("write takes", WHOLE)
     taken = min(before, case.number("room", WHOLE))

@@ -25,6 +25,8 @@ pub data Quick : Type 0 where
   Alone : List ℕ → Quick
   Audit : List ℕ → List ℕ → Quick
   Stat : List ℕ → List ℕ → Quick
+  Produce : List ℕ → Quick
+  Schedule : List ℕ → Quick
   Rehearse : ℕ → Quick
 
 -- what may start threads and wait, with a name or a number of images, and how many workers
@@ -44,6 +46,8 @@ quick_of (quick_words.Eval name) = Eval name.now
 quick_of (quick_words.Alone name) = Alone name.now
 quick_of (quick_words.Audit name file) = Audit name.now file.now
 quick_of (quick_words.Stat name file) = Stat name.now file.now
+quick_of (quick_words.Produce name) = Produce name.now
+quick_of (quick_words.Schedule name) = Schedule name.now
 quick_of (quick_words.Rehearse images) = Rehearse images
 
 abbrev pub threaded_of : ThreadedWords → Threaded
@@ -132,6 +136,8 @@ one_word word a =
     else if bytes_eq word (codes "plan") then Some (Plan a)
     else if bytes_eq word (codes "eval") then Some (Eval a)
     else if bytes_eq word (codes "alone") then Some (Alone a)
+    else if bytes_eq word (codes "produce") then Some (Produce a)
+    else if bytes_eq word (codes "schedule") then Some (Schedule a)
     else if bytes_eq word (codes "rehearse") then option_map Rehearse (images_in a)
     else None
 

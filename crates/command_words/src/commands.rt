@@ -21,6 +21,10 @@ pub enum Quick<'a> {
     Audit(&'a str, &'a str),
     /// Sums up a record by the plan of a request.
     Stat(&'a str, &'a str),
+    /// Runs the plan of a request with one worker, and catalogues what it delivers.
+    Produce(&'a str),
+    /// Schedules the workflow of a request.
+    Schedule(&'a str),
     /// Runs the plan of a workflow over so many images with one worker.
     Rehearse(u32),
 }
@@ -43,6 +47,8 @@ fn one_word<'a>(word: &str, a: &'a str) -> Option<Quick<'a>>
         "plan" => Some(Quick::Plan(a)),
         "eval" => Some(Quick::Eval(a)),
         "alone" => Some(Quick::Alone(a)),
+        "produce" => Some(Quick::Produce(a)),
+        "schedule" => Some(Quick::Schedule(a)),
         "rehearse" => match images_in(a.as_bytes()) {
             Some(images) => Some(Quick::Rehearse(images)),
             None => None,

@@ -10,6 +10,7 @@ use Rattle.run_record.specs.Events.{Log}
 use Rattle.planner.specs.Deliveries.{DeliversRequests}
 use Rattle.planner.specs.Meaning.{MeansWorkflow}
 use Rattle.planner.specs.declared.surveyed.Surveyed.{Surveyed}
+use Rattle.site_yard.specs.declared.delivered.Delivered.{Delivered}
 use Rattle.plan_run.specs.Finishing.{NoneFailed}
 use Rattle.plan_run.specs.Moments.{Tools, Work, count_of, first_tool}
 use Rattle.plan_run.specs.Running.{End, HasRunAlone, reporting}
@@ -22,10 +23,10 @@ use Rattle.pegasus_cli.proofs.PlanRunLemmas.{HasDeliveryLaws, RunsFinish, plan_r
 use Rattle.pegasus_cli.proofs.SurveyLemmas.{survey_finishes}
 
 -- A plan was run by the first member of the crew.
-pub alone_is : (w : Work) (t : Tools) (s : Surveyed) (p : Plan) (order : List TaskId) (log : Option Log) (text : List ℕ) (e : End) → IsReady w.known s p order → HasDeliveryLaws p (task_numbers order) → DeliversRequests s.request s.survey p → MeansWorkflow s.request s.survey p
-    → ∥ HasRunAlone w p (task_numbers order) (reporting log text) e ∥₁ → RunsAlone w t s text (end_answer e)
-alone_is w t s p order log text e ready laws requests means run = inr (∥∥₁_map run (λ (h : HasRunAlone w p (task_numbers order) (reporting log text) e). record {
-  planned = run_is w (first_tool w) 1 s p order (reporting log text) e ready laws requests means h.ran;
+pub alone_is : (w : Work) (t : Tools) (s : Surveyed) (p : Plan) (order : List TaskId) (log : Option Log) (text : List ℕ) (ds : List Delivered) (e : End) → IsReady w.known s p order → HasDeliveryLaws p (task_numbers order) → DeliversRequests s.request s.survey p → MeansWorkflow s.request s.survey p
+    → ∥ HasRunAlone w p (task_numbers order) (reporting log text ds) e ∥₁ → RunsAlone w t s text (end_answer e)
+alone_is w t s p order log text ds e ready laws requests means run = inr (∥∥₁_map run (λ (h : HasRunAlone w p (task_numbers order) (reporting log text ds) e). record {
+  planned = run_is w (first_tool w) 1 s p order (reporting log text ds) e ready laws requests means h.ran;
   in_order = h.in_order;
 }))
 
@@ -33,7 +34,7 @@ first_still : (w : Work) → (Rose w.before.tool w.after.tool → ⊥) → (k : 
 first_still w still zero l rose = still rose
 first_still w still (suc k) l rose = absurd (omega (arith, l))
 
-none_failed : (w : Work) (t : Tools) → NoneRoseAtWork w t → NoneFailed w (first_tool w) 1
+pub none_failed : (w : Work) (t : Tools) → NoneRoseAtWork w t → NoneFailed w (first_tool w) 1
 none_failed w t still = record { host = still.host; tools = first_still w still.tool }
 
 runs_done : (law : RunsFinish) (w : Work) (t : Tools) (s : Surveyed) (text : List ℕ) (a : Answer) → RunsAlone w t s text a → CanRun w s → NoneRoseAtWork w t → IsDoneOrMemory a

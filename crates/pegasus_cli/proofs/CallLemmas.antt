@@ -10,25 +10,25 @@ use Rattle.plan_run.specs.Moments.{first_count}
 use Rattle.pegasus_cli.specs.declared.outcome.Outcome.{Outcome}
 use Rattle.pegasus_cli.specs.declared.outcome.Outcome.TheVariants as outcomes
 use Rattle.pegasus_cli.specs.Call.{Ends, IsAnswered, IsDoneBy, IsDoneOrMemory, IsUsage, NoneRose, doing_of}
-use Rattle.pegasus_cli.specs.Commands.{spec_of}
+use Rattle.pegasus_cli.specs.Commands.{has_line, spec_of}
 use Rattle.pegasus_cli.specs.CommandSpec.{Does, NoneRoseIn}
 use Rattle.pegasus_cli.specs.Fault.{Answer, not_for}
 use Rattle.pegasus_cli.specs.declared.fault.CallFault.TheVariants.{Memory}
 use Rattle.pegasus_cli.specs.Moments.{Call, DocsMoment, Output}
-use Rattle.pegasus_cli.specs.Outcome.{IsAnswer, line_of, outcome_of}
+use Rattle.pegasus_cli.specs.Outcome.{IsAnswer, closing, line_of, outcome_of}
 use Rattle.command_words.specs.Words.{Command, command as command_of}
 use Rattle.pegasus_cli.proofs.CommandsLemmas.{Laws, finishes, unbegun}
 use Rattle.pegasus_cli.proofs.FaultLemmas.{no_usage, outcome_done}
 
-pub ends_as : (o : Output) (text : List ℕ) (a : Outcome) → (a ≡ outcomes.Memory → ⊥) → IsAnswer a → Appends o.before.written o.after.written (text ++ line_of a) → Ends o text a a
+pub ends_as : (o : Output) (text : List ℕ) (a : Outcome) → (a ≡ outcomes.Memory → ⊥) → IsAnswer a → Appends o.before.written o.after.written text → Ends o text a a
 ends_as o text outcomes.Memory m i h = absurd (m refl)
 ends_as o text outcomes.SinkFailed m i h = absurd i
 ends_as o text a m i h = (refl, h)
 
 -- what a failing sink took
-pub cut_short : (old new : Option (List ℕ)) (from to : ℕ) (piece all text line : List ℕ) (a : Outcome) (f : SinkFault) → piece ≡ all → all ≡ text ++ line → WroteAll old new from to piece (Err f) → (a ≡ outcomes.Memory → ⊥)
-    → Rose from to × (a ≡ outcomes.Memory → ⊥) × (n : ℕ) × Appends old new (take n (text ++ line))
-cut_short old new from to piece all text line a sink_faults.Failed ep ea h m = (h.0, m, h.1, subst (λ (z : List ℕ). Appends old new (take h.1 z)) (ep ∙ ea) h.3)
+pub cut_short : (old new : Option (List ℕ)) (from to : ℕ) (piece all text : List ℕ) (a : Outcome) (f : SinkFault) → piece ≡ all → all ≡ text → WroteAll old new from to piece (Err f) → (a ≡ outcomes.Memory → ⊥)
+    → Rose from to × (a ≡ outcomes.Memory → ⊥) × (n : ℕ) × Appends old new (take n text)
+cut_short old new from to piece all text a sink_faults.Failed ep ea h m = (h.0, m, h.1, subst (λ (z : List ℕ). Appends old new (take h.1 z)) (ep ∙ ea) h.3)
 
 -- the words of a call are one command
 pub same_command : (o : Option Command) (x y : Command) → o ≡ Some x → o ≡ Some y → x ≡ y
@@ -43,11 +43,11 @@ ends_done o text a outcomes.SinkFailed e h still = absurd (still e.0)
 ends_done o text a x e h still = subst IsDoneOrMemory (sym e.0) h
 
 -- The words are no command.
-pub usage_answered : (c : Call) (outcome : Outcome) → command_of c.asked.words ≡ None → c.asked.after ≡ c.asked.before → c.work.after ≡ c.work.before → c.tools.after ≡ c.tools.before → Ends c.output [] outcomes.Usage outcome → IsAnswered c outcome
+pub usage_answered : (c : Call) (outcome : Outcome) → command_of c.asked.words ≡ None → c.asked.after ≡ c.asked.before → c.work.after ≡ c.work.before → c.tools.after ≡ c.tools.before → Ends c.output (line_of outcomes.Usage) outcomes.Usage outcome → IsAnswered c outcome
 usage_answered c outcome none asked work tools ends = record {
   answer = outcomes.Usage;
-  text = [];
-  came = inl (record { no_command = none; answers = refl; not_asked = asked; untouched = work; unused = tools; no_text = refl });
+  text = line_of outcomes.Usage;
+  came = inl (record { no_command = none; answers = refl; not_asked = asked; untouched = work; unused = tools; text_is = refl });
   ends = ends;
   completes = λ may still. absurd (no_command (command_of c.asked.words) may.command may.is_command none);
 }
@@ -56,16 +56,16 @@ none_rose : (c : Call) → NoneRose c → NoneRoseIn (doing_of c)
 none_rose c still = record { docs = still.docs; work = record { host = still.host; tool = still.tool; tools = still.tools } }
 
 -- The command did what it does.
-pub command_answered : (law : Laws) (c : Call) (k : Command) (says : Answer) (outcome : Outcome) (text : List ℕ) → command_of c.asked.words ≡ Some k → Does (spec_of k) (doing_of c) text says → Ends c.output text (outcome_of says) outcome → IsAnswered c outcome
+pub command_answered : (law : Laws) (c : Call) (k : Command) (says : Answer) (outcome : Outcome) (text : List ℕ) → command_of c.asked.words ≡ Some k → Does (spec_of k) (doing_of c) text says → Ends c.output (text ++ closing (has_line k) (outcome_of says)) (outcome_of says) outcome → IsAnswered c outcome
 command_answered law c k says outcome text is does ends = record {
   answer = outcome_of says;
-  text = text;
-  came = inr (record { command = k; is_command = is; says = says; does = does; answers = refl });
+  text = text ++ closing (has_line k) (outcome_of says);
+  came = inr (record { command = k; is_command = is; says = says; told = text; does = does; answers = refl; text_is = refl });
   ends = ends;
   completes = λ may still.
       let same = same_command (command_of c.asked.words) may.command k may.is_command is in
       let can = subst (λ (x : Command). (spec_of x).CanFinish c.asked.before.told c.work) same may.can_finish in
-      ends_done c.output text (outcome_of says) outcome ends (outcome_done says (finishes law k (doing_of c) text says does can (none_rose c still))) still.sink;
+      ends_done c.output (text ++ closing (has_line k) (outcome_of says)) (outcome_of says) outcome ends (outcome_done says (finishes law k (doing_of c) text says does can (none_rose c still))) still.sink;
 }
 
 -- Memory ran out as the words were read, which are a command.

@@ -6,15 +6,17 @@ use Rattle.pegasus_cli.specs.Course.{Course, IsStep, documents, documents_with}
 use Rattle.pegasus_cli.specs.Moments.{DocsMoment}
 use Rattle.pegasus_cli.specs.Commands.{quick_spec, spec_of, threaded_spec}
 use Rattle.pegasus_cli.specs.CommandSpec.{Finishes}
-use Rattle.command_words.specs.Words.{Command, Quick, Threaded, Check, Plan, Eval, Alone, Audit, Stat, Run, Rehearse, RehearseBy, Quickly, InThreads}
+use Rattle.command_words.specs.Words.{Command, Quick, Threaded, Check, Plan, Eval, Alone, Audit, Stat, Produce, Schedule, Run, Rehearse, RehearseBy, Quickly, InThreads}
 use Rattle.pegasus_cli.proofs.AloneLemmas.{alone_finishes}
 use Rattle.pegasus_cli.proofs.AuditLemmas.{NoneMalformed, audit_finishes, stat_finishes}
 use Rattle.pegasus_cli.proofs.CheckLemmas.{check_finishes}
 use Rattle.pegasus_cli.proofs.EvalLemmas.{EvaluationsFinish, eval_finishes}
 use Rattle.pegasus_cli.proofs.PlanLemmas.{plan_finishes}
 use Rattle.pegasus_cli.proofs.PlanRunLemmas.{RunsFinish}
+use Rattle.pegasus_cli.proofs.ProduceLemmas.{produce_finishes}
 use Rattle.pegasus_cli.proofs.RehearseLemmas.{rehearse_by_finishes, rehearse_finishes, unmade}
 use Rattle.pegasus_cli.proofs.RunLemmas.{run_finishes}
+use Rattle.pegasus_cli.proofs.ScheduleLemmas.{schedule_finishes}
 
 -- what the commands take of the crates below
 pub record Laws : Type 0 where
@@ -29,6 +31,8 @@ quick_finishes law (Eval name) = eval_finishes law.evaluations name
 quick_finishes law (Alone name) = alone_finishes law.runs name
 quick_finishes law (Audit name history) = audit_finishes law.records name history
 quick_finishes law (Stat name history) = stat_finishes law.records name history
+quick_finishes law (Produce name) = produce_finishes law.runs name
+quick_finishes law (Schedule name) = schedule_finishes name
 quick_finishes law (Rehearse images) = rehearse_finishes law.runs images
 
 threaded_finishes : Laws → (t : Threaded) → Finishes (threaded_spec t)
@@ -50,6 +54,8 @@ quick_unbegun (Eval name) m = inl (still_stops (documents name) m)
 quick_unbegun (Alone name) m = inl (still_stops (documents name) m)
 quick_unbegun (Audit name history) m = inl (still_stops (documents_with name history) m)
 quick_unbegun (Stat name history) m = inl (still_stops (documents_with name history) m)
+quick_unbegun (Produce name) m = inl (still_stops (documents name) m)
+quick_unbegun (Schedule name) m = inl (still_stops (documents name) m)
 quick_unbegun (Rehearse images) m = unmade images m
 
 threaded_unbegun : (t : Threaded) (m : DocsMoment) → (threaded_spec t).Comes m m (Err Memory)

@@ -1,5 +1,5 @@
 -- What the clause of a call comes to for a run that ended Done.
-use Rattle.std.proofs.Common.{◌≡◌, ◌⊎◌, ℕ, ◌++◌, List, sym, subst, ◌∙◌, inl, inr}
+use Rattle.std.proofs.Common.{◌≡◌, ◌⊎◌, ℕ, ◌++◌, List, sym, ap, subst, ◌∙◌, inl, inr}
 use Rattle.std.proofs.Math.Logic.{∥∥₁_map}
 use Rattle.std.specs.Prelude.{Option, Some, None, IfSome, MatchOption}
 use Rattle.std.specs.Io.KnownBytes.{Appends}
@@ -16,13 +16,13 @@ use Rattle.plan_run.specs.Running.{IsRunText, IsShown}
 use Rattle.pegasus_cli.specs.declared.outcome.Outcome.{Outcome}
 use Rattle.pegasus_cli.specs.declared.outcome.Outcome.TheVariants as outcomes
 use Rattle.pegasus_cli.specs.Call.{Ends, IsAnswered, IsDoneBy, IsUsage, doing_of}
-use Rattle.pegasus_cli.specs.Commands.{spec_of}
+use Rattle.pegasus_cli.specs.Commands.{has_line, spec_of}
 use Rattle.pegasus_cli.specs.Commands.Run.{RunsMany, run}
 use Rattle.pegasus_cli.specs.CommandSpec.{Does}
 use Rattle.pegasus_cli.specs.Fault.{done}
 use Rattle.pegasus_cli.specs.Headline.{AreSet, EndsSo, Headline, HoldsOf, ShownBy}
 use Rattle.pegasus_cli.specs.Moments.{Call}
-use Rattle.pegasus_cli.specs.Outcome.{line_of}
+use Rattle.pegasus_cli.specs.Outcome.{closing, line_of}
 use Rattle.pegasus_cli.specs.PlanRun.{AllDelivered, AreHonestIn, DeliversRequested, HasRunPlan, IsUnrun, value_in}
 use Rattle.pegasus_cli.specs.Survey.{GoesOn}
 use Rattle.command_words.specs.Words.{Command, InThreads, Run, command as command_of}
@@ -95,15 +95,13 @@ done_so c n request text written (inr h) = run_so c n request text h.inputs h.co
 pub holds : (c : Call) (outcome : Outcome) → IsAnswered c outcome → HoldsOf c outcome
 holds c outcome answered n request is ended = by answered.came
   where
-    ends : (outcomes.Done None ≡ answered.answer) × Appends c.output.before.written c.output.after.written (answered.text ++ line_of answered.answer)
+    ends : (outcomes.Done None ≡ answered.answer) × Appends c.output.before.written c.output.after.written answered.text
     ends = subst (Ends c.output answered.text answered.answer) ended answered.ends
-
-    written : Appends c.output.before.written c.output.after.written (answered.text ++ line_of (outcomes.Done None))
-    written = subst (λ (a : Outcome). Appends c.output.before.written c.output.after.written (answered.text ++ line_of a)) (sym ends.0) ends.1
 
     by : IsUsage c answered.text answered.answer ⊎ IsDoneBy c answered.text answered.answer → ∥ EndsSo c request n ∥₁
     by (inl usage) = absurd (let clash : ◌≡◌ {A = Outcome} (outcomes.Done None) outcomes.Usage = ends.0 ∙ usage.answers in cc)
     by (inr came) =
         let same = same_command (command_of c.asked.words) came.command (InThreads (Run request n)) came.is_command is in
-        let does = subst (λ (k : Command). Does (spec_of k) (doing_of c) answered.text came.says) same came.does in
-        done_so c n request answered.text written (subst (Does (run request n) (doing_of c) answered.text) (done_is came.says (ends.0 ∙ came.answers)) does)
+        let does = subst (λ (k : Command). Does (spec_of k) (doing_of c) came.told came.says) same came.does in
+        let text = came.text_is ∙ ap (λ (k : Command). came.told ++ closing (has_line k) answered.answer) same ∙ ap (λ (a : Outcome). came.told ++ line_of a) (sym ends.0) in
+        done_so c n request came.told (subst (Appends c.output.before.written c.output.after.written) text ends.1) (subst (Does (run request n) (doing_of c) came.told) (done_is came.says (ends.0 ∙ came.answers)) does)

@@ -5,10 +5,13 @@ pub mod SurveyLemmas
 pub mod RecordedLemmas
 pub mod CheckLemmas
 pub mod PlanLemmas
+pub mod ScheduleLemmas
 pub mod EvalLemmas
 pub mod PlanRunLemmas
 pub mod AuditLemmas
+pub mod NamesLemmas
 pub mod AloneLemmas
+pub mod ProduceLemmas
 pub mod RunLemmas
 pub mod RehearseLemmas
 pub mod CommandsLemmas

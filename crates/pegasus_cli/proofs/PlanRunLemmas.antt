@@ -46,7 +46,7 @@ pub record HasDeliveryLaws (p : Plan) (order : List ℕ) : Type 0 where
   pub complete : (r : List Event) → Legal p order r → IsComplete p (now p order r) → (t f : ℕ) → delivers p t f ≡ true → is_delivered p r f ≡ true
   pub only : (r : List Event) (f : ℕ) → is_delivered p r f ≡ true → (t : ℕ) × (delivers p t f ≡ true)
 
-named_in : (s : Surveyed) (p : Plan) (f : ℕ) → IsNamed s.survey p f → file_name p f ≡ lfn s.survey f
+pub named_in : (s : Surveyed) (p : Plan) (f : ℕ) → IsNamed s.survey p f → file_name p f ≡ lfn s.survey f
 unfolding file_name
 named_in s p f named = ap lfn_in named.is ∙ named.named
 

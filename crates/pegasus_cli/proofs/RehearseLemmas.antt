@@ -41,6 +41,7 @@ use Rattle.rehearsal.specs.declared.rehearsal.Rehearsal.{Rehearsal}
 use Rattle.rehearsal.specs.declared.figures.Figures.{Figures}
 use Rattle.plan_run.specs.Finishing.{replicas_of}
 use Rattle.plan_run.specs.Moments.{Tools, Work, WorkMoment, count_of, first_tool, working}
+use Rattle.site_yard.specs.declared.delivered.Delivered.{Delivered}
 use Rattle.plan_run.specs.Running.{End, HasRun, HasRunAlone, Report, reporting}
 use Rattle.pegasus_cli.specs.declared.fault.CallFault.{CallFault}
 use Rattle.pegasus_cli.specs.declared.fault.CallFault.TheVariants.{Failed, Memory, Refused}
@@ -158,53 +159,53 @@ failed n w t workers s old new written text a fault prep h fails = record {
 says_memory : (n workers : ℕ) (w : Work) (t : Tools) (s : Surveyed) (text : List ℕ) (a : Answer) → a ≡ not_for Memory → Says n workers w t s text a
 says_memory n workers w t s text a is = subst (Says n workers w t s text) (sym is) tt
 
-says_closed : (n workers : ℕ) (w : Work) (t : Tools) (s : Surveyed) (old new : MemoryHost) (p : Plan) (order : List TaskId) (log : Option Log) (written : List ℕ) (f : Figures) (text : List ℕ) (a : Answer)
+says_closed : (n workers : ℕ) (w : Work) (t : Tools) (s : Surveyed) (old new : MemoryHost) (p : Plan) (order : List TaskId) (log : Option Log) (written : List ℕ) (ds : List Delivered) (f : Figures) (text : List ℕ) (a : Answer)
     → IsPrepared n (prepared s old) → IsReady w.known s p order → HasDeliveryLaws p (task_numbers order) → DeliversRequests s.request s.survey p → MeansWorkflow s.request s.survey p
-    → ∥ HasRun (inside_of w old new) t workers p (task_numbers order) (reporting log written) (Ok tt) ∥₁ → AreFigures s p (task_numbers order) f → ClosesOrMemory n f log new text a → Says n workers w t s text a
-says_closed n workers w t s old new p order log written f text (Ok (Some x)) prep ready laws requests means run figures closes =
-    ∥∥₁_map run (λ (h : HasRun (inside_of w old new) t workers p (task_numbers order) (reporting log written) (Ok tt)).
-    rehearsed n w t workers s old new log written f text x prep (run_is (inside_of w old new) t workers s p order (reporting log written) (Ok tt) ready laws requests means h) refl figures closes)
-says_closed n workers w t s old new p order log written f text (Ok None) prep ready laws requests means run figures closes = absurd closes
-says_closed n workers w t s old new p order log written f text (Err Memory) prep ready laws requests means run figures closes = tt
-says_closed n workers w t s old new p order log written f text (Err fault) prep ready laws requests means run figures closes = absurd closes
+    → ∥ HasRun (inside_of w old new) t workers p (task_numbers order) (reporting log written ds) (Ok tt) ∥₁ → AreFigures s p (task_numbers order) f → ClosesOrMemory n f log new text a → Says n workers w t s text a
+says_closed n workers w t s old new p order log written ds f text (Ok (Some x)) prep ready laws requests means run figures closes =
+    ∥∥₁_map run (λ (h : HasRun (inside_of w old new) t workers p (task_numbers order) (reporting log written ds) (Ok tt)).
+    rehearsed n w t workers s old new log written f text x prep (run_is (inside_of w old new) t workers s p order (reporting log written ds) (Ok tt) ready laws requests means h) refl figures closes)
+says_closed n workers w t s old new p order log written ds f text (Ok None) prep ready laws requests means run figures closes = absurd closes
+says_closed n workers w t s old new p order log written ds f text (Err Memory) prep ready laws requests means run figures closes = tt
+says_closed n workers w t s old new p order log written ds f text (Err fault) prep ready laws requests means run figures closes = absurd closes
 
-says_failed : (n workers : ℕ) (w : Work) (t : Tools) (s : Surveyed) (old new : MemoryHost) (p : Plan) (order : List TaskId) (log : Option Log) (written : List ℕ) (text : List ℕ) (a : Answer) (fault : RunFault)
+says_failed : (n workers : ℕ) (w : Work) (t : Tools) (s : Surveyed) (old new : MemoryHost) (p : Plan) (order : List TaskId) (log : Option Log) (written : List ℕ) (ds : List Delivered) (text : List ℕ) (a : Answer) (fault : RunFault)
     → IsPrepared n (prepared s old) → IsReady w.known s p order → HasDeliveryLaws p (task_numbers order) → DeliversRequests s.request s.survey p → MeansWorkflow s.request s.survey p
-    → ∥ HasRun (inside_of w old new) t workers p (task_numbers order) (reporting log written) (Err fault) ∥₁ → FailsBy new fault text a → Says n workers w t s text a
-says_failed n workers w t s old new p order log written text a fault prep ready laws requests means run fails =
+    → ∥ HasRun (inside_of w old new) t workers p (task_numbers order) (reporting log written ds) (Err fault) ∥₁ → FailsBy new fault text a → Says n workers w t s text a
+says_failed n workers w t s old new p order log written ds text a fault prep ready laws requests means run fails =
     subst (Says n workers w t s text) (sym fails.answers) (
       fails.no_text,
-      ∥∥₁_map run (λ (h : HasRun (inside_of w old new) t workers p (task_numbers order) (reporting log written) (Err fault)).
-          failed n w t workers s old new written text a fault prep (run_is (inside_of w old new) t workers s p order (reporting log written) (Err fault) ready laws requests means h) fails),
+      ∥∥₁_map run (λ (h : HasRun (inside_of w old new) t workers p (task_numbers order) (reporting log written ds) (Err fault)).
+          failed n w t workers s old new written text a fault prep (run_is (inside_of w old new) t workers s p order (reporting log written ds) (Err fault) ready laws requests means h) fails),
     )
 
 -- what is told of the run of a workload, by how it ended
-pub says_ended : (n workers : ℕ) (w : Work) (t : Tools) (s : Surveyed) (old new : MemoryHost) (p : Plan) (order : List TaskId) (log : Option Log) (written : List ℕ) (f : Figures) (text : List ℕ) (a : Answer) (e : End)
+pub says_ended : (n workers : ℕ) (w : Work) (t : Tools) (s : Surveyed) (old new : MemoryHost) (p : Plan) (order : List TaskId) (log : Option Log) (written : List ℕ) (ds : List Delivered) (f : Figures) (text : List ℕ) (a : Answer) (e : End)
     → IsPrepared n (prepared s old) → IsReady w.known s p order → HasDeliveryLaws p (task_numbers order) → DeliversRequests s.request s.survey p → MeansWorkflow s.request s.survey p
-    → ∥ HasRun (inside_of w old new) t workers p (task_numbers order) (reporting log written) e ∥₁ → AreFigures s p (task_numbers order) f → TellsEnd n f e log new text a → Says n workers w t s text a
-says_ended n workers w t s old new p order log written f text a (Ok ended) prep ready laws requests means run figures tells = says_closed n workers w t s old new p order log written f text a prep ready laws requests means run figures tells
-says_ended n workers w t s old new p order log written f text a (Err fault) prep ready laws requests means run figures (inl memory) = says_memory n workers w t s text a memory
-says_ended n workers w t s old new p order log written f text a (Err fault) prep ready laws requests means run figures (inr fails) = says_failed n workers w t s old new p order log written text a fault prep ready laws requests means run fails
+    → ∥ HasRun (inside_of w old new) t workers p (task_numbers order) (reporting log written ds) e ∥₁ → AreFigures s p (task_numbers order) f → TellsEnd n f e log new text a → Says n workers w t s text a
+says_ended n workers w t s old new p order log written ds f text a (Ok ended) prep ready laws requests means run figures tells = says_closed n workers w t s old new p order log written ds f text a prep ready laws requests means run figures tells
+says_ended n workers w t s old new p order log written ds f text a (Err fault) prep ready laws requests means run figures (inl memory) = says_memory n workers w t s text a memory
+says_ended n workers w t s old new p order log written ds f text a (Err fault) prep ready laws requests means run figures (inr fails) = says_failed n workers w t s old new p order log written ds text a fault prep ready laws requests means run fails
 
 pub alone_ran : (w : Work) (p : Plan) (order : List ℕ) (x : Report) (e : End) → ∥ HasRunAlone w p order x e ∥₁ → ∥ HasRun w (first_tool w) 1 p order x e ∥₁
 alone_ran w p order x e run = ∥∥₁_map run (λ (h : HasRunAlone w p order x e). h.ran)
 
 -- a run inside, told of the call: with one worker, and with several
-pub alone_is : (n : ℕ) (m : WorkMoment) (apply : Apply) (known : List ℕ → Bool) (before after : ℕ) (s : Surveyed) (old new : MemoryHost) (p : Plan) (order : List TaskId) (log : Option Log) (written : List ℕ) (f : Figures) (text : List ℕ) (a : Answer) (e : End)
+pub alone_is : (n : ℕ) (m : WorkMoment) (apply : Apply) (known : List ℕ → Bool) (before after : ℕ) (s : Surveyed) (old new : MemoryHost) (p : Plan) (order : List TaskId) (log : Option Log) (written : List ℕ) (ds : List Delivered) (f : Figures) (text : List ℕ) (a : Answer) (e : End)
     → IsPrepared n (prepared s old) → IsReady known s p order → HasDeliveryLaws p (task_numbers order) → DeliversRequests s.request s.survey p → MeansWorkflow s.request s.survey p
-    → ∥ HasRunAlone (working apply known (inside_at old before) (inside_at new after)) p (task_numbers order) (reporting log written) e ∥₁ → AreFigures s p (task_numbers order) f → TellsEnd n f e log new text a
+    → ∥ HasRunAlone (working apply known (inside_at old before) (inside_at new after)) p (task_numbers order) (reporting log written ds) e ∥₁ → AreFigures s p (task_numbers order) f → TellsEnd n f e log new text a
     → let w = working apply known (with_tool m before) (with_tool m after) in Rehearses n 1 w (first_tool w) s text a
-alone_is n m apply known before after s old new p order log written f text a e prep ready laws requests means run figures tells =
+alone_is n m apply known before after s old new p order log written ds f text a e prep ready laws requests means run figures tells =
     let w = working apply known (with_tool m before) (with_tool m after) in
-    record { told = refl; counts = refl; says = says_ended n 1 w (first_tool w) s old new p order log written f text a e prep ready laws requests means (alone_ran (inside_of w old new) p (task_numbers order) (reporting log written) e run) figures tells }
+    record { told = refl; counts = refl; says = says_ended n 1 w (first_tool w) s old new p order log written ds f text a e prep ready laws requests means (alone_ran (inside_of w old new) p (task_numbers order) (reporting log written ds) e run) figures tells }
 
-pub many_is : (n workers : ℕ) (m : WorkMoment) (t : Tools) (apply : Apply) (known : List ℕ → Bool) (before after : ℕ) (s : Surveyed) (old new : MemoryHost) (p : Plan) (order : List TaskId) (log : Option Log) (written : List ℕ) (f : Figures) (text : List ℕ) (a : Answer) (e : End)
+pub many_is : (n workers : ℕ) (m : WorkMoment) (t : Tools) (apply : Apply) (known : List ℕ → Bool) (before after : ℕ) (s : Surveyed) (old new : MemoryHost) (p : Plan) (order : List TaskId) (log : Option Log) (written : List ℕ) (ds : List Delivered) (f : Figures) (text : List ℕ) (a : Answer) (e : End)
     → IsPrepared n (prepared s old) → IsReady known s p order → HasDeliveryLaws p (task_numbers order) → DeliversRequests s.request s.survey p → MeansWorkflow s.request s.survey p
-    → ∥ HasRun (working apply known (inside_at old before) (inside_at new after)) t workers p (task_numbers order) (reporting log written) e ∥₁ → AreFigures s p (task_numbers order) f → TellsEnd n f e log new text a
+    → ∥ HasRun (working apply known (inside_at old before) (inside_at new after)) t workers p (task_numbers order) (reporting log written ds) e ∥₁ → AreFigures s p (task_numbers order) f → TellsEnd n f e log new text a
     → Rehearses n workers (working apply known (with_tool m before) (with_tool m after)) t s text a
-many_is n workers m t apply known before after s old new p order log written f text a e prep ready laws requests means run figures tells =
+many_is n workers m t apply known before after s old new p order log written ds f text a e prep ready laws requests means run figures tells =
     let w = working apply known (with_tool m before) (with_tool m after) in
-    record { told = refl; counts = refl; says = says_ended n workers w t s old new p order log written f text a e prep ready laws requests means run figures tells }
+    record { told = refl; counts = refl; says = says_ended n workers w t s old new p order log written ds f text a e prep ready laws requests means run figures tells }
 
 -- no fault of planning is a failure of a run
 not_of_planning : (failure : RunFault) (fault : PlanFault) → Failed failure ≡ plan_answer fault → ⊥

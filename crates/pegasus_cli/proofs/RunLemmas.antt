@@ -9,6 +9,7 @@ use Rattle.run_record.specs.Events.{Log}
 use Rattle.planner.specs.Deliveries.{DeliversRequests}
 use Rattle.planner.specs.Meaning.{MeansWorkflow}
 use Rattle.planner.specs.declared.surveyed.Surveyed.{Surveyed}
+use Rattle.site_yard.specs.declared.delivered.Delivered.{Delivered}
 use Rattle.plan_run.specs.Moments.{Tools, Work}
 use Rattle.plan_run.specs.Running.{End, HasRun, reporting}
 use Rattle.pegasus_cli.specs.Commands.Run.{RunsMany, run}
@@ -20,9 +21,9 @@ use Rattle.pegasus_cli.proofs.PlanRunLemmas.{HasDeliveryLaws, RunsFinish, plan_r
 use Rattle.pegasus_cli.proofs.SurveyLemmas.{survey_finishes}
 
 -- A plan was run by several members of the crew.
-pub many_is : (w : Work) (t : Tools) (n : ℕ) (s : Surveyed) (p : Plan) (order : List TaskId) (log : Option Log) (text : List ℕ) (e : End) → IsReady w.known s p order → HasDeliveryLaws p (task_numbers order) → DeliversRequests s.request s.survey p → MeansWorkflow s.request s.survey p
-    → ∥ HasRun w t n p (task_numbers order) (reporting log text) e ∥₁ → RunsMany n w t s text (end_answer e)
-many_is w t n s p order log text e ready laws requests means run = inr (∥∥₁_map run (λ (h : HasRun w t n p (task_numbers order) (reporting log text) e). run_is w t n s p order (reporting log text) e ready laws requests means h))
+pub many_is : (w : Work) (t : Tools) (n : ℕ) (s : Surveyed) (p : Plan) (order : List TaskId) (log : Option Log) (text : List ℕ) (ds : List Delivered) (e : End) → IsReady w.known s p order → HasDeliveryLaws p (task_numbers order) → DeliversRequests s.request s.survey p → MeansWorkflow s.request s.survey p
+    → ∥ HasRun w t n p (task_numbers order) (reporting log text ds) e ∥₁ → RunsMany n w t s text (end_answer e)
+many_is w t n s p order log text ds e ready laws requests means run = inr (∥∥₁_map run (λ (h : HasRun w t n p (task_numbers order) (reporting log text ds) e). run_is w t n s p order (reporting log text ds) e ready laws requests means h))
 
 runs_done : (law : RunsFinish) (n : ℕ) (w : Work) (t : Tools) (s : Surveyed) (text : List ℕ) (a : Answer) → RunsMany n w t s text a → CanRun w s → NoneRoseAtWork w t → IsDoneOrMemory a
 runs_done law n w t s text a (inl h) can still = unrun_finishes w t s text a h can

@@ -1,15 +1,15 @@
 -- The clause of a call: an answer came, with its text, and then the call ended.
-use Rattle.std.specs.Prelude.{◌≡◌, ◌⊎◌, ◌++◌, ℕ, List, [], take, Some, None}
+use Rattle.std.specs.Prelude.{◌≡◌, ◌⊎◌, ◌++◌, ℕ, List, take, Some, None}
 use Rattle.std.specs.Io.KnownBytes.{Appends, Keeps}
 use Rattle.outside.specs.Counts.{Rose}
 use Rattle.plan_run.specs.Moments.{count_of}
 use Rattle.pegasus_cli.specs.declared.outcome.Outcome.{Outcome}
 use Rattle.pegasus_cli.specs.declared.outcome.Outcome.TheVariants as outcomes
-use Rattle.pegasus_cli.specs.Commands.{spec_of}
+use Rattle.pegasus_cli.specs.Commands.{has_line, spec_of}
 use Rattle.pegasus_cli.specs.CommandSpec.{Does, Doing, doing}
 use Rattle.pegasus_cli.specs.Fault.{Answer}
 use Rattle.pegasus_cli.specs.Moments.{Call, Output}
-use Rattle.pegasus_cli.specs.Outcome.{line_of, outcome_of}
+use Rattle.pegasus_cli.specs.Outcome.{closing, line_of, outcome_of}
 use Rattle.command_words.specs.Words.{Command, command as command_of}
 
 -- what a call's command meets
@@ -23,21 +23,23 @@ pub record IsUsage (c : Call) (text : List ℕ) (answer : Outcome) : Type 0 wher
   pub not_asked : c.asked.after ≡ c.asked.before
   pub untouched : c.work.after ≡ c.work.before
   pub unused : c.tools.after ≡ c.tools.before
-  pub no_text : text ≡ []
+  pub text_is : text ≡ line_of answer
 
--- The words are a command, and it gave this answer and this text.
+-- The words are a command, and it gave this answer; the text is what it told, with the line that closes it.
 pub record IsDoneBy (c : Call) (text : List ℕ) (answer : Outcome) : Type 0 where
   pub command : Command
   pub is_command : command_of c.asked.words ≡ Some command
   pub says : Answer
-  pub does : Does (spec_of command) (doing_of c) text says
+  pub told : List ℕ
+  pub does : Does (spec_of command) (doing_of c) told says
   pub answers : answer ≡ outcome_of says
+  pub text_is : text ≡ told ++ closing (has_line command) answer
 
--- What was written: the text and the answer's line; a prefix of them where the sink failed; nothing at want of memory.
+-- What was written: the text; a prefix of it where the sink failed; nothing at want of memory.
 abbrev pub Ends : Output → List ℕ → Outcome → Outcome → Type 0
 Ends o text answer outcomes.Memory = Keeps o.before.written o.after.written
-Ends o text answer outcomes.SinkFailed = Rose o.before.faults o.after.faults × (answer ≡ outcomes.Memory → ⊥) × (n : ℕ) × Appends o.before.written o.after.written (take n (text ++ line_of answer))
-Ends o text answer outcome = (outcome ≡ answer) × Appends o.before.written o.after.written (text ++ line_of answer)
+Ends o text answer outcomes.SinkFailed = Rose o.before.faults o.after.faults × (answer ≡ outcomes.Memory → ⊥) × (n : ℕ) × Appends o.before.written o.after.written (take n text)
+Ends o text answer outcome = (outcome ≡ answer) × Appends o.before.written o.after.written text
 
 -- no count of faults rose
 pub record NoneRose (c : Call) : Type 0 where
@@ -60,7 +62,7 @@ IsDoneOrMemory _ = ⊥
 
 -- Every clause of a call.
 pub record IsAnswered (c : Call) (outcome : Outcome) : Type 0 where
-  -- the answer that came, and the text before its line
+  -- the answer that came, and its text
   pub answer : Outcome
   pub text : List ℕ
   -- how it came

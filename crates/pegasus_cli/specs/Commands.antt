@@ -1,4 +1,5 @@
 -- The table of the commands.
+use Rattle.std.specs.Prelude.{Bool, true, false}
 use Rattle.pegasus_cli.specs.CommandSpec.{CommandSpec}
 use Rattle.command_words.specs.Words as words
 use Rattle.command_words.specs.Words.{Command, Quick, Threaded}
@@ -8,6 +9,8 @@ use Rattle.pegasus_cli.specs.Commands.Eval.{eval}
 use Rattle.pegasus_cli.specs.Commands.Alone.{alone}
 use Rattle.pegasus_cli.specs.Commands.Audit.{audit}
 use Rattle.pegasus_cli.specs.Commands.Stat.{stat}
+use Rattle.pegasus_cli.specs.Commands.Produce.{produce}
+use Rattle.pegasus_cli.specs.Commands.Schedule.{schedule}
 use Rattle.pegasus_cli.specs.Commands.Run.{run}
 use Rattle.pegasus_cli.specs.Commands.Rehearse.{rehearse, rehearse_by}
 pub mod Check
@@ -16,6 +19,8 @@ pub mod Eval
 pub mod Alone
 pub mod Audit
 pub mod Stat
+pub mod Produce
+pub mod Schedule
 pub mod Run
 pub mod Rehearse
 
@@ -26,6 +31,8 @@ quick_spec (words.Eval name) = eval name
 quick_spec (words.Alone name) = alone name
 quick_spec (words.Audit name history) = audit name history
 quick_spec (words.Stat name history) = stat name history
+quick_spec (words.Produce name) = produce name
+quick_spec (words.Schedule name) = schedule name
 quick_spec (words.Rehearse images) = rehearse images
 
 abbrev pub threaded_spec : Threaded → CommandSpec
@@ -35,3 +42,8 @@ threaded_spec (words.RehearseBy images workers) = rehearse_by images workers
 abbrev pub spec_of : Command → CommandSpec
 spec_of (words.Quickly q) = quick_spec q
 spec_of (words.InThreads t) = threaded_spec t
+
+-- A command's text is closed by the line of its outcome. Only a catalogue stands alone, so that it can be read.
+abbrev pub has_line : Command → Bool
+has_line (words.Quickly (words.Produce name)) = false
+has_line _ = true

@@ -1,5 +1,5 @@
 -- The line of an outcome, and its status.
-use Rattle.std.specs.Prelude.{ℕ, ◌++◌, List, [], codes, Ok, Err}
+use Rattle.std.specs.Prelude.{ℕ, ◌++◌, Bool, false, List, [], codes, Ok, Err}
 use Rattle.outside.specs.Printed.{printed_name}
 use Rattle.pegasus_cli.specs.declared.fault.CallFault.TheVariants as faults
 use Rattle.pegasus_cli.specs.declared.outcome.Outcome.{Outcome}
@@ -16,7 +16,7 @@ exceeds_line site task needed bound = codes "exceeds" ++ and_name site ++ and_nu
 abbrev pub line_of : Outcome → List ℕ
 line_of (Done given) = codes "done\n"
 line_of Memory = []
-line_of Usage = codes "usage: pegasus check|plan|eval|alone REQ, run REQ --workers N, audit|stat REQ RECORD, rehearse N [--workers N]\n"
+line_of Usage = codes "usage: pegasus check|plan|eval|alone REQ, run REQ --workers N, audit|stat REQ RECORD, produce REQ, schedule REQ, rehearse N [--workers N]\n"
 line_of (DocAbsent name) = codes "no document " ++ printed_name name ++ codes "\n"
 line_of (DocTooLong name limit) = codes "document too long " ++ printed_name name ++ and_number limit ++ codes "\n"
 line_of (DocFailed name) = codes "document failed " ++ printed_name name ++ codes "\n"
@@ -25,6 +25,11 @@ line_of (Exceeds site task needed bound) = exceeds_line site task needed bound
 line_of (Failed fault) = failed_line fault
 line_of (BadRecord line) = codes "bad record" ++ and_number line ++ codes "\n"
 line_of SinkFailed = []
+
+-- The line that closes a text: that of the outcome, but where a command that is done has none.
+abbrev pub closing : Bool → Outcome → List ℕ
+closing false (Done given) = []
+closing lined outcome = line_of outcome
 
 -- the status that the program ends with
 abbrev pub status_of : Outcome → ℕ

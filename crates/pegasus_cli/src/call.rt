@@ -1,15 +1,15 @@
 //! The call for words that start no thread.
 
-ghost use Rattle.std.specs.Prelude.{◌≡◌, [], drop, false, length, map as list_map, string_bytes};
+ghost use Rattle.std.specs.Prelude.{◌≡◌, ◌++◌, drop, false, length, map as list_map, string_bytes};
 ghost use Rattle.craft.specs.declared.crew.Crew.{Crew};
 ghost use Rattle.pegasus_cli.specs.declared.outcome.Outcome.TheVariants.{Usage as IsNoCommand};
 ghost use Rattle.pegasus_cli.specs.Call.{Ends, IsAnswered};
 ghost use Rattle.pegasus_cli.specs.Moments.{call_of, objects, sink_moment, writing};
-ghost use Rattle.pegasus_cli.specs.Outcome.{IsAnswer, outcome_of};
+ghost use Rattle.pegasus_cli.specs.Outcome.{IsAnswer, closing, line_of, outcome_of};
 ghost use Rattle.command_words.specs.Words.{is_threaded};
 
-use crate::commands::{Told, work};
-use crate::outcome::{Outcome, of_answer, push_outcome};
+use crate::commands::{Told, has_line, work};
+use crate::outcome::{Outcome, of_answer, push_closing};
 use command_words::quick_command;
 use craft::{Crew, Gate};
 use evaluation::evaluations_finish;
@@ -18,17 +18,24 @@ use plan_run::runs_finish;
 use run_record::malformed_line_is_one;
 use std::alloc::Global;
 
-/// Writes the text and the answer's line, and tells how the call ends.
+/// Writes the text and the line that closes it, and tells how the call ends.
 #[tactic(auto, using(crate::proofs::CallLemmas::ends_as))]
-fn finish<K: Sink>(alloc: Global, out: &mut K, text: Vec<u8>, answer: Outcome) -> Outcome
+fn finish<K: Sink>(
+    alloc: Global,
+    out: &mut K,
+    text: Vec<u8>,
+    lined: bool,
+    answer: Outcome,
+) -> Outcome
     requires { IsAnswer answer }
-    ensures { Ends (writing (sink_moment K.Sink out.old) (sink_moment K.Sink out.new)) text.items answer result }
+    ensures { Ends (writing (sink_moment K.Sink out.old) (sink_moment K.Sink out.new))
+        (text.items ++ closing lined answer) answer result }
 {
     if let Outcome::Memory = answer {
         return answer;
     }
     let mut text = text;
-    match push_outcome(alloc, &mut text, &answer) {
+    match push_closing(alloc, &mut text, lined, &answer) {
         Ok(()) => {}
         Err(Memory) => {
             drop(answer);
@@ -44,18 +51,19 @@ fn finish<K: Sink>(alloc: Global, out: &mut K, text: Vec<u8>, answer: Outcome) -
     }
 }
 
-/// Writes what a command tells.
-pub(crate) fn answer<K: Sink>(alloc: Global, out: &mut K, told: Told) -> Outcome
-    ensures { Ends (writing (sink_moment K.Sink out.old) (sink_moment K.Sink out.new)) told.text.items (outcome_of told.answer) result }
+/// Writes what a command tells, with the line of its answer or, where it is done, perhaps without.
+pub(crate) fn answer<K: Sink>(alloc: Global, out: &mut K, told: Told, lined: bool) -> Outcome
+    ensures { Ends (writing (sink_moment K.Sink out.old) (sink_moment K.Sink out.new))
+        (told.text.items ++ closing lined (outcome_of told.answer)) (outcome_of told.answer) result }
 {
-    finish(alloc, out, told.text, of_answer(told.answer))
+    finish(alloc, out, told.text, lined, of_answer(told.answer))
 }
 
 /// Writes that the words are no command.
 pub(crate) fn refuse_words<K: Sink>(alloc: Global, out: &mut K) -> Outcome
-    ensures { Ends (writing (sink_moment K.Sink out.old) (sink_moment K.Sink out.new)) [] IsNoCommand result }
+    ensures { Ends (writing (sink_moment K.Sink out.old) (sink_moment K.Sink out.new)) (line_of IsNoCommand) IsNoCommand result }
 {
-    finish(alloc, out, Vec::new(alloc), Outcome::Usage)
+    finish(alloc, out, Vec::new(alloc), true, Outcome::Usage)
 }
 
 /// Does what words say that start no thread, and writes what came of it; it waits for nobody, and asks no gate. It
@@ -85,7 +93,7 @@ pub fn quick<D: Docs, K: Sink, H: Host, T: Tool, G: Gate>(
     match quick_command(alloc, words) {
         Ok(Some(command)) => {
             let worked = work(alloc, command, docs, host, &mut crew[0]);
-            let outcome = answer(alloc, out, worked.told);
+            let outcome = answer(alloc, out, worked.told, has_line(command));
             (outcome, worked.host, crew)
         }
         Ok(None) => (refuse_words(alloc, out), host, crew),

@@ -3,19 +3,21 @@
 ghost use Rattle.std.specs.Prelude.{◌≡◌, [], drop, length, map as list_map};
 ghost use Rattle.craft.specs.declared.crew.Crew.{Crew};
 ghost use Rattle.plan_run.specs.Moments.{Tools, counting, first_count, work_moment, working};
-ghost use Rattle.pegasus_cli.specs.Commands.{quick_spec, threaded_spec};
+ghost use Rattle.pegasus_cli.specs.Commands.{has_line, quick_spec, threaded_spec};
 ghost use Rattle.pegasus_cli.specs.CommandSpec.{Does, OfFirst, doing};
 ghost use Rattle.pegasus_cli.specs.Fault.{not_for};
 ghost use Rattle.pegasus_cli.specs.Moments.{docs_moment};
-ghost use Rattle.command_words.specs.Words.{AreFew, HasImages, HasImagesBy, quick_of, threaded_members, threaded_of};
+ghost use Rattle.command_words.specs.Words.{AreFew, HasImages, HasImagesBy, Quickly, quick_of, threaded_members, threaded_of};
 
 mod alone;
 mod audit;
 mod check;
 mod eval;
 mod plan;
+mod produce;
 mod rehearse;
 mod run;
+mod schedule;
 mod stat;
 
 use crate::fault::CallFault;
@@ -55,6 +57,16 @@ pub(crate) struct Worked<H> {
     pub(crate) host: H,
 }
 
+/// Whether the line of the outcome closes what a command tells, also where it is done.
+pub(crate) fn has_line(command: Quick<'_>) -> bool
+    ensures { result ≡ has_line (Quickly (quick_of command.entry)) }
+{
+    match command {
+        Quick::Produce(_) => false,
+        _ => true,
+    }
+}
+
 /// Does a command that starts no thread.
 pub(crate) fn work<D: Docs, H: Host, T: Tool, G: Gate>(
     alloc: Global,
@@ -89,6 +101,11 @@ pub(crate) fn work<D: Docs, H: Host, T: Tool, G: Gate>(
         }
         Quick::Stat(name, history) => {
             let told = stat::work(alloc, name, history, docs);
+            Worked { told, host }
+        }
+        Quick::Produce(name) => produce::work(alloc, name, docs, host, crew),
+        Quick::Schedule(name) => {
+            let told = schedule::work(alloc, name, docs);
             Worked { told, host }
         }
         Quick::Rehearse(images) => {

@@ -1,7 +1,7 @@
 //! How a call ends, its line and its status.
 
 ghost use Rattle.std.specs.Prelude.{◌≡◌, ◌++◌, OnOk};
-ghost use Rattle.pegasus_cli.specs.Outcome.{IsAnswer, exceeds_line, line_of, outcome_of};
+ghost use Rattle.pegasus_cli.specs.Outcome.{IsAnswer, closing, exceeds_line, line_of, outcome_of};
 
 use crate::fault::CallFault;
 use outside::{Memory, TaskId, Text, Word, push_line};
@@ -11,7 +11,7 @@ use run_record::{RunFault, push_failed};
 use std::alloc::Global;
 
 const USAGE: &str =
-    "usage: pegasus check|plan|eval|alone REQ, run REQ --workers N, audit|stat REQ RECORD, rehearse N [--workers N]";
+    "usage: pegasus check|plan|eval|alone REQ, run REQ --workers N, audit|stat REQ RECORD, produce REQ, schedule REQ, rehearse N [--workers N]";
 
 /// How a call ended.
 #[derive(Debug, Drop)]
@@ -111,11 +111,7 @@ fn push_exceeds(
 }
 
 /// Adds the line of an outcome, where it has one.
-pub(crate) fn push_outcome(
-    alloc: Global,
-    text: &mut Vec<u8>,
-    outcome: &Outcome,
-) -> Result<(), Memory>
+fn push_outcome(alloc: Global, text: &mut Vec<u8>, outcome: &Outcome) -> Result<(), Memory>
     ensures { OnOk result (text.new.items ≡ text.old.items ++ line_of outcome.now) }
 {
     match outcome {
@@ -149,5 +145,20 @@ pub(crate) fn push_outcome(
         } => push_exceeds(alloc, text, site, *task, *needed, *bound),
         Outcome::Failed(fault) => push_failed(alloc, text, fault),
         Outcome::BadRecord(line) => { push_line(alloc, text, "bad record", &[Word::Number(*line)]) }
+    }
+}
+
+/// Adds the line that closes a text: that of its outcome, but none where a command without one is done.
+pub(crate) fn push_closing(
+    alloc: Global,
+    text: &mut Vec<u8>,
+    lined: bool,
+    outcome: &Outcome,
+) -> Result<(), Memory>
+    ensures { OnOk result (text.new.items ≡ text.old.items ++ closing lined outcome.now) }
+{
+    match outcome {
+        Outcome::Done(_) if !lined => Ok(()),
+        outcome => push_outcome(alloc, text, outcome),
     }
 }

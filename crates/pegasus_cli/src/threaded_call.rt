@@ -54,7 +54,7 @@ fn in_threads<
     match threaded_command(alloc, words) {
         Ok(Some(command)) => {
             let worked = work_in_threads(rt, alloc, command, docs, host, &mut crew);
-            let outcome = answer(alloc, out, worked.told);
+            let outcome = answer(alloc, out, worked.told, true);
             (outcome, worked.host, crew)
         }
         Ok(None) => (refuse_words(alloc, out), host, crew),

@@ -21,7 +21,7 @@ returns-in-Ok-Some-clause-answered g c =
     let told = c.work-worked.result.told in
     rw (before, after) (command_answered (record { runs = c.runs_finish.ensures; evaluations = c.evaluations_finish.ensures; records = c.malformed_line_is_one.ensures.none })
     _ (Quickly q) told.answer c.answer-outcome.result told.text.items is
-    (c.work-worked.ensures.does _ (λ e. counts_stay count c.args.crew.items first last c.index_mut.ensures.value e)) c.answer-outcome.ensures)
+    (c.work-worked.ensures.does _ (λ e. counts_stay count c.args.crew.items first last c.index_mut.ensures.value e)) (rw c.has_line.ensures at c.answer-outcome.ensures))
 
 pub returns-in-Ok-None-clause-answered : goal.returns-in-Ok-None-clause-answered
 unfolding call_of

@@ -20,5 +20,11 @@ returns-in-Audit-clause-does g c = λ t first. rw c.in-Audit.is (c.work-told-in-
 pub returns-in-Stat-clause-does : goal.returns-in-Stat-clause-does
 returns-in-Stat-clause-does g c = λ t first. rw c.in-Stat.is (c.work-told-in-Stat.ensures _ t refl (first refl))
 
+pub returns-in-Produce-clause-does : goal.returns-in-Produce-clause-does
+returns-in-Produce-clause-does g c = λ t first. rw c.in-Produce.is (c.work-in-Produce.ensures.does t first)
+
+pub returns-in-Schedule-clause-does : goal.returns-in-Schedule-clause-does
+returns-in-Schedule-clause-does g c = λ t first. rw c.in-Schedule.is (c.work-told-in-Schedule.ensures _ t refl (first refl))
+
 pub returns-in-Rehearse-clause-does : goal.returns-in-Rehearse-clause-does
 returns-in-Rehearse-clause-does g c = λ t first. rw c.in-Rehearse.is (c.work-told-in-Rehearse.ensures.does _ (work_moment g.H.Host c.args.host 0) t first)

@@ -18,7 +18,7 @@ returns-in-Ok-clause-works g c =
     let before = work_moment g.H.Host c.args.host (g.T.Tool.faults c.args.crew.now.tool) in
     let after = work_moment g.H.Host ran.host (g.T.Tool.faults c.run_plan.new.crew.tool) in
     let w = working g.T.Tool.apply g.T.Tool.known before after in
-    λ t. rw (c.ended.ensures.answer, c.ended.ensures.text, c.ended.ensures.host) (alone_is w t s p o.tasks.items ran.history ran.text.items ran.end ready
+    λ t. rw (c.ended.ensures.answer, c.ended.ensures.text, c.ended.ensures.host) (alone_is w t s p o.tasks.items ran.history ran.text.items ran.delivered.items ran.end ready
     (record {
       complete = λ r legal complete t f d. c.complete_records_deliver.ensures.complete p order r ready.proper fits legal complete t f d;
       only = λ r f h. c.complete_records_deliver.ensures.only p r f h;

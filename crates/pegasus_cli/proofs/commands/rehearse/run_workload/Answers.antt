@@ -18,5 +18,5 @@ returns-clause-works g c = λ m.
     } in
     let requests = c.plans_deliver_requests.ensures s.request s.survey task_limit o.plan ready.planned in
     let means = s.means task_limit o.plan (omega arith) ready.planned in
-    alone_is c.args.images m g.T.Tool.apply g.T.Tool.known (g.T.Tool.faults c.args.crew.now.tool) (g.T.Tool.faults c.run_plan-ran.new.crew.tool) s c.args.host ran.host o.plan o.tasks.items ran.history ran.text.items c.in-Some.figures
+    alone_is c.args.images m g.T.Tool.apply g.T.Tool.known (g.T.Tool.faults c.args.crew.now.tool) (g.T.Tool.faults c.run_plan-ran.new.crew.tool) s c.args.host ran.host o.plan o.tasks.items ran.history ran.text.items ran.delivered.items c.in-Some.figures
     c.tell_end.result.text.items c.tell_end.result.answer ran.end c.requires ready laws requests means c.run_plan-ran.ensures.ran c.in-Some.ensures c.tell_end.ensures

@@ -23,5 +23,5 @@ returns-clause-works g c = λ m.
     } in
     let requests = c.plans_deliver_requests.ensures s.request s.survey task_limit o.plan ready.planned in
     let means = s.means task_limit o.plan (omega arith) ready.planned in
-    many_is c.args.images c.args.workers m (counting before after) g.T.Tool.apply g.T.Tool.known (first_count before) (first_count after) s c.args.host ran.host o.plan o.tasks.items ran.history ran.text.items c.in-Some.figures
+    many_is c.args.images c.args.workers m (counting before after) g.T.Tool.apply g.T.Tool.known (first_count before) (first_count after) s c.args.host ran.host o.plan o.tasks.items ran.history ran.text.items ran.delivered.items c.in-Some.figures
     c.tell_end.result.text.items c.tell_end.result.answer ran.end c.requires.prepared ready laws requests means c.run_plan_by-ran.ensures.ran c.in-Some.ensures c.tell_end.ensures
