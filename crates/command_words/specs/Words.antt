@@ -27,11 +27,13 @@ pub data Quick : Type 0 where
   Stat : List ℕ → List ℕ → Quick
   Produce : List ℕ → Quick
   Schedule : List ℕ → Quick
+  Ensemble : List ℕ → Quick
   Rehearse : ℕ → Quick
 
 -- what may start threads and wait, with a name or a number of images, and how many workers
 pub data Threaded : Type 0 where
   Run : List ℕ → ℕ → Threaded
+  EnsembleBy : List ℕ → ℕ → Threaded
   RehearseBy : ℕ → ℕ → Threaded
 
 pub data Command : Type 0 where
@@ -48,10 +50,12 @@ quick_of (quick_words.Audit name file) = Audit name.now file.now
 quick_of (quick_words.Stat name file) = Stat name.now file.now
 quick_of (quick_words.Produce name) = Produce name.now
 quick_of (quick_words.Schedule name) = Schedule name.now
+quick_of (quick_words.Ensemble name) = Ensemble name.now
 quick_of (quick_words.Rehearse images) = Rehearse images
 
 abbrev pub threaded_of : ThreadedWords → Threaded
 threaded_of (threaded_words.Run name workers) = Run name.now workers
+threaded_of (threaded_words.Ensemble name workers) = EnsembleBy name.now workers
 threaded_of (threaded_words.Rehearse images workers) = RehearseBy images workers
 
 -- ---- numbers
@@ -138,6 +142,7 @@ one_word word a =
     else if bytes_eq word (codes "alone") then Some (Alone a)
     else if bytes_eq word (codes "produce") then Some (Produce a)
     else if bytes_eq word (codes "schedule") then Some (Schedule a)
+    else if bytes_eq word (codes "ensemble") then Some (Ensemble a)
     else if bytes_eq word (codes "rehearse") then option_map Rehearse (images_in a)
     else None
 
@@ -150,6 +155,7 @@ two_words word a b =
 abbrev pub by_workers : List ℕ → List ℕ → ℕ → Option Threaded
 by_workers word a workers =
     if bytes_eq word (codes "run") then Some (Run a workers)
+    else if bytes_eq word (codes "ensemble") then Some (EnsembleBy a workers)
     else if bytes_eq word (codes "rehearse") then option_map (λ n. RehearseBy n workers) (images_in a)
     else None
 
@@ -169,10 +175,10 @@ quick_command words = option_and_then quick_in (said_in words)
 abbrev pub threaded_command : List (List ℕ) → Option Threaded
 threaded_command words = option_and_then threaded_in (said_in words)
 
--- words of a call that may start threads and wait: a run's, and a rehearsal's by several workers
+-- words of a call that may start threads and wait: a run's, and a rehearsal's or an ensemble's by several workers
 abbrev pub is_threaded : List (List ℕ) → Bool
 is_threaded [] = false
-is_threaded (word ∷ words) = bytes_eq word (codes "run") || (bytes_eq word (codes "rehearse") && list_any (begins_with workers_option) words)
+is_threaded (word ∷ words) = bytes_eq word (codes "run") || ((bytes_eq word (codes "rehearse") || bytes_eq word (codes "ensemble")) && list_any (begins_with workers_option) words)
 
 abbrev pub command_if : Bool → List (List ℕ) → Option Command
 command_if true words = option_map InThreads (threaded_command words)
@@ -185,6 +191,7 @@ command words = command_if (is_threaded words) words
 -- how many members of a crew a command may use: a member for each worker, else the first one
 abbrev pub threaded_members : Threaded → ℕ
 threaded_members (Run name n) = n
+threaded_members (EnsembleBy name n) = n
 threaded_members (RehearseBy images n) = n
 
 abbrev pub members_of : Option Command → ℕ

@@ -25,6 +25,8 @@ pub enum Quick<'a> {
     Produce(&'a str),
     /// Schedules the workflow of a request.
     Schedule(&'a str),
+    /// Joins the workflows of an ensemble, and runs their plan with one worker.
+    Ensemble(&'a str),
     /// Runs the plan of a workflow over so many images with one worker.
     Rehearse(u32),
 }
@@ -34,6 +36,8 @@ pub enum Quick<'a> {
 pub enum Threaded<'a> {
     /// Runs the plan of a request with so many workers.
     Run(&'a str, u32),
+    /// Joins the workflows of an ensemble, and runs their plan with so many workers.
+    Ensemble(&'a str, u32),
     /// Runs the plan of a workflow over so many images, the first number, with so many workers.
     Rehearse(u32, u32),
 }
@@ -49,6 +53,7 @@ fn one_word<'a>(word: &str, a: &'a str) -> Option<Quick<'a>>
         "alone" => Some(Quick::Alone(a)),
         "produce" => Some(Quick::Produce(a)),
         "schedule" => Some(Quick::Schedule(a)),
+        "ensemble" => Some(Quick::Ensemble(a)),
         "rehearse" => match images_in(a.as_bytes()) {
             Some(images) => Some(Quick::Rehearse(images)),
             None => None,
@@ -88,6 +93,7 @@ fn by_workers<'a>(word: &str, a: &'a str, workers: u32) -> Option<Threaded<'a>>
 {
     match word {
         "run" => Some(Threaded::Run(a, workers)),
+        "ensemble" => Some(Threaded::Ensemble(a, workers)),
         "rehearse" => match images_in(a.as_bytes()) {
             Some(images) => Some(Threaded::Rehearse(images, workers)),
             None => None,

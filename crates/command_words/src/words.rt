@@ -106,14 +106,16 @@ fn has_workers(words: &[String]) -> bool
     false
 }
 
-/// Whether a call with these words may start threads: a run's, and a rehearsal's by workers.
+/// Whether a call with these words may start threads: a run's, and a rehearsal's or an ensemble's
+/// by workers.
 pub fn threaded(words: &[String]) -> bool
     ensures { result ≡ is_threaded (list_map string_bytes words.now) }
 {
     match words {
         [] => false,
         [word, words @ ..] => {
-            word.as_str() == "run" || (word.as_str() == "rehearse" && has_workers(words))
+            let word = word.as_str();
+            word == "run" || ((word == "rehearse" || word == "ensemble") && has_workers(words))
         }
     }
 }

@@ -37,7 +37,7 @@ first_still w still (suc k) l rose = absurd (omega (arith, l))
 pub none_failed : (w : Work) (t : Tools) → NoneRoseAtWork w t → NoneFailed w (first_tool w) 1
 none_failed w t still = record { host = still.host; tools = first_still w still.tool }
 
-runs_done : (law : RunsFinish) (w : Work) (t : Tools) (s : Surveyed) (text : List ℕ) (a : Answer) → RunsAlone w t s text a → CanRun w s → NoneRoseAtWork w t → IsDoneOrMemory a
+pub runs_done : (law : RunsFinish) (w : Work) (t : Tools) (s : Surveyed) (text : List ℕ) (a : Answer) → RunsAlone w t s text a → CanRun w s → NoneRoseAtWork w t → IsDoneOrMemory a
 runs_done law w t s text a (inl h) can still = unrun_finishes w (first_tool w) s text a h can
 runs_done law w t s text a (inr h) can still = ∥∥₁_elim h (done_prop a) (λ (k : HasRunFirst w s text a). plan_run_finishes law w (first_tool w) 1 s text a k.planned can (none_failed w t still))
 

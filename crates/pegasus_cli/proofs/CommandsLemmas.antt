@@ -3,13 +3,15 @@ use Rattle.std.proofs.Common.{inl, refl, arith}
 use Rattle.std.specs.Prelude.{Err}
 use Rattle.pegasus_cli.specs.declared.fault.CallFault.TheVariants.{Memory}
 use Rattle.pegasus_cli.specs.Course.{Course, IsStep, documents, documents_with}
+use Rattle.pegasus_cli.specs.Ensembles.{ensemble_document}
 use Rattle.pegasus_cli.specs.Moments.{DocsMoment}
 use Rattle.pegasus_cli.specs.Commands.{quick_spec, spec_of, threaded_spec}
 use Rattle.pegasus_cli.specs.CommandSpec.{Finishes}
-use Rattle.command_words.specs.Words.{Command, Quick, Threaded, Check, Plan, Eval, Alone, Audit, Stat, Produce, Schedule, Run, Rehearse, RehearseBy, Quickly, InThreads}
+use Rattle.command_words.specs.Words.{Command, Quick, Threaded, Check, Plan, Eval, Alone, Audit, Stat, Produce, Schedule, Run, Ensemble, EnsembleBy, Rehearse, RehearseBy, Quickly, InThreads}
 use Rattle.pegasus_cli.proofs.AloneLemmas.{alone_finishes}
 use Rattle.pegasus_cli.proofs.AuditLemmas.{NoneMalformed, audit_finishes, stat_finishes}
 use Rattle.pegasus_cli.proofs.CheckLemmas.{check_finishes}
+use Rattle.pegasus_cli.proofs.EnsembleRunLemmas.{ensemble_by_finishes, ensemble_finishes}
 use Rattle.pegasus_cli.proofs.EvalLemmas.{EvaluationsFinish, eval_finishes}
 use Rattle.pegasus_cli.proofs.PlanLemmas.{plan_finishes}
 use Rattle.pegasus_cli.proofs.PlanRunLemmas.{RunsFinish}
@@ -33,10 +35,12 @@ quick_finishes law (Audit name history) = audit_finishes law.records name histor
 quick_finishes law (Stat name history) = stat_finishes law.records name history
 quick_finishes law (Produce name) = produce_finishes law.runs name
 quick_finishes law (Schedule name) = schedule_finishes name
+quick_finishes law (Ensemble name) = ensemble_finishes law.runs name
 quick_finishes law (Rehearse images) = rehearse_finishes law.runs images
 
 threaded_finishes : Laws → (t : Threaded) → Finishes (threaded_spec t)
 threaded_finishes law (Run name workers) = run_finishes law.runs name workers
+threaded_finishes law (EnsembleBy name workers) = ensemble_by_finishes law.runs name workers
 threaded_finishes law (RehearseBy images workers) = rehearse_by_finishes law.runs images workers
 
 pub finishes : Laws → (k : Command) → Finishes (spec_of k)
@@ -56,10 +60,12 @@ quick_unbegun (Audit name history) m = inl (still_stops (documents_with name his
 quick_unbegun (Stat name history) m = inl (still_stops (documents_with name history) m)
 quick_unbegun (Produce name) m = inl (still_stops (documents name) m)
 quick_unbegun (Schedule name) m = inl (still_stops (documents name) m)
+quick_unbegun (Ensemble name) m = inl (still_stops (ensemble_document name) m)
 quick_unbegun (Rehearse images) m = unmade images m
 
 threaded_unbegun : (t : Threaded) (m : DocsMoment) → (threaded_spec t).Comes m m (Err Memory)
 threaded_unbegun (Run name workers) m = inl (still_stops (documents name) m)
+threaded_unbegun (EnsembleBy name workers) m = inl (still_stops (ensemble_document name) m)
 threaded_unbegun (RehearseBy images workers) m = unmade images m
 
 pub unbegun : (k : Command) (m : DocsMoment) → (spec_of k).Comes m m (Err Memory)

@@ -1,59 +1,36 @@
 -- What the clause of a call comes to for a run that ended Done.
 use Rattle.std.proofs.Common.{◌≡◌, ◌⊎◌, ℕ, ◌++◌, List, sym, ap, subst, ◌∙◌, inl, inr}
 use Rattle.std.proofs.Math.Logic.{∥∥₁_map}
-use Rattle.std.specs.Prelude.{Option, Some, None, IfSome, MatchOption}
+use Rattle.std.specs.Prelude.{None}
 use Rattle.std.specs.Io.KnownBytes.{Appends}
-use Rattle.outside.specs.declared.store.Store.{Store}
-use Rattle.plan_core.specs.declared.plan.Plan.{Plan}
 use Rattle.plan_core.specs.Words.{task_numbers}
 use Rattle.planner.specs.declared.surveyed.Surveyed.{Surveyed}
-use Rattle.run_record.specs.Events.{Event}
 use Rattle.site_yard.specs.Changes.{carries}
-use Rattle.site_yard.specs.Law.{Agrees, IsDeliveryOf}
+use Rattle.site_yard.specs.Law.{IsDeliveryOf}
 use Rattle.site_yard.specs.Trace.{trace_of}
 use Rattle.plan_run.specs.Moments.{Tools, Work}
-use Rattle.plan_run.specs.Running.{IsRunText, IsShown}
+use Rattle.plan_run.specs.Running.{IsRunText}
 use Rattle.pegasus_cli.specs.declared.outcome.Outcome.{Outcome}
 use Rattle.pegasus_cli.specs.declared.outcome.Outcome.TheVariants as outcomes
 use Rattle.pegasus_cli.specs.Call.{Ends, IsAnswered, IsDoneBy, IsUsage, doing_of}
 use Rattle.pegasus_cli.specs.Commands.{has_line, spec_of}
+use Rattle.pegasus_cli.specs.Commands.EnsembleRun.{RunsJoint}
 use Rattle.pegasus_cli.specs.Commands.Run.{RunsMany, run}
 use Rattle.pegasus_cli.specs.CommandSpec.{Does}
+use Rattle.pegasus_cli.specs.Ensembles.{Joined}
 use Rattle.pegasus_cli.specs.Fault.{done}
-use Rattle.pegasus_cli.specs.Headline.{AreSet, EndsSo, Headline, HoldsOf, ShownBy}
+use Rattle.pegasus_cli.specs.Headline.{AreSet, EndsSo, Headline, HoldsOf}
 use Rattle.pegasus_cli.specs.Moments.{Call}
 use Rattle.pegasus_cli.specs.Outcome.{closing, line_of}
-use Rattle.pegasus_cli.specs.PlanRun.{AllDelivered, AreHonestIn, DeliversRequested, HasRunPlan, IsUnrun, value_in}
+use Rattle.pegasus_cli.specs.PlanRun.{AreHonestIn, DeliversRequested, HasRunPlan, IsUnrun, value_in}
 use Rattle.pegasus_cli.specs.Survey.{GoesOn}
 use Rattle.command_words.specs.Words.{Command, InThreads, Run, command as command_of}
 use Rattle.pegasus_cli.proofs.CallLemmas.{same_command}
+use Rattle.pegasus_cli.proofs.DeliveryLemmas.{set_carried, set_valued, told_so}
 use Rattle.pegasus_cli.proofs.FaultLemmas.{done_is, no_fault_is_done}
 use Rattle.pegasus_cli.proofs.PlanRunLemmas.{ended_reports, ended_tells}
 
--- ---- the deliveries
-
-set_carried : (w : Work) (s : Surveyed) (p : Plan) (r : List Event) (m new : Store) → AllDelivered s p r done → DeliversRequested w s p r m new → AreSet s (IsDeliveryOf p (carries w.apply p m)) m.delivered new.delivered
-set_carried w s p r m new all delivers = record {
-  each = λ f asked. let d = delivers.carried f (all f asked) in (d.3, d);
-  others = λ name none. delivers.others name (λ f h e. none f (delivers.requested f h).0 e);
-}
-
-set_valued : (w : Work) (s : Surveyed) (p : Plan) (r : List Event) (m new : Store) → AllDelivered s p r done → DeliversRequested w s p r m new → AreHonestIn w s m → AreSet s (λ f content. content ≡ value_in w s m f) m.delivered new.delivered
-set_valued w s p r m new all delivers honest = record {
-  each = λ f asked. let d = delivers.carried f (all f asked) in (d.3, delivers.valued honest f (all f asked));
-  others = λ name none. delivers.others name (λ f h e. none f (delivers.requested f h).0 e);
-}
-
--- what two stores show, where the host told and still tells
-told_so : (w : Work) (p : Plan) (r : List Event) (Delivers Holds : Store → Store → Type 0) → IsShown w p r → IfSome w.before.told (λ m. IfSome w.after.told (λ new. Delivers m new)) → ((m new : Store) → Agrees w.apply p r m new → Delivers m new → Holds m new) → ShownBy w Holds
-told_so w p r Delivers Holds shown delivers so = by w.before.told w.after.told shown delivers
-  where
-    by : (old new : Option Store) → IfSome old (λ m. MatchOption new ⊥ (λ x. Agrees w.apply p r m x)) → IfSome old (λ m. IfSome new (λ x. Delivers m x)) → IfSome old (λ m. MatchOption new ⊥ (λ x. Holds m x))
-    by None new h d = tt
-    by (Some m) None h d = absurd h
-    by (Some m) (Some x) h d = so m x h d
-
-headline_of : (w : Work) (t : Tools) (n : ℕ) (s : Surveyed) (text : List ℕ) → HasRunPlan w t n s text done → Headline w n s text
+pub headline_of : (w : Work) (t : Tools) (n : ℕ) (s : Surveyed) (text : List ℕ) → HasRunPlan w t n s text done → Headline w n s text
 headline_of w t n s text h = record {
   plan = h.plan;
   order = h.order;
@@ -86,6 +63,13 @@ run_so c n request text s goes_on written (inr h) = ∥∥₁_map h (λ (k : Has
   written = written;
   headline = headline_of c.work c.tools n s text k;
 })
+
+pub joint_so : (n : ℕ) (w : Work) (t : Tools) (j : Joined) (text : List ℕ) → RunsJoint (RunsMany n) w t j text done → ∥ Headline w n j.surveyed text ∥₁
+joint_so n w t j text h = by h.runs
+  where
+    by : RunsMany n w t j.surveyed text done → ∥ Headline w n j.surveyed text ∥₁
+    by (inl refused) = absurd (not_refused j.surveyed w t text refused)
+    by (inr ran) = ∥∥₁_map ran (λ (k : HasRunPlan w t n j.surveyed text done). headline_of w t n j.surveyed text k)
 
 done_so : (c : Call) (n : ℕ) (request text : List ℕ) → Appends c.output.before.written c.output.after.written (text ++ line_of (outcomes.Done None)) → Does (run request n) (doing_of c) text done → ∥ EndsSo c request n ∥₁
 done_so c n request text written (inl h) = absurd (no_fault_is_done h.fault h.answers)

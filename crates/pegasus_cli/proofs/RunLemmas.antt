@@ -25,7 +25,7 @@ pub many_is : (w : Work) (t : Tools) (n : ℕ) (s : Surveyed) (p : Plan) (order 
     → ∥ HasRun w t n p (task_numbers order) (reporting log text ds) e ∥₁ → RunsMany n w t s text (end_answer e)
 many_is w t n s p order log text ds e ready laws requests means run = inr (∥∥₁_map run (λ (h : HasRun w t n p (task_numbers order) (reporting log text ds) e). run_is w t n s p order (reporting log text ds) e ready laws requests means h))
 
-runs_done : (law : RunsFinish) (n : ℕ) (w : Work) (t : Tools) (s : Surveyed) (text : List ℕ) (a : Answer) → RunsMany n w t s text a → CanRun w s → NoneRoseAtWork w t → IsDoneOrMemory a
+pub runs_done : (law : RunsFinish) (n : ℕ) (w : Work) (t : Tools) (s : Surveyed) (text : List ℕ) (a : Answer) → RunsMany n w t s text a → CanRun w s → NoneRoseAtWork w t → IsDoneOrMemory a
 runs_done law n w t s text a (inl h) can still = unrun_finishes w t s text a h can
 runs_done law n w t s text a (inr h) can still = ∥∥₁_elim h (done_prop a) (λ (k : HasRunPlan w t n s text a). plan_run_finishes law w t n s text a k can (record { host = still.host; tools = λ j l. still.tools j }))
 

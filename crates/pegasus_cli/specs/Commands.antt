@@ -12,6 +12,7 @@ use Rattle.pegasus_cli.specs.Commands.Stat.{stat}
 use Rattle.pegasus_cli.specs.Commands.Produce.{produce}
 use Rattle.pegasus_cli.specs.Commands.Schedule.{schedule}
 use Rattle.pegasus_cli.specs.Commands.Run.{run}
+use Rattle.pegasus_cli.specs.Commands.EnsembleRun.{ensemble, ensemble_by}
 use Rattle.pegasus_cli.specs.Commands.Rehearse.{rehearse, rehearse_by}
 pub mod Check
 pub mod Plan
@@ -22,6 +23,7 @@ pub mod Stat
 pub mod Produce
 pub mod Schedule
 pub mod Run
+pub mod EnsembleRun
 pub mod Rehearse
 
 abbrev pub quick_spec : Quick → CommandSpec
@@ -33,10 +35,12 @@ quick_spec (words.Audit name history) = audit name history
 quick_spec (words.Stat name history) = stat name history
 quick_spec (words.Produce name) = produce name
 quick_spec (words.Schedule name) = schedule name
+quick_spec (words.Ensemble name) = ensemble name
 quick_spec (words.Rehearse images) = rehearse images
 
 abbrev pub threaded_spec : Threaded → CommandSpec
 threaded_spec (words.Run name workers) = run name workers
+threaded_spec (words.EnsembleBy name workers) = ensemble_by name workers
 threaded_spec (words.RehearseBy images workers) = rehearse_by images workers
 
 abbrev pub spec_of : Command → CommandSpec

@@ -1,5 +1,11 @@
 -- What a command answers: that it is done, with what a rehearsal gives back, or why not.
-use Rattle.std.specs.Prelude.{Option, None, Result, Ok, Err}
+use Rattle.std.specs.Prelude.{ℕ, List, Option, None, Result, Ok, Err}
+use Rattle.peg_json.specs.declared.fault.TreeFault.TheVariants as trees
+use Rattle.peg_json.specs.declared.read_fault.ReadFault.TheVariants as reads
+use Rattle.ensemble.specs.declared.fault.EnsembleFault.{EnsembleFault}
+use Rattle.ensemble.specs.declared.fault.EnsembleFault.TheVariants as ensembles
+use Rattle.ensemble.specs.declared.join_fault.JoinFault.{JoinFault}
+use Rattle.ensemble.specs.declared.join_fault.JoinFault.TheVariants as joins
 use Rattle.evaluation.specs.declared.fault.EvaluationFault.{EvaluationFault}
 use Rattle.evaluation.specs.declared.fault.EvaluationFault.TheVariants as unvalued
 use Rattle.planner.specs.declared.plan_fault.PlanFault.{PlanFault}
@@ -8,7 +14,7 @@ use Rattle.rehearsal.specs.declared.rehearsal.Rehearsal.{Rehearsal}
 use Rattle.run_record.specs.declared.run_fault.RunFault.{RunFault}
 use Rattle.run_record.specs.declared.run_fault.RunFault.TheVariants as run
 use Rattle.pegasus_cli.specs.declared.fault.CallFault.{CallFault}
-use Rattle.pegasus_cli.specs.declared.fault.CallFault.TheVariants.{Memory, Refused, Exceeds, Failed}
+use Rattle.pegasus_cli.specs.declared.fault.CallFault.TheVariants.{Memory, Refused, Exceeds, Failed, RefusedEnsemble, RefusedMember}
 
 abbrev pub Answer : Type 0
 Answer = Result (Option Rehearsal) CallFault
@@ -25,6 +31,21 @@ abbrev pub plan_answer : PlanFault → CallFault
 plan_answer plan.Memory = Memory
 plan_answer (plan.Exceeds site task needed bound) = Exceeds site task needed bound
 plan_answer fault = Refused fault
+
+-- the answer for a fault of an ensemble's document
+abbrev pub ensemble_answer : EnsembleFault → CallFault
+ensemble_answer (ensembles.Read (reads.Tree trees.Memory)) = Memory
+ensemble_answer fault = RefusedEnsemble fault
+
+-- the answer for a member's documents that are answered with this: a refusal is told of the member
+abbrev pub member_answer : List ℕ → CallFault → CallFault
+member_answer name (Refused fault) = RefusedMember name fault
+member_answer name answer = answer
+
+-- the answer for members that have no joint
+abbrev pub join_answer : JoinFault → CallFault
+join_answer (joins.TooMany counted count limit) = Refused (plan.TooMany counted count limit)
+join_answer joins.Memory = Memory
 
 -- the answer for a fault of a run
 abbrev pub run_answer : RunFault → CallFault

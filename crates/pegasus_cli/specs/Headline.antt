@@ -1,10 +1,9 @@
 -- What a run by several workers comes to that ended Done, in whatever order they worked.
-use Rattle.std.specs.Prelude.{◌≡◌, ℕ, ◌+◌, ◌≤◌, ◌<◌, ◌++◌, List, take, Option, Some, None, is_some, true, IfSome, MatchOption}
+use Rattle.std.specs.Prelude.{◌≡◌, ℕ, ◌+◌, ◌≤◌, ◌<◌, ◌++◌, List, take, Option, Some, None, is_some, true}
 use Rattle.std.specs.FinMap as files
 use Rattle.std.specs.Io.KnownBytes.{Appends}
 use Rattle.outside.specs.FileMap.{Files}
 use Rattle.outside.specs.declared.numbers.TaskId.{TaskId}
-use Rattle.outside.specs.declared.store.Store.{Store}
 use Rattle.plan_core.specs.declared.plan.Plan.{Plan}
 use Rattle.plan_core.specs.Words.{task_numbers}
 use Rattle.storage_simulation.specs.Goods.{place_bound, places}
@@ -27,7 +26,7 @@ use Rattle.plan_run.specs.Running.{IsRunText}
 use Rattle.pegasus_cli.specs.Commands.Plan.{task_limit}
 use Rattle.pegasus_cli.specs.Moments.{Call}
 use Rattle.pegasus_cli.specs.Outcome.{line_of}
-use Rattle.pegasus_cli.specs.PlanRun.{AreHonestIn, lfn, value_in}
+use Rattle.pegasus_cli.specs.PlanRun.{AreHonestIn, ShownBy, lfn, value_in}
 use Rattle.pegasus_cli.specs.Survey.{GoesOn}
 use Rattle.command_words.specs.Words.{InThreads, Run, command}
 use Rattle.pegasus_cli.specs.declared.outcome.Outcome.{Outcome}
@@ -37,10 +36,6 @@ use Rattle.pegasus_cli.specs.declared.outcome.Outcome.TheVariants.{Done}
 pub record AreSet (s : Surveyed) (Holds : ℕ → Option (List ℕ) → Type 0) (old new : Files) : Type 0 where
   pub each : (f : ℕ) → IsRequested s.survey f → is_some (files.get new (lfn s.survey f)) ≡ true × Holds f (files.get new (lfn s.survey f))
   pub others : (name : List ℕ) → ((f : ℕ) → IsRequested s.survey f → lfn s.survey f ≡ name → ⊥) → files.get new name ≡ files.get old name
-
--- the host told what it held, still tells, and of the two stores this holds
-abbrev pub ShownBy : Work → (Store → Store → Type 0) → Type 0
-ShownBy w Holds = IfSome w.before.told (λ old. MatchOption w.after.told ⊥ (λ new. Holds old new))
 
 pub record Headline (w : Work) (workers : ℕ) (s : Surveyed) (text : List ℕ) : Type 0 where
   -- the plan and the order that are stated for the documents, and the run's one record

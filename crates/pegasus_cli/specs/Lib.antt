@@ -8,8 +8,10 @@ pub mod Moments
 pub mod Course
 pub mod Survey
 pub mod Recorded
+pub mod Ensembles
 pub mod KeptTools
 pub mod PlanRun
 -- What is answered, and its line and status.
 pub mod Fault
 pub mod Outcome
+pub mod EnsembleLine

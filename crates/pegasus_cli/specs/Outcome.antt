@@ -3,10 +3,11 @@ use Rattle.std.specs.Prelude.{ℕ, ◌++◌, Bool, false, List, [], codes, Ok, E
 use Rattle.outside.specs.Printed.{printed_name}
 use Rattle.pegasus_cli.specs.declared.fault.CallFault.TheVariants as faults
 use Rattle.pegasus_cli.specs.declared.outcome.Outcome.{Outcome}
-use Rattle.pegasus_cli.specs.declared.outcome.Outcome.TheVariants.{Done, Memory, Usage, DocAbsent, DocTooLong, DocFailed, Refused, Exceeds, Failed, BadRecord, SinkFailed}
+use Rattle.pegasus_cli.specs.declared.outcome.Outcome.TheVariants.{Done, Memory, Usage, DocAbsent, DocTooLong, DocFailed, Refused, Exceeds, Failed, BadRecord, RefusedEnsemble, RefusedMember, SinkFailed}
 use Rattle.outside.specs.declared.numbers.TaskId.{TaskId}
 use Rattle.planner.specs.Refused.{and_name, and_number, refused_line}
 use Rattle.run_record.specs.FailedLine.{failed_line}
+use Rattle.pegasus_cli.specs.EnsembleLine.{ensemble_line, member_line}
 use Rattle.pegasus_cli.specs.Fault.{Answer}
 
 abbrev pub exceeds_line : List ℕ → TaskId → ℕ → ℕ → List ℕ
@@ -16,7 +17,7 @@ exceeds_line site task needed bound = codes "exceeds" ++ and_name site ++ and_nu
 abbrev pub line_of : Outcome → List ℕ
 line_of (Done given) = codes "done\n"
 line_of Memory = []
-line_of Usage = codes "usage: pegasus check|plan|eval|alone REQ, run REQ --workers N, audit|stat REQ RECORD, produce REQ, schedule REQ, rehearse N [--workers N]\n"
+line_of Usage = codes "usage: pegasus check|plan|eval|alone REQ, run REQ --workers N, audit|stat REQ RECORD, produce REQ, ensemble ENS [--workers N], schedule REQ, rehearse N [--workers N]\n"
 line_of (DocAbsent name) = codes "no document " ++ printed_name name ++ codes "\n"
 line_of (DocTooLong name limit) = codes "document too long " ++ printed_name name ++ and_number limit ++ codes "\n"
 line_of (DocFailed name) = codes "document failed " ++ printed_name name ++ codes "\n"
@@ -24,6 +25,8 @@ line_of (Refused fault) = refused_line fault
 line_of (Exceeds site task needed bound) = exceeds_line site task needed bound
 line_of (Failed fault) = failed_line fault
 line_of (BadRecord line) = codes "bad record" ++ and_number line ++ codes "\n"
+line_of (RefusedEnsemble fault) = ensemble_line fault
+line_of (RefusedMember name fault) = member_line name fault
 line_of SinkFailed = []
 
 -- The line that closes a text: that of the outcome, but where a command that is done has none.
@@ -44,6 +47,8 @@ status_of (Exceeds site task needed bound) = 5
 status_of (Failed fault) = 6
 status_of SinkFailed = 7
 status_of (BadRecord line) = 8
+status_of (RefusedEnsemble fault) = 4
+status_of (RefusedMember name fault) = 4
 
 -- a command's answer as an outcome
 abbrev pub outcome_of : Answer → Outcome
@@ -56,6 +61,8 @@ outcome_of (Err (faults.Refused fault)) = Refused fault
 outcome_of (Err (faults.Exceeds site task needed bound)) = Exceeds site task needed bound
 outcome_of (Err (faults.Failed fault)) = Failed fault
 outcome_of (Err (faults.BadRecord line)) = BadRecord line
+outcome_of (Err (faults.RefusedEnsemble fault)) = RefusedEnsemble fault
+outcome_of (Err (faults.RefusedMember name fault)) = RefusedMember name fault
 
 -- every outcome but a failing sink, which only the end of a call can tell
 abbrev pub IsAnswer : Outcome → Type 0

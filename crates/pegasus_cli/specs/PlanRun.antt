@@ -1,5 +1,5 @@
 -- A run of a plan of the documents: what it delivers, why nothing is run, and what keeps nothing from being run.
-use Rattle.std.specs.Prelude.{◌≡◌, ◌⊎◌, ℕ, Bool, true, List, [], slice_index_or, Option, Some, None, IfSome, Result, Ok, Err}
+use Rattle.std.specs.Prelude.{◌≡◌, ◌⊎◌, ℕ, Bool, true, List, [], slice_index_or, Option, Some, None, IfSome, MatchOption, Result, Ok, Err}
 use Rattle.std.specs.FinMap as files
 use Rattle.outside.specs.declared.numbers.TaskId.{TaskId}
 use Rattle.outside.specs.declared.store.Store.{Store}
@@ -38,6 +38,10 @@ AreHonestIn w s m = AreHonest w.apply (replicas_of m) s.request s.survey
 
 abbrev pub value_in : Work → Surveyed → Store → ℕ → Option (List ℕ)
 value_in w s m f = value_of w.apply (replicas_of m) s.request s.survey f
+
+-- the host told what it held, still tells, and of the two stores this holds
+abbrev pub ShownBy : Work → (Store → Store → Type 0) → Type 0
+ShownBy w Holds = IfSome w.before.told (λ old. MatchOption w.after.told ⊥ (λ new. Holds old new))
 
 -- Whatever the answer, each newly delivered file is a requested one under its name, and holds what its delivery carries,
 -- so its value where the replicas are honest; every other name is as it was.

@@ -12,6 +12,7 @@ ghost use Rattle.command_words.specs.Words.{AreFew, HasImages, HasImagesBy, Quic
 mod alone;
 mod audit;
 mod check;
+mod ensemble_run;
 mod eval;
 mod plan;
 mod produce;
@@ -108,6 +109,7 @@ pub(crate) fn work<D: Docs, H: Host, T: Tool, G: Gate>(
             let told = schedule::work(alloc, name, docs);
             Worked { told, host }
         }
+        Quick::Ensemble(name) => ensemble_run::work(alloc, name, docs, host, crew),
         Quick::Rehearse(images) => {
             let told = rehearse::work(alloc, images, crew);
             Worked { told, host }
@@ -143,6 +145,9 @@ pub(crate) fn work_in_threads<
 {
     match command {
         Threaded::Run(name, workers) => run::work(rt, alloc, name, workers, docs, host, crew),
+        Threaded::Ensemble(name, workers) => {
+            ensemble_run::work_by(rt, alloc, name, workers, docs, host, crew)
+        }
         Threaded::Rehearse(images, workers) => {
             let told = rehearse::work_by(rt, alloc, images, workers, crew);
             Worked { told, host }

@@ -45,7 +45,7 @@ fn of_doc_fault(alloc: Global, name: &str, fault: DocFault) -> CallFault
 }
 
 /// Fetches the document of a name.
-fn fetch<D: Docs>(alloc: Global, docs: &mut D, name: &str) -> Result<Blob, CallFault>
+pub(crate) fn fetch<D: Docs>(alloc: Global, docs: &mut D, name: &str) -> Result<Blob, CallFault>
     ensures { IsStep (document name.now Ok) (docs_moment D.Docs docs.old) (docs_moment D.Docs docs.new) result }
 {
     let mut bytes = Vec::new(alloc);

@@ -3,10 +3,12 @@
 ghost use Rattle.std.specs.Prelude.{◌≡◌};
 ghost use Rattle.evaluation.specs.declared.fault.EvaluationFault.{EvaluationFault as Unvalued};
 ghost use Rattle.pegasus_cli.specs.declared.fault.CallFault.TheVariants as faults;
-ghost use Rattle.pegasus_cli.specs.Fault.{plan_answer, run_answer, value_answer};
+ghost use Rattle.pegasus_cli.specs.Fault.{ensemble_answer, join_answer, member_answer, plan_answer, run_answer, value_answer};
 
+use ensemble::{EnsembleFault, JoinFault};
 use evaluation::EvaluationFault;
 use outside::{Memory, TaskId, Text};
+use peg_json::{ReadFault, TreeFault};
 use planner::PlanFault;
 use run_record::RunFault;
 use std::alloc::AllocFailed;
@@ -31,6 +33,9 @@ pub enum CallFault {
     Failed(RunFault),
     /// The first line of a record that stands in no record's text.
     BadRecord(u64),
+    RefusedEnsemble(EnsembleFault),
+    /// A member of an ensemble, and why its request's documents are refused.
+    RefusedMember(Text, PlanFault),
 }
 
 impl From<Memory> for CallFault {
@@ -67,6 +72,38 @@ pub(crate) fn of_plan_fault(fault: PlanFault) -> CallFault
             bound,
         },
         fault => CallFault::Refused(fault),
+    }
+}
+
+/// The answer for a fault of an ensemble's document.
+pub(crate) fn of_ensemble_fault(fault: EnsembleFault) -> CallFault
+    ensures { result ≡ ensemble_answer fault }
+{
+    match fault {
+        EnsembleFault::Read(ReadFault::Tree(TreeFault::Memory)) => CallFault::Memory,
+        fault => CallFault::RefusedEnsemble(fault),
+    }
+}
+
+/// The answer for a member's documents that are answered with this: a refusal is told of the member.
+pub(crate) fn of_member(name: Text, answer: CallFault) -> CallFault
+    ensures { result ≡ member_answer name answer }
+{
+    match answer {
+        CallFault::Refused(fault) => CallFault::RefusedMember(name, fault),
+        answer => answer,
+    }
+}
+
+/// The answer for members that have no joint.
+pub(crate) fn of_join_fault(fault: JoinFault) -> CallFault
+    ensures { result ≡ join_answer fault }
+{
+    match fault {
+        JoinFault::TooMany(counted, count, limit) => {
+            CallFault::Refused(PlanFault::TooMany(counted, count, limit))
+        }
+        JoinFault::Memory => CallFault::Memory,
     }
 }
 

@@ -19,7 +19,11 @@ ghost use Rattle.record_audit.specs.declared.verdict.Verdict.TheVariants as verd
 ghost use Rattle.plan_run.specs.Moments.{Tools, Work};
 ghost use Rattle.pegasus_cli.specs.declared.recorded.Recorded.{Recorded};
 ghost use Rattle.pegasus_cli.specs.Commands.Audit.{IsJudgment};
+ghost use Rattle.pegasus_cli.specs.Commands.EnsembleRun.{RunsJoint};
+ghost use Rattle.pegasus_cli.specs.Commands.Run.{RunsMany};
+ghost use Rattle.pegasus_cli.specs.Ensembles.{Joined};
 ghost use Rattle.pegasus_cli.specs.Fault.{done};
+ghost use Rattle.pegasus_cli.specs.Headline.{Headline};
 ghost use Rattle.pegasus_cli.specs.PlanRun.{HasRunPlan};
 
 use record_audit::{complete_records_are_judged_so, printed_records_are_read};
@@ -47,3 +51,9 @@ pub fn printed_runs_are_complete()
     printed_records_are_read();
     text_is_of_one_record();
 }
+
+/// Where an ensemble is done by several workers, the headline holds of the joint of its members.
+pub fn joints_keep_the_headline()
+    ensures { (n : ℕ) (w : Work) (t : Tools) (j : Joined) (text : List ℕ) → RunsJoint (RunsMany n) w t j text done
+        → ∥ Headline w n j.surveyed text ∥₁ }
+{}

@@ -10,6 +10,8 @@
 mod call;
 mod commands;
 mod course;
+mod ensemble_line;
+mod ensembles;
 mod fault;
 mod judging;
 mod kept_tools;
@@ -22,7 +24,9 @@ mod threaded_call;
 
 pub use call::quick;
 pub use command_words::{threaded, user_words};
-pub use law::{printed_runs_are_complete, told_documents_decide, usage_is_no_command};
+pub use law::{
+    joints_keep_the_headline, printed_runs_are_complete, told_documents_decide, usage_is_no_command,
+};
 pub use outcome::Outcome;
 pub use rehearsal::Rehearsal;
 pub use threaded_call::pegasus;

@@ -3,7 +3,9 @@
 ghost use Rattle.std.specs.Prelude.{◌≡◌, ◌++◌, OnOk};
 ghost use Rattle.pegasus_cli.specs.Outcome.{IsAnswer, closing, exceeds_line, line_of, outcome_of};
 
+use crate::ensemble_line::{push_ensemble, push_member};
 use crate::fault::CallFault;
+use ensemble::EnsembleFault;
 use outside::{Memory, TaskId, Text, Word, push_line};
 use planner::{PlanFault, push_refused};
 use rehearsal::Rehearsal;
@@ -11,7 +13,7 @@ use run_record::{RunFault, push_failed};
 use std::alloc::Global;
 
 const USAGE: &str =
-    "usage: pegasus check|plan|eval|alone REQ, run REQ --workers N, audit|stat REQ RECORD, produce REQ, schedule REQ, rehearse N [--workers N]";
+    "usage: pegasus check|plan|eval|alone REQ, run REQ --workers N, audit|stat REQ RECORD, produce REQ, ensemble ENS [--workers N], schedule REQ, rehearse N [--workers N]";
 
 /// How a call ended.
 #[derive(Debug, Drop)]
@@ -37,6 +39,9 @@ pub enum Outcome {
     Failed(RunFault),
     /// The first line of a record that stands in no record's text, from 1.
     BadRecord(u64),
+    RefusedEnsemble(EnsembleFault),
+    /// A member of an ensemble, and why its request's documents are refused.
+    RefusedMember(Text, PlanFault),
     /// The output could not be written whole.
     SinkFailed,
 }
@@ -53,7 +58,7 @@ impl Outcome {
             Outcome::Memory => 1,
             Outcome::Usage => 2,
             Outcome::DocAbsent(_) | Outcome::DocTooLong(_, _) | Outcome::DocFailed(_) => 3,
-            Outcome::Refused(_) => 4,
+            Outcome::Refused(_) | Outcome::RefusedEnsemble(_) | Outcome::RefusedMember(_, _) => 4,
             Outcome::Exceeds { .. } => 5,
             Outcome::Failed(_) => 6,
             Outcome::SinkFailed => 7,
@@ -90,6 +95,8 @@ pub(crate) fn of_answer(answer: Result<Option<Rehearsal>, CallFault>) -> Outcome
         },
         CallFault::Failed(fault) => Outcome::Failed(fault),
         CallFault::BadRecord(line) => Outcome::BadRecord(line),
+        CallFault::RefusedEnsemble(fault) => Outcome::RefusedEnsemble(fault),
+        CallFault::RefusedMember(name, fault) => Outcome::RefusedMember(name, fault),
     }
 }
 
@@ -145,6 +152,8 @@ fn push_outcome(alloc: Global, text: &mut Vec<u8>, outcome: &Outcome) -> Result<
         } => push_exceeds(alloc, text, site, *task, *needed, *bound),
         Outcome::Failed(fault) => push_failed(alloc, text, fault),
         Outcome::BadRecord(line) => { push_line(alloc, text, "bad record", &[Word::Number(*line)]) }
+        Outcome::RefusedEnsemble(fault) => push_ensemble(alloc, text, fault),
+        Outcome::RefusedMember(name, fault) => push_member(alloc, text, name, fault),
     }
 }
 

@@ -18,7 +18,7 @@ use site_yard::complete_records_deliver;
 use std::alloc::Global;
 
 /// Runs the plan of a surveyed request.
-fn run_survey<H: Host, T: Tool, G: Gate>(
+pub(crate) fn run_survey<H: Host, T: Tool, G: Gate>(
     alloc: Global,
     surveyed: &Surveyed,
     host: H,

@@ -22,7 +22,7 @@ use std::sync::Wait;
 use std::thread::Threads;
 
 /// Runs the plan of a surveyed request.
-fn run_survey<R: Threads + Wait + Sync, H: Host + Send, T: Tool + Send, G: Gate + Send>(
+pub(crate) fn run_survey<R: Threads + Wait + Sync, H: Host + Send, T: Tool + Send, G: Gate + Send>(
     rt: &R,
     alloc: Global,
     workers: u32,

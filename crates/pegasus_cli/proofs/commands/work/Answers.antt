@@ -26,5 +26,8 @@ returns-in-Produce-clause-does g c = λ t first. rw c.in-Produce.is (c.work-in-P
 pub returns-in-Schedule-clause-does : goal.returns-in-Schedule-clause-does
 returns-in-Schedule-clause-does g c = λ t first. rw c.in-Schedule.is (c.work-told-in-Schedule.ensures _ t refl (first refl))
 
+pub returns-in-Ensemble-clause-does : goal.returns-in-Ensemble-clause-does
+returns-in-Ensemble-clause-does g c = λ t first. rw c.in-Ensemble.is (c.work-in-Ensemble.ensures.does t first)
+
 pub returns-in-Rehearse-clause-does : goal.returns-in-Rehearse-clause-does
 returns-in-Rehearse-clause-does g c = λ t first. rw c.in-Rehearse.is (c.work-told-in-Rehearse.ensures.does _ (work_moment g.H.Host c.args.host 0) t first)
