@@ -32,22 +32,27 @@ fn crew_of(alloc: Global, progress: &Arc<Progress<HostRuntime>>) -> Result<Vec<M
     Ok(crew)
 }
 
+/// The status for how the call ended.
+fn status_of(outcome: Outcome) -> ExitCode {
+    ExitCode::from(outcome.code())
+}
+
 fn main(rt: HostRuntime) -> ExitCode {
     let alloc = rt.alloc();
     let Ok(words) = user_words(alloc, env::args(&rt)) else {
-        return ExitCode::from(Outcome::Memory.code());
+        return status_of(Outcome::Memory);
     };
     let shows = rt.stderr().is_terminal();
     let Ok(progress) = Arc::new(alloc, Progress::new(rt, shows)) else {
-        return ExitCode::from(Outcome::Memory.code());
+        return status_of(Outcome::Memory);
     };
     let Ok(crew) = crew_of(alloc, &progress) else {
-        return ExitCode::from(Outcome::Memory.code());
+        return status_of(Outcome::Memory);
     };
     let mut out = WipingSink::new(StreamSink::new(io::writer(&rt)), &progress);
     let host = FolderHost::new(rt);
     let mut docs = FolderDocs::new(rt);
     let (outcome, _, _) = pegasus(&rt, alloc, &words, &mut docs, &mut out, host, crew);
     progress.wipe();
-    ExitCode::from(outcome.code())
+    status_of(outcome)
 }
