@@ -6,11 +6,16 @@ use case_calls::{Difference, Ended, Found, Prepared, is_met, prepare};
 use case_files::{Case, CommandLine, Setup};
 use craft::{Crew, Gate};
 use outside::{Docs, Host, Memory, Sink, Tool};
-use pegasus_cli::pegasus;
+use pegasus_cli::{Outcome, pegasus};
 use std::alloc::Global;
 use std::sync::Wait;
 use std::sync::atomic::Ordering;
 use std::thread::Threads;
+
+/// The status for how a call ended.
+fn code_of(outcome: Outcome) -> u8 {
+    outcome.code()
+}
 
 /// A call over any objects, since the clauses of `pegasus` are long, and longer where the objects are known.
 fn status_of<
@@ -32,7 +37,7 @@ fn status_of<
     requires { length crew.items ≡ 16 }
 {
     let (outcome, host, _) = pegasus(rt, alloc, words, docs, sink, host, crew);
-    (outcome.code(), host)
+    (code_of(outcome), host)
 }
 
 /// Makes a call.
