@@ -70,6 +70,9 @@ sizes = {it["id"]: it["sizeInBytes"] for it in source["specification"]["files"]}
 assert all(use["size"] == sizes[use["lfn"]] for job in workflow["jobs"] for use in job["uses"])
 runtimes = {it["id"]: it["runtimeInSeconds"] for it in source["execution"]["tasks"]}
 assert {job["id"]: float(job["profiles"]["pegasus"]["runtime"]) for job in workflow["jobs"]} == runtimes
+# (204.75 seconds of map, the mean of its three tasks, are 205)
+seconds = dict(fastqSplit=35, filterContams=2, sol2sanger=1, fastq2bfq=2, map=205, mapMerge=7, maqIndex=3, pileup=56)
+assert request["runtimes"] == [{"transformation": name, "site": "pool", "seconds": it} for name, it in seconds.items()]
 assert request["execute"] == [{"site": "pool", "bound": sum(sizes.values())}] and request["tools"]["fastqSplit"] == "deal"
 wanted = [use["lfn"] for job in workflow["jobs"] for use in job["uses"] if use.get("stageOut")]
 assert wanted == ["reads.pileup"]
@@ -93,6 +96,8 @@ assert "tool cut take" in told and "makes no file, so planning drops it: look_3"
 assert sum(line.startswith("left out ") for line in told) == 3, told
 jobs = json.loads((work / "small" / "workflow.json").read_text(encoding="utf-8"))["jobs"]
 assert jobs[1]["profiles"] == {"pegasus": {"runtime": "0.001"}} and jobs[1]["arguments"] == ["0"]
+request = json.loads((work / "small" / "request.json").read_text(encoding="utf-8"))
+assert request["runtimes"] == [{"transformation": "cut", "site": "pool", "seconds": 1}]
 assert model("run", work / "small" / "request.json")[-1] == "done"
 tight = turn(written("tight", instance("tight", [("deal_1", "a b c", "d e"), ("deal_2", "d e", "f g")], 12)), str(work / "tight"))
 assert "enlarged d from 12 to 24 bytes, for what is made up" in tight.stdout, tight.stdout
