@@ -86,6 +86,14 @@ for place in ("near: at most 15 bytes, bound 30", "far: at most 5 bytes, bound 2
     assert place in words(storage), words(storage)
 assert marks(storage, "held") == marks(storage, "bound") == 3
 
+# A band for each member at each place, and one of each in the legend.
+shared = PLAN.replace("raw%20data", "a/raw%20data").replace("file 1 table", "file 1 b/table")
+members = picture("members", shared)
+assert marks(members, "member0") == marks(members, "member1") == 3 and {"a", "b"} <= set(words(members)), words(members)
+assert "near: at most 15 bytes, bound 30" in words(members), words(members)
+refused = draw("members", PLAN)
+assert refused.returncode == 1 and not refused.stdout and refused.stderr.startswith("draw: the file raw%20data "), refused
+
 record = picture("record", PLAN, RECORD)
 assert "worker 0" in words(record) and "worker 1" in words(record)
 assert (count(record, "bar"), count(record, "bar", "run"), count(record, "bar", "open")) == (5, 2, 1)

@@ -4,7 +4,7 @@ import re
 
 PAGES = ("README.md", "docs/COMMANDS.md", "docs/GUIDE.md")
 OF_DOCUMENTS = re.compile(
-    "refused (request|workflow|sites|replicas|transformations|twice|unknown|catalogue|many (jobs|files|sites)) "
+    "refused (request|workflow|sites|replicas|transformations|ensemble|member|twice|unknown|catalogue|many (jobs|files|sites|members)) "
 )
 
 

@@ -108,17 +108,18 @@ for case in cases:
     for status, lines in answers(case):
         assert (status, "".join(line + "\n" for line in lines)) == (case.status, case.text), (case.name, status, lines)
 assert len(cases) >= 35, len(cases)
-# The commands of the pages that judge records or make texts for it, typed as they stand there, with the three models in the
-# program's place.
+# The commands of the pages that judge records, make texts for it, or join and run an ensemble, typed as they stand there, with
+# the three models in the program's place.
 MODELS = """#!/usr/bin/env bash
 case $1 in
   alone | run) exec tools/run-model "$2" ;;
   plan) exec tools/plan-model "$2" ;;
+  ensemble) tools/join "$2" "$2.joint" && exec tools/run-model "$2.joint/request.json" ;;
   *) tools/plan-model "$2" >"$2.plan"; exec tools/record-model "$1" "$2.plan" "$3" ;;
 esac
 """
 JUDGES = re.compile(r"\./pegasus (audit|stat) ")
-MAKES = re.compile(r" > \w+\.txt$")
+MAKES = re.compile(r" > \w+\.txt$|^tools/join |^\./pegasus ensemble examples/|^diff -s ")
 
 
 def folder(place):

@@ -10,18 +10,27 @@ import case_files
 import pages
 
 sys.dont_write_bytecode = True
-LOADER = importlib.machinery.SourceFileLoader("run_model", "tools/run-model")
-model = importlib.util.module_from_spec(importlib.util.spec_from_loader("run_model", LOADER))
-sys.modules["run_model"] = model
-LOADER.exec_module(model)
+
+
+def tool(name):
+    """A tool as a module."""
+    loader = importlib.machinery.SourceFileLoader(name.replace("-", "_"), f"tools/{name}")
+    made = importlib.util.module_from_spec(importlib.util.spec_from_loader(loader.name, loader))
+    sys.modules[loader.name] = made
+    loader.exec_module(made)
+    return made
+
+
+sys.path.insert(0, "tools")
+model, join = tool("run-model"), tool("join")
 printed = model.printed
 WHOLE = 65536
 CATALOGUES = {"replicas": "replicaCatalog", "transformations": "transformationCatalog"}
 
 
 def is_told(case):
-    """Whether its calls of `alone`, `produce` or `run` end with a run, or a refusal of what the documents say together."""
-    is_one = all(re.fullmatch(r"words (alone|produce) \S+\.json|words run .*\.json.*", words) for words in case.words)
+    """Whether its calls of `alone`, `produce`, `run` or `ensemble` end with a run, or a refusal of what the documents say together."""
+    is_one = all(re.fullmatch(r"words (alone|produce) \S+\.json|words (run|ensemble) .*\.json.*", words) for words in case.words)
     is_known = not any(line.startswith(("failing fetch", "each")) for line in case.settings)
     return is_one and is_known and case.status not in (2, 3) and not pages.OF_DOCUMENTS.match(case.text)
 
@@ -35,12 +44,20 @@ def documents_of(case, request):
     return found
 
 
+def read(case, name):
+    """The request and the documents of a case, which are the joint's for an ensemble."""
+    found = json.loads(case.documents[name])
+    if not case.words[0].startswith("words ensemble "):
+        return found, documents_of(case, found)
+    made = join.documents_of(found, "joint", lambda named: json.loads(case.documents[named]))
+    return made["request"], made
+
+
 def run(case):
     """What the model says of a case: the store, the status, and the text as far as the output takes it."""
     name = next(word for word in case.words[0].split(" ") if word.endswith(".json"))
-    request = json.loads(case.documents[name])
+    request, documents = read(case, name)
     store = model.Store(case.replicas, scratch=dict(case.scratch), failing=case.failing("host"))
-    documents = documents_of(case, request)
     status, lines = model.run(request, documents, store, case.failing("run"))
     if status == 0 and case.words[0].startswith("words produce "):
         lines = [model.catalogue(documents["workflow"], store)]
