@@ -3,7 +3,7 @@ use Rattle.std.specs.Prelude.{◌≡◌, ℕ, List, option_map, string_bytes}
 use Rattle.std.specs.FinMap as map
 use Rattle.outside.specs.MemoryHost.{host_store}
 use Rattle.outside.specs.declared.memory_host.MemoryHost.{MemoryHost}
-use Rattle.outside.specs.SiteMap.{pair_at}
+use Rattle.values.specs.SiteMap.{pair_at}
 use Rattle.case_files.specs.declared.case.Delivered.{Delivered}
 use Rattle.case_files.specs.declared.case.Ending.{Ending}
 use Rattle.case_files.specs.declared.case.Part.{Part}

@@ -1,7 +1,7 @@
 -- The changes of a store as text.
 use Rattle.std.specs.Prelude.{ℕ, ◌++◌, List, [], ◌∷◌, codes}
 use Rattle.std.specs.Fmt.{decimal}
-use Rattle.outside.specs.Printed.{printed_name}
+use Rattle.values.specs.Printed.{printed_name}
 use Rattle.outside.specs.declared.operation.Operation.{Operation}
 use Rattle.outside.specs.declared.operation.Operation.TheVariants.{Publish, Deliver, Remove}
 

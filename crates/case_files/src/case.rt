@@ -4,7 +4,7 @@ ghost use Rattle.std.specs.Prelude.{◌<◌};
 
 use crate::fault::FileFault;
 use crate::piece::Piece;
-use outside::Memory;
+use values::Memory;
 use std::alloc::Global;
 
 /// A command line, as it is written and as the program is given it.

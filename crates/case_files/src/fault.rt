@@ -1,6 +1,6 @@
 //! Why a file of cases can't be read.
 
-use outside::Memory;
+use values::Memory;
 use std::alloc::{AllocError, AllocFailed};
 use thiserror::Error;
 

@@ -1,6 +1,6 @@
 //! The pieces that a document is made of.
 
-use outside::Memory;
+use values::Memory;
 use percent_encoding::percent_decode;
 use std::alloc::Global;
 

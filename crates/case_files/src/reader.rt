@@ -6,7 +6,7 @@ use crate::fault::{Complaint, FileFault, at_line};
 use crate::header::{Header, Section, words_between};
 use crate::piece::Piece;
 use crate::setting::{add_setting, add_words};
-use outside::Memory;
+use values::Memory;
 use std::alloc::Global;
 use std::collections::BTreeSet;
 

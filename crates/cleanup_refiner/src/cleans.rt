@@ -2,7 +2,7 @@
 
 ghost use Rattle.std.specs.Prelude.{◌≡◌, ◌≤◌, ◌+◌, ◌<◌, ℕ, [], map, length, max, IfOk, IfErr, ◌++◌};
 ghost use Rattle.digraph.specs.Digraph.{count, edge};
-ghost use Rattle.outside.specs.declared.numbers.PairId.{PairId as Pair};
+ghost use Rattle.values.specs.declared.numbers.PairId.{PairId as Pair};
 ghost use Rattle.plan_core.specs.declared.plan.TaskKind.TheVariants.{Clean};
 ghost use Rattle.plan_core.specs.Proper.{IsProper};
 ghost use Rattle.plan_core.specs.Words.{count_pairs, count_tasks};
@@ -10,7 +10,7 @@ ghost use Rattle.cleanup_refiner.specs.Cleans.{cleaned, cleans_of, task, touches
 
 use crate::touching::touching;
 use digraph::Digraph;
-use outside::{Items, Memory, PairId, TaskId};
+use values::{Items, Memory, PairId, TaskId};
 use plan_core::{Plan, Task, TaskKind, rising_lists_are_one};
 use plan_request::Cleanup;
 use std::alloc::Global;

@@ -1,7 +1,7 @@
 //! What a plan with Cleans comes to.
 
 ghost use Rattle.std.specs.Prelude.{◌≡◌, ◌<◌, ◌≤◌, ◌+◌, ◌^◌, ℕ, Option, false, true};
-ghost use Rattle.outside.specs.Tool.{Apply};
+ghost use Rattle.values.specs.Apply.{Apply};
 ghost use Rattle.plan_core.specs.declared.plan.Plan.{Plan};
 ghost use Rattle.plan_core.specs.Kinds.{carries};
 ghost use Rattle.plan_core.specs.Words.{count_pairs, count_tasks};

@@ -8,7 +8,7 @@ ghost use Rattle.plan_core.specs.Words.{count_pairs, count_tasks, pair_numbers};
 ghost use Rattle.cleanup_refiner.specs.Cleans.{touched, touches};
 
 use digraph::Digraph;
-use outside::{Memory, PairId, TaskId};
+use values::{Memory, PairId, TaskId};
 use plan_core::{Plan, files_are_listed_by_pair};
 use std::alloc::Global;
 

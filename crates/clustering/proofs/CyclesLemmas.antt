@@ -7,7 +7,7 @@ use Rattle.std.specs.Cmp.Lexicographic.{nat_list_eq_equiv, options_equiv}
 use Rattle.std.proofs.lemmas.Bool.{and_parts}
 use Rattle.std.proofs.lemmas.List.{drop_more, length-map}
 use Rattle.std.proofs.lemmas.List.Folds.{list_any-append}
-use Rattle.outside.specs.declared.numbers.JobId.{JobId}
+use Rattle.values.specs.declared.numbers.JobId.{JobId}
 use Rattle.workflow_core.specs.declared.workflow.Workflow.{Workflow}
 use Rattle.digraph.specs.Adjacency.{has, neighbours}
 use Rattle.dependency_graph.specs.Edges.{edge, is_among}

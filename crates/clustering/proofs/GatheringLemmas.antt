@@ -4,7 +4,7 @@ use Rattle.std.specs.Prelude.{Vec, slice_set}
 use Rattle.std.specs.List.{list_any, position_or_len}
 use Rattle.std.specs.declared.alloc.Global.{Global}
 use Rattle.indexmap.specs.IndexSet.{insert_key}
-use Rattle.outside.specs.declared.numbers.JobId.{JobId}
+use Rattle.values.specs.declared.numbers.JobId.{JobId}
 use Rattle.dependency_graph.specs.Graph.{job_lists}
 use Rattle.clustering.specs.Gathering.{gathered, with_at, with_job, with_jobs}
 

@@ -4,7 +4,7 @@ use Rattle.std.specs.Prelude.{Option, Some, None, slice_set}
 use Rattle.std.specs.List.{list_any}
 use Rattle.std.proofs.lemmas.Grind.{get_or-set_at}
 use Rattle.std.proofs.lemmas.List.{drop_more, get_or-set_other, take_more}
-use Rattle.outside.specs.declared.numbers.JobId.{JobId}
+use Rattle.values.specs.declared.numbers.JobId.{JobId}
 use Rattle.dependency_graph.proofs.TestLemmas.{any_more, by_bool, itself}
 use Rattle.clustering.specs.Labels.{holder_from, holder_in}
 use Rattle.clustering.specs.Runs.{is_job}

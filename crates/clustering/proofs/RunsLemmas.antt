@@ -6,7 +6,7 @@ use Rattle.std.specs.List.{list_any, position_or_len}
 use Rattle.std.proofs.lemmas.Grind.{get_or-set_at}
 use Rattle.std.proofs.lemmas.List.{drop_more, get_or-set_other, take_more}
 use Rattle.std.proofs.lemmas.List.Sums.{position_or_len_is}
-use Rattle.outside.specs.declared.numbers.JobId.{JobId}
+use Rattle.values.specs.declared.numbers.JobId.{JobId}
 use Rattle.dependency_graph.specs.Edges.{is_among}
 use Rattle.dependency_graph.specs.Ranking.{AreOnce}
 use Rattle.dependency_graph.proofs.TestLemmas.{any_more, by_bool, itself}

@@ -1,6 +1,6 @@
 -- A cycle of clusters, named by their first jobs.
 use Rattle.std.specs.Prelude.{◌≡◌, ℕ, suc, ◌++◌, if◌then◌else◌, nat_eq, List, [], ◌∷◌, map, Option, Some, None}
-use Rattle.outside.specs.declared.numbers.JobId.{JobId}
+use Rattle.values.specs.declared.numbers.JobId.{JobId}
 use Rattle.workflow_core.specs.declared.workflow.Workflow.{Workflow}
 use Rattle.digraph.specs.Cycle.{IsNamedCycle}
 use Rattle.dependency_graph.specs.Built.{id_of}

@@ -1,6 +1,6 @@
 -- Jobs put together with those that they go with.
 use Rattle.std.specs.Prelude.{ℕ, zero, suc, Bool, false, if◌then◌else◌, List, [], ◌∷◌, ◌++◌}
-use Rattle.outside.specs.declared.numbers.JobId.{JobId}
+use Rattle.values.specs.declared.numbers.JobId.{JobId}
 
 -- a job goes with the first one of a part
 abbrev pub is_of_part : (JobId → JobId → Bool) → JobId → List JobId → Bool

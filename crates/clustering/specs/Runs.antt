@@ -1,7 +1,7 @@
 -- Groups of jobs, cut into runs.
 use Rattle.std.specs.Prelude.{ℕ, zero, suc, ◌+◌, ◌<◌, ◌≤◌, ◌/◌, ◌%◌, ◌-◌, ◌&&◌, Bool, if◌then◌else◌, List, [], ◌∷◌, length, min, nat_eq, nat_lt, nat_le, Option, Some, None}
 use Rattle.std.specs.List.{All, list_any, position_or_len}
-use Rattle.outside.specs.declared.numbers.JobId.{JobId}
+use Rattle.values.specs.declared.numbers.JobId.{JobId}
 use Rattle.dependency_graph.specs.Ranking.{AreOnce}
 use Rattle.clustering.specs.Singles.{job_numbers}
 use Rattle.clustering.specs.declared.numbers.Numbers.{Numbers}

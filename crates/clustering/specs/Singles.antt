@@ -1,6 +1,6 @@
 -- Kept jobs, each a cluster of its own.
 use Rattle.std.specs.Prelude.{◌≡◌, ℕ, Bool, List, [], ◌∷◌, map}
-use Rattle.outside.specs.declared.numbers.JobId.{JobId}
+use Rattle.values.specs.declared.numbers.JobId.{JobId}
 use Rattle.workflow_core.specs.declared.clusters.Clusters.{Clusters}
 use Rattle.dependency_graph.specs.Ranking.{IsRanked}
 

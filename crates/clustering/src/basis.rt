@@ -7,7 +7,7 @@ ghost use Rattle.clustering.specs.Labels.{label_at, label_key};
 ghost use Rattle.clustering.specs.Numbers.{entry_of};
 
 use crate::numbers::{Numbers, bad_key, numbers_of};
-use outside::{JobId, Memory, SiteId, Text};
+use values::{JobId, Memory, SiteId, Text};
 use std::alloc::Global;
 use std::marker::Model;
 use transformation_catalog::{Entries, Key, TransformationCatalog, TransformationEntry};

@@ -1,7 +1,7 @@
 //! Kept jobs of one label, put together.
 
 ghost use Rattle.std.specs.Prelude.{◌≡◌, ◌≤◌, length, option_map};
-ghost use Rattle.outside.specs.declared.numbers.JobId.{JobId};
+ghost use Rattle.values.specs.declared.numbers.JobId.{JobId};
 ghost use Rattle.dependency_graph.specs.Graph.{IsGraphOf, job_lists};
 ghost use Rattle.dependency_graph.specs.Ranking.{IsRanked};
 ghost use Rattle.clustering.specs.Clusters.{ChecksSites, LabelsAre};
@@ -15,7 +15,7 @@ use crate::horizontal::{clusters_of, id_of};
 use crate::labels::{first_of, holder_in, holder_table, labels_of};
 use dependency_graph::Graph;
 use digraph::Digraph;
-use outside::{JobId, Memory, Text};
+use values::{JobId, Memory, Text};
 use std::alloc::Global;
 use workflow_core::{Clusters, Workflow};
 

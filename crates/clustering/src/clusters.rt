@@ -11,7 +11,7 @@ use crate::fault::ClusterFault;
 use crate::horizontal::clusters_in_runs;
 use crate::singles::{ids, single_jobs};
 use dependency_graph::{Graph, ranked};
-use outside::SiteId;
+use values::SiteId;
 use plan_request::ClusterMode;
 use std::alloc::Global;
 use transformation_catalog::TransformationCatalog;

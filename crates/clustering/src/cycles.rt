@@ -8,7 +8,7 @@ ghost use Rattle.clustering.specs.Cycles.{first_id, id_in, other_parts, part_sou
 use crate::horizontal::id_of;
 use crate::labels::{first_of, holder_in};
 use dependency_graph::Graph;
-use outside::{Items, JobId, Memory, Text};
+use values::{Items, JobId, Memory, Text};
 use std::alloc::Global;
 use workflow_core::Workflow;
 

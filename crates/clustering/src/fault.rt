@@ -3,7 +3,7 @@
 ghost use Rattle.std.specs.Prelude.{◌≡◌};
 ghost use Rattle.clustering.specs.declared.fault.ClusterFault.TheVariants as faults;
 
-use outside::{Items, Memory, Text};
+use values::{Items, Memory, Text};
 
 #[derive(Debug, Drop)]
 pub enum ClusterFault {

@@ -3,12 +3,12 @@
 ghost use Rattle.std.specs.Prelude.{◌≡◌, List, length, map, IfOk, OnOk};
 ghost use Rattle.std.specs.List.{position_or_len};
 ghost use Rattle.indexmap.specs.IndexSet.{insert_key};
-ghost use Rattle.outside.specs.declared.numbers.JobId.{JobId};
+ghost use Rattle.values.specs.declared.numbers.JobId.{JobId};
 ghost use Rattle.dependency_graph.specs.Graph.{job_lists};
 ghost use Rattle.clustering.specs.Gathering.{gathered, with_at};
 
 use indexmap::IndexSet;
-use outside::{JobId, Memory};
+use values::{JobId, Memory};
 use std::alloc::Global;
 use std::hash::Hash;
 

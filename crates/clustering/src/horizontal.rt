@@ -10,7 +10,7 @@ ghost use Rattle.clustering.specs.Singles.{job_numbers};
 use crate::basis::Basis;
 use crate::fault::ClusterFault;
 use crate::runs::runs_of;
-use outside::{Items, JobId, Memory, Text};
+use values::{Items, JobId, Memory, Text};
 use std::alloc::Global;
 use workflow_core::{Clusters, Workflow};
 

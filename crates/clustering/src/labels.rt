@@ -2,14 +2,14 @@
 
 ghost use Rattle.std.specs.Prelude.{◌≡◌, ◌≤◌, ℕ, [], None, Some, length, if◌then◌else◌, slice_index_or, IfOk};
 ghost use Rattle.std.specs.List.{list_any};
-ghost use Rattle.outside.specs.declared.numbers.JobId.{JobId};
+ghost use Rattle.values.specs.declared.numbers.JobId.{JobId};
 ghost use Rattle.dependency_graph.specs.Graph.{job_lists};
 ghost use Rattle.clustering.specs.Labels.{first_of, holder, holder_in, labels_of};
 ghost use Rattle.clustering.specs.Runs.{IsGroup, is_job};
 
 use crate::basis::Basis;
 use crate::gathering::gather;
-use outside::{JobId, Memory};
+use values::{JobId, Memory};
 use std::alloc::Global;
 
 /// The jobs of each label, and each job without one, in lists.

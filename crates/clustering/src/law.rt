@@ -2,8 +2,8 @@
 
 ghost use Rattle.std.specs.Prelude.{◌≡◌, ℕ, Bool, true, List, Ok, Option};
 ghost use Rattle.std.specs.List.{list_any};
-ghost use Rattle.outside.specs.declared.numbers.JobId.{JobId};
-ghost use Rattle.outside.specs.declared.numbers.SiteId.{SiteId};
+ghost use Rattle.values.specs.declared.numbers.JobId.{JobId};
+ghost use Rattle.values.specs.declared.numbers.SiteId.{SiteId};
 ghost use Rattle.workflow_core.specs.declared.clusters.Clusters.{Clusters};
 ghost use Rattle.workflow_core.specs.declared.workflow.Workflow.{Workflow};
 ghost use Rattle.transformation_catalog.specs.declared.catalog.TransformationCatalog.{TransformationCatalog};

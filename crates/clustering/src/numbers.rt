@@ -4,7 +4,7 @@ ghost use Rattle.std.specs.Prelude.{◌≡◌, ◌<◌, ◌≤◌, length, IfSom
 ghost use Rattle.std.specs.Option.{option_or};
 ghost use Rattle.clustering.specs.Numbers.{bad_key_by, is_bad, number_in, num_in, numbers_by, size_in, value_from};
 
-use outside::Text;
+use values::Text;
 use transformation_catalog::TransformationEntry;
 use workflow_core::Job;
 

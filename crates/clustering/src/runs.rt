@@ -2,7 +2,7 @@
 
 ghost use Rattle.std.specs.Prelude.{◌≡◌, ◌<◌, ◌≤◌, ◌+◌, ℕ, suc, [], length, if◌then◌else◌, slice_index_or, IfOk, IfSome};
 ghost use Rattle.std.specs.List.{list_any};
-ghost use Rattle.outside.specs.declared.numbers.JobId.{JobId};
+ghost use Rattle.values.specs.declared.numbers.JobId.{JobId};
 ghost use Rattle.dependency_graph.specs.Graph.{job_lists};
 ghost use Rattle.clustering.specs.Basis.{same_group};
 ghost use Rattle.clustering.specs.Gathering.{gathered};
@@ -11,7 +11,7 @@ ghost use Rattle.clustering.specs.Runs.{IsGroup, is_job, run_among, run_from, ru
 use crate::basis::Basis;
 use crate::gathering::gather;
 use crate::numbers::Numbers;
-use outside::{JobId, Memory};
+use values::{JobId, Memory};
 use std::alloc::Global;
 
 /// The jobs of one level, site and transformation, in lists.

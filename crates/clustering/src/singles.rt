@@ -3,7 +3,7 @@
 ghost use Rattle.std.specs.Prelude.{◌≡◌, IfOk};
 ghost use Rattle.clustering.specs.Singles.{job_numbers, singles};
 
-use outside::{Items, JobId, Memory};
+use values::{Items, JobId, Memory};
 use std::alloc::Global;
 use workflow_core::Clusters;
 

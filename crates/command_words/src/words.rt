@@ -7,7 +7,7 @@ ghost use Rattle.command_words.specs.Words.{AreFew, HasImages, HasImagesBy, IsFo
 use crate::commands::{Quick, Threaded, find_quick, find_threaded};
 use crate::line::read_by_clap;
 use crate::said::{Said, is_said, keeps_the_rule, read_words};
-use outside::Memory;
+use values::Memory;
 use std::alloc::Global;
 use std::env::Args;
 use std::io;

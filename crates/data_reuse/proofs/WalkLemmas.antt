@@ -6,8 +6,8 @@ use Rattle.std.proofs.lemmas.Bool.{eqb-true, eqb-false, eq-eqb}
 use Rattle.std.proofs.Math.Seq.{drop-cons}
 use Rattle.std.proofs.lemmas.List.{drop_all, length-set, length-map, length-take-le, take-append-drop, get_or-take, get_or-map, get_or_past, get_or_default}
 use Rattle.std.proofs.lemmas.List.Folds.{list_any-append}
-use Rattle.outside.specs.declared.numbers.FileId.{FileId}
-use Rattle.outside.specs.declared.numbers.JobId.{JobId}
+use Rattle.values.specs.declared.numbers.FileId.{FileId}
+use Rattle.values.specs.declared.numbers.JobId.{JobId}
 use Rattle.workflow_core.specs.declared.workflow.Workflow.{Workflow}
 use Rattle.workflow_core.specs.declared.workflow.Job.{Job}
 use Rattle.workflow_core.specs.declared.workflow.Output.{Output}

@@ -5,7 +5,7 @@ ghost use Rattle.std.specs.List.{list_any};
 ghost use Rattle.std.specs.Str.{bytes_eq};
 ghost use Rattle.data_reuse.specs.Registered.{is_registered, is_absent};
 
-use outside::{Memory, Text};
+use values::{Memory, Text};
 use replica_catalog::Replica;
 use std::alloc::Global;
 use workflow_core::Names;

@@ -5,7 +5,7 @@ ghost use Rattle.workflow_core.specs.WellFormed.{IsWellFormed, IsJobOver};
 ghost use Rattle.workflow_core.specs.Requested.{requests, is_requested};
 ghost use Rattle.data_reuse.specs.Flags.{is_set, reads};
 
-use outside::{FileId, Memory};
+use values::{FileId, Memory};
 use std::alloc::Global;
 use workflow_core::{Job, Workflow};
 

@@ -10,7 +10,7 @@ ghost use Rattle.data_reuse.specs.Kept.{AreKept};
 use crate::absent::absent_files;
 use crate::flags::{is_set, requested_files, set_inputs};
 use dependency_graph::Graph;
-use outside::Memory;
+use values::Memory;
 use replica_catalog::ReplicaCatalog;
 use std::alloc::Global;
 use workflow_core::{Job, Workflow};

@@ -3,7 +3,7 @@ use Rattle.std.proofs.Common.{◌≡◌, ℕ, zero, suc, ◌+◌, ◌<◌, ◌�
 use Rattle.std.specs.Prelude.{Option, Some, None, MatchOption, option_to_list, slice_index_or}
 use Rattle.std.specs.List.{All, AllByRecursion, list_any}
 use Rattle.std.proofs.lemmas.List.Elements.{All-nil, All-cons, All-append}
-use Rattle.outside.specs.declared.numbers.JobId.{JobId}
+use Rattle.values.specs.declared.numbers.JobId.{JobId}
 use Rattle.workflow_core.specs.declared.workflow.Workflow.{Workflow}
 use Rattle.workflow_core.specs.declared.workflow.Job.{Job}
 use Rattle.workflow_core.specs.WellFormed.{inputs_of, outputs_of, IsJobOver, IsWellFormed, before, after}

@@ -3,7 +3,7 @@ use Rattle.std.proofs.Common.{◌≡◌, ℕ, zero, suc, ◌<◌, ◌≤◌, Boo
 use Rattle.std.specs.Prelude.{Option, Some, None, is_some, not, option_and_then, slice_index_or}
 use Rattle.std.proofs.lemmas.List.{get_or-map, get_or_default}
 use Rattle.std.proofs.lemmas.List.Elements.{All-get_or}
-use Rattle.outside.specs.declared.numbers.JobId.{JobId}
+use Rattle.values.specs.declared.numbers.JobId.{JobId}
 use Rattle.workflow_core.specs.declared.workflow.Workflow.{Workflow}
 use Rattle.workflow_core.specs.declared.workflow.Job.{Job}
 use Rattle.workflow_core.specs.WellFormed.{inputs_of, outputs_of, IsJobOver, IsWellFormed}
@@ -16,7 +16,7 @@ use Rattle.dependency_graph.specs.Edges.{edge, has_output, is_among, is_paired, 
 use Rattle.dependency_graph.specs.Flow.{FlowsAlong, is_base, is_there, is_written}
 use Rattle.dependency_graph.specs.Graph.{IsGraphOf, IsSound, Links, numbers}
 use Rattle.dependency_graph.specs.Value.{Basis, base_at, made_by, run_of, tool_at, tool_for, value}
-use Rattle.outside.specs.Tool.{all_of, part}
+use Rattle.values.specs.Apply.{all_of, part}
 use Rattle.digraph.specs.Adjacency.{has, times}
 
 -- who makes an input comes before

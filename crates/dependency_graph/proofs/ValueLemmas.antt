@@ -12,7 +12,7 @@ use Rattle.dependency_graph.proofs.EdgesLemmas.{makes}
 use Rattle.dependency_graph.specs.Edges.{edge, has_output, is_among, is_paired, producer, read_by, written_by}
 use Rattle.dependency_graph.specs.Graph.{IsSound}
 use Rattle.dependency_graph.specs.Value.{Basis, IsValuation, base_at, by_producer, made_for, run_of, tool_for, value, value_within}
-use Rattle.outside.specs.Tool.{all_of, part}
+use Rattle.values.specs.Apply.{all_of, part}
 use Rattle.digraph.proofs.OrderLemmas.{fresh, fresh_less, fresh_small}
 use Rattle.digraph.specs.Distances.{Walk}
 

@@ -1,7 +1,7 @@
 -- Which jobs make a file, and when an edge leads from one job to another.
 use Rattle.std.specs.Prelude.{ℕ, suc, ◌==◌, ◌&&◌, ◌||◌, Bool, List, [], ◌∷◌, map, if◌then◌else◌, Option, Some, None, slice_index_or}
 use Rattle.std.specs.List.{list_any}
-use Rattle.outside.specs.declared.numbers.JobId.{JobId}
+use Rattle.values.specs.declared.numbers.JobId.{JobId}
 use Rattle.workflow_core.specs.declared.workflow.Workflow.{Workflow}
 use Rattle.workflow_core.specs.declared.workflow.Job.{Job}
 use Rattle.workflow_core.specs.WellFormed.{inputs_of, outputs_of, before, after}

@@ -1,13 +1,13 @@
 -- How values flow along an order of jobs.
 use Rattle.std.specs.Prelude.{◌≡◌, ℕ, ◌<◌, ◌||◌, not, Bool, true, List, length, take, is_some, option_and_then, slice_index_or}
 use Rattle.std.specs.List.{list_any}
-use Rattle.outside.specs.declared.numbers.JobId.{JobId}
+use Rattle.values.specs.declared.numbers.JobId.{JobId}
 use Rattle.workflow_core.specs.declared.workflow.Workflow.{Workflow}
 use Rattle.workflow_core.specs.declared.workflow.Job.{Job}
 use Rattle.workflow_core.specs.WellFormed.{outputs_of}
 use Rattle.dependency_graph.specs.Edges.{is_among, has_output, producer, read_by, written_by}
 use Rattle.dependency_graph.specs.Value.{Basis, base_at, tool_at, value, made_by}
-use Rattle.outside.specs.Tool.{part}
+use Rattle.values.specs.Apply.{part}
 
 -- one of these jobs makes the file
 abbrev pub is_written : Workflow → List JobId → ℕ → Bool

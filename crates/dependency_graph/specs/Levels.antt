@@ -1,6 +1,6 @@
 -- The level of each kept job: how many kept jobs follow one on the other before it, at most.
 use Rattle.std.specs.Prelude.{◌≡◌, ℕ, suc, ◌<◌, Bool, false, max, List, [], ◌∷◌, length, if◌then◌else◌, slice_index_or}
-use Rattle.outside.specs.declared.numbers.JobId.{JobId}
+use Rattle.values.specs.declared.numbers.JobId.{JobId}
 use Rattle.dependency_graph.specs.Graph.{Links, jobs_at}
 
 -- what a list with a value for each job says of one

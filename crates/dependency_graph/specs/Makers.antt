@@ -1,6 +1,6 @@
 -- A table of the first two jobs that make each file.
 use Rattle.std.specs.Prelude.{◌≡◌, ℕ, ◌==◌, ◌&&◌, Bool, cond, List, [], ◌∷◌, if◌then◌else◌, Option, Some, None, is_some, slice_index_or}
-use Rattle.outside.specs.declared.numbers.JobId.{JobId}
+use Rattle.values.specs.declared.numbers.JobId.{JobId}
 use Rattle.dependency_graph.specs.Edges.{is_among}
 use Rattle.dependency_graph.specs.declared.makers.Makers.{Makers}
 

@@ -1,6 +1,6 @@
 -- The value of a file: its base where no job makes it, else what its producer makes of the values of the producer's inputs.
 use Rattle.std.specs.Prelude.{◌≡◌, ℕ, zero, suc, ◌<◌, ◌==◌, true, false, List, [], ◌∷◌, length, map, if◌then◌else◌, Option, Some, None, is_some, option_map, option_and_then, slice_index_or}
-use Rattle.outside.specs.Tool.{Apply, all_of, part}
+use Rattle.values.specs.Apply.{Apply, all_of, part}
 use Rattle.workflow_core.specs.declared.workflow.Workflow.{Workflow}
 use Rattle.workflow_core.specs.declared.workflow.Job.{Job}
 use Rattle.workflow_core.specs.WellFormed.{inputs_of, outputs_of}

@@ -12,7 +12,7 @@ use crate::fault::GraphFault;
 use crate::graph::{Graph, graph_of};
 use crate::makers::{contested, first_makers, makers_of};
 use digraph::Digraph;
-use outside::{FileId, Items, JobId, Memory, Text};
+use values::{FileId, Items, JobId, Memory, Text};
 use std::alloc::Global;
 use workflow_core::Workflow;
 

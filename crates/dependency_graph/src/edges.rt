@@ -10,7 +10,7 @@ ghost use Rattle.dependency_graph.specs.Built.{AreProducers};
 
 use crate::sources::{numbered, sources};
 use digraph::add_pairs;
-use outside::{JobId, Memory};
+use values::{JobId, Memory};
 use std::alloc::Global;
 use workflow_core::Workflow;
 

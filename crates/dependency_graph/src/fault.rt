@@ -3,7 +3,7 @@
 ghost use Rattle.std.specs.Prelude.{◌≡◌};
 ghost use Rattle.dependency_graph.specs.declared.fault.GraphFault.TheVariants.{Memory};
 
-use outside::{Items, Memory, Text};
+use values::{Items, Memory, Text};
 
 #[derive(Debug, Drop)]
 pub enum GraphFault {

@@ -1,7 +1,7 @@
 //! How values flow along a graph's order.
 
 ghost use Rattle.std.specs.Prelude.{◌≡◌, ◌<◌, ℕ, true, length, take, slice_index_or};
-ghost use Rattle.outside.specs.declared.numbers.JobId.{JobId};
+ghost use Rattle.values.specs.declared.numbers.JobId.{JobId};
 ghost use Rattle.workflow_core.specs.declared.workflow.Workflow.{Workflow};
 ghost use Rattle.workflow_core.specs.WellFormed.{IsWellFormed};
 ghost use Rattle.digraph.specs.Adjacency.{has};

@@ -8,7 +8,7 @@ ghost use Rattle.dependency_graph.specs.Edges.{producer};
 ghost use Rattle.dependency_graph.specs.Graph.{numbers, job_lists, jobs_at, made_at, IsGraphOf};
 
 use digraph::Digraph;
-use outside::{FileId, JobId, Memory};
+use values::{FileId, JobId, Memory};
 use std::alloc::Global;
 use std::marker::Model;
 

@@ -1,14 +1,14 @@
 //! The level of each kept job.
 
 ghost use Rattle.std.specs.Prelude.{◌≡◌, ◌<◌, ℕ, Bool, List, length, IfOk, All};
-ghost use Rattle.outside.specs.declared.numbers.JobId.{JobId};
+ghost use Rattle.values.specs.declared.numbers.JobId.{JobId};
 ghost use Rattle.workflow_core.specs.declared.workflow.Workflow.{Workflow};
 ghost use Rattle.workflow_core.specs.WellFormed.{IsWellFormed};
 ghost use Rattle.dependency_graph.specs.Graph.{Links, IsGraphOf, jobs_at};
 ghost use Rattle.dependency_graph.specs.Levels.{level, above, above_all, level_by, AreLevels};
 
 use crate::graph::Graph;
-use outside::{JobId, Memory};
+use values::{JobId, Memory};
 use std::alloc::Global;
 
 /// One more than the level of a kept job, 0 for a dropped one.

@@ -2,12 +2,12 @@
 
 ghost use Rattle.std.specs.Prelude.{◌≡◌, ◌<◌, ◌≤◌, ◌^◌, ℕ, false, Some, map, length, IfOk, MatchOption, All};
 ghost use Rattle.workflow_core.specs.WellFormed.{outputs_of};
-ghost use Rattle.outside.specs.declared.numbers.FileId.{FileId};
-ghost use Rattle.outside.specs.declared.numbers.JobId.{JobId};
+ghost use Rattle.values.specs.declared.numbers.FileId.{FileId};
+ghost use Rattle.values.specs.declared.numbers.JobId.{JobId};
 ghost use Rattle.dependency_graph.specs.Edges.{makers_from};
 ghost use Rattle.dependency_graph.specs.Makers.{known, noted, first_two, are_two, AreNoted};
 
-use outside::{FileId, JobId, Memory};
+use values::{FileId, JobId, Memory};
 use std::alloc::Global;
 use workflow_core::{Job, Output};
 

@@ -4,7 +4,7 @@ ghost use Rattle.std.specs.Prelude.{◌≡◌, ◌≤◌, ℕ, length, IfOk};
 ghost use Rattle.dependency_graph.specs.Levels.{is_kept, level};
 ghost use Rattle.dependency_graph.specs.Ranking.{leveled, numbers_in, IsRanked};
 
-use outside::Memory;
+use values::Memory;
 use std::alloc::Global;
 
 fn is_kept(kept: &[bool], job: u32) -> bool

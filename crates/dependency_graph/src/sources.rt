@@ -2,12 +2,12 @@
 
 ghost use Rattle.std.specs.Prelude.{◌≡◌, map, IfOk};
 ghost use Rattle.workflow_core.specs.WellFormed.{inputs_of, before, after};
-ghost use Rattle.outside.specs.declared.numbers.FileId.{FileId};
-ghost use Rattle.outside.specs.declared.numbers.JobId.{JobId};
+ghost use Rattle.values.specs.declared.numbers.FileId.{FileId};
+ghost use Rattle.values.specs.declared.numbers.JobId.{JobId};
 ghost use Rattle.digraph.specs.Adjacency.{lists_of};
 ghost use Rattle.dependency_graph.specs.Sources.{found};
 
-use outside::{FileId, JobId, Memory};
+use values::{FileId, JobId, Memory};
 use std::alloc::Global;
 use workflow_core::Job;
 

@@ -5,7 +5,7 @@ ghost use Rattle.std.specs.List.{list_any};
 ghost use Rattle.digraph.specs.Adjacency.{lists_of, neighbours, has, IsTransposed};
 ghost use Rattle.digraph.specs.Scatter.{ends_with, IsScattered};
 
-use outside::Memory;
+use values::Memory;
 use std::alloc::Global;
 
 /// So many empty lists.

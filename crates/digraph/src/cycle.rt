@@ -9,7 +9,7 @@ ghost use Rattle.digraph.specs.Search.{IsDistanceTable};
 use crate::kahn::place;
 use crate::nearest::{least_at, nearest};
 use crate::search::search;
-use outside::Memory;
+use values::Memory;
 use std::alloc::Global;
 
 /// From a node to the one that the table is about, without the latter.

@@ -5,7 +5,7 @@ ghost use Rattle.digraph.specs.Adjacency.{lists_of, neighbours, comes};
 ghost use Rattle.digraph.specs.Distances.{AreDistances};
 
 use crate::search::search;
-use outside::Memory;
+use values::Memory;
 use std::alloc::Global;
 
 /// The least number of edges from each node to one of them, where there is a walk.

@@ -5,7 +5,7 @@ ghost use Rattle.std.specs.declared.alloc.Global.{Global};
 ghost use Rattle.digraph.specs.Adjacency.{lists_of, times, AreLinked};
 ghost use Rattle.digraph.specs.Kahn.{waits_for, free, waiting, IsReleased, IsPlacement};
 
-use outside::Memory;
+use values::Memory;
 use std::alloc::Global;
 
 /// Nodes in order, and for each node how many of its predecessors aren't among them.

@@ -6,7 +6,7 @@ ghost use Rattle.digraph.specs.Cycle.{Returns};
 ghost use Rattle.digraph.specs.Order.{IsTopologicalOrder};
 
 use crate::kahn::place;
-use outside::Memory;
+use values::Memory;
 use std::alloc::Global;
 
 /// An order in which each node comes after its predecessors, by Kahn's algorithm. There is none exactly

@@ -13,7 +13,7 @@ use crate::cycle::named_cycle;
 use crate::digraph::Digraph;
 use crate::distances::distances_to;
 use crate::order::topological_order;
-use outside::Memory;
+use values::Memory;
 use std::alloc::Global;
 
 impl Digraph {

@@ -4,7 +4,7 @@ ghost use Rattle.std.specs.Prelude.{◌≡◌, ◌<◌, ◌≤◌, ◌^◌, ℕ,
 ghost use Rattle.digraph.specs.Adjacency.{lists_of, neighbours, comes};
 ghost use Rattle.digraph.specs.Search.{IsMarked, IsSpread, IsDistanceTable};
 
-use outside::Memory;
+use values::Memory;
 use std::alloc::Global;
 
 /// Gives nodes without a distance this one, and lists them.

@@ -2,7 +2,7 @@
 use Rattle.std.proofs.Common.{◌≡◌, ℕ, ◌+◌, Bool, cond, List, [], ◌∷◌, map, refl, ap, ◌∙◌, nat_eq}
 use Rattle.std.specs.Prelude.{Option, Some, None, option_and_then}
 use Rattle.std.proofs.lemmas.List.{length-map}
-use Rattle.outside.specs.Tool.{Apply, all_of, part}
+use Rattle.values.specs.Apply.{Apply, all_of, part}
 use Rattle.workflow_core.specs.declared.workflow.Job.{Job}
 use Rattle.workflow_core.specs.WellFormed.{inputs_of, outputs_of}
 use Rattle.dependency_graph.specs.Value.{Basis, made_for, run_of, tool_for}

@@ -18,7 +18,7 @@ use Rattle.plan_request.specs.JobTools.{tool_of}
 use Rattle.dependency_graph.specs.Edges.{producer}
 use Rattle.dependency_graph.specs.Graph.{IsSound}
 use Rattle.dependency_graph.specs.Value.{Basis, IsValuation, base_at, by_producer, made_for, tool_for, value}
-use Rattle.outside.specs.Tool.{Apply}
+use Rattle.values.specs.Apply.{Apply}
 use Rattle.planner.specs.Meaning.{AreHonest, IsHonest, Told, base, basis_of, entry_named, entry_of, first_told, pfns_in, value_of}
 use Rattle.planner.specs.declared.surveyed.Surveyed.{Surveyed}
 use Rattle.ensemble.specs.declared.member.Member.{Member}

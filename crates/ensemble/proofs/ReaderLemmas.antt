@@ -5,7 +5,7 @@ use Rattle.std.specs.List.{AllByRecursion, list_any}
 use Rattle.std.specs.Str.{bytes_eq}
 use Rattle.std.proofs.lemmas.Bool.{and_from}
 use Rattle.serde_json.specs.Data.{Data}
-use Rattle.outside.specs.Policy.{plain}
+use Rattle.values.specs.Policy.{plain}
 use Rattle.peg_json.specs.Duplicates.{first_repeat}
 use Rattle.peg_json.specs.Path.{key_path}
 use Rattle.peg_json.specs.ReadFault.{then_read}

@@ -1,6 +1,6 @@
 -- A member whose request was surveyed.
 use Rattle.std.proofs.Common.{◌≡◌, false, sym, subst}
-use Rattle.outside.specs.declared.documents.Documents.{Documents}
+use Rattle.values.specs.declared.documents.Documents.{Documents}
 use Rattle.workflow_core.specs.WellFormed.{IsWellFormed}
 use Rattle.replica_catalog.specs.Reader.{view}
 use Rattle.plan_request.specs.Limits.{IsWithinLimits}

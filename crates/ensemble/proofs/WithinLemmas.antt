@@ -1,7 +1,7 @@
 -- The numbers of each member's files and jobs, and of those of the members after it, are within ranges of their own.
 use Rattle.std.proofs.Common.{ℕ, ◌+◌, ◌<◌, ◌≤◌, List, [], ◌∷◌, map, arith}
 use Rattle.std.specs.List.{AllByRecursion}
-use Rattle.outside.specs.declared.numbers.JobId.{JobId}
+use Rattle.values.specs.declared.numbers.JobId.{JobId}
 use Rattle.workflow_core.specs.declared.workflow.Job.{Job}
 use Rattle.workflow_core.specs.WellFormed.{IsJobOver, after, before, inputs_of, outputs_of}
 use Rattle.ensemble.specs.declared.member.Member.{Member}

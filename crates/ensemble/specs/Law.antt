@@ -1,6 +1,6 @@
 -- What the joint of some members means: each member's part is what it is by its own documents alone.
 use Rattle.std.specs.Prelude.{◌≡◌, ℕ, zero, suc, ◌+◌, ◌<◌, List, [], ◌∷◌, length, Option, Some, None, slice_get, slice_index_or}
-use Rattle.outside.specs.Tool.{Apply}
+use Rattle.values.specs.Apply.{Apply}
 use Rattle.workflow_core.specs.Requested.{is_requested}
 use Rattle.replica_catalog.specs.Reader.{view}
 use Rattle.plan_request.specs.declared.request.PlanRequest.{PlanRequest}

@@ -2,7 +2,7 @@
 use Rattle.std.specs.Prelude.{◌≡◌, ◌^◌, ◌≤◌, true, false, Ok}
 use Rattle.std.specs.List.{AllByRecursion}
 use Rattle.std.specs.Str.{bytes_eq}
-use Rattle.outside.specs.Policy.{plain}
+use Rattle.values.specs.Policy.{plain}
 use Rattle.workflow_core.specs.WellFormed.{are_distinct}
 use Rattle.plan_request.specs.Reader.{execute_checked}
 use Rattle.plan_request.specs.declared.request.Execution.{Execution}

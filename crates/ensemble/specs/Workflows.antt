@@ -1,7 +1,7 @@
 -- The joint workflow: the members' jobs, pairs and files, one member's after the other's.
 use Rattle.std.specs.Prelude.{◌≡◌, ℕ, ◌+◌, List, [], ◌∷◌, ◌++◌, map, Option, None}
 use Rattle.std.specs.List.{flat_map}
-use Rattle.outside.specs.declared.numbers.JobId.{JobId}
+use Rattle.values.specs.declared.numbers.JobId.{JobId}
 use Rattle.workflow_core.specs.declared.workflow.Job.{Job}
 use Rattle.workflow_core.specs.declared.workflow.Workflow.{Workflow}
 use Rattle.ensemble.specs.declared.member.Member.{Member}

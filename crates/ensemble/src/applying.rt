@@ -1,7 +1,7 @@
 //! The requests of an ensemble and of its members.
 
 ghost use Rattle.std.specs.Prelude.{◌≡◌, Ok, IfOk};
-ghost use Rattle.outside.specs.Policy.{plain};
+ghost use Rattle.values.specs.Policy.{plain};
 ghost use Rattle.plan_request.specs.Limits.{IsWithinLimits};
 ghost use Rattle.plan_request.specs.Reader.{execute_checked};
 ghost use Rattle.ensemble.specs.Applying.{of_ensemble, own_request};
@@ -9,7 +9,7 @@ ghost use Rattle.ensemble.specs.Limits.{IsFit};
 
 use crate::copying::{executions_copied, policy_copied};
 use crate::document::Ensemble;
-use outside::{Items, Memory, Text};
+use values::{Items, Memory, Text};
 use plan_request::{PlanRequest, Selector};
 use std::alloc::Global;
 

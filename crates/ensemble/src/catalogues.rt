@@ -9,7 +9,7 @@ ghost use Rattle.ensemble.specs.Member.{AreMembers};
 use crate::entries::{add_entries, add_replicas};
 use crate::member::Member;
 use crate::site_copies::catalog_copied;
-use outside::{Items, Memory};
+use values::{Items, Memory};
 use replica_catalog::{Replica, ReplicaCatalog};
 use site_catalog::SiteCatalog;
 use std::alloc::Global;

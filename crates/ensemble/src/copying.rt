@@ -2,7 +2,7 @@
 
 ghost use Rattle.std.specs.Prelude.{◌≡◌, IfOk};
 
-use outside::{Items, Memory, Policy, Text};
+use values::{Items, Memory, Policy, Text};
 use plan_request::Execution;
 use std::alloc::Global;
 

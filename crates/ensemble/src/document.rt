@@ -1,6 +1,6 @@
 //! What an ensemble's document says.
 
-use outside::{Items, Policy, Text};
+use values::{Items, Policy, Text};
 use plan_request::{Cleanup, ClusterMode, Execution};
 
 /// A whole ensemble: its members, and the keys that are the same for all of them.

@@ -5,7 +5,7 @@ ghost use Rattle.ensemble.specs.Entries.{entry_of, replica_of};
 
 use crate::copying::option_copied;
 use crate::prefix::{prefixed, transformation_of};
-use outside::{Items, Memory, Text};
+use values::{Items, Memory, Text};
 use replica_catalog::{Pfn, Replica};
 use std::alloc::Global;
 use transformation_catalog::{TransformationEntry, TransformationSite};

@@ -5,7 +5,7 @@ ghost use Rattle.peg_json.specs.declared.fault.TreeFault.TheVariants as faults;
 ghost use Rattle.peg_json.specs.declared.read_fault.ReadFault.TheVariants as reads;
 ghost use Rattle.ensemble.specs.declared.fault.EnsembleFault.TheVariants.{Read};
 
-use outside::{Memory, Text};
+use values::{Memory, Text};
 use peg_json::{ReadFault, TreeFault};
 
 /// Why bytes are no ensemble.

@@ -2,13 +2,13 @@
 
 ghost use Rattle.std.specs.Prelude.{◌≡◌, ◌++◌, ◌+◌, ◌<◌, ◌^◌, map, IfOk, OnOk};
 ghost use Rattle.std.specs.List.{All};
-ghost use Rattle.outside.specs.declared.numbers.FileId as file_ids;
+ghost use Rattle.values.specs.declared.numbers.FileId as file_ids;
 ghost use Rattle.workflow_core.specs.declared.workflow.Output as made_files;
 ghost use Rattle.ensemble.specs.Jobs.{FitsAfter, PairFitsAfter, file_after, job_of, output_after, pair_after};
 
 use crate::copying::option_copied;
 use crate::prefix::{prefixed, transformation_of};
-use outside::{FileId, Items, JobId, Memory, Text};
+use values::{FileId, Items, JobId, Memory, Text};
 use plan_core::texts_copied;
 use std::alloc::Global;
 use workflow_core::{Job, Output};

@@ -3,7 +3,7 @@
 ghost use Rattle.std.specs.Prelude.{◌≡◌};
 ghost use Rattle.ensemble.specs.declared.join_fault.JoinFault.TheVariants as faults;
 
-use outside::Memory;
+use values::Memory;
 use peg_json::Counted;
 
 #[derive(Debug, Drop)]

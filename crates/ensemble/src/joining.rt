@@ -1,7 +1,7 @@
 //! The joint of some members: one request and one survey, in which each part bears its member's name.
 
 ghost use Rattle.std.specs.Prelude.{◌≡◌, ◌≤◌, IfOk, Ok};
-ghost use Rattle.outside.specs.Policy.{plain};
+ghost use Rattle.values.specs.Policy.{plain};
 ghost use Rattle.workflow_core.specs.WellFormed.{IsWellFormed};
 ghost use Rattle.replica_catalog.specs.Reader.{view};
 ghost use Rattle.plan_request.specs.Limits.{IsWithinLimits};
@@ -17,7 +17,7 @@ use crate::member::Member;
 use crate::requests::joint_request;
 use crate::workflows::joint_workflow;
 use dependency_graph::{GraphFault, build};
-use outside::Memory;
+use values::Memory;
 use plan_request::PlanRequest;
 use planner::{Survey, Surveyed, plans_mean_the_workflow};
 use std::alloc::Global;

@@ -1,7 +1,7 @@
 //! What the joint of some members means.
 
 ghost use Rattle.std.specs.Prelude.{◌≡◌, List, false};
-ghost use Rattle.outside.specs.declared.documents.Documents.{Documents};
+ghost use Rattle.values.specs.declared.documents.Documents.{Documents};
 ghost use Rattle.workflow_core.specs.declared.workflow.Workflow.{Workflow};
 ghost use Rattle.dependency_graph.specs.Graph.{IsSound};
 ghost use Rattle.plan_request.specs.declared.request.PlanRequest.{PlanRequest};

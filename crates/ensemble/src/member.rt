@@ -1,6 +1,6 @@
 //! The members of an ensemble.
 
-use outside::Text;
+use values::Text;
 use plan_request::PlanRequest;
 use planner::Survey;
 

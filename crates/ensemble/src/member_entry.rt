@@ -8,7 +8,7 @@ ghost use Rattle.peg_json.specs.Tree.{Gives};
 ghost use Rattle.ensemble.specs.MemberEntry.{has_slash, member_rows, plain_name_at};
 
 use crate::document::MemberEntry;
-use outside::Text;
+use values::Text;
 use peg_json::{FromTree, KeyRow, KeyTable, Kind, TreeFault, at_key, checked, row};
 use plan_request::only_known;
 use serde_json::Value;

@@ -4,7 +4,7 @@ ghost use Rattle.std.specs.Prelude.{◌≡◌, ◌++◌, map, IfOk, OnOk};
 ghost use Rattle.ensemble.specs.Prefix.{prefixed, transformation_of};
 
 use crate::copying::option_copied;
-use outside::{Memory, Text};
+use values::{Memory, Text};
 use std::alloc::Global;
 use workflow_core::Transformation;
 

@@ -9,7 +9,7 @@ ghost use Rattle.ensemble.specs.Requests.{joint_request, joint_sizes, joint_tool
 use crate::copying::{executions_copied, policy_copied};
 use crate::member::Member;
 use crate::stated::{add_sizes, add_tools};
-use outside::{Items, Memory, Text};
+use values::{Items, Memory, Text};
 use plan_request::{PlanRequest, Selector, SizeOf, ToolOf};
 use std::alloc::Global;
 

@@ -3,7 +3,7 @@
 ghost use Rattle.std.specs.Prelude.{◌≡◌, IfOk};
 
 use crate::copying::option_copied;
-use outside::{Items, Memory};
+use values::{Items, Memory};
 use plan_core::texts_copied;
 use site_catalog::{Directory, FileServer, SiteCatalog, SiteEntry};
 use std::alloc::Global;

@@ -5,7 +5,7 @@ ghost use Rattle.plan_request.specs.FileSizes.{declared_sizes};
 ghost use Rattle.ensemble.specs.Stated.{stated_size, stated_sizes, stated_tool, stated_tools};
 
 use crate::prefix::prefixed;
-use outside::{Memory, Text};
+use values::{Memory, Text};
 use plan_request::{PlanRequest, SizeOf, ToolOf, Tools, declared_sizes};
 use std::alloc::Global;
 use workflow_core::Job;

@@ -9,7 +9,7 @@ ghost use Rattle.ensemble.specs.Workflows.{IsJointWorkflow, joint_files, joint_j
 use crate::jobs::{add_jobs, add_pairs};
 use crate::member::Member;
 use crate::prefix::add_names;
-use outside::{Items, JobId, Memory, Text};
+use values::{Items, JobId, Memory, Text};
 use std::alloc::Global;
 use workflow_core::{Inlined, Job, Workflow};
 

@@ -2,7 +2,7 @@
 use Rattle.std.proofs.Common.{◌≡◌, ℕ, List, refl, sym, ap, ◌∙◌}
 use Rattle.std.specs.Prelude.{None, Result, Ok, Err}
 use Rattle.outside.specs.Counts.{Rose}
-use Rattle.outside.specs.declared.numbers.JobId.{JobId}
+use Rattle.values.specs.declared.numbers.JobId.{JobId}
 use Rattle.dependency_graph.specs.Value.{Basis, basis}
 use Rattle.workflow_eval.specs.Evaluating.{AreValues, Evaluates, IsReached, first_undefined}
 use Rattle.workflow_eval.specs.declared.fault.EvalFault.{EvalFault}
@@ -10,7 +10,7 @@ use Rattle.workflow_eval.specs.declared.fault.EvalFault.TheVariants as eval_faul
 use Rattle.evaluation.specs.Bases.{Bases, ReadsBases}
 use Rattle.evaluation.specs.Values.{chosen}
 use Rattle.evaluation.specs.Evaluating.{AnswersFault, HasBases, HasNoValues, HasValues, prepared}
-use Rattle.outside.specs.Tool.{Apply}
+use Rattle.values.specs.Apply.{Apply}
 use Rattle.evaluation.specs.Moments.{Meeting, Subject}
 use Rattle.evaluation.specs.Fault.{UnlessMemory}
 use Rattle.evaluation.specs.declared.evaluating.Prepared.{Prepared}

@@ -7,11 +7,11 @@ use Rattle.outside.specs.Host.{IsLong, Reads, within}
 use Rattle.outside.specs.declared.counts.Counts.{Counts}
 use Rattle.outside.specs.declared.host.HostFault.{HostFault}
 use Rattle.outside.specs.declared.host.HostFault.TheVariants as host_faults
-use Rattle.outside.specs.declared.numbers.JobId.{JobId}
+use Rattle.values.specs.declared.numbers.JobId.{JobId}
 use Rattle.outside.specs.declared.store.Store.{Store}
 use Rattle.workflow_core.specs.declared.workflow.Workflow.{Workflow}
 use Rattle.dependency_graph.specs.Value.{Basis, basis}
-use Rattle.outside.specs.Tool.{Apply}
+use Rattle.values.specs.Apply.{Apply}
 use Rattle.workflow_eval.specs.Evaluating.{first_undefined, made_by_number}
 use Rattle.evaluation.specs.Bases.{Bases, Continues, ReadsBases, after_base, base_answer, base_limit, told_bases, told_bytes, told_replica}
 use Rattle.evaluation.specs.Evaluating.{AllDefined, HasBases, HasNoValues, IsDeclined, IsUnread, prepared}

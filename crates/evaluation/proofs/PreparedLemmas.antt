@@ -13,7 +13,7 @@ use Rattle.workflow_core.specs.declared.workflow.Workflow.{Workflow}
 use Rattle.replica_catalog.specs.declared.catalog.Replica.{Replica}
 use Rattle.dependency_graph.specs.Edges.{producer}
 use Rattle.dependency_graph.specs.Value.{AllBased, basis}
-use Rattle.outside.specs.Tool.{Apply}
+use Rattle.values.specs.Apply.{Apply}
 use Rattle.plan_request.specs.JobTools.{tool_of}
 use Rattle.plan_request.specs.declared.request.ToolOf.{ToolOf}
 use Rattle.evaluation.specs.Bases.{Bases, Continues, ReadsBases, after_base, base_answer, checked}

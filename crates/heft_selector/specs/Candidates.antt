@@ -1,8 +1,8 @@
 -- The sites where each kept job can run, or the first fault by number.
 use Rattle.std.specs.Prelude.{◌≡◌, ℕ, ◌<◌, Bool, true, false, [], is_ok, List, length, slice_get, Vec, Option, Some, None, Result, Ok, Err}
 use Rattle.std.specs.declared.alloc.Global.{Global}
-use Rattle.outside.specs.declared.select_fault.SelectFault.{SelectFault}
-use Rattle.outside.specs.declared.select_fault.SelectFault.TheVariants.{NoSite, NoTransformation, Memory}
+use Rattle.values.specs.declared.select_fault.SelectFault.{SelectFault}
+use Rattle.values.specs.declared.select_fault.SelectFault.TheVariants.{NoSite, NoTransformation, Memory}
 use Rattle.workflow_core.specs.declared.workflow.Job.{Job}
 use Rattle.transformation_catalog.specs.declared.catalog.TransformationCatalog.{TransformationCatalog}
 use Rattle.transformation_catalog.specs.declared.catalog.TransformationEntry.{TransformationEntry}

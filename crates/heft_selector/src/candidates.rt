@@ -4,7 +4,7 @@ ghost use Rattle.std.specs.Prelude.{◌≡◌, ◌<◌, ◌≤◌, ◌++◌, [],
 ghost use Rattle.plan_request.specs.Reader.{execute_checked};
 ghost use Rattle.heft_selector.specs.Candidates.{offering, FindsAll, FindsOne};
 
-use outside::{Memory, SelectFault};
+use values::{Memory, SelectFault};
 use plan_request::Execution;
 use site_selector::{Offers, candidates_of};
 use std::alloc::Global;

@@ -1,15 +1,15 @@
 //! How long the files that a job reads take from each of its parents.
 
 ghost use Rattle.std.specs.Prelude.{◌≡◌, ◌+◌, ◌-◌, ◌*◌, ◌<◌, ◌≤◌, ◌^◌, ℕ, Some, length, map, get_or, IfOk, OnOk, All};
-ghost use Rattle.outside.specs.declared.numbers.FileId.{FileId};
-ghost use Rattle.outside.specs.declared.numbers.JobId.{JobId};
+ghost use Rattle.values.specs.declared.numbers.FileId.{FileId};
+ghost use Rattle.values.specs.declared.numbers.JobId.{JobId};
 ghost use Rattle.digraph.specs.Adjacency.{lists_of};
 ghost use Rattle.dependency_graph.specs.Graph.{made_at, jobs_at};
 ghost use Rattle.heft_selector.specs.Costs.{size_at, seconds_for};
 ghost use Rattle.heft_selector.specs.Carried.{bytes_at, made_for, carried, moves_by, AreMade, AreLists, AreMoves};
 
 use dependency_graph::Graph;
-use outside::{FileId, JobId, Memory};
+use values::{FileId, JobId, Memory};
 use std::alloc::Global;
 use workflow_core::Job;
 

@@ -21,7 +21,7 @@ use crate::moves::all_moves;
 use crate::times::all_times;
 use dependency_graph::Graph;
 use list_schedule::{Heft, schedule_by};
-use outside::{Memory, SelectFault};
+use values::{Memory, SelectFault};
 use plan_request::{PlanRequest, declared_sizes};
 use std::alloc::Global;
 use transformation_catalog::TransformationCatalog;

@@ -10,7 +10,7 @@ ghost use Rattle.plan_request.specs.Limits.{IsRuntimeInRange};
 ghost use Rattle.heft_selector.specs.Costs.{name_of};
 ghost use Rattle.heft_selector.specs.Stated.{cell, noted, said, said_at, IsTable, IsClock, AreTimes, site_name, site_name_at};
 
-use outside::{Memory, Text};
+use values::{Memory, Text};
 use plan_request::{Execution, Runtime};
 use std::alloc::Global;
 use workflow_core::{Job, Names};

@@ -2,8 +2,8 @@
 use Rattle.std.proofs.Common.{◌≡◌, ℕ, zero, suc, ◌<◌, Bool, true, false, cond, ◌&&◌, List, [], ◌∷◌, length, map, get_or, refl, ap, nat_eq, arith}
 use Rattle.std.specs.Prelude.{filter, not, option_map, slice_get}
 use Rattle.std.specs.List.{list_all}
-use Rattle.outside.specs.declared.numbers.PairId.{PairId}
-use Rattle.outside.specs.declared.numbers.TaskId.{TaskId}
+use Rattle.values.specs.declared.numbers.PairId.{PairId}
+use Rattle.values.specs.declared.numbers.TaskId.{TaskId}
 use Rattle.plan_core.specs.Words.{pair_numbers, task_numbers}
 use Rattle.lease_book.specs.State.{without}
 

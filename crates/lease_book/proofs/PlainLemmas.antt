@@ -7,7 +7,7 @@ use Rattle.lease_book.specs.Law.{FitsFromStart, HasStorageLaws}
 use Rattle.lease_book.specs.Legal.{Allowed, Legal, LegalFrom}
 use Rattle.lease_book.specs.Reading.{IsPlain, IsPlainlyRead, again_of, begins, ends, grants}
 use Rattle.lease_book.specs.State.{State, after, now, now_from, opened, runs, without}
-use Rattle.outside.specs.declared.policy.Policy.{Policy}
+use Rattle.values.specs.declared.policy.Policy.{Policy}
 use Rattle.plan_core.specs.Printing.{is_plain}
 use Rattle.plan_core.specs.Words.{is_fresh, retries}
 use Rattle.plan_core.specs.declared.plan.Plan.{Plan}

@@ -1,7 +1,7 @@
 -- What a record says, read off the list of its entries.
 use Rattle.std.specs.Prelude.{◌≡◌, ℕ, ◌==◌, ◌&&◌, ◌||◌, Bool, true, false, cond, not, List, [], ◌∷◌, length, filter, Option, Some, None}
 use Rattle.std.specs.List.{list_any}
-use Rattle.outside.specs.Policy.{plain}
+use Rattle.values.specs.Policy.{plain}
 use Rattle.plan_core.specs.declared.plan.Plan.{Plan}
 use Rattle.plan_core.specs.Numbers.{has, or_else}
 use Rattle.plan_core.specs.Words.{cleans}

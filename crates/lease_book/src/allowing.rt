@@ -10,7 +10,7 @@ ghost use Rattle.lease_book.specs.Legal.{Allowed, ArePublished, MayFail};
 use crate::book::Book;
 use crate::choice::choose;
 use crate::sizes::{are_declared, are_published, is_declared};
-use outside::TaskId;
+use values::TaskId;
 
 /// Workers have numbers below this one.
 const MOST_WORKERS: u32 = 16;

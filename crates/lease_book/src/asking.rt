@@ -1,7 +1,7 @@
 //! What a book tells of its record.
 
 ghost use Rattle.std.specs.Prelude.{◌≡◌, slice_get, option_map, Decides};
-ghost use Rattle.outside.specs.declared.numbers.TaskId.{TaskId};
+ghost use Rattle.values.specs.declared.numbers.TaskId.{TaskId};
 ghost use Rattle.plan_core.specs.Words.{task_numbers};
 ghost use Rattle.lease_book.specs.Book.{state_at};
 ghost use Rattle.lease_book.specs.Law.{IsSafeState, reserved_at, stored_at};
@@ -9,7 +9,7 @@ ghost use Rattle.lease_book.specs.Legal.{IsOpen, Legal};
 
 use crate::book::Book;
 use crate::sums;
-use outside::{SiteId, TaskId};
+use values::{SiteId, TaskId};
 use run_record::Record;
 
 impl Book {

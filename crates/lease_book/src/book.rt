@@ -13,7 +13,7 @@ use crate::goods::all_made;
 use crate::law::storage_laws;
 use crate::state::RunState;
 use crate::trial::Trial;
-use outside::{Memory, TaskId};
+use values::{Memory, TaskId};
 use plan_core::Plan;
 use run_record::Record;
 use std::alloc::Global;

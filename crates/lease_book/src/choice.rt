@@ -2,7 +2,7 @@
 
 ghost use Rattle.std.specs.Prelude.{◌≡◌, ◌∷◌, [], ℕ, List, true, false, Some, MatchOption, Decides, length};
 ghost use Rattle.std.specs.List.{list_all};
-ghost use Rattle.outside.specs.declared.numbers.TaskId.{TaskId};
+ghost use Rattle.values.specs.declared.numbers.TaskId.{TaskId};
 ghost use Rattle.plan_core.specs.Numbers.{has};
 ghost use Rattle.plan_core.specs.Proper.{IsProper};
 ghost use Rattle.plan_core.specs.Words.{parents, task_numbers};
@@ -17,7 +17,7 @@ ghost use Rattle.lease_book.specs.Trial.{HasPlace, IsTrialWithin};
 use crate::rest::{count_left, task_at};
 use crate::state::RunState;
 use crate::trial::{Trial, is_within};
-use outside::TaskId;
+use values::TaskId;
 use plan_core::Plan;
 use storage_simulation::{Phase, Standing};
 

@@ -9,7 +9,7 @@ ghost use Rattle.lease_book.specs.RunState.{state_of};
 
 use crate::book::Book;
 use crate::state::RunState;
-use outside::TaskId;
+use values::TaskId;
 use plan_core::Plan;
 use run_record::{Cause, Entry};
 

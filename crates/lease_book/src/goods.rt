@@ -6,7 +6,7 @@ ghost use Rattle.storage_simulation.specs.Goods.{IsWithinLimits, makes};
 ghost use Rattle.storage_simulation.specs.Usage.{total};
 ghost use Rattle.lease_book.specs.Law.{HasStorageLaws};
 
-use outside::TaskId;
+use values::TaskId;
 use plan_core::Plan;
 use storage_simulation::is_delivery;
 

@@ -13,7 +13,7 @@ ghost use Rattle.lease_book.specs.State.{put, reserved_for, stored_among};
 
 use crate::goods::{count_made, made_at};
 use crate::items;
-use outside::TaskId;
+use values::TaskId;
 use plan_core::Plan;
 use std::alloc::Global;
 use storage_simulation::{Held, Phase, Standing, cleaned_by, good_size};

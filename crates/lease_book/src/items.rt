@@ -2,7 +2,7 @@
 
 ghost use Rattle.std.specs.Prelude.{◌≡◌, ◌<◌, length, set};
 
-use outside::Items;
+use values::Items;
 use std::alloc::Global;
 use std::mem;
 

@@ -13,7 +13,7 @@ ghost use Rattle.lease_book.specs.State.{order_with};
 use crate::book::Book;
 use crate::choice::choose;
 use crate::fresh::fresh_task;
-use outside::TaskId;
+use values::TaskId;
 use run_record::Entry;
 
 /// What a worker may do next.

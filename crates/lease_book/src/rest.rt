@@ -1,11 +1,11 @@
 //! The tasks that are left, in room that was taken before.
 
 ghost use Rattle.std.specs.Prelude.{◌≡◌, ◌≤◌, ◌<◌, ◌∷◌, ◌==◌, filter, get_or, length, not, vec_capacity};
-ghost use Rattle.outside.specs.declared.numbers.TaskId.{TaskId};
+ghost use Rattle.values.specs.declared.numbers.TaskId.{TaskId};
 ghost use Rattle.plan_core.specs.Words.{task_numbers};
 ghost use Rattle.lease_book.specs.State.{without};
 
-use outside::TaskId;
+use values::TaskId;
 
 fn keep_others(rest: &mut Vec<TaskId>, task: u32)
     ensures rest { rest.new.items ≡ filter (λ (other : TaskId). not (task == other.0)) rest.old.items }

@@ -7,7 +7,7 @@ ghost use Rattle.storage_simulation.specs.Goods.{IsWithinLimits, good_size, make
 ghost use Rattle.lease_book.specs.Legal.{AreDeclared, AreOfFirst, ArePublished};
 
 use crate::goods::{count_made, made_at};
-use outside::TaskId;
+use values::TaskId;
 use plan_core::Plan;
 use storage_simulation::good_size;
 

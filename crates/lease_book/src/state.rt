@@ -13,7 +13,7 @@ ghost use Rattle.lease_book.specs.State.{after, opened, order_with, put, runs, w
 
 use crate::holding;
 use crate::rest::{overwrite, put_front, take_out};
-use outside::{Memory, TaskId};
+use values::{Memory, TaskId};
 use plan_core::Plan;
 use run_record::Cause;
 use std::alloc::Global;

@@ -16,7 +16,7 @@ ghost use Rattle.lease_book.specs.Trial.{HasPlace, IsTrial};
 
 use crate::state::RunState;
 use crate::{holding, items, rest};
-use outside::{Memory, SiteId, TaskId};
+use values::{Memory, SiteId, TaskId};
 use plan_core::Plan;
 use std::alloc::Global;
 use storage_simulation::{Standing, fits, place_bound, places, usage_after};

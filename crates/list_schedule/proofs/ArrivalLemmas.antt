@@ -2,8 +2,8 @@
 use Rattle.std.proofs.Common.{◌≡◌, ℕ, zero, suc, ◌+◌, ◌<◌, ◌≤◌, ◌&&◌, not, max, Bool, true, false, cond, List, [], ◌∷◌, ◌++◌, length, take, get_or, refl, ap, ◌∙◌, arith}
 use Rattle.std.specs.Prelude.{Option}
 use Rattle.std.proofs.lemmas.List.{take_more}
-use Rattle.outside.specs.declared.numbers.JobId.{JobId}
-use Rattle.outside.specs.declared.numbers.SiteId.{SiteId}
+use Rattle.values.specs.declared.numbers.JobId.{JobId}
+use Rattle.values.specs.declared.numbers.SiteId.{SiteId}
 use Rattle.dependency_graph.specs.Levels.{is_kept}
 use Rattle.list_schedule.specs.declared.arrivals.Latest.{Latest}
 use Rattle.list_schedule.specs.Schedule.{is_site}

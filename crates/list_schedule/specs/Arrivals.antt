@@ -1,7 +1,7 @@
 -- The latest arrival at each site, by the latest from one site and the latest from the others.
 use Rattle.std.specs.Prelude.{◌≡◌, ℕ, ◌+◌, ◌<◌, ◌≤◌, ◌&&◌, not, Bool, max, if◌then◌else◌, List, [], ◌∷◌, get_or, slice_index_or, Option, None}
-use Rattle.outside.specs.declared.numbers.JobId.{JobId}
-use Rattle.outside.specs.declared.numbers.SiteId.{SiteId}
+use Rattle.values.specs.declared.numbers.JobId.{JobId}
+use Rattle.values.specs.declared.numbers.SiteId.{SiteId}
 use Rattle.dependency_graph.specs.Levels.{is_kept}
 use Rattle.list_schedule.specs.declared.arrivals.Latest.{Latest}
 use Rattle.list_schedule.specs.declared.choice.Slot.{Slot}

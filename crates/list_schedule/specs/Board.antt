@@ -1,7 +1,7 @@
 -- What stands on a board while jobs are placed.
 use Rattle.std.specs.Prelude.{◌≡◌, ℕ, ◌<◌, ◌≤◌, Bool, true, Option, None, Some, List, length, take, get_or, slice_index_or, slice_set, replicate}
-use Rattle.outside.specs.declared.numbers.SiteId.{SiteId}
-use Rattle.outside.specs.declared.numbers.JobId.{JobId}
+use Rattle.values.specs.declared.numbers.SiteId.{SiteId}
+use Rattle.values.specs.declared.numbers.JobId.{JobId}
 use Rattle.dependency_graph.specs.Graph.{Links, numbers}
 use Rattle.digraph.specs.Adjacency.{has}
 use Rattle.list_schedule.specs.declared.choice.Slot.{Slot}

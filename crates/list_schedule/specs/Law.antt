@@ -1,6 +1,6 @@
 -- What a schedule comes to.
 use Rattle.std.specs.Prelude.{◌≡◌, ℕ, ◌+◌, ◌<◌, ◌≤◌, ◌⊎◌, if◌then◌else◌, Bool, true, false, eqb, List, length, take, get_or, Some}
-use Rattle.outside.specs.declared.numbers.SiteId.{SiteId}
+use Rattle.values.specs.declared.numbers.SiteId.{SiteId}
 use Rattle.digraph.specs.Adjacency.{has}
 use Rattle.dependency_graph.specs.Graph.{Links, jobs_at, numbers}
 use Rattle.dependency_graph.specs.Levels.{is_kept}

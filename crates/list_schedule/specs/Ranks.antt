@@ -1,6 +1,6 @@
 -- Upward ranks, and the order of the kept jobs by them.
 use Rattle.std.specs.Prelude.{◌≡◌, ℕ, ◌+◌, ◌<◌, ◌||◌, ◌&&◌, Bool, true, ltb, eqb, max, if◌then◌else◌, List, [], ◌∷◌, length, slice_index_or, get_or}
-use Rattle.outside.specs.declared.numbers.JobId.{JobId}
+use Rattle.values.specs.declared.numbers.JobId.{JobId}
 use Rattle.dependency_graph.specs.Edges.{is_among}
 use Rattle.dependency_graph.specs.Graph.{Links, jobs_at}
 use Rattle.dependency_graph.specs.Levels.{is_kept}

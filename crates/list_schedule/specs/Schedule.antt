@@ -1,7 +1,7 @@
 -- The list schedule of the kept jobs.
 use Rattle.std.specs.Prelude.{◌≡◌, ℕ, ◌+◌, ◌<◌, ◌≤◌, ◌==◌, Bool, false, max, if◌then◌else◌, List, [], ◌∷◌, length, take, get_or, slice_index_or, Option, Some, None}
-use Rattle.outside.specs.declared.numbers.JobId.{JobId}
-use Rattle.outside.specs.declared.numbers.SiteId.{SiteId}
+use Rattle.values.specs.declared.numbers.JobId.{JobId}
+use Rattle.values.specs.declared.numbers.SiteId.{SiteId}
 use Rattle.dependency_graph.specs.Graph.{Links, jobs_at, numbers}
 use Rattle.dependency_graph.specs.Levels.{is_kept}
 use Rattle.list_schedule.specs.Estimates.{Estimates}

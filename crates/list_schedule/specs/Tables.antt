@@ -2,7 +2,7 @@
 -- each parent to it.
 use Rattle.std.specs.Prelude.{◌≡◌, ℕ, ◌+◌, ◌-◌, ◌^◌, ◌<◌, ◌≤◌, ◌==◌, ◌/◌, true, Bool, max, if◌then◌else◌, List, [], ◌∷◌, length, map, sum}
 use Rattle.std.specs.List.{All}
-use Rattle.outside.specs.declared.numbers.JobId.{JobId}
+use Rattle.values.specs.declared.numbers.JobId.{JobId}
 use Rattle.digraph.specs.Adjacency.{neighbours}
 use Rattle.dependency_graph.specs.Graph.{Links, jobs_at}
 use Rattle.dependency_graph.specs.Levels.{is_kept}

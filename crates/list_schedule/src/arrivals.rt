@@ -1,11 +1,11 @@
 //! When what a job reads is at a site.
 
 ghost use Rattle.std.specs.Prelude.{◌≡◌, ◌+◌, ◌<◌, ◌≤◌, ◌^◌, ℕ, Bool, true, false, max, length, All};
-ghost use Rattle.outside.specs.declared.numbers.JobId.{JobId};
+ghost use Rattle.values.specs.declared.numbers.JobId.{JobId};
 ghost use Rattle.list_schedule.specs.Schedule.{is_site};
 ghost use Rattle.list_schedule.specs.Arrivals.{latest_at, counted, elsewhere, finish_of};
 
-use outside::{JobId, SiteId};
+use values::{JobId, SiteId};
 
 /// The latest arrival, with the site from which it comes, and the latest from the other sites.
 #[derive(Clone, Copy)]

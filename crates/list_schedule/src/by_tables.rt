@@ -15,7 +15,7 @@ use crate::order::by_rank;
 use crate::placing::placed;
 use crate::ranks::upward_ranks;
 use dependency_graph::Graph;
-use outside::Memory;
+use values::Memory;
 use std::alloc::Global;
 
 /// The schedule over so many sites, by tables: of each job the sites where it can run, beside them

@@ -1,6 +1,6 @@
 //! A schedule of jobs.
 
-use outside::{JobId, SiteId};
+use values::{JobId, SiteId};
 
 /// The site of each job, the kept jobs in the order in which they were placed, and when each job
 /// begins and ends, in seconds. A dropped job has no site, and begins and ends at 0.

@@ -7,7 +7,7 @@ ghost use Rattle.dependency_graph.specs.Ranking.{leveled, numbers_in};
 ghost use Rattle.list_schedule.specs.Ranks.{rank, IsRankOrder};
 ghost use Rattle.list_schedule.specs.Tables.{depths};
 
-use outside::{JobId, Memory};
+use values::{JobId, Memory};
 use std::alloc::Global;
 
 /// No rank is greater.

@@ -1,7 +1,7 @@
 //! The kept jobs, placed one after the other.
 
 ghost use Rattle.std.specs.Prelude.{◌≡◌, ◌+◌, ◌<◌, ◌≤◌, ◌^◌, ℕ, List, true, false, length, vec_len, IfOk, All};
-ghost use Rattle.outside.specs.declared.numbers.JobId.{JobId};
+ghost use Rattle.values.specs.declared.numbers.JobId.{JobId};
 ghost use Rattle.workflow_core.specs.declared.workflow.Workflow.{Workflow};
 ghost use Rattle.workflow_core.specs.WellFormed.{IsWellFormed};
 ghost use Rattle.digraph.specs.Adjacency.{has, lists_of, neighbours};
@@ -20,7 +20,7 @@ use crate::board::{Board, empty};
 use crate::choice::{Slot, earliest};
 use crate::heft::Heft;
 use dependency_graph::Graph;
-use outside::{JobId, Memory, SiteId};
+use values::{JobId, Memory, SiteId};
 use std::alloc::Global;
 
 fn slot_for(

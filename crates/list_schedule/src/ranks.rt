@@ -1,7 +1,7 @@
 //! Upward ranks, from the last job of the graph's order to the first.
 
 ghost use Rattle.std.specs.Prelude.{◌≡◌, ◌+◌, ◌/◌, ◌<◌, ◌≤◌, ◌*◌, ◌^◌, ℕ, max, cond, eqb, true, false, length, sum, replicate, IfOk, All};
-ghost use Rattle.outside.specs.declared.numbers.JobId.{JobId};
+ghost use Rattle.values.specs.declared.numbers.JobId.{JobId};
 ghost use Rattle.workflow_core.specs.declared.workflow.Workflow.{Workflow};
 ghost use Rattle.workflow_core.specs.WellFormed.{IsWellFormed};
 ghost use Rattle.digraph.specs.Adjacency.{lists_of, neighbours};
@@ -12,7 +12,7 @@ ghost use Rattle.list_schedule.specs.Ranks.{rank, AreRanks};
 ghost use Rattle.list_schedule.specs.Tables.{AreFull, AreCosts, reach, rank_by};
 
 use dependency_graph::Graph;
-use outside::{JobId, Memory};
+use values::{JobId, Memory};
 use std::alloc::Global;
 
 /// The mean of some times, rounded down.

@@ -1,3 +1,1 @@
-pub mod FileMapLemmas
 pub mod SinkLemmas
-pub mod SiteMapLemmas

@@ -2,7 +2,7 @@
 use Rattle.std.specs.Prelude.{◌≡◌, ℕ, ◌≤◌, List, [], length, nat_lt, if◌then◌else◌, Option, Some, None, Result, Ok, Err, IfSome}
 use Rattle.std.specs.FinMap as map
 use Rattle.outside.specs.Counts.{one_done, one_fault, one_miss}
-use Rattle.outside.specs.FileMap.{Files}
+use Rattle.values.specs.FileMap.{Files}
 use Rattle.outside.specs.declared.counts.Counts.{Counts}
 use Rattle.outside.specs.declared.docs.DocFault.{DocFault}
 use Rattle.outside.specs.declared.docs.DocFault.TheVariants.{Absent, Failed, TooLong, Memory}

@@ -2,7 +2,7 @@
 use Rattle.std.specs.Prelude.{◌≡◌, ℕ, ◌≤◌, ◌<◌, Bool, List, length, nat_lt, if◌then◌else◌, Option, Some, None, option_map, Result, Ok, Err, IfSome, Decides}
 use Rattle.std.specs.FinMap as map
 use Rattle.outside.specs.Counts.{one_done, one_fault, one_miss}
-use Rattle.outside.specs.SiteMap.{IsEmptyAt}
+use Rattle.values.specs.SiteMap.{IsEmptyAt}
 use Rattle.outside.specs.Store.{Change, changed}
 use Rattle.outside.specs.declared.counts.Counts.{Counts}
 use Rattle.outside.specs.declared.store.Store.{Store}

@@ -1,5 +1,5 @@
 -- Documents in memory.
-use Rattle.outside.specs.FileMap.{Files}
+use Rattle.values.specs.FileMap.{Files}
 use Rattle.outside.specs.declared.counts.Counts.{Counts}
 use Rattle.outside.specs.declared.failing.Failing.{Failing}
 use Rattle.outside.specs.declared.memory_docs.MemoryDocs.{MemoryDocs}

@@ -1,7 +1,7 @@
 -- A store in memory.
 use Rattle.std.specs.Prelude.{ℕ, List}
 use Rattle.std.specs.FinMap as map
-use Rattle.outside.specs.SiteMap.{put_pair}
+use Rattle.values.specs.SiteMap.{put_pair}
 use Rattle.outside.specs.declared.counts.Counts.{Counts}
 use Rattle.outside.specs.declared.failing.Failing.{Failing}
 use Rattle.outside.specs.declared.memory_host.MemoryHost.{MemoryHost}

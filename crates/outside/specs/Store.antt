@@ -1,7 +1,7 @@
 -- What a store holds, and what changes it.
 use Rattle.std.specs.Prelude.{ℕ, List, [], ◌∷◌, ◌++◌, length}
 use Rattle.std.specs.FinMap as map
-use Rattle.outside.specs.SiteMap.{put_pair, take_pair}
+use Rattle.values.specs.SiteMap.{put_pair, take_pair}
 use Rattle.outside.specs.declared.operation.Operation.{Operation}
 use Rattle.outside.specs.declared.operation.Operation.TheVariants.{Publish, Deliver, Remove}
 use Rattle.outside.specs.declared.store.Store.{Store}

@@ -3,11 +3,11 @@
 ghost use Rattle.std.specs.Prelude.{◌≡◌, [], Option};
 ghost use Rattle.outside.specs.declared.docs.DocFault.TheVariants as doc_faults;
 ghost use Rattle.outside.specs.Counts.{IsLater};
-ghost use Rattle.outside.specs.FileMap.{Files};
+ghost use Rattle.values.specs.FileMap.{Files};
 ghost use Rattle.outside.specs.declared.counts.Counts.{Counts};
 
 use crate::counts::Counts;
-use crate::memory::Memory;
+use values::Memory;
 use std::alloc::Global;
 use thiserror::Error;
 

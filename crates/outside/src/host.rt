@@ -6,9 +6,9 @@ ghost use Rattle.outside.specs.Counts.{IsLater};
 ghost use Rattle.outside.specs.declared.counts.Counts.{Counts};
 ghost use Rattle.outside.specs.declared.store.Store.{Store};
 
-use crate::blob::Blob;
+use values::Blob;
 use crate::counts::Counts;
-use crate::memory::Memory;
+use values::Memory;
 use crate::store::Store;
 use std::alloc::Global;
 use thiserror::Error;
@@ -40,7 +40,7 @@ pub trait Host: Drop {
     ghost use Rattle.std.specs.Prelude.{IfSome, OnErr, OnOk, option_map};
     ghost use Rattle.std.specs.FinMap as map;
     ghost use Rattle.outside.specs.Host.{Changes, Empties, Reads};
-    ghost use Rattle.outside.specs.SiteMap.{pair_at};
+    ghost use Rattle.values.specs.SiteMap.{pair_at};
     ghost use Rattle.outside.specs.Store.{Delivers, Publishes, Removes};
 
     /// What it holds, where it is told.

@@ -6,8 +6,8 @@ ghost use Rattle.std.specs.FinMap as map;
 use crate::counts::Counts;
 use crate::docs::{DocFault, Docs};
 use crate::failing::Failing;
-use crate::file_map::FileMap;
-use crate::memory::Memory;
+use values::FileMap;
+use values::Memory;
 use std::alloc::Global;
 
 /// Documents that are told, of whose fetches the listed ones fail.

@@ -5,11 +5,11 @@ ghost use Rattle.std.specs.FinMap as map;
 ghost use Rattle.outside.specs.Counts.{IsLater};
 ghost use Rattle.outside.specs.Host.{Reads};
 
-use crate::blob::Blob;
+use values::Blob;
 use crate::counts::Counts;
 use crate::failing::Failing;
 use crate::host::{Host, HostFault};
-use crate::memory::Memory;
+use values::Memory;
 use crate::operation::Operation;
 use crate::store::Store;
 use std::alloc::Global;
@@ -27,7 +27,7 @@ impl MemoryHost {
     ghost use Rattle.outside.specs.Counts.{no_calls};
     ghost use Rattle.outside.specs.Failing.{calls_made, failing_calls};
     ghost use Rattle.outside.specs.MemoryHost.{host_counts, host_failing, host_marked, host_store, with_replica, with_scratch};
-    ghost use Rattle.outside.specs.SiteMap.{pair_at};
+    ghost use Rattle.values.specs.SiteMap.{pair_at};
     ghost use Rattle.outside.specs.Store.{blank};
 
     /// No file. `failing` lists the calls that are to fail, by number from 1.
@@ -128,7 +128,7 @@ impl Host for MemoryHost {
     ghost use Rattle.outside.specs.Failing.{IsNextCall, fails_next};
     ghost use Rattle.outside.specs.Host.{Changes, Empties, Reads};
     ghost use Rattle.outside.specs.MemoryHost.{host_counts, host_failing, host_marked, host_store};
-    ghost use Rattle.outside.specs.SiteMap.{pair_at};
+    ghost use Rattle.values.specs.SiteMap.{pair_at};
     ghost use Rattle.outside.specs.Store.{Delivers, Publishes, Removes};
 
     ghost told = { λ h. Some h.store };

@@ -3,7 +3,7 @@
 ghost use Rattle.std.specs.Prelude.{◌≡◌, ◌≤◌, ◌<◌, [], IfOk, vec_capacity, length};
 
 use crate::failing::Failing;
-use crate::memory::Memory;
+use values::Memory;
 use crate::sink::{Sink, SinkFault};
 use std::alloc::Global;
 

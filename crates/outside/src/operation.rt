@@ -2,8 +2,8 @@
 
 ghost use Rattle.std.specs.Prelude.{◌≡◌, ◌++◌, ◌∷◌, [], List, OnOk, OnErr};
 
-use crate::memory::Memory;
-use crate::text::Text;
+use values::Memory;
+use values::Text;
 use std::alloc::{AllocError, Global};
 use std::marker::Model;
 

@@ -2,11 +2,11 @@
 
 ghost use Rattle.std.specs.Prelude.{◌≡◌, OnErr, OnOk, None, Ok, true, false};
 
-use crate::file_map::FileMap;
-use crate::memory::Memory;
+use values::FileMap;
+use values::Memory;
 use crate::operation::{Operation, Operations};
-use crate::site_map::SiteMap;
-use crate::text::Text;
+use values::SiteMap;
+use values::Text;
 use std::alloc::{AllocError, Global};
 
 /// The replicas by their physical names, each site's files and the delivered files by name, and the changes made.
@@ -19,7 +19,7 @@ pub struct Store {
 }
 
 impl Store {
-    ghost use Rattle.outside.specs.SiteMap.{pair_at};
+    ghost use Rattle.values.specs.SiteMap.{pair_at};
     ghost use Rattle.outside.specs.Store.{Delivers, Publishes, Removes, blank, changed};
 
     /// Nothing at all.

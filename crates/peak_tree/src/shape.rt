@@ -6,7 +6,7 @@ ghost use Rattle.peak_tree.specs.Node.{width, depth, nodes, numbers, IsShaped, I
 
 use crate::node::{Gaps, Node, Parts, greater, visit};
 use crate::steps::Steps;
-use outside::Memory;
+use values::Memory;
 use std::alloc::Global;
 use std::sync::ledger::{Blank, Ledger};
 

@@ -9,7 +9,7 @@ use crate::change::{Change, apply};
 use crate::node::{Node, greatest_up_to, number};
 use crate::shape::{fill, fill_uncounted, shape};
 use crate::steps::Steps;
-use outside::Memory;
+use values::Memory;
 use std::alloc::Global;
 use std::marker::{Brand, Model};
 use std::sync::ledger::{Blank, Ledger};

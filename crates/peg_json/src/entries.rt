@@ -8,7 +8,7 @@ ghost use Rattle.peg_json.specs.Entries.{entry_of, entries_from, entries_in, see
 use crate::fault::TreeFault;
 use crate::path::at_key;
 use crate::tree::FromTree;
-use outside::Text;
+use values::Text;
 use serde_json::{Map, Value};
 use std::alloc::Global;
 

@@ -3,7 +3,7 @@
 ghost use Rattle.std.specs.Prelude.{◌≡◌};
 ghost use Rattle.peg_json.specs.declared.fault.TreeFault.TheVariants as faults;
 
-use outside::{Memory, Text};
+use values::{Memory, Text};
 use std::alloc::{AllocError, AllocFailed};
 
 /// The first fault of a tree.

@@ -8,7 +8,7 @@ ghost use Rattle.peg_json.specs.Typed.{text_of, name_of, number_of, flag_of, dig
 
 use crate::fault::TreeFault;
 use crate::path::at_key;
-use outside::Text;
+use values::Text;
 use serde_json::Value;
 use std::alloc::Global;
 

@@ -7,7 +7,7 @@ ghost use Rattle.peg_json.specs.Tree.{Gives, each_from, list_in};
 use crate::fault::TreeFault;
 use crate::path;
 use crate::tree::FromTree;
-use outside::Text;
+use values::Text;
 use serde_json::Value;
 use std::alloc::Global;
 

@@ -10,7 +10,7 @@ ghost use Rattle.serde_json.specs.View.{view as tree_view};
 
 use crate::member::present;
 use crate::path;
-use outside::{Memory, Text};
+use values::{Memory, Text};
 use serde_json::Value;
 use std::alloc::Global;
 

@@ -8,7 +8,7 @@ ghost use Rattle.peg_json.specs.Lists.{list_or_none};
 use crate::fault::TreeFault;
 use crate::tree::FromTree;
 use crate::typed;
-use outside::{Items, Text};
+use values::{Items, Text};
 use serde_json::Value;
 use std::alloc::Global;
 

@@ -13,7 +13,7 @@ use crate::fault::TreeFault;
 use crate::path;
 use crate::row::{KeyRow, Kind};
 use crate::table::KeyTable;
-use outside::{Memory, Text};
+use values::{Memory, Text};
 use serde_json::{Map, Value};
 use std::alloc::Global;
 

@@ -7,7 +7,7 @@ ghost use Rattle.peg_json.specs.Typed.{number_of};
 
 use crate::fault::TreeFault;
 use crate::tree::FromTree;
-use outside::Text;
+use values::Text;
 use serde_json::Value;
 use std::alloc::Global;
 

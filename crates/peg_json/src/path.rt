@@ -4,7 +4,7 @@ ghost use Rattle.std.specs.Prelude.{◌≡◌, [], IfOk, string_bytes};
 ghost use Rattle.serde_json.specs.Find.{unescape};
 ghost use Rattle.peg_json.specs.Path.{key_path, index_path, escaped};
 
-use outside::{Memory, Text};
+use values::{Memory, Text};
 use std::alloc::Global;
 
 /// The key, with `~0` for `~` and `~1` for `/`.

@@ -11,7 +11,7 @@ use crate::row::{KeyRow, Kind};
 use crate::table::KeyTable;
 use crate::tree::FromTree;
 use crate::typed;
-use outside::{Memory, Text};
+use values::{Memory, Text};
 use serde_json::Value;
 use std::alloc::Global;
 

@@ -15,7 +15,7 @@ use crate::selector_profiles::SelectorProfiles;
 use crate::table::KeyTable;
 use crate::tree::FromTree;
 use crate::typed;
-use outside::{Memory, Text};
+use values::{Memory, Text};
 use serde_json::Value;
 use std::alloc::Global;
 

@@ -5,7 +5,7 @@ ghost use Rattle.peg_json.specs.declared.fault.TreeFault.TheVariants as faults;
 ghost use Rattle.peg_json.specs.declared.read_fault.ReadFault.TheVariants.{Tree};
 
 use crate::fault::TreeFault;
-use outside::{Memory, Text};
+use values::{Memory, Text};
 use std::alloc::{AllocError, AllocFailed};
 
 /// What there are too many of.

@@ -9,7 +9,7 @@ use crate::fault::TreeFault;
 use crate::member::present;
 use crate::path::at_key;
 use crate::typed;
-use outside::Text;
+use values::Text;
 use serde_json::Value;
 use std::alloc::Global;
 

@@ -8,7 +8,7 @@ ghost use Rattle.peg_json.specs.Sites.{sites_checked};
 
 use crate::count::at_most;
 use crate::read_fault::{Counted, ReadFault};
-use outside::Text;
+use values::Text;
 use std::alloc::Global;
 
 const MAX_SITES: u64 = 64;

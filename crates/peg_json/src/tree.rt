@@ -7,7 +7,7 @@ ghost use Rattle.peg_json.specs.Tree.{Gives, tree_of};
 ghost use Rattle.peg_json.specs.declared.fault.TreeFault as declared;
 
 use crate::fault::TreeFault;
-use outside::Text;
+use values::Text;
 use serde_json::Value;
 use std::alloc::Global;
 

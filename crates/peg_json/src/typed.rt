@@ -11,7 +11,7 @@ use crate::list::list_at;
 use crate::member::present;
 use crate::path::at_key;
 use crate::tree::FromTree;
-use outside::Text;
+use values::Text;
 use serde_json::Value;
 use std::alloc::Global;
 

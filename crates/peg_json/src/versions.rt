@@ -7,7 +7,7 @@ ghost use Rattle.peg_json.specs.Versions.{are_digits as digits, is_version, vers
 
 use crate::fault::TreeFault;
 use crate::typed;
-use outside::Text;
+use values::Text;
 use serde_json::Value;
 use std::alloc::Global;
 

@@ -6,7 +6,7 @@ ghost use Rattle.std.specs.Prelude.{◌≡◌, IfOk, length};
 
 use craft::{Crew, OpenGate};
 use host_files::{FolderDocs, FolderHost, Progress, ShownTool, StreamSink, WipingSink};
-use outside::Memory;
+use values::Memory;
 use pegasus_cli::{Outcome, pegasus, user_words};
 use std::alloc::Global;
 use std::io::IsTerminal;

@@ -3,7 +3,7 @@ use Rattle.std.proofs.Common.{◌≡◌, ap, [], refl, sym, subst, ◌∙◌, in
 use Rattle.std.specs.Prelude.{◌⊎◌, Option, Some, Result, Ok, Err}
 use Rattle.outside.specs.Counts.{IsLater, Rose, one_done, one_fault}
 use Rattle.outside.specs.Docs.{Fetched}
-use Rattle.outside.specs.FileMap.{Files}
+use Rattle.values.specs.FileMap.{Files}
 use Rattle.outside.specs.declared.counts.Counts.{Counts}
 use Rattle.outside.specs.declared.docs.DocFault.{DocFault}
 use Rattle.outside.specs.declared.docs.DocFault.TheVariants as doc_faults

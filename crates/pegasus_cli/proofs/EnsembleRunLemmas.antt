@@ -6,7 +6,7 @@ use Rattle.std.specs.FinMap as files
 use Rattle.std.proofs.lemmas.List.{length-append, length-map}
 use Rattle.std.proofs.Math.Logic.{∥∥₁_map}
 use Rattle.outside.specs.Counts.{Rose}
-use Rattle.outside.specs.FileMap.{Files}
+use Rattle.values.specs.FileMap.{Files}
 use Rattle.outside.specs.declared.store.Store.{Store}
 use Rattle.workflow_core.specs.Requested.{is_requested}
 use Rattle.plan_request.specs.declared.request.PlanRequest.{PlanRequest}

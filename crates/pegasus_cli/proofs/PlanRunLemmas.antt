@@ -2,9 +2,9 @@
 use Rattle.std.proofs.Common.{◌≡◌, ℕ, ◌≤◌, Bool, true, List, [], refl, sym, ap, subst, ◌∙◌, inl, inr, arith}
 use Rattle.std.specs.Prelude.{Option, Some, None, IfSome, MatchOption, Ok, Err}
 use Rattle.std.specs.FinMap as files
-use Rattle.outside.specs.Policy.{plain}
-use Rattle.outside.specs.declared.numbers.TaskId.{TaskId}
-use Rattle.outside.specs.declared.policy.Policy.{Policy}
+use Rattle.values.specs.Policy.{plain}
+use Rattle.values.specs.declared.numbers.TaskId.{TaskId}
+use Rattle.values.specs.declared.policy.Policy.{Policy}
 use Rattle.outside.specs.declared.store.Store.{Store}
 use Rattle.plan_core.specs.declared.plan.Plan.{Plan}
 use Rattle.plan_core.specs.declared.plan.PlanJob.{PlanJob}

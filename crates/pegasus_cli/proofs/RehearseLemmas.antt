@@ -7,14 +7,14 @@ use Rattle.outside.specs.Counts.{Rose}
 use Rattle.outside.specs.MemoryHost.{host_counts, host_store, with_replica}
 use Rattle.std.specs.Cmp.Lexicographic.{slice_cmp}
 use Rattle.std.specs.Ordering.{nat_cmp}
-use Rattle.outside.specs.FileMap.{Files}
-use Rattle.outside.specs.SiteMap.{Sites, or_empty, pair_at}
+use Rattle.values.specs.FileMap.{Files}
+use Rattle.values.specs.SiteMap.{Sites, or_empty, pair_at}
 use Rattle.outside.specs.declared.operation.Operation.{Operation}
 use Rattle.outside.specs.Store.{blank}
-use Rattle.outside.specs.Tool.{Apply}
+use Rattle.values.specs.Apply.{Apply}
 use Rattle.outside.specs.declared.counts.Counts.{Counts}
 use Rattle.outside.specs.declared.memory_host.MemoryHost.{MemoryHost}
-use Rattle.outside.specs.declared.numbers.TaskId.{TaskId}
+use Rattle.values.specs.declared.numbers.TaskId.{TaskId}
 use Rattle.outside.specs.declared.store.Store.{Store}
 use Rattle.plan_core.specs.declared.plan.Plan.{Plan}
 use Rattle.plan_core.specs.declared.plan.PlanSite.{PlanSite}

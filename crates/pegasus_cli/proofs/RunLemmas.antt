@@ -2,7 +2,7 @@
 use Rattle.std.proofs.Common.{ℕ, List, inl, inr}
 use Rattle.std.specs.Prelude.{Option}
 use Rattle.std.proofs.Math.Logic.{∥∥₁_elim, ∥∥₁_map}
-use Rattle.outside.specs.declared.numbers.TaskId.{TaskId}
+use Rattle.values.specs.declared.numbers.TaskId.{TaskId}
 use Rattle.plan_core.specs.declared.plan.Plan.{Plan}
 use Rattle.plan_core.specs.Words.{task_numbers}
 use Rattle.run_record.specs.Events.{Log}

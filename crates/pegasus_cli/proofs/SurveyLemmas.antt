@@ -2,8 +2,8 @@
 use Rattle.std.proofs.Common.{◌≡◌, ℕ, List, [], length, refl, sym, ap, subst, ◌∙◌, inl, inr, arith}
 use Rattle.std.specs.Prelude.{◌⊎◌, Some, Result, Ok, Err}
 use Rattle.outside.specs.Counts.{Rose}
-use Rattle.outside.specs.FileMap.{Files}
-use Rattle.outside.specs.declared.documents.Documents.{Documents}
+use Rattle.values.specs.FileMap.{Files}
+use Rattle.values.specs.declared.documents.Documents.{Documents}
 use Rattle.workflow_core.specs.View.{view}
 use Rattle.workflow_core.specs.declared.workflow.Workflow.{Workflow}
 use Rattle.dependency_graph.specs.Built.{AreTwoProducers}

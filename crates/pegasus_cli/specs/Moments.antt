@@ -1,7 +1,7 @@
 -- What the objects of a call show before and after it.
 use Rattle.std.specs.Prelude.{ℕ, List, map, Option}
 use Rattle.craft.specs.declared.crew.Crew.{Crew}
-use Rattle.outside.specs.FileMap.{Files}
+use Rattle.values.specs.FileMap.{Files}
 use Rattle.outside.specs.declared.counts.Counts.{Counts}
 use Rattle.outside.specs.declared.docs.Docs as docs
 use Rattle.outside.specs.declared.host.Host as host

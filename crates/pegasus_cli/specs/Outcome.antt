@@ -1,10 +1,10 @@
 -- The line of an outcome, and its status.
 use Rattle.std.specs.Prelude.{ℕ, ◌++◌, Bool, false, List, [], codes, Ok, Err}
-use Rattle.outside.specs.Printed.{printed_name}
+use Rattle.values.specs.Printed.{printed_name}
 use Rattle.pegasus_cli.specs.declared.fault.CallFault.TheVariants as faults
 use Rattle.pegasus_cli.specs.declared.outcome.Outcome.{Outcome}
 use Rattle.pegasus_cli.specs.declared.outcome.Outcome.TheVariants.{Done, Memory, Usage, DocAbsent, DocTooLong, DocFailed, Refused, Exceeds, Failed, BadRecord, RefusedEnsemble, RefusedMember, SinkFailed}
-use Rattle.outside.specs.declared.numbers.TaskId.{TaskId}
+use Rattle.values.specs.declared.numbers.TaskId.{TaskId}
 use Rattle.planner.specs.Refused.{and_name, and_number, refused_line}
 use Rattle.run_record.specs.FailedLine.{failed_line}
 use Rattle.pegasus_cli.specs.EnsembleLine.{ensemble_line, member_line}

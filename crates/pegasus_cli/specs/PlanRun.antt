@@ -1,7 +1,7 @@
 -- A run of a plan of the documents: what it delivers, why nothing is run, and what keeps nothing from being run.
 use Rattle.std.specs.Prelude.{◌≡◌, ◌⊎◌, ℕ, Bool, true, List, [], slice_index_or, Option, Some, None, IfSome, MatchOption, Result, Ok, Err}
 use Rattle.std.specs.FinMap as files
-use Rattle.outside.specs.declared.numbers.TaskId.{TaskId}
+use Rattle.values.specs.declared.numbers.TaskId.{TaskId}
 use Rattle.outside.specs.declared.store.Store.{Store}
 use Rattle.plan_core.specs.declared.plan.Plan.{Plan}
 use Rattle.plan_core.specs.Proper.{IsProper}

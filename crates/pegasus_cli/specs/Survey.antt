@@ -1,6 +1,6 @@
 -- The documents of one request, surveyed: when they end a command, and when it goes on.
 use Rattle.std.specs.Prelude.{◌≡◌, ◌⊎◌, ℕ, List, Option, Some, Result, Ok, Err}
-use Rattle.outside.specs.FileMap.{Files}
+use Rattle.values.specs.FileMap.{Files}
 use Rattle.workflow_core.specs.View.{view}
 use Rattle.workflow_core.specs.declared.workflow.Workflow.{Workflow}
 use Rattle.dependency_graph.specs.Graph.{IsSound}

@@ -1,7 +1,7 @@
 //! The documents of a call, fetched one after the other.
 
 ghost use Rattle.std.specs.Prelude.{◌≡◌, IfOk, Ok, Err};
-ghost use Rattle.outside.specs.Policy.{plain};
+ghost use Rattle.values.specs.Policy.{plain};
 ghost use Rattle.plan_request.specs.Limits.{IsWithinLimits};
 ghost use Rattle.plan_request.specs.Reader.{execute_checked};
 ghost use Rattle.pegasus_cli.specs.Course.{ButMemory, IsStep, doc_answer, document, documents, documents_with, if_named, named_documents, request_in_bytes, with_record};

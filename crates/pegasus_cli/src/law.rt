@@ -1,7 +1,7 @@
 //! What the clause of a call comes to.
 
 ghost use Rattle.std.specs.Prelude.{◌≡◌, ◌⊎◌, ◌++◌, ℕ, List, None, Result, Some};
-ghost use Rattle.outside.specs.FileMap.{Files};
+ghost use Rattle.values.specs.FileMap.{Files};
 ghost use Rattle.outside.specs.declared.counts.Counts.{Counts};
 ghost use Rattle.pegasus_cli.specs.declared.course.Requested.{Requested};
 ghost use Rattle.pegasus_cli.specs.declared.fault.CallFault.{CallFault};

@@ -1,12 +1,12 @@
 -- The text of a plan, row by row.
 use Rattle.std.specs.Prelude.{ℕ, suc, ◌==◌, ◌&&◌, ◌++◌, Bool, not, if◌then◌else◌, List, [], ◌∷◌, map, codes, Option, Some, None, is_some, slice_get}
 use Rattle.std.specs.Fmt.{decimal}
-use Rattle.outside.specs.Printed.{printed_name}
-use Rattle.outside.specs.declared.numbers.FileId.{FileId}
-use Rattle.outside.specs.declared.numbers.PairId.{PairId}
-use Rattle.outside.specs.declared.numbers.SiteId.{SiteId}
-use Rattle.outside.specs.declared.numbers.TaskId.{TaskId}
-use Rattle.outside.specs.declared.policy.Policy.{Policy}
+use Rattle.values.specs.Printed.{printed_name}
+use Rattle.values.specs.declared.numbers.FileId.{FileId}
+use Rattle.values.specs.declared.numbers.PairId.{PairId}
+use Rattle.values.specs.declared.numbers.SiteId.{SiteId}
+use Rattle.values.specs.declared.numbers.TaskId.{TaskId}
+use Rattle.values.specs.declared.policy.Policy.{Policy}
 use Rattle.plan_core.specs.declared.plan.Plan.{Plan}
 use Rattle.plan_core.specs.declared.plan.Pair.{Pair}
 use Rattle.plan_core.specs.declared.plan.PlanFile.{PlanFile}

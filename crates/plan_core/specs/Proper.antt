@@ -2,9 +2,9 @@
 use Rattle.std.specs.Prelude.{◌≡◌, ℕ, ◌<◌, ◌==◌, ◌&&◌, ◌||◌, ◌^◌, ◌++◌, Bool, true, not, List, [], ◌∷◌, length, map, nat_lt, Option, Some, None, slice_get, is_some}
 use Rattle.std.specs.List.{list_any, list_all, IsDistinct}
 use Rattle.std.specs.Str.{bytes_eq}
-use Rattle.outside.specs.declared.numbers.FileId.{FileId}
-use Rattle.outside.specs.declared.numbers.JobId.{JobId}
-use Rattle.outside.specs.declared.numbers.SiteId.{SiteId}
+use Rattle.values.specs.declared.numbers.FileId.{FileId}
+use Rattle.values.specs.declared.numbers.JobId.{JobId}
+use Rattle.values.specs.declared.numbers.SiteId.{SiteId}
 use Rattle.std.proofs.Props.{props}
 use Rattle.std.proofs.lemmas.Map.Keys.{IsDistinct-prop}
 use Rattle.digraph.specs.Cycle.{Returns}

@@ -1,7 +1,7 @@
 -- The tests of each task by itself.
 use Rattle.std.specs.Prelude.{◌≡◌, ℕ, ◌&&◌, ◌++◌, Bool, true, not, List, [], ◌∷◌, cond, nat_eq, Option, is_some, slice_get}
 use Rattle.std.specs.List.{list_any, list_all}
-use Rattle.outside.specs.declared.numbers.JobId.{JobId}
+use Rattle.values.specs.declared.numbers.JobId.{JobId}
 use Rattle.plan_core.specs.declared.plan.Plan.{Plan}
 use Rattle.plan_core.specs.declared.plan.PlanJob.{PlanJob}
 use Rattle.plan_core.specs.declared.plan.Task.{Task}

@@ -7,7 +7,7 @@ use crate::flow::has_flow;
 use crate::plan::Plan;
 use crate::tables::has_tables;
 use crate::tasks::are_tasks;
-use outside::Memory;
+use values::Memory;
 use std::alloc::Global;
 
 /// Whether a plan is proper, in n log n of its size.

@@ -3,7 +3,7 @@
 ghost use Rattle.std.specs.Prelude.{◌≡◌, IfOk};
 
 use crate::plan::{Plan, PlanFile, PlanJob, PlanSite, Source, Task, TaskKind};
-use outside::{Items, Memory, Policy, Text};
+use values::{Items, Memory, Policy, Text};
 use std::alloc::Global;
 
 /// A copy of a list of numbers.

@@ -8,7 +8,7 @@ ghost use Rattle.plan_core.specs.Words.{file_numbers, inputs, outputs, pair_at, 
 
 use crate::plan::{Pair, PlanJob, Source, Target, TaskKind};
 use crate::rising::{difference, sorted};
-use outside::{FileId, Items, JobId, Memory, PairId, SiteId};
+use values::{FileId, Items, JobId, Memory, PairId, SiteId};
 use std::alloc::Global;
 
 /// Numbers of files at a site, in rising order.

@@ -18,7 +18,7 @@ use crate::listing::{Listing, awaited_lists, graph, neighbours, tasks_listed};
 use crate::plan::Plan;
 use crate::rising::{is_among, is_rising};
 use digraph::Digraph;
-use outside::{Memory, TaskId};
+use values::{Memory, TaskId};
 use std::alloc::Global;
 
 fn have_one(lists: &[Vec<u32>], count: usize) -> bool

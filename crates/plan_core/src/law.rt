@@ -1,7 +1,7 @@
 //! What the definitions come to.
 
 ghost use Rattle.std.specs.Prelude.{◌≡◌, ◌<◌, ◌||◌, ℕ, Bool, true, false, length, List, Option, Some};
-ghost use Rattle.outside.specs.Tool.{Apply};
+ghost use Rattle.values.specs.Apply.{Apply};
 ghost use Rattle.plan_core.specs.declared.plan.Plan.{Plan};
 ghost use Rattle.plan_core.specs.declared.plan.TaskKind.{TaskKind};
 ghost use Rattle.plan_core.specs.Carried.{Bytes, IsCarrying, carried, writer};

@@ -10,7 +10,7 @@ ghost use Rattle.plan_core.specs.Words.{kind, pair_numbers, task_numbers};
 
 use crate::plan::{Plan, Target, Task, TaskKind};
 use digraph::Digraph;
-use outside::{Memory, PairId, TaskId};
+use values::{Memory, PairId, TaskId};
 use std::alloc::Global;
 
 /// What is listed of a task.

@@ -1,6 +1,6 @@
 //! A plan: tables of sites, files, jobs and pairs, and the tasks over them.
 
-use outside::{FileId, Items, JobId, PairId, Policy, SiteId, TaskId, Text};
+use values::{FileId, Items, JobId, PairId, Policy, SiteId, TaskId, Text};
 
 /// An execution site; the bound is in bytes.
 #[derive(Debug, Drop)]

@@ -2,13 +2,13 @@
 
 ghost use Rattle.std.specs.Prelude.{◌≡◌, ◌++◌, ℕ, List, map, length, slice_get, string_bytes, IfOk, OnOk};
 ghost use Rattle.std.specs.Fmt.{decimal};
-ghost use Rattle.outside.specs.declared.numbers.PairId.{PairId};
+ghost use Rattle.values.specs.declared.numbers.PairId.{PairId};
 ghost use Rattle.plan_core.specs.declared.plan.Pair.{Pair};
 ghost use Rattle.plan_core.specs.Printing.{file_line, file_number, flag, is_plain, job_line, maybe, numbered, numbers, pair_files, peak_line, plan_text, policy_line, clean_row, run_row, site_line, site_number, spaced, task_line, task_row, transfer_row};
 ghost use Rattle.plan_core.specs.Words.{job_numbers, task_numbers};
 
 use crate::plan::{Pair, Plan, PlanFile, PlanJob, PlanSite, Source, Target, Task, TaskKind};
-use outside::{Blob, FileId, JobId, Memory, PairId, Policy, SiteId, TaskId, Text, Word, push_line};
+use values::{Blob, FileId, JobId, Memory, PairId, Policy, SiteId, TaskId, Text, Word, push_line};
 use std::alloc::Global;
 
 /// Adds numbers, a space before each.

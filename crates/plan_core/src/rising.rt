@@ -4,7 +4,7 @@ ghost use Rattle.std.specs.Prelude.{◌≡◌, ◌&&◌, ◌++◌, ◌∷◌, []
 ghost use Rattle.plan_core.specs.Numbers.{RisesFrom, has};
 ghost use Rattle.plan_core.specs.Rising.{is_rising, rises_after, without};
 
-use outside::Memory;
+use values::Memory;
 use std::alloc::Global;
 
 /// Whether each number is above the one before it.

@@ -11,7 +11,7 @@ ghost use Rattle.plan_core.specs.declared.plan.Task.{Task};
 
 use crate::plan::{Pair, Plan, PlanFile, PlanJob, PlanSite, Source, Target, TaskKind};
 use indexmap::IndexSet;
-use outside::{FileId, JobId, Memory, SiteId, Text};
+use values::{FileId, JobId, Memory, SiteId, Text};
 use std::alloc::Global;
 
 fn is_few(count: usize) -> bool

@@ -10,7 +10,7 @@ ghost use Rattle.plan_core.specs.Words.{file_numbers, reads_in, writes_in};
 use crate::files::{SiteFiles, are_pairs, files_read, files_written, inputs, outputs};
 use crate::plan::{Plan, PlanJob, Task, TaskKind};
 use indexmap::IndexSet;
-use outside::{FileId, JobId, Memory};
+use values::{FileId, JobId, Memory};
 use std::alloc::Global;
 
 /// Adds files to those that are known.

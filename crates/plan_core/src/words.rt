@@ -5,7 +5,7 @@ ghost use Rattle.std.specs.Option.{option_copied};
 ghost use Rattle.plan_core.specs.Words.{bound, cleans, declared, delivers, is_at, is_clean, is_fresh, is_pair, is_run, is_transfer, kind, output_bound, pair, pair_numbers, parents, reads, retries, task_numbers, writes};
 
 use crate::plan::{Pair, Plan, Target, TaskKind};
-use outside::{FileId, PairId, SiteId, TaskId};
+use values::{FileId, PairId, SiteId, TaskId};
 
 impl Plan {
     /// What a task does.

@@ -2,7 +2,7 @@
 use Rattle.std.proofs.Common.{◌≡◌, ℕ, List, refl, subst}
 use Rattle.std.specs.Prelude.{◌^◌, Ok, codes}
 use Rattle.serde_json.specs.Data.{Data}
-use Rattle.outside.specs.Policy.{plain}
+use Rattle.values.specs.Policy.{plain}
 use Rattle.peg_json.specs.Table.{checks}
 use Rattle.peg_json.specs.Tree.{list_in}
 use Rattle.peg_json.specs.Typed.{flag_of, name_of, number_of, optional, required}

@@ -1,7 +1,7 @@
 -- What the tree of a request is.
 use Rattle.std.specs.Prelude.{ℕ, ◌^◌, List, [], ◌∷◌, codes, false, unwrap_or, Result, Ok}
 use Rattle.serde_json.specs.Data.{Data}
-use Rattle.outside.specs.Policy.{plain}
+use Rattle.values.specs.Policy.{plain}
 use Rattle.peg_json.specs.Tree.{◌>>=◌, list_in}
 use Rattle.peg_json.specs.Table.{Row, needs, may_have, checks}
 use Rattle.peg_json.specs.Typed.{required, optional, name_of, number_of, flag_of}

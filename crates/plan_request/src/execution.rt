@@ -6,7 +6,7 @@ ghost use Rattle.plan_request.specs.Execution.{execution_rows};
 
 use crate::known::only_known;
 use crate::request::Execution;
-use outside::Text;
+use values::Text;
 use peg_json::{FromTree, KeyRow, KeyTable, Kind, SiteNamed, TreeFault, checked, row};
 use serde_json::Value;
 use std::alloc::Global;

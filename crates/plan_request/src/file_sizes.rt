@@ -7,7 +7,7 @@ ghost use Rattle.plan_request.specs.FileSizes.{named_size, size_by, declared_siz
 
 use crate::index::Index;
 use crate::request::{PlanRequest, SizeOf};
-use outside::{Memory, Text};
+use values::{Memory, Text};
 use std::alloc::Global;
 
 fn sizes_by_name(alloc: Global, sizes: &[SizeOf]) -> Result<Index<u64>, Memory>

@@ -6,7 +6,7 @@ ghost use Rattle.std.specs.Str.{bytes_eq};
 ghost use Rattle.plan_request.specs.Index.{with_entry};
 
 use indexmap::IndexMap;
-use outside::{Memory, Text};
+use values::{Memory, Text};
 use std::alloc::Global;
 use std::marker::Model;
 

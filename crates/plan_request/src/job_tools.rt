@@ -7,7 +7,7 @@ ghost use Rattle.plan_request.specs.JobTools.{named_tool, tool_of};
 
 use crate::index::Index;
 use crate::request::{PlanRequest, ToolOf};
-use outside::{Memory, Text};
+use values::{Memory, Text};
 use std::alloc::Global;
 use std::marker::Model;
 

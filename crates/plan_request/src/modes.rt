@@ -6,7 +6,7 @@ ghost use Rattle.peg_json.specs.Tree.{Gives};
 ghost use Rattle.plan_request.specs.Modes.{cluster_at, cleanup_at};
 
 use crate::request::{Cleanup, ClusterMode};
-use outside::Text;
+use values::Text;
 use peg_json::{TreeFault, at_key, row};
 use serde_json::Value;
 use std::alloc::Global;

@@ -1,13 +1,13 @@
 //! The reader of whole requests.
 
 ghost use Rattle.std.specs.Prelude.{◌≡◌, Ok, IfOk};
-ghost use Rattle.outside.specs.Policy.{plain};
+ghost use Rattle.values.specs.Policy.{plain};
 ghost use Rattle.peg_json.specs.ReadFault.{GivesRead};
 ghost use Rattle.plan_request.specs.Limits.{IsWithinLimits};
 ghost use Rattle.plan_request.specs.Reader.{execute_checked, sites_distinct, read_of};
 
 use crate::request::{Execution, PlanRequest};
-use outside::Text;
+use values::Text;
 use peg_json::{FromTree, ReadFault, check_sites, parse, root};
 use std::alloc::Global;
 

@@ -1,6 +1,6 @@
 //! What a request asks for.
 
-use outside::{Items, Policy, Text};
+use values::{Items, Policy, Text};
 
 /// A whole request. Sizes are in bytes.
 #[derive(Debug, Drop)]

@@ -7,7 +7,7 @@ ghost use Rattle.plan_request.specs.Positive.{positive};
 ghost use Rattle.plan_request.specs.Selection.{selector_at, rate_at, runtimes_or_none};
 
 use crate::request::{Runtime, Selector};
-use outside::{Items, Text};
+use values::{Items, Text};
 use peg_json::{TreeFault, at_key, row};
 use serde_json::Value;
 use std::alloc::Global;

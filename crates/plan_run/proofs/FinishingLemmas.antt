@@ -3,8 +3,8 @@ use Rattle.std.proofs.Common.{◌≡◌, ◌⊎◌, ℕ, ◌-◌, ◌^◌, ◌�
 use Rattle.std.proofs.lemmas.Bool.{cases_lt}
 use Rattle.std.specs.Prelude.{Option, Some, None, IfSome, MatchOption, Ok, Err}
 use Rattle.outside.specs.Counts.{Rose}
-use Rattle.outside.specs.SiteMap.{IsEmptyAt}
-use Rattle.outside.specs.Tool.{Apply}
+use Rattle.values.specs.SiteMap.{IsEmptyAt}
+use Rattle.values.specs.Apply.{Apply}
 use Rattle.outside.specs.declared.store.Store.{Store}
 use Rattle.plan_core.specs.declared.plan.Plan.{Plan}
 use Rattle.plan_core.specs.Carried.{Bytes, carried}

@@ -1,6 +1,6 @@
 -- What the host and the tools show before and after a run.
 use Rattle.std.specs.Prelude.{ℕ, Bool, List, [], ◌∷◌, get_or, Option}
-use Rattle.outside.specs.Tool.{Apply}
+use Rattle.values.specs.Apply.{Apply}
 use Rattle.outside.specs.declared.counts.Counts.{Counts}
 use Rattle.outside.specs.declared.host.Host as host
 use Rattle.outside.specs.declared.store.Store.{Store}

@@ -2,7 +2,7 @@
 use Rattle.std.specs.Prelude.{ℕ, ◌++◌, List, [], ◌∷◌, codes, length, replicate, slice_set, Option, Some, None}
 use Rattle.std.specs.Fmt.{decimal}
 use Rattle.hex.specs.Hex.{encode_lower}
-use Rattle.outside.specs.Printed.{printed_name}
+use Rattle.values.specs.Printed.{printed_name}
 use Rattle.plan_core.specs.declared.plan.Plan.{Plan}
 use Rattle.run_record.specs.Events.{Event}
 use Rattle.run_record.specs.RecordText.{record_text}

@@ -2,7 +2,7 @@
 -- report are read off it.
 use Rattle.std.specs.Prelude.{◌≡◌, ◌⊎◌, ℕ, ◌+◌, ◌≤◌, ◌<◌, true, List, [], length, take, option_map, Option, Some, IfSome, MatchOption, Result, Ok, Err}
 use Rattle.outside.specs.declared.store.Store.{Store}
-use Rattle.outside.specs.Tool.{Apply}
+use Rattle.values.specs.Apply.{Apply}
 use Rattle.plan_core.specs.declared.plan.Plan.{Plan}
 use Rattle.plan_core.specs.Words.{retries}
 use Rattle.lease_book.specs.Law.{IsSafeState, reserved_at, stored_at}

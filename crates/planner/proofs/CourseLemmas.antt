@@ -1,7 +1,7 @@
 -- When a fault is the first one.
 use Rattle.std.proofs.Common.{◌≡◌, List, refl, inl, inr}
 use Rattle.std.specs.Prelude.{Result, Ok, Err}
-use Rattle.outside.specs.declared.documents.Documents.{Documents}
+use Rattle.values.specs.declared.documents.Documents.{Documents}
 use Rattle.workflow_core.specs.View.{WorkflowEntry, view as workflow_view}
 use Rattle.workflow_core.specs.declared.workflow.Workflow.{Workflow}
 use Rattle.site_catalog.specs.declared.catalog.SiteEntry.{SiteEntry}

@@ -6,10 +6,10 @@ use Rattle.std.specs.Str.{bytes_eq}
 use Rattle.std.proofs.lemmas.Option.{get_or_from_slice_get, slice_get_within}
 use Rattle.std.proofs.lemmas.Slice.Eq.{bytes_eq-Decides}
 use Rattle.serde_json.specs.Data.{Data}
-use Rattle.outside.specs.Tool.{Apply, part}
-use Rattle.outside.specs.declared.documents.Documents.{Documents}
-use Rattle.outside.specs.declared.numbers.JobId.{JobId}
-use Rattle.outside.specs.declared.numbers.SiteId.{SiteId}
+use Rattle.values.specs.Apply.{Apply, part}
+use Rattle.values.specs.declared.documents.Documents.{Documents}
+use Rattle.values.specs.declared.numbers.JobId.{JobId}
+use Rattle.values.specs.declared.numbers.SiteId.{SiteId}
 use Rattle.peg_json.specs.ReadFault.{then_read}
 use Rattle.peg_json.specs.Tree.{◌>>=◌, tree_of}
 use Rattle.peg_json.specs.declared.fault.TreeFault.{TreeFault}

@@ -1,10 +1,10 @@
 -- How the faults of the layers are those of planning.
 use Rattle.std.proofs.Common.{◌≡◌, ℕ, zero, suc, Bool, List, [], ◌∷◌, map, refl, inl, inr}
 use Rattle.std.specs.Prelude.{Option, Some, None, Err, slice_get, slice_index_or}
-use Rattle.outside.specs.declared.documents.Documents.{Documents}
-use Rattle.outside.specs.declared.numbers.SiteId.{SiteId}
-use Rattle.outside.specs.declared.select_fault.SelectFault.{SelectFault}
-use Rattle.outside.specs.declared.select_fault.SelectFault.TheVariants as select
+use Rattle.values.specs.declared.documents.Documents.{Documents}
+use Rattle.values.specs.declared.numbers.SiteId.{SiteId}
+use Rattle.values.specs.declared.select_fault.SelectFault.{SelectFault}
+use Rattle.values.specs.declared.select_fault.SelectFault.TheVariants as select
 use Rattle.workflow_core.specs.declared.clusters.Clusters.{Clusters}
 use Rattle.workflow_core.specs.declared.workflow.Job.{Job}
 use Rattle.plan_request.specs.declared.request.PlanRequest.{PlanRequest}

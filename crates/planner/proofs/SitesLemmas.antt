@@ -2,9 +2,9 @@
 use Rattle.std.proofs.Common.{◌≡◌, ℕ, ◌<◌, true, Bool, List, length, refl, sym, ap, ◌∙◌}
 use Rattle.std.specs.Prelude.{Option, Some, slice_get, Vec, Result, Ok, Err}
 use Rattle.std.specs.declared.alloc.Global.{Global}
-use Rattle.outside.specs.declared.numbers.SiteId.{SiteId}
-use Rattle.outside.specs.declared.select_fault.SelectFault.{SelectFault}
-use Rattle.outside.specs.declared.select_fault.SelectFault.TheVariants as select
+use Rattle.values.specs.declared.numbers.SiteId.{SiteId}
+use Rattle.values.specs.declared.select_fault.SelectFault.{SelectFault}
+use Rattle.values.specs.declared.select_fault.SelectFault.TheVariants as select
 use Rattle.plan_request.specs.declared.request.PlanRequest.{PlanRequest}
 use Rattle.plan_request.specs.declared.request.Selector.{Selector}
 use Rattle.plan_request.specs.declared.request.Selector.TheVariants as selectors

@@ -2,7 +2,7 @@
 use Rattle.std.specs.Prelude.{◌≡◌, ◌⊎◌, ℕ, List, codes, map, Option, Some, None, Result, Ok, Err}
 use Rattle.peg_json.specs.Duplicates.{first_unknown}
 use Rattle.peg_json.specs.Tree.{◌>>=◌, some_or}
-use Rattle.outside.specs.declared.documents.Documents.{Documents}
+use Rattle.values.specs.declared.documents.Documents.{Documents}
 use Rattle.workflow_core.specs.View.{WorkflowEntry, view as workflow_view}
 use Rattle.workflow_core.specs.declared.workflow.Workflow.{Workflow as WorkflowValue}
 use Rattle.workflow_reader.specs.Reader as workflows

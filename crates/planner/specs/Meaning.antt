@@ -2,7 +2,7 @@
 use Rattle.std.specs.Prelude.{◌≡◌, ℕ, true, List, [], ◌∷◌, find, map, Option, Some, None, IfSome, is_some, option_map, slice_get}
 use Rattle.std.specs.List.{AllByRecursion}
 use Rattle.sha2.specs.Sha256.{sha256}
-use Rattle.outside.specs.Tool.{Apply}
+use Rattle.values.specs.Apply.{Apply}
 use Rattle.workflow_core.specs.declared.workflow.Job.{Job}
 use Rattle.dependency_graph.specs.Value.{Basis, basis, value}
 use Rattle.replica_catalog.specs.declared.catalog.Pfn.{Pfn}

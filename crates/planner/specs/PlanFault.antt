@@ -1,7 +1,7 @@
 -- How the faults of documents and graphs are those of planning.
 use Rattle.std.specs.Prelude.{◌≡◌, ℕ, List, [], Option, Some, None, slice_get, Result, Ok, Err}
-use Rattle.outside.specs.declared.select_fault.SelectFault.{SelectFault}
-use Rattle.outside.specs.declared.select_fault.SelectFault.TheVariants as select
+use Rattle.values.specs.declared.select_fault.SelectFault.{SelectFault}
+use Rattle.values.specs.declared.select_fault.SelectFault.TheVariants as select
 use Rattle.workflow_core.specs.declared.workflow.Workflow.{Workflow}
 use Rattle.clustering.specs.declared.fault.ClusterFault.{ClusterFault}
 use Rattle.clustering.specs.declared.fault.ClusterFault.TheVariants as cluster

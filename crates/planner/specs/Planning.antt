@@ -1,7 +1,7 @@
 -- From what the documents say to a plan with its order, or the first fault on the way: the kept jobs with their levels, their sites, their clusters, the tasks, the Cleans, the order.
 use Rattle.std.specs.Prelude.{◌≡◌, ◌⊎◌, ℕ, Bool, List, Option, Some, None, Result, Ok, Err}
-use Rattle.outside.specs.declared.documents.Documents.{Documents}
-use Rattle.outside.specs.declared.numbers.SiteId.{SiteId}
+use Rattle.values.specs.declared.documents.Documents.{Documents}
+use Rattle.values.specs.declared.numbers.SiteId.{SiteId}
 use Rattle.workflow_core.specs.declared.clusters.Clusters.{Clusters}
 use Rattle.plan_request.specs.declared.request.PlanRequest.{PlanRequest}
 use Rattle.clustering.specs.Basis.{basis}

@@ -1,8 +1,8 @@
 -- The line of a refusal.
 use Rattle.std.specs.Prelude.{ℕ, ◌++◌, List, [], ◌∷◌, codes}
 use Rattle.std.specs.Fmt.{decimal}
-use Rattle.outside.specs.Line.{printed_names, spaced_names}
-use Rattle.outside.specs.Printed.{printed_name}
+use Rattle.values.specs.Line.{printed_names, spaced_names}
+use Rattle.values.specs.Printed.{printed_name}
 use Rattle.peg_json.specs.declared.fault.TreeFault.{TreeFault}
 use Rattle.peg_json.specs.declared.fault.TreeFault.TheVariants as faults
 use Rattle.peg_json.specs.declared.read_fault.Counted.{Counted}

@@ -2,7 +2,7 @@
 use Rattle.std.specs.Prelude.{ℕ, ◌++◌, List, [], codes, length, unwrap_or}
 use Rattle.std.specs.Fmt.{decimal}
 use Rattle.std.specs.List.{flat_map}
-use Rattle.outside.specs.Printed.{printed_name}
+use Rattle.values.specs.Printed.{printed_name}
 use Rattle.workflow_core.specs.declared.workflow.Workflow.{Workflow as WorkflowValue}
 use Rattle.site_catalog.specs.declared.catalog.SiteEntry.{SiteEntry}
 use Rattle.site_catalog.specs.declared.catalog.Directory.{Directory}

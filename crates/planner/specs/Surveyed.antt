@@ -2,7 +2,7 @@
 use Rattle.std.proofs.Props.{props}
 use Rattle.std.specs.Prelude.{◌≡◌, ℕ, ◌≤◌, List, [], ◌∷◌, MatchOption, Option, Some, None}
 use Rattle.std.specs.Coded.{Unit-prop, le_prop}
-use Rattle.outside.specs.declared.numbers.JobId.{JobId}
+use Rattle.values.specs.declared.numbers.JobId.{JobId}
 use Rattle.workflow_core.specs.WellFormed.{IsSmallSize, IsWellFormed}
 use Rattle.workflow_core.specs.declared.workflow.Workflow.{Workflow}
 use Rattle.digraph.specs.Adjacency.{IsRising-prop}

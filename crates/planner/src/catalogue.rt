@@ -10,7 +10,7 @@ ghost use Rattle.planner.specs.PlanFault.{GivesPlan};
 
 use crate::document::Document;
 use crate::plan_fault::{PlanFault, of_read_fault};
-use outside::{Blob, Text};
+use values::{Blob, Text};
 use peg_json::{ReadFault, at_key, root};
 use replica_catalog::ReplicaCatalog;
 use serde_json::Value;

@@ -20,7 +20,7 @@ use crate::document::Document;
 use crate::inputs::Survey;
 use crate::plan_fault::{PlanFault, of_read_fault};
 use dependency_graph::build;
-use outside::{Blob, Documents, Text};
+use values::{Blob, Documents, Text};
 use plan_request::{Execution, PlanRequest};
 use replica_catalog::ReplicaCatalog;
 use site_catalog::{SiteCatalog, SiteEntry};

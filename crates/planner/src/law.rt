@@ -1,7 +1,7 @@
 //! What the steps of planning hand on.
 
 ghost use Rattle.std.specs.Prelude.{◌≡◌, ◌≤◌, ℕ, Bool, List, length, Ok, Option};
-ghost use Rattle.outside.specs.declared.numbers.SiteId.{SiteId};
+ghost use Rattle.values.specs.declared.numbers.SiteId.{SiteId};
 ghost use Rattle.workflow_core.specs.declared.clusters.Clusters.{Clusters};
 ghost use Rattle.workflow_core.specs.WellFormed.{IsWellFormed};
 ghost use Rattle.dependency_graph.specs.Graph.{IsGraphOf};

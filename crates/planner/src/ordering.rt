@@ -9,7 +9,7 @@ ghost use Rattle.planner.specs.Ordering.{CannotOrder};
 ghost use Rattle.planner.specs.PlanFault.{exceeds_fault, place_name};
 
 use crate::plan_fault::PlanFault;
-use outside::{Memory, SiteId, Text};
+use values::{Memory, SiteId, Text};
 use plan_core::Plan;
 use std::alloc::Global;
 use storage_simulation::{Exceeds, OrderFault, Ordered, order};

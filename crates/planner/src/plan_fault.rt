@@ -6,7 +6,7 @@ ghost use Rattle.planner.specs.PlanFault.{cluster_fault, graph_fault, read_fault
 use crate::document::Document;
 use clustering::ClusterFault;
 use dependency_graph::GraphFault;
-use outside::{Items, Memory, TaskId, Text};
+use values::{Items, Memory, TaskId, Text};
 use peg_json::{Counted, ReadFault, TreeFault};
 use transfer_refiner::RefineFault;
 

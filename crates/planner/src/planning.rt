@@ -24,7 +24,7 @@ use crate::surveyed::Surveyed;
 use cleanup_refiner::add_cleans;
 use clustering::cluster;
 use data_reuse::kept;
-use outside::{Documents, SiteId};
+use values::{Documents, SiteId};
 use plan_core::Plan;
 use plan_request::{Cleanup, PlanRequest};
 use std::alloc::Global;

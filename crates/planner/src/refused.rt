@@ -5,7 +5,7 @@ ghost use Rattle.planner.specs.Refused.{counted_word as word_of_counted, cycle_l
 
 use crate::document::Document;
 use crate::plan_fault::PlanFault;
-use outside::{Memory, Text, Word, push_line};
+use values::{Memory, Text, Word, push_line};
 use peg_json::{Counted, TreeFault};
 use std::alloc::Global;
 

@@ -10,7 +10,7 @@ ghost use Rattle.planner.specs.Scheduling.{job_row, schedule_line, schedule_line
 
 use crate::sites::id_of;
 use heft_selector::Heft;
-use outside::{JobId, Memory, Text, Word, push_line};
+use values::{JobId, Memory, Text, Word, push_line};
 use std::alloc::Global;
 use workflow_core::Workflow;
 

@@ -14,7 +14,7 @@ ghost use Rattle.planner.specs.Sites.{AreLeveled, AreSelected, Chooses};
 use crate::inputs::Survey;
 use crate::plan_fault::PlanFault;
 use heft_selector::{Heft, select_heft};
-use outside::{JobId, Memory, SelectFault, SiteId, Text};
+use values::{JobId, Memory, SelectFault, SiteId, Text};
 use plan_request::{PlanRequest, Selector};
 use site_selector::select;
 use std::alloc::Global;

@@ -6,7 +6,7 @@ ghost use Rattle.planner.specs.SurveyText.{all_ignored_lines, check_lines, count
 
 use crate::document::Document;
 use crate::inputs::Survey;
-use outside::{Memory, Text, Word, push_line};
+use values::{Memory, Text, Word, push_line};
 use site_catalog::{Directory, FileServer, SiteEntry};
 use std::alloc::Global;
 use workflow_core::Workflow;

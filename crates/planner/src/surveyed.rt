@@ -1,7 +1,7 @@
 //! A request, and what its documents say.
 
 ghost use Rattle.std.specs.Prelude.{◌≡◌, IfErr, IfOk, Ok};
-ghost use Rattle.outside.specs.Policy.{plain};
+ghost use Rattle.values.specs.Policy.{plain};
 ghost use Rattle.workflow_core.specs.WellFormed.{IsWellFormed};
 ghost use Rattle.dependency_graph.specs.Graph.{IsGraphOf};
 ghost use Rattle.plan_request.specs.Limits.{IsWithinLimits};
@@ -13,7 +13,7 @@ use crate::course::survey;
 use crate::inputs::Survey;
 use crate::meaning::plans_mean_the_workflow;
 use crate::plan_fault::PlanFault;
-use outside::Documents;
+use values::Documents;
 use plan_request::PlanRequest;
 use std::alloc::Global;
 

@@ -20,7 +20,7 @@ use Rattle.lease_book.specs.Room.{entries_room}
 use Rattle.lease_book.specs.State.{State, after, now, now_from, opened}
 use Rattle.std.specs.Prelude.{Vec}
 use Rattle.std.specs.declared.alloc.Global.{Global}
-use Rattle.outside.specs.declared.numbers.TaskId.{TaskId}
+use Rattle.values.specs.declared.numbers.TaskId.{TaskId}
 use Rattle.lease_book.specs.Book.{state_at}
 use Rattle.lease_book.specs.declared.book.Book.{Book}
 use Rattle.record_audit.specs.Verdict.{IsIllegalAt, IsJudged}

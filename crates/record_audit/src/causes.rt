@@ -2,8 +2,8 @@
 
 ghost use Rattle.std.specs.Prelude.{◌≡◌, ◌==◌, [], Decides};
 ghost use Rattle.std.specs.List.{list_any};
-ghost use Rattle.outside.specs.declared.numbers.FileId.{FileId};
-ghost use Rattle.outside.specs.declared.numbers.JobId.{JobId};
+ghost use Rattle.values.specs.declared.numbers.FileId.{FileId};
+ghost use Rattle.values.specs.declared.numbers.JobId.{JobId};
 ghost use Rattle.plan_core.specs.Numbers.{has};
 ghost use Rattle.plan_core.specs.Words.{file_numbers, job_numbers, kind, outputs};
 ghost use Rattle.run_record.specs.Events.{may_publish};
@@ -11,7 +11,7 @@ ghost use Rattle.lease_book.specs.Legal.{CauseFits, checksum, differs_from, has_
 ghost use Rattle.record_audit.specs.Causes.{is_oversize};
 
 use lease_book::Book;
-use outside::{FileId, JobId, TaskId};
+use values::{FileId, JobId, TaskId};
 use plan_core::{Plan, Source, TaskKind};
 use run_record::Cause;
 

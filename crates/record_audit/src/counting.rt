@@ -10,7 +10,7 @@ use crate::holdings::Holdings;
 use crate::law::{allowed_entries_are_sized, legal_records_are_short};
 use crate::sums::Statistics;
 use lease_book::ordered_plans_fit;
-use outside::Memory;
+use values::Memory;
 use run_record::Record;
 use std::alloc::Global;
 use storage_simulation::Ordered;

@@ -11,7 +11,7 @@ ghost use Rattle.run_record.specs.Events.{Arrive, Clean, End, Event, Grant, even
 ghost use Rattle.lease_book.specs.State.{held_after, put};
 ghost use Rattle.record_audit.specs.Holdings.{AddsUp, IsSized, Shows, is_this, size_among};
 
-use outside::{Memory, PairId, TaskId};
+use values::{Memory, PairId, TaskId};
 use plan_core::{Plan, files_are_listed_by_pair};
 use run_record::Entry;
 use std::alloc::Global;

@@ -4,7 +4,7 @@ ghost use Rattle.std.specs.Prelude.{◌≡◌, ◌<◌, ◌+◌, ◌^◌, ℕ, I
 ghost use Rattle.run_record.specs.Events.{event};
 ghost use Rattle.record_audit.specs.Sums.{AreSmall, HasNone, IsCounted, arrived};
 
-use outside::Memory;
+use values::Memory;
 use run_record::Entry;
 use std::alloc::Global;
 

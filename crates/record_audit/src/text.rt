@@ -5,7 +5,7 @@ ghost use Rattle.record_audit.specs.Text.{count_lines, line_if_some, number_line
 
 use crate::sums::Statistics;
 use crate::verdict::Verdict;
-use outside::{Memory, Word, push_line};
+use values::{Memory, Word, push_line};
 use std::alloc::Global;
 
 /// Adds the line of a verdict.

@@ -11,7 +11,7 @@ ghost use Rattle.record_audit.specs.Verdict.{IsJudged};
 use crate::law::legal_records_are_consistent;
 use crate::replaying::replay;
 use lease_book::{Book, Next, ordered_plans_fit};
-use outside::Memory;
+use values::Memory;
 use run_record::Record;
 use std::alloc::Global;
 use storage_simulation::Ordered;

@@ -14,8 +14,8 @@ use Rattle.sha2.specs.Sha256.{sha256}
 use Rattle.outside.specs.Counts.{no_calls}
 use Rattle.outside.specs.MemoryHost.{host_counts, host_store, with_replica}
 use Rattle.outside.specs.Store.{blank}
-use Rattle.outside.specs.Tool.{Apply}
-use Rattle.outside.specs.declared.documents.Documents.{Documents}
+use Rattle.values.specs.Apply.{Apply}
+use Rattle.values.specs.declared.documents.Documents.{Documents}
 use Rattle.outside.specs.declared.memory_host.MemoryHost.{MemoryHost}
 use Rattle.outside.specs.declared.store.Store.{Store}
 use Rattle.workflow_core.specs.declared.workflow.Job.{Job}

@@ -4,8 +4,8 @@ use Rattle.std.specs.FinMap as files
 use Rattle.outside.specs.Counts.{no_calls}
 use Rattle.outside.specs.MemoryHost.{host_counts, host_store, with_replica}
 use Rattle.outside.specs.Store.{blank}
-use Rattle.outside.specs.Tool.{Apply}
-use Rattle.outside.specs.declared.documents.Documents.{Documents}
+use Rattle.values.specs.Apply.{Apply}
+use Rattle.values.specs.declared.documents.Documents.{Documents}
 use Rattle.outside.specs.declared.store.Store.{Store}
 use Rattle.workload_maker.specs.Catalogues.{request_text, sites_text, transformations_text}
 use Rattle.workload_maker.specs.Jobs.{each}

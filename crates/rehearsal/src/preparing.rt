@@ -3,7 +3,7 @@
 ghost use Rattle.std.specs.Prelude.{◌≡◌, ◌≤◌, IfErr, IfOk, Ok, OnOk};
 ghost use Rattle.outside.specs.Counts.{no_calls};
 ghost use Rattle.outside.specs.MemoryHost.{host_counts, host_store};
-ghost use Rattle.outside.specs.Policy.{plain};
+ghost use Rattle.values.specs.Policy.{plain};
 ghost use Rattle.outside.specs.Store.{blank};
 ghost use Rattle.plan_request.specs.Limits.{IsWithinLimits};
 ghost use Rattle.plan_request.specs.Reader.{execute_checked, read_of};

@@ -3,7 +3,7 @@
 ghost use Rattle.std.specs.Prelude.{◌≡◌, [], IfOk};
 ghost use Rattle.replica_catalog.specs.Reader.{view, no_replicas};
 
-use outside::{Items, Text};
+use values::{Items, Text};
 use std::alloc::Global;
 
 /// A whole catalogue.

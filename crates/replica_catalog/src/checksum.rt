@@ -7,7 +7,7 @@ ghost use Rattle.peg_json.specs.Tree.{Gives};
 ghost use Rattle.replica_catalog.specs.Checksum.{checksum_rows, digest_of, digest_if_there};
 
 use hex::FromHex;
-use outside::{Memory, Text};
+use values::{Memory, Text};
 use peg_json::{FromTree, KeyRow, KeyTable, Kind, Listed, TreeFault, at_key, checked, gather, row};
 use serde_json::Value;
 use std::alloc::Global;

@@ -7,7 +7,7 @@ ghost use Rattle.replica_catalog.specs.Merged.{with_entry, with_entries};
 use crate::catalog::Replica;
 use crate::merged::Merged;
 use indexmap::IndexSet;
-use outside::{Items, Memory, Text};
+use values::{Items, Memory, Text};
 use std::alloc::Global;
 
 /// Adds an entry to the one of its lfn, or at the end.

@@ -7,7 +7,7 @@ ghost use Rattle.replica_catalog.specs.Lookup.{is_of};
 
 use crate::catalog::{Replica, ReplicaCatalog};
 use indexmap::IndexMap;
-use outside::{Memory, Text};
+use values::{Memory, Text};
 use std::alloc::Global;
 use std::marker::Model;
 

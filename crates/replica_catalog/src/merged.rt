@@ -4,7 +4,7 @@ ghost use Rattle.std.specs.Prelude.{◌≡◌, OnOk};
 ghost use Rattle.replica_catalog.specs.Merged.{absorbed};
 
 use crate::catalog::{Pfn, Replica};
-use outside::{Items, Memory, Text};
+use values::{Items, Memory, Text};
 use std::marker::Model;
 
 /// An entry, seen as the one that it is so far.

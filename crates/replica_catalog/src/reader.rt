@@ -12,7 +12,7 @@ ghost use Rattle.replica_catalog.specs.Root.{unknown_of};
 use crate::catalog::ReplicaCatalog;
 use crate::joining::joined;
 use crate::root::Document;
-use outside::{Items, Text};
+use values::{Items, Text};
 use peg_json::{FromTree, ReadFault, ignored_below, parse, root};
 use serde_json::Value;
 use std::alloc::Global;

@@ -8,7 +8,7 @@ ghost use Rattle.replica_catalog.specs.Replica.{replica_rows, checksum_or_none};
 
 use crate::catalog::{Pfn, Replica};
 use crate::checksum::Checksum;
-use outside::{Items, Memory, Text};
+use values::{Items, Memory, Text};
 use peg_json::{
     FromTree, KeyRow, KeyTable, Kind, Listed, TreeFault, checked, gather, gather_list,
     gather_object, refuse_flag, row,

@@ -6,7 +6,7 @@ ghost use Rattle.replica_writer.specs.Document.{checksum_tree, document_tree, en
 
 use crate::pfn::pfn_of;
 use hex::encode;
-use outside::{Memory, Text};
+use values::{Memory, Text};
 use serde_json::{Value, json};
 use std::alloc::Global;
 

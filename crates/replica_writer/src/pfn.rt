@@ -4,7 +4,7 @@ ghost use Rattle.std.specs.Prelude.{◌≡◌, IfOk};
 ghost use Rattle.replica_writer.specs.Pfn.{pfn_of};
 
 use host_files::path_in;
-use outside::{Memory, Text};
+use values::{Memory, Text};
 use std::alloc::Global;
 
 /// The path at which a host of files delivers a file.

@@ -7,7 +7,7 @@ ghost use Rattle.replica_writer.specs.Writer.{AreApart, AreDigests, AreInRange, 
 ghost use Rattle.replica_writer.specs.Law.{AreReadAs};
 
 use crate::document::{document, entry};
-use outside::{Blob, Memory};
+use values::{Blob, Memory};
 use plan_core::Plan;
 use serde_json::Value;
 use site_yard::Delivered;

@@ -2,7 +2,7 @@
 use Rattle.std.specs.Prelude.{ℕ, ◌++◌, List, [], codes, Some, None}
 use Rattle.std.specs.Fmt.{decimal}
 use Rattle.hex.specs.Hex.{encode_lower}
-use Rattle.outside.specs.Printed.{printed_name}
+use Rattle.values.specs.Printed.{printed_name}
 use Rattle.run_record.specs.declared.run_fault.RunFault.{RunFault}
 use Rattle.run_record.specs.declared.run_fault.RunFault.TheVariants.{ReplicaAbsent, ReplicaTooLong, ChecksumDiffers, Oversize, Declined, ToolFailed, HostFailed, ScratchInUse, Memory}
 

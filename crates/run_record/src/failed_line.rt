@@ -6,7 +6,7 @@ ghost use Rattle.run_record.specs.FailedLine.{failed_line};
 
 use crate::run_fault::RunFault;
 use hex::encode;
-use outside::{Memory, Text, Word, push_line};
+use values::{Memory, Text, Word, push_line};
 use std::alloc::Global;
 
 fn push_differs(

@@ -3,7 +3,7 @@
 ghost use Rattle.std.specs.Prelude.{◌≡◌};
 ghost use Rattle.run_record.specs.declared.fault.RecordFault.TheVariants.{Memory};
 
-use outside::Memory;
+use values::Memory;
 
 /// Why a text isn't read: the number, from 1, of the first line that isn't one of a record at its
 /// place, or want of memory.

@@ -10,7 +10,7 @@ use crate::entry::Entry;
 use crate::history::Record;
 use crate::printer::push_entry;
 use crate::reading;
-use outside::Memory;
+use values::Memory;
 use std::alloc::Global;
 use std::str;
 

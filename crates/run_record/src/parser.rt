@@ -12,7 +12,7 @@ use crate::fault::RecordFault;
 use crate::history::Record;
 use crate::lines::{Scratch, cut_line, read_line};
 use crate::printer::is_version_two;
-use outside::Memory;
+use values::Memory;
 use std::alloc::Global;
 
 /// Whether a line is that of version 2, if it is a version's.

@@ -8,7 +8,7 @@ ghost use Rattle.run_record.specs.RecordText.{Digest, Number, Plain, Size, cause
 use crate::entry::{Cause, Entry};
 use crate::history::Record;
 use hex::encode;
-use outside::{Blob, Memory, TaskId};
+use values::{Blob, Memory, TaskId};
 use std::alloc::Global;
 
 fn push_plain(text: &mut Vec<u8>, word: &str) -> Result<(), Memory>

@@ -6,7 +6,7 @@ ghost use Rattle.run_record.specs.Events.{event};
 ghost use Rattle.run_record.specs.RecordText.{AllFit, Size, cause_words, entry_words};
 
 use crate::entry::{Cause, Entry};
-use outside::TaskId;
+use values::TaskId;
 
 fn number_fits(number: u32)
     ensures { number < 2 ^ 32 }

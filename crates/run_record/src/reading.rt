@@ -10,7 +10,7 @@ ghost use Rattle.run_record.specs.Words.{words_in, words_of};
 use crate::entry::{Cause, Entry};
 use crate::words::{first_word, skip_words, word};
 use hex::FromHex;
-use outside::{FileId, JobId, Memory, TaskId};
+use values::{FileId, JobId, Memory, TaskId};
 
 #[tactic(auto, using(crate::proofs::NumberLemmas::parses))]
 fn number(line: &str, place: usize) -> Option<u32>

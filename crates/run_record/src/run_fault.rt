@@ -1,6 +1,6 @@
 //! Why a run failed, with names.
 
-use outside::{TaskId, Text};
+use values::{TaskId, Text};
 
 /// Why a run failed, with the names of its plan. Sizes are in bytes.
 #[derive(Debug, Drop)]

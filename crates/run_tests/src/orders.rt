@@ -2,7 +2,7 @@
 
 use crate::sketches::{CHAIN_BEFORE_SINGLE, DIAMOND_CLEANED, Sketch, plan_of};
 use crate::storage::{ORDER, is_limited};
-use outside::{Memory, Policy, SiteId, TaskId};
+use values::{Memory, Policy, SiteId, TaskId};
 use plan_core::check;
 use std::alloc::Global;
 use std::test::Fail;

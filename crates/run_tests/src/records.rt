@@ -1,6 +1,6 @@
 //! Which texts are records, and which line of another is malformed.
 
-use outside::{Memory, TaskId};
+use values::{Memory, TaskId};
 use run_record::{Entry, Record, RecordFault, parse, print};
 use std::alloc::Global;
 use std::test::Fail;

@@ -1,6 +1,6 @@
 //! Plans by their names and numbers, for the tests to build.
 
-use outside::{FileId, Items, JobId, Memory, PairId, Policy, SiteId, TaskId, Text};
+use values::{FileId, Items, JobId, Memory, PairId, Policy, SiteId, TaskId, Text};
 use plan_core::{Pair, Plan, PlanFile, PlanJob, PlanSite, Source, Target, Task, TaskKind};
 use std::alloc::Global;
 

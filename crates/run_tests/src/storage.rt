@@ -8,7 +8,7 @@ ghost use Rattle.storage_simulation.specs.declared.standing.Held.TheVariants.{No
 ghost use Rattle.storage_simulation.specs.Usage.{IsWithin};
 
 use crate::sketches::{DIAMOND_CLEANED, plan_of, task_ids};
-use outside::{Items, Memory, Policy, SiteId, TaskId};
+use values::{Items, Memory, Policy, SiteId, TaskId};
 use plan_core::{Plan, check};
 use std::alloc::Global;
 use std::test::Fail;

@@ -1,6 +1,6 @@
 //! What a site catalogue says.
 
-use outside::{Items, Text};
+use values::{Items, Text};
 
 /// A whole catalogue.
 #[derive(Debug, Drop)]

@@ -12,7 +12,7 @@ ghost use Rattle.site_catalog.specs.Root.{unknown_of};
 
 use crate::catalog::{SiteCatalog, SiteEntry};
 use crate::root::Document;
-use outside::{Items, Text};
+use values::{Items, Text};
 use peg_json::{FromTree, ReadFault, check_sites, ignored_below, parse, root};
 use serde_json::Value;
 use std::alloc::Global;

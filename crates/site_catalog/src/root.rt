@@ -5,7 +5,7 @@ ghost use Rattle.peg_json.specs.Table.{rows_of};
 ghost use Rattle.site_catalog.specs.Root.{root_rows};
 
 use crate::catalog::SiteEntry;
-use outside::{Items, Memory, Text};
+use values::{Items, Memory, Text};
 use peg_json::{
     FromTree, KeyRow, KeyTable, Kind, Listed, TreeFault, checked, gather, gather_list,
     optional_version, row,

@@ -5,7 +5,7 @@ ghost use Rattle.peg_json.specs.Table.{rows_of};
 ghost use Rattle.site_catalog.specs.SiteEntry.{site_rows};
 
 use crate::catalog::{Directory, SiteEntry};
-use outside::{Memory, Text};
+use values::{Memory, Text};
 use peg_json::{
     FromTree, KeyRow, KeyTable, Kind, Listed, SiteNamed, TreeFault, checked, gather, gather_list,
     list_or_none, row,

@@ -1,15 +1,15 @@
 -- A site for each kept job, or the first fault.
 use Rattle.std.specs.Prelude.{◌≡◌, ℕ, Bool, true, false, is_ok, List, length, get_or, slice_get, Vec, Option, Some, None, Result, Ok, Err}
 use Rattle.std.specs.declared.alloc.Global.{Global}
-use Rattle.outside.specs.declared.numbers.SiteId.{SiteId}
+use Rattle.values.specs.declared.numbers.SiteId.{SiteId}
 use Rattle.workflow_core.specs.declared.workflow.Job.{Job}
 use Rattle.workflow_core.specs.declared.workflow.Workflow.{Workflow}
 use Rattle.transformation_catalog.specs.declared.catalog.TransformationCatalog.{TransformationCatalog}
 use Rattle.transformation_catalog.specs.declared.catalog.TransformationEntry.{TransformationEntry}
 use Rattle.plan_request.specs.declared.request.PlanRequest.{PlanRequest}
 use Rattle.plan_request.specs.declared.request.Execution.{Execution}
-use Rattle.outside.specs.declared.select_fault.SelectFault.{SelectFault}
-use Rattle.outside.specs.declared.select_fault.SelectFault.TheVariants.{NoSite, NoTransformation, Memory}
+use Rattle.values.specs.declared.select_fault.SelectFault.{SelectFault}
+use Rattle.values.specs.declared.select_fault.SelectFault.TheVariants.{NoSite, NoTransformation, Memory}
 use Rattle.dependency_graph.specs.Levels.{is_kept}
 use Rattle.dependency_graph.specs.Ranking.{comes_before}
 use Rattle.site_selector.specs.Turns.{turn_of}

@@ -1,7 +1,7 @@
 //! What a selection of sites comes to.
 
 ghost use Rattle.std.specs.Prelude.{◌≡◌, ◌<◌, ℕ, List, Option, Some, length, slice_get, true};
-ghost use Rattle.outside.specs.declared.numbers.SiteId.{SiteId};
+ghost use Rattle.values.specs.declared.numbers.SiteId.{SiteId};
 ghost use Rattle.dependency_graph.specs.Levels.{is_kept};
 ghost use Rattle.site_selector.specs.Selecting.{IsSelected, Selection};
 

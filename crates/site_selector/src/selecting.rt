@@ -8,7 +8,7 @@ ghost use Rattle.site_selector.specs.Selecting.{selection, Selects};
 use crate::candidates::site_of;
 use crate::offers::Offers;
 use dependency_graph::ranked;
-use outside::{Memory, SelectFault, SiteId};
+use values::{Memory, SelectFault, SiteId};
 use plan_request::PlanRequest;
 use std::alloc::Global;
 use transformation_catalog::TransformationCatalog;

@@ -2,7 +2,7 @@
 use Rattle.std.proofs.Common.{◌≡◌, ℕ, true, List, ap, ◌∙◌, length}
 use Rattle.std.specs.Prelude.{Option, Some, None, option_map, is_some, IfSome}
 use Rattle.std.proofs.Math.Logic.{∥∥₁_map, ∥∥₁_elim, ∥∥₁_prop}
-use Rattle.outside.specs.Tool.{Apply}
+use Rattle.values.specs.Apply.{Apply}
 use Rattle.outside.specs.declared.counts.Counts.{Counts}
 use Rattle.outside.specs.declared.store.Store.{Store}
 use Rattle.plan_core.specs.declared.plan.Plan.{Plan}

@@ -3,7 +3,7 @@ use Rattle.std.proofs.Common.{◌≡◌, ℕ, ◌+◌, ◌-◌, ◌≤◌, ◌<�
 use Rattle.std.specs.Prelude.{Option, Some, None, option_map, is_some, slice_get, Result, Ok, Err}
 use Rattle.outside.specs.Store.{changed_by}
 use Rattle.outside.specs.declared.counts.Counts.{Counts}
-use Rattle.outside.specs.declared.numbers.FileId.{FileId}
+use Rattle.values.specs.declared.numbers.FileId.{FileId}
 use Rattle.outside.specs.declared.store.Store.{Store}
 use Rattle.plan_core.specs.declared.plan.Plan.{Plan}
 use Rattle.plan_core.specs.declared.plan.TaskKind.{TaskKind}

@@ -2,9 +2,9 @@
 use Rattle.std.proofs.Common.{◌≡◌, ℕ, ◌<◌, inl, inr, Bool, true, false, cond, ◌&&◌, ◌||◌, List, [], ◌∷◌, ◌++◌, map, length, take, refl, ap, ◌∙◌, subst, nat_eq}
 use Rattle.std.specs.Prelude.{Option, Some, None}
 use Rattle.std.specs.List.{list_any}
-use Rattle.outside.specs.SiteMap.{pair_at}
+use Rattle.values.specs.SiteMap.{pair_at}
 use Rattle.outside.specs.Store.{Removes}
-use Rattle.outside.specs.Tool.{Apply}
+use Rattle.values.specs.Apply.{Apply}
 use Rattle.outside.specs.declared.counts.Counts.{Counts}
 use Rattle.outside.specs.declared.store.Store.{Store}
 use Rattle.plan_core.specs.declared.plan.Plan.{Plan}

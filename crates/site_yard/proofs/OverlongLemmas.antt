@@ -1,10 +1,10 @@
 -- An output past its file's declared size: the first such pair, and the entry that it adds.
 use Rattle.std.proofs.Common.{◌≡◌, ℕ, ◌+◌, ◌≤◌, ◌<◌, inl, inr, Bool, true, false, cond, List, [], ◌∷◌, ◌++◌, map, length, refl, sym, ap, ◌∙◌, subst, nat_eq, nat_lt, arith}
 use Rattle.std.specs.Prelude.{Option, Some, None, option_map}
-use Rattle.outside.specs.Tool.{Apply}
+use Rattle.values.specs.Apply.{Apply}
 use Rattle.outside.specs.declared.counts.Counts.{Counts}
-use Rattle.outside.specs.declared.numbers.FileId.{FileId}
-use Rattle.outside.specs.declared.numbers.JobId.{JobId}
+use Rattle.values.specs.declared.numbers.FileId.{FileId}
+use Rattle.values.specs.declared.numbers.JobId.{JobId}
 use Rattle.outside.specs.declared.store.Store.{Store}
 use Rattle.plan_core.specs.declared.plan.Plan.{Plan}
 use Rattle.plan_core.specs.declared.plan.PlanJob.{PlanJob}

@@ -7,8 +7,8 @@ use Rattle.std.proofs.lemmas.Bool.{cases_lt}
 use Rattle.std.proofs.lemmas.Cmp.{nat_list_eq_equiv}
 use Rattle.std.proofs.lemmas.Map.Keys.{apart_from_distinct}
 use Rattle.std.proofs.lemmas.Option.{slice_get_past, slice_get_within}
-use Rattle.outside.specs.declared.numbers.FileId.{FileId}
-use Rattle.outside.specs.declared.numbers.SiteId.{SiteId}
+use Rattle.values.specs.declared.numbers.FileId.{FileId}
+use Rattle.values.specs.declared.numbers.SiteId.{SiteId}
 use Rattle.plan_core.specs.declared.plan.Plan.{Plan}
 use Rattle.plan_core.specs.declared.plan.Pair.{Pair}
 use Rattle.plan_core.specs.declared.plan.PlanFile.{PlanFile}

@@ -5,11 +5,11 @@ use Rattle.std.specs.Coded.{le_prop}
 use Rattle.std.proofs.Math.Logic.{∥∥₁_elim}
 use Rattle.outside.specs.Counts.{IsLater, next_count, one_done, one_miss}
 use Rattle.outside.specs.Host.{Empties}
-use Rattle.outside.specs.SiteMap.{IsEmptyAt}
-use Rattle.outside.specs.Tool.{Apply}
+use Rattle.values.specs.SiteMap.{IsEmptyAt}
+use Rattle.values.specs.Apply.{Apply}
 use Rattle.outside.specs.declared.counts.Counts.{Counts}
-use Rattle.outside.specs.declared.numbers.PairId.{PairId}
-use Rattle.outside.specs.declared.numbers.TaskId.{TaskId}
+use Rattle.values.specs.declared.numbers.PairId.{PairId}
+use Rattle.values.specs.declared.numbers.TaskId.{TaskId}
 use Rattle.outside.specs.declared.store.Store.{Store}
 use Rattle.plan_core.specs.declared.plan.Plan.{Plan}
 use Rattle.plan_core.specs.declared.plan.TaskKind.TheVariants.{Clean as CleanTask}

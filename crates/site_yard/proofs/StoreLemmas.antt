@@ -4,11 +4,11 @@ use Rattle.std.specs.Prelude.{Option, Some, None, option_map, is_some, IfSome, O
 use Rattle.std.specs.List.{list_any}
 use Rattle.outside.specs.Counts.{IsLater}
 use Rattle.outside.specs.Store.{Change, Publishes, changed_by}
-use Rattle.outside.specs.Tool.{Apply}
+use Rattle.values.specs.Apply.{Apply}
 use Rattle.outside.specs.declared.counts.Counts.{Counts}
-use Rattle.outside.specs.declared.numbers.FileId.{FileId}
-use Rattle.outside.specs.declared.numbers.JobId.{JobId}
-use Rattle.outside.specs.declared.numbers.PairId.{PairId}
+use Rattle.values.specs.declared.numbers.FileId.{FileId}
+use Rattle.values.specs.declared.numbers.JobId.{JobId}
+use Rattle.values.specs.declared.numbers.PairId.{PairId}
 use Rattle.outside.specs.declared.store.Store.{Store}
 use Rattle.plan_core.specs.declared.plan.Plan.{Plan}
 use Rattle.plan_core.specs.declared.plan.PlanJob.{PlanJob}

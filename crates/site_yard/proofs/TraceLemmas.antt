@@ -3,7 +3,7 @@ use Rattle.std.proofs.Common.{◌≡◌, ℕ, List, [], ◌∷◌, ◌++◌, map
 use Rattle.std.specs.Prelude.{Option, Some, None, option_map}
 use Rattle.std.specs.FinMap as files
 use Rattle.outside.specs.Store.{Change, Publishes, Delivers, Removes, changed, changed_by, operation}
-use Rattle.outside.specs.Tool.{Apply}
+use Rattle.values.specs.Apply.{Apply}
 use Rattle.outside.specs.declared.counts.Counts.{Counts}
 use Rattle.outside.specs.declared.operation.Operation.TheVariants.{Publish, Deliver}
 use Rattle.outside.specs.declared.store.Store.{Store}

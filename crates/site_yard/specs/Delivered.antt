@@ -3,8 +3,8 @@ use Rattle.std.specs.Prelude.{◌≡◌, ℕ, true, List, [], ◌∷◌, ◌++�
 use Rattle.std.specs.List.{All}
 use Rattle.std.proofs.Props.{props}
 use Rattle.sha2.specs.Sha256.{sha256}
-use Rattle.outside.specs.Tool.{Apply}
-use Rattle.outside.specs.declared.numbers.FileId.{FileId}
+use Rattle.values.specs.Apply.{Apply}
+use Rattle.values.specs.declared.numbers.FileId.{FileId}
 use Rattle.outside.specs.declared.store.Store.{Store}
 use Rattle.plan_core.specs.declared.plan.Plan.{Plan}
 use Rattle.plan_core.specs.declared.plan.TaskKind.{TaskKind}

@@ -1,6 +1,6 @@
 -- Where all that tasks carry is there and fits, a run fails by a counted failure or for want of memory, and by nothing else.
 use Rattle.std.specs.Prelude.{◌≡◌, ℕ, ◌≤◌, ◌<◌, true, false, List, [], ◌∷◌, Option, Some, None, is_some}
-use Rattle.outside.specs.Tool.{Apply}
+use Rattle.values.specs.Apply.{Apply}
 use Rattle.plan_core.specs.declared.plan.Plan.{Plan}
 use Rattle.plan_core.specs.Carried.{Bytes, carried}
 use Rattle.plan_core.specs.Kinds.{carries}

@@ -1,10 +1,10 @@
 -- What plan_core promises of a proper plan, and what a store shows of a record.
 use Rattle.std.specs.Prelude.{◌≡◌, ℕ, ◌<◌, ◌||◌, ◌++◌, Bool, true, false, List, length, Option, Some, None, is_some}
 use Rattle.std.specs.FinMap as files
-use Rattle.outside.specs.SiteMap.{pair_at}
+use Rattle.values.specs.SiteMap.{pair_at}
 use Rattle.outside.specs.declared.store.Store.{Store}
 use Rattle.run_record.specs.Events.{Event}
-use Rattle.outside.specs.Tool.{Apply}
+use Rattle.values.specs.Apply.{Apply}
 use Rattle.plan_core.specs.declared.plan.Plan.{Plan}
 use Rattle.plan_core.specs.declared.plan.TaskKind.{TaskKind}
 use Rattle.plan_core.specs.Carried.{Bytes, IsCarrying, carried}

@@ -1,6 +1,6 @@
 -- What a lease answers after a failure.
 use Rattle.std.specs.Prelude.{Option, Some}
-use Rattle.outside.specs.declared.numbers.TaskId.{TaskId}
+use Rattle.values.specs.declared.numbers.TaskId.{TaskId}
 use Rattle.run_record.specs.Events.{Event, Again as TriedAgain}
 use Rattle.site_yard.specs.declared.leased.Leased.{Leased}
 use Rattle.site_yard.specs.declared.leased.Leased.TheVariants.{Again, Failed}

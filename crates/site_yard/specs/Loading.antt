@@ -1,7 +1,7 @@
 -- What the reading of pairs answers, in the host's words alone.
 use Rattle.std.specs.Prelude.{◌≡◌, ℕ, ◌⊎◌, true, List, length, map, Option, Some, Result, Ok, Err, IfSome, Vec}
 use Rattle.std.specs.declared.alloc.Global.{Global}
-use Rattle.outside.specs.SiteMap.{pair_at}
+use Rattle.values.specs.SiteMap.{pair_at}
 use Rattle.outside.specs.declared.counts.Counts.{Counts}
 use Rattle.outside.specs.declared.store.Store.{Store}
 use Rattle.plan_core.specs.declared.plan.Plan.{Plan}

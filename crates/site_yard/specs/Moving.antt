@@ -3,12 +3,12 @@ use Rattle.std.specs.Prelude.{◌≡◌, ℕ, ◌≤◌, ◌<◌, ◌⊎◌, Boo
 use Rattle.std.specs.FinMap as files
 use Rattle.sha2.specs.Sha256.{sha256}
 use Rattle.outside.specs.Counts.{Rose}
-use Rattle.outside.specs.SiteMap.{pair_at}
+use Rattle.values.specs.SiteMap.{pair_at}
 use Rattle.outside.specs.Store.{Change, Publishes, Delivers, Removes, changed_by}
 use Rattle.outside.specs.declared.counts.Counts.{Counts}
 use Rattle.outside.specs.declared.host.HostFault.{HostFault}
 use Rattle.outside.specs.declared.host.HostFault.TheVariants as fault
-use Rattle.outside.specs.declared.numbers.FileId.{FileId}
+use Rattle.values.specs.declared.numbers.FileId.{FileId}
 use Rattle.outside.specs.declared.store.Store.{Store}
 use Rattle.plan_core.specs.declared.plan.Plan.{Plan}
 use Rattle.plan_core.specs.declared.plan.Source.{Source}

@@ -1,6 +1,6 @@
 -- What an opening answers, and why a run failed that wasn't opened.
 use Rattle.std.specs.Prelude.{◌≡◌, ℕ, ◌<◌, true, length, Option, None, Result, Ok, Err, IfSome}
-use Rattle.outside.specs.SiteMap.{IsEmptyAt}
+use Rattle.values.specs.SiteMap.{IsEmptyAt}
 use Rattle.outside.specs.declared.counts.Counts.{Counts}
 use Rattle.outside.specs.declared.store.Store.{Store}
 use Rattle.plan_core.specs.declared.plan.Plan.{Plan}

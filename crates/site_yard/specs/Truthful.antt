@@ -1,8 +1,8 @@
 -- Truthful records: what the entries say of sizes and causes is so, over the told replicas and what tasks carry.
 use Rattle.std.specs.Prelude.{◌≡◌, ℕ, ◌≤◌, Bool, true, false, cond, nat_lt, List, [], ◌∷◌, map, length, take, Option, Some, None, option_map, option_and_then}
 use Rattle.sha2.specs.Sha256.{sha256}
-use Rattle.outside.specs.Tool.{Apply, all_of}
-use Rattle.outside.specs.declared.numbers.JobId.{JobId}
+use Rattle.values.specs.Apply.{Apply, all_of}
+use Rattle.values.specs.declared.numbers.JobId.{JobId}
 use Rattle.plan_core.specs.declared.plan.Plan.{Plan}
 use Rattle.plan_core.specs.declared.plan.PlanJob.{PlanJob}
 use Rattle.plan_core.specs.declared.plan.TaskKind.{TaskKind}

@@ -1,7 +1,7 @@
 //! Why a run may fail.
 
 ghost use Rattle.std.specs.Prelude.{◌≡◌, ◌≤◌, ℕ, true, false, List, Option, Some, None, is_some};
-ghost use Rattle.outside.specs.Tool.{Apply};
+ghost use Rattle.values.specs.Apply.{Apply};
 ghost use Rattle.plan_core.specs.declared.plan.Plan.{Plan};
 ghost use Rattle.plan_core.specs.Carried.{Bytes, carried};
 ghost use Rattle.plan_core.specs.Proper.{IsProper};

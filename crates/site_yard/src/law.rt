@@ -1,7 +1,7 @@
 //! What the definitions come to.
 
 ghost use Rattle.std.specs.Prelude.{ℕ, List, Some};
-ghost use Rattle.outside.specs.Tool.{Apply};
+ghost use Rattle.values.specs.Apply.{Apply};
 ghost use Rattle.outside.specs.declared.counts.Counts.{Counts};
 ghost use Rattle.outside.specs.declared.store.Store.{Store};
 ghost use Rattle.plan_core.specs.declared.plan.Plan.{Plan};

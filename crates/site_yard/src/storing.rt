@@ -3,7 +3,7 @@
 ghost use Rattle.std.specs.Prelude.{◌≡◌, ◌≤◌, ◌==◌, [], length, vec_capacity, true, MatchOption};
 ghost use Rattle.std.specs.List.{list_any};
 ghost use Rattle.outside.specs.Counts.{IsLater};
-ghost use Rattle.outside.specs.declared.numbers.FileId.{FileId};
+ghost use Rattle.values.specs.declared.numbers.FileId.{FileId};
 ghost use Rattle.plan_core.specs.Numbers.{has};
 ghost use Rattle.plan_core.specs.Kinds.{carries, makes};
 ghost use Rattle.plan_core.specs.Proper.{IsProper};

@@ -1,8 +1,8 @@
 -- Numbers seen in their wrappers.
 use Rattle.std.proofs.Common.{◌≡◌, ℕ, zero, suc, ◌<◌, Bool, ◌||◌, ◌&&◌, List, [], ◌∷◌, length, map, take, get_or, refl, ap, nat_eq, arith}
 use Rattle.std.specs.List.{list_any, list_all}
-use Rattle.outside.specs.declared.numbers.PairId.{PairId}
-use Rattle.outside.specs.declared.numbers.TaskId.{TaskId}
+use Rattle.values.specs.declared.numbers.PairId.{PairId}
+use Rattle.values.specs.declared.numbers.TaskId.{TaskId}
 use Rattle.plan_core.specs.Numbers.{has}
 use Rattle.plan_core.specs.Words.{pair_numbers, task_numbers}
 

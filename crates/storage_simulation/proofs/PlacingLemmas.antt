@@ -3,7 +3,7 @@ use Rattle.std.proofs.Common.{◌≡◌, ◌≢◌, ℕ, zero, ◌+◌, ◌<◌,
 use Rattle.std.specs.Prelude.{set, Option, Some, None, vec_capacity}
 use Rattle.std.proofs.lemmas.Bool.{eqb-false, cases_lt}
 use Rattle.std.proofs.lemmas.List.{take_all, take-append-le, length-set, get_or-set_same, get_or-set_other}
-use Rattle.outside.specs.declared.numbers.TaskId.{TaskId}
+use Rattle.values.specs.declared.numbers.TaskId.{TaskId}
 use Rattle.digraph.specs.Digraph.{count, edge}
 use Rattle.digraph.specs.declared.digraph.Digraph.{Digraph}
 use Rattle.plan_core.specs.declared.plan.Plan.{Plan}

@@ -5,7 +5,7 @@ use Rattle.std.specs.Ordering.{ordering_index}
 use Rattle.std.proofs.lemmas.Bool.{cases_lt}
 use Rattle.std.specs.List.Sorted.{IsBinarySearchResult}
 use Rattle.std.proofs.lemmas.List.Sorted.{searched}
-use Rattle.outside.specs.declared.numbers.PairId.{PairId}
+use Rattle.values.specs.declared.numbers.PairId.{PairId}
 use Rattle.plan_core.specs.Numbers.{RisesFrom, has}
 use Rattle.plan_core.specs.Words.{pair_numbers}
 use Rattle.storage_simulation.specs.Following.{AreOnce}

@@ -18,7 +18,7 @@ use crate::placing::place;
 use crate::refreshing::{rebest, rekey};
 use crate::standing::Standing;
 use crate::upkeep::{keep_goes, reset_goes};
-use outside::TaskId;
+use values::TaskId;
 use plan_core::Plan;
 
 /// Makes the key of each task.

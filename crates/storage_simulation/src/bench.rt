@@ -7,7 +7,7 @@ ghost use Rattle.storage_simulation.specs.Goods.{IsWithinLimits};
 
 use crate::front::Front;
 use crate::index::Index;
-use outside::{Memory, TaskId};
+use values::{Memory, TaskId};
 use plan_core::Plan;
 use std::alloc::Global;
 

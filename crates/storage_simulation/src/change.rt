@@ -2,7 +2,7 @@
 
 ghost use Rattle.std.specs.Prelude.{◌≡◌, ◌≤◌, ◌<◌, ◌+◌, ◌^◌, ◌&&◌, true};
 ghost use Rattle.std.specs.List.{list_any};
-ghost use Rattle.outside.specs.declared.numbers.TaskId.{TaskId};
+ghost use Rattle.values.specs.declared.numbers.TaskId.{TaskId};
 ghost use Rattle.plan_core.specs.Numbers.{has};
 ghost use Rattle.plan_core.specs.Words.{count_pairs, pair_numbers};
 ghost use Rattle.storage_simulation.specs.Change.{cleaned_part, held_part, size_part, waits_for_maker};
@@ -13,7 +13,7 @@ ghost use Rattle.storage_simulation.specs.Standings.{held_of, phase_of, sizes, w
 
 use crate::goods::{finds_made, good_size, is_delivery, lies_at};
 use crate::standing::Standing;
-use outside::{PairId, TaskId};
+use values::{PairId, TaskId};
 use plan_core::Plan;
 
 /// What is held of a good at a place.

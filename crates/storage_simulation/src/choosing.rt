@@ -11,7 +11,7 @@ use crate::front::Front;
 use crate::goods::{place_bound, place_of};
 use crate::room::used_after;
 use crate::standing::Standing;
-use outside::{SiteId, TaskId};
+use values::{SiteId, TaskId};
 use plan_core::Plan;
 
 /// What comes next: a task, the end, or no task that fits.

@@ -2,13 +2,13 @@
 
 ghost use Rattle.std.specs.Prelude.{◌≡◌, ◌<◌, ◌+◌, ◌==◌, ◌||◌, ℕ, Decides, IfOk, [], get_or, length, not, take, true};
 ghost use Rattle.std.specs.List.{list_all};
-ghost use Rattle.outside.specs.declared.numbers.TaskId.{TaskId};
+ghost use Rattle.values.specs.declared.numbers.TaskId.{TaskId};
 ghost use Rattle.plan_core.specs.Words.{count_tasks, parents, task_numbers};
 ghost use Rattle.storage_simulation.specs.Following.{AreMarked, Follows, is_marked, may_come, may_follow};
 ghost use Rattle.storage_simulation.specs.Standings.{phase_of, waits};
 
 use crate::standing::Standing;
-use outside::{Memory, TaskId};
+use values::{Memory, TaskId};
 use plan_core::Plan;
 use std::alloc::Global;
 

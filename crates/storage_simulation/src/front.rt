@@ -11,7 +11,7 @@ ghost use Rattle.storage_simulation.specs.Goods.{IsWithinLimits, places};
 
 use crate::goods::places;
 use digraph::Digraph;
-use outside::{Memory, TaskId};
+use values::{Memory, TaskId};
 use plan_core::{Plan, parents_come_before};
 use std::alloc::Global;
 

@@ -3,11 +3,11 @@
 ghost use Rattle.std.specs.Prelude.{◌≡◌, ◌≤◌, ◌+◌, ◌*◌, ◌==◌, ℕ, false, cond, is_some, MatchOption, None, Some};
 ghost use Rattle.plan_core.specs.Numbers.{RisesFrom, has};
 ghost use Rattle.std.specs.List.{list_any};
-ghost use Rattle.outside.specs.declared.numbers.PairId.{PairId};
+ghost use Rattle.values.specs.declared.numbers.PairId.{PairId};
 ghost use Rattle.plan_core.specs.Words.{cleans, declared, output_bound, pair, pair_numbers};
 ghost use Rattle.storage_simulation.specs.Goods.{IsWithinLimits, count_sites, delivered_size, good_size, goods, is_delivery, lies_at, makes, or_zero, pair_site, pair_size, place, place_bound, places};
 
-use outside::{FileId, PairId, SiteId, TaskId};
+use values::{FileId, PairId, SiteId, TaskId};
 use plan_core::{Plan, Target, TaskKind};
 
 /// Whether a task is a delivery.

@@ -5,7 +5,7 @@ ghost use Rattle.storage_simulation.specs.Goods.{IsWithinLimits};
 ghost use Rattle.storage_simulation.specs.Index.{IsIndexFor};
 
 use crate::goods::places;
-use outside::Memory;
+use values::Memory;
 use plan_core::Plan;
 use std::alloc::Global;
 use tournament_tree::Tree;

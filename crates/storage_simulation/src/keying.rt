@@ -14,7 +14,7 @@ use crate::front::Front;
 use crate::goods::{place_bound, places};
 use crate::index::{Index, Spot};
 use crate::standing::Standing;
-use outside::TaskId;
+use values::TaskId;
 use plan_core::Plan;
 use tournament_tree::Key;
 

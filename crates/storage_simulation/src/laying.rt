@@ -17,7 +17,7 @@ use crate::goods::{place_of, places};
 use crate::index::{Index, Spot};
 use crate::scoring::comes_of;
 use crate::standing::Standing;
-use outside::TaskId;
+use values::TaskId;
 use plan_core::Plan;
 
 /// The home of a task.

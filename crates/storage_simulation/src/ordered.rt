@@ -16,7 +16,7 @@ use crate::law::proper_plans_keep_goods;
 use crate::order_law::order_fits;
 use crate::ordering::order_from;
 use crate::standing::Standing;
-use outside::{Memory, SiteId, TaskId};
+use values::{Memory, SiteId, TaskId};
 use plan_core::Plan;
 use std::alloc::Global;
 

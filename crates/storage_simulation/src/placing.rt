@@ -10,7 +10,7 @@ use crate::front::{Front, children_of};
 use crate::goods::place_of;
 use crate::room::used_after;
 use crate::standing::Standing;
-use outside::TaskId;
+use values::TaskId;
 use plan_core::Plan;
 
 /// What a place holds once a task is placed.

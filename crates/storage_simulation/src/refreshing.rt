@@ -17,7 +17,7 @@ use crate::laying::{home_of, lay};
 use crate::placing::place;
 use crate::standing::Standing;
 use crate::upkeep::{keep_goes, last_parent, reset_goes};
-use outside::TaskId;
+use values::TaskId;
 use plan_core::Plan;
 
 /// Makes anew what a task's placed parent changes: its own key where it is ready, or that of its last parent.

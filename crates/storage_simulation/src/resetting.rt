@@ -12,7 +12,7 @@ use crate::front::Front;
 use crate::goods::places;
 use crate::standing::Standing;
 use crate::usage::usage_after;
-use outside::{SiteId, TaskId};
+use values::{SiteId, TaskId};
 use plan_core::Plan;
 
 /// Whether a task runs or has ended.

@@ -10,7 +10,7 @@ use crate::change::{after_making, cleaned_at};
 use crate::front::Front;
 use crate::goods::cleaned_by;
 use crate::standing::Standing;
-use outside::TaskId;
+use values::TaskId;
 use plan_core::Plan;
 
 /// What a place holds once a task more is placed.

@@ -10,7 +10,7 @@ ghost use Rattle.storage_simulation.specs.Usage.{sum_of};
 
 use crate::goods::pair_size;
 use crate::standing::{Held, Standing};
-use outside::{PairId, TaskId};
+use values::{PairId, TaskId};
 use plan_core::{Plan, TaskKind};
 
 /// What a pair adds to the score of its writer.

@@ -5,7 +5,7 @@ ghost use Rattle.storage_simulation.specs.Standings.{IsStanding, held_of, phase_
 ghost use Rattle.storage_simulation.specs.declared.standing.Held.TheVariants.{Nothing};
 ghost use Rattle.storage_simulation.specs.declared.standing.Phase.TheVariants.{Waits};
 
-use outside::{Items, Memory, TaskId};
+use values::{Items, Memory, TaskId};
 use plan_core::Plan;
 use std::alloc::Global;
 

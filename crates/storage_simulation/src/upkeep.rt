@@ -11,7 +11,7 @@ ghost use Rattle.storage_simulation.specs.Usage.{sum_of};
 use crate::front::Front;
 use crate::scoring::frees;
 use crate::standing::Standing;
-use outside::TaskId;
+use values::TaskId;
 use plan_core::Plan;
 
 /// The one parent of a task that isn't done.

@@ -2,7 +2,7 @@
 
 ghost use Rattle.std.specs.Prelude.{◌≡◌, ◌≤◌, ◌^◌, ℕ};
 ghost use Rattle.std.specs.List.{list_any};
-ghost use Rattle.outside.specs.declared.numbers.TaskId.{TaskId};
+ghost use Rattle.values.specs.declared.numbers.TaskId.{TaskId};
 ghost use Rattle.plan_core.specs.Numbers.{has};
 ghost use Rattle.plan_core.specs.Words.{cleans, task_numbers};
 ghost use Rattle.storage_simulation.specs.Goods.{IsWithinLimits, makes};
@@ -11,7 +11,7 @@ ghost use Rattle.storage_simulation.specs.Usage.{cleaned, made, part, usage, wei
 
 use crate::goods::{good_size, goods, lies_at, makes};
 use crate::standing::Standing;
-use outside::{PairId, SiteId, TaskId};
+use values::{PairId, SiteId, TaskId};
 use plan_core::Plan;
 
 fn any_makes(plan: &Plan, front: &[TaskId], good: u32) -> bool

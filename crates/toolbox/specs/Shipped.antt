@@ -2,7 +2,7 @@
 use Rattle.std.specs.Prelude.{◌≡◌, ℕ, ◌==◌, Bool, List, [], ◌∷◌, is_some, if◌then◌else◌, Option, Some, None, Result, Ok, Err, Vec}
 use Rattle.std.specs.Option.{option_and_then, option_map}
 use Rattle.std.specs.declared.alloc.Global.{Global}
-use Rattle.outside.specs.Tool.{Apply}
+use Rattle.values.specs.Apply.{Apply}
 use Rattle.outside.specs.declared.tool.ToolFault.{ToolFault}
 use Rattle.outside.specs.declared.tool.ToolFault.TheVariants.{Declined, Failed, Memory}
 use Rattle.toolbox.specs.declared.transformation.Transformation.{Transformation}

@@ -4,7 +4,7 @@ ghost use Rattle.std.specs.Prelude.{◌≡◌, ◌≤◌, ◌<◌, ◌==◌, ◌
 ghost use Rattle.std.specs.declared.alloc.Global.{Global};
 ghost use Rattle.tournament_tree.specs.Tree.{IsBare, IsEmpty, IsLeast, IsTree, better, entry, is_less, row, with_first, with_last};
 
-use outside::Memory;
+use values::Memory;
 use std::alloc::Global;
 
 /// What is least first: the score, then the number.

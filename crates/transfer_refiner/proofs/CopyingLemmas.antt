@@ -1,7 +1,7 @@
 -- One job more with its site.
 use Rattle.std.proofs.Common.{List, [], ◌∷◌, ◌++◌, ◌≡◌, ℕ, zero, suc, ◌+◌, ◌<◌, length, take, get_or, refl, sym, ap, ◌∙◌, arith, add-one}
 use Rattle.std.specs.Prelude.{Option}
-use Rattle.outside.specs.declared.numbers.SiteId.{SiteId}
+use Rattle.values.specs.declared.numbers.SiteId.{SiteId}
 use Rattle.workflow_core.specs.declared.workflow.Job.{Job}
 use Rattle.plan_core.specs.declared.plan.PlanJob.{PlanJob}
 use Rattle.plan_request.specs.declared.request.ToolOf.{ToolOf}

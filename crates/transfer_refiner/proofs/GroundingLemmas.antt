@@ -4,7 +4,7 @@ use Rattle.std.specs.Prelude.{Option, Some, None, slice_get}
 use Rattle.std.specs.List.{list_any}
 use Rattle.std.proofs.lemmas.Option.{slice_get_within}
 use Rattle.std.proofs.lemmas.Bool.{cases_lt}
-use Rattle.outside.specs.declared.numbers.JobId.{JobId}
+use Rattle.values.specs.declared.numbers.JobId.{JobId}
 use Rattle.workflow_core.specs.WellFormed.{before, after}
 use Rattle.dependency_graph.specs.Edges.{read_by, written_by, is_among, passes_file, is_paired, edge}
 use Rattle.plan_core.specs.declared.plan.Plan.{Plan}

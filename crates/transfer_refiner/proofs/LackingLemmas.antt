@@ -1,8 +1,8 @@
 -- What a file lacks.
 use Rattle.std.proofs.Common.{◌≡◌, ℕ, ◌<◌, Bool, true, false, not, ◌||◌, ◌&&◌, List, [], ◌∷◌, refl, sym, ap, ◌∙◌, nat_eq, ◌⊎◌, inl, inr}
 use Rattle.std.specs.Prelude.{Option, Some, None, is_some, option_map}
-use Rattle.outside.specs.declared.numbers.JobId.{JobId}
-use Rattle.outside.specs.declared.numbers.SiteId.{SiteId}
+use Rattle.values.specs.declared.numbers.JobId.{JobId}
+use Rattle.values.specs.declared.numbers.SiteId.{SiteId}
 use Rattle.plan_core.specs.Numbers.{has, below}
 use Rattle.workflow_core.specs.Requested.{is_requested}
 use Rattle.transfer_refiner.specs.Draft.{Draft, uses, makes, needs, site_of, made_at, needed_at, stands, home, pfns_of, declared_of, is_empty}

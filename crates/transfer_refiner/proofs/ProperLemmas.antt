@@ -2,7 +2,7 @@
 use Rattle.std.proofs.Common.{◌≡◌, ℕ, zero, suc, ◌+◌, ◌-◌, ◌<◌, ◌≤◌, ◌^◌, true, false, not, ◌||◌, List, [], ◌∷◌, length, map, refl, sym, ap, subst, ◌∙◌, ◌++◌, nat_eq, arith, ◌⊎◌, inl, inr}
 use Rattle.std.proofs.lemmas.Bool.{cases_lt}
 use Rattle.std.specs.Prelude.{Option, Some, None, Result, Ok, Err, IfOk, is_some, slice_get}
-use Rattle.outside.specs.declared.numbers.JobId.{JobId}
+use Rattle.values.specs.declared.numbers.JobId.{JobId}
 use Rattle.workflow_core.specs.Requested.{is_requested}
 use Rattle.plan_core.specs.declared.plan.Pair.{Pair}
 use Rattle.plan_core.specs.declared.plan.Plan.{Plan}

@@ -1,7 +1,7 @@
 -- Lists of edges: who holds a job, where files stand, which parts follow each other.
 use Rattle.std.specs.Prelude.{ℕ, zero, suc, ◌==◌, not, cond, List, [], ◌∷◌, ◌++◌, map}
 use Rattle.std.specs.List.{flat_map}
-use Rattle.outside.specs.declared.numbers.JobId.{JobId}
+use Rattle.values.specs.declared.numbers.JobId.{JobId}
 use Rattle.workflow_core.specs.declared.workflow.Workflow.{Workflow}
 use Rattle.dependency_graph.specs.Edges.{read_by, written_by}
 use Rattle.transfer_refiner.specs.Draft.{Draft, site_of}

@@ -1,7 +1,7 @@
 -- What a plan's files are worth, and where that can be had.
 use Rattle.std.specs.Prelude.{◌≡◌, ℕ, Bool, true, false, List, map, Option, Some, option_and_then, slice_get}
 use Rattle.std.specs.List.{AllByRecursion}
-use Rattle.outside.specs.Tool.{Apply, all_of, part}
+use Rattle.values.specs.Apply.{Apply, all_of, part}
 use Rattle.workflow_core.specs.declared.workflow.Job.{Job}
 use Rattle.workflow_core.specs.declared.workflow.Workflow.{Workflow}
 use Rattle.workflow_core.specs.Requested.{is_requested}

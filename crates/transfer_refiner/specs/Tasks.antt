@@ -1,8 +1,8 @@
 -- The tables of a draft's plan, its tasks in order, and the first fault.
 use Rattle.std.specs.Prelude.{ℕ, zero, suc, ◌+◌, ◌==◌, ◌&&◌, ◌||◌, Bool, true, not, List, [], ◌∷◌, ◌++◌, length, map, if◌then◌else◌, Option, Some, None, is_some, option_and_then, option_map, slice_index_or, nat_lt}
 use Rattle.std.specs.List.{list_any}
-use Rattle.outside.specs.declared.numbers.JobId.{JobId}
-use Rattle.outside.specs.declared.numbers.SiteId.{SiteId}
+use Rattle.values.specs.declared.numbers.JobId.{JobId}
+use Rattle.values.specs.declared.numbers.SiteId.{SiteId}
 use Rattle.workflow_core.specs.declared.workflow.Job.{Job}
 use Rattle.workflow_core.specs.declared.workflow.Output.{Output}
 use Rattle.workflow_core.specs.declared.workflow.Workflow.{Workflow}

@@ -11,7 +11,7 @@ ghost use Rattle.transfer_refiner.specs.View.{draft_of};
 use crate::marked::registered_files;
 use crate::tables::{Tables, declared_of, entry_of, name_of};
 use crate::view::View;
-use outside::{FileId, Items, Memory, Policy, SiteId, Text};
+use values::{FileId, Items, Memory, Policy, SiteId, Text};
 use plan_core::{PlanFile, PlanJob, PlanSite, copied, is_among, texts_copied};
 use plan_request::{Execution, Tools};
 use std::alloc::Global;

@@ -17,7 +17,7 @@ use crate::jobs::{inputs, outputs, part, site_of};
 use crate::rows::{before, larger};
 use crate::view::View;
 use digraph::Digraph;
-use outside::{FileId, JobId, Memory};
+use values::{FileId, JobId, Memory};
 use std::alloc::Global;
 use workflow_core::{Output, Workflow};
 

@@ -3,7 +3,7 @@
 ghost use Rattle.std.specs.Prelude.{◌≡◌};
 ghost use Rattle.transfer_refiner.specs.declared.fault.RefineFault.TheVariants.{Memory};
 
-use outside::{Memory, Text};
+use values::{Memory, Text};
 
 #[derive(Debug, Drop)]
 pub enum RefineFault {

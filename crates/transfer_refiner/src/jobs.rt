@@ -9,7 +9,7 @@ ghost use Rattle.transfer_refiner.specs.Tasks.{part_of};
 ghost use Rattle.transfer_refiner.specs.View.{draft_of};
 
 use crate::view::View;
-use outside::{FileId, JobId, SiteId};
+use values::{FileId, JobId, SiteId};
 use workflow_core::{Output, Workflow};
 
 /// The files that a job reads.

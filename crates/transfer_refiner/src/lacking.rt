@@ -1,7 +1,7 @@
 //! The first fault of a draft.
 
 ghost use Rattle.std.specs.Prelude.{◌≡◌, ◌<◌, ◌&&◌, ◌||◌, not, length, IfOk, option_map};
-ghost use Rattle.outside.specs.declared.numbers.FileId.{FileId};
+ghost use Rattle.values.specs.declared.numbers.FileId.{FileId};
 ghost use Rattle.dependency_graph.specs.Graph.{IsGraphOf};
 ghost use Rattle.workflow_core.specs.Requested.{is_requested};
 ghost use Rattle.plan_core.specs.Numbers.{least};
@@ -17,7 +17,7 @@ use crate::rows::before;
 use crate::sources::pfns_of;
 use crate::tables::{Tables, declared_of, home, name_of};
 use crate::view::View;
-use outside::{FileId, Memory};
+use values::{FileId, Memory};
 use plan_core::is_among;
 use std::alloc::Global;
 

@@ -1,7 +1,7 @@
 //! The pairs of a plan, what has to move, and the kinds of its tasks, in order.
 
 ghost use Rattle.std.specs.Prelude.{◌≡◌, ◌≤◌, ◌<◌, ◌++◌, ◌∷◌, [], ℕ, List, true, cond, map, length, option_map, IfOk, OnOk, All};
-ghost use Rattle.outside.specs.declared.numbers.SiteId.{SiteId};
+ghost use Rattle.values.specs.declared.numbers.SiteId.{SiteId};
 ghost use Rattle.workflow_core.specs.Requested.{is_requested};
 ghost use Rattle.dependency_graph.specs.Graph.{IsGraphOf};
 ghost use Rattle.plan_core.specs.Numbers.{below, has};
@@ -17,7 +17,7 @@ use crate::rows::{after, before};
 use crate::sources::{delivery, transfer};
 use crate::tables::{Tables, home};
 use crate::view::View;
-use outside::{FileId, Items, Memory, SiteId};
+use values::{FileId, Items, Memory, SiteId};
 use plan_core::{Pair, TaskKind, copied};
 use std::alloc::Global;
 

@@ -7,7 +7,7 @@ ghost use Rattle.plan_core.specs.Numbers.{RisesFrom, below, has};
 ghost use Rattle.transfer_refiner.specs.Marked.{requested_by, registered_by, all_requested, all_registered};
 ghost use Rattle.transfer_refiner.specs.Tasks.{is_registered};
 
-use outside::Memory;
+use values::Memory;
 use plan_core::sorted;
 use std::alloc::Global;
 use workflow_core::{Output, Workflow};

@@ -9,7 +9,7 @@ ghost use Rattle.plan_core.specs.Files.{AreFilesOf};
 ghost use Rattle.transfer_refiner.specs.Places.{is_place, is_pair_of, place_of, places_at, AreOnce};
 
 use indexmap::IndexMap;
-use outside::{Items, Memory, PairId};
+use values::{Items, Memory, PairId};
 use plan_core::{Pair, SiteFiles, sorted};
 use std::alloc::Global;
 use std::marker::Model;

@@ -22,7 +22,7 @@ use crate::tasks::tasks_of;
 use crate::view::View;
 use crate::waiting::{with_parents, writers};
 use dependency_graph::Graph;
-use outside::{Items, Memory, SiteId};
+use values::{Items, Memory, SiteId};
 use plan_core::{Pair, Plan, PlanJob, Task, TaskKind};
 use plan_request::{Cleanup, PlanRequest};
 use replica_catalog::{ReplicaCatalog, Replicas};

@@ -1,8 +1,8 @@
 //! Kept jobs, each a cluster of its own.
 
 ghost use Rattle.std.specs.Prelude.{◌≡◌, List, Option};
-ghost use Rattle.outside.specs.declared.numbers.JobId.{JobId};
-ghost use Rattle.outside.specs.declared.numbers.SiteId.{SiteId};
+ghost use Rattle.values.specs.declared.numbers.JobId.{JobId};
+ghost use Rattle.values.specs.declared.numbers.SiteId.{SiteId};
 ghost use Rattle.workflow_core.specs.declared.workflow.Workflow.{Workflow};
 ghost use Rattle.plan_request.specs.declared.request.PlanRequest.{PlanRequest};
 ghost use Rattle.replica_catalog.specs.declared.catalog.ReplicaCatalog.{ReplicaCatalog};

@@ -2,7 +2,7 @@
 
 ghost use Rattle.std.specs.Prelude.{◌≡◌, ◌<◌, length, option_map, IfOk, slice_get};
 ghost use Rattle.std.specs.Option.{option_copied};
-ghost use Rattle.outside.specs.declared.numbers.SiteId.{SiteId};
+ghost use Rattle.values.specs.declared.numbers.SiteId.{SiteId};
 ghost use Rattle.dependency_graph.specs.Graph.{IsGraphOf};
 ghost use Rattle.plan_core.specs.declared.plan.Target.TheVariants.{Site as Into, Delivery};
 ghost use Rattle.transfer_refiner.specs.Conditions.{IsDraft};
@@ -13,7 +13,7 @@ ghost use Rattle.transfer_refiner.specs.View.{draft_of};
 
 use crate::tables::{Tables, entry_of, home};
 use crate::view::View;
-use outside::{FileId, Memory, SiteId, Text};
+use values::{FileId, Memory, SiteId, Text};
 use plan_core::{Source, Target, TaskKind};
 use replica_catalog::Pfn;
 use std::alloc::Global;

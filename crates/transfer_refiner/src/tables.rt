@@ -2,7 +2,7 @@
 
 ghost use Rattle.std.specs.Prelude.{◌≡◌, ◌<◌, ℕ, length, option_map, slice_index_or, IfOk};
 ghost use Rattle.std.specs.Option.{option_copied};
-ghost use Rattle.outside.specs.declared.numbers.SiteId.{SiteId};
+ghost use Rattle.values.specs.declared.numbers.SiteId.{SiteId};
 ghost use Rattle.dependency_graph.specs.Graph.{IsGraphOf};
 ghost use Rattle.transfer_refiner.specs.Conditions.{IsDraft};
 ghost use Rattle.transfer_refiner.specs.Draft.{declared_of, entry_of, home, name_of};
@@ -16,7 +16,7 @@ use crate::marked::requested_files;
 use crate::rows::before;
 use crate::view::View;
 use digraph::Digraph;
-use outside::{FileId, Memory, SiteId, Text};
+use values::{FileId, Memory, SiteId, Text};
 use plan_request::declared_sizes;
 use replica_catalog::Replica;
 use std::alloc::Global;

@@ -6,7 +6,7 @@ ghost use Rattle.transfer_refiner.specs.Places.{AreOnce};
 ghost use Rattle.transfer_refiner.specs.Steps.{IsListed};
 
 use crate::places::{Places, pairs_at};
-use outside::{Items, Memory};
+use values::{Items, Memory};
 use plan_core::{PlanJob, Task, TaskKind, files_read, files_written, kind_copied};
 use std::alloc::Global;
 

@@ -1,7 +1,7 @@
 //! What is planned, by reference.
 
 use dependency_graph::Graph;
-use outside::{Items, JobId, SiteId};
+use values::{Items, JobId, SiteId};
 use plan_request::PlanRequest;
 use replica_catalog::Replicas;
 use workflow_core::Workflow;

@@ -12,7 +12,7 @@ ghost use Rattle.transfer_refiner.specs.Steps.{AreParented, IsSame, writer_edges
 
 use crate::rows::{before, larger};
 use digraph::Digraph;
-use outside::{Items, Memory, PairId, TaskId};
+use values::{Items, Memory, PairId, TaskId};
 use plan_core::{Task, copied, kind_copied, sorted};
 use std::alloc::Global;
 

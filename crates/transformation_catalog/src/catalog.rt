@@ -1,6 +1,6 @@
 //! A transformation catalogue after its document.
 
-use outside::{Items, Text};
+use values::{Items, Text};
 use workflow_core::Transformation;
 
 /// Transformations, no two with the same namespace, name and version.

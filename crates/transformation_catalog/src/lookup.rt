@@ -9,7 +9,7 @@ ghost use Rattle.transformation_catalog.specs.Lookup.{place_of};
 use crate::catalog::{TransformationCatalog, TransformationEntry};
 use crate::key::Key;
 use indexmap::IndexMap;
-use outside::Memory;
+use values::Memory;
 use std::alloc::Global;
 use std::marker::Model;
 use workflow_core::Transformation;

@@ -13,7 +13,7 @@ ghost use Rattle.transformation_catalog.specs.Root.{unknown_of};
 use crate::catalog::{TransformationCatalog, TransformationEntry};
 use crate::duplicates::check_listed_once;
 use crate::root::Document;
-use outside::{Items, Text};
+use values::{Items, Text};
 use peg_json::{FromTree, ReadFault, ignored_below, parse, root};
 use serde_json::Value;
 use std::alloc::Global;

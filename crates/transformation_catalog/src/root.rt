@@ -5,7 +5,7 @@ ghost use Rattle.peg_json.specs.Table.{rows_of};
 ghost use Rattle.transformation_catalog.specs.Root.{root_rows};
 
 use crate::catalog::TransformationEntry;
-use outside::{Memory, Text};
+use values::{Memory, Text};
 use peg_json::{
     FromTree, KeyRow, KeyTable, Kind, Listed, TreeFault, checked, gather, gather_list,
     optional_version, refuse_elements, row,

@@ -5,7 +5,7 @@ ghost use Rattle.peg_json.specs.Table.{rows_of};
 ghost use Rattle.transformation_catalog.specs.TransformationEntry.{transformation_rows};
 
 use crate::catalog::{TransformationEntry, TransformationSite};
-use outside::{Memory, Text};
+use values::{Memory, Text};
 use peg_json::{
     FromTree, KeyRow, KeyTable, Kind, Listed, Profiles, TreeFault, checked, gather, gather_list,
     gather_object, list_or_none, profiles_or_none, refuse_elements, row,

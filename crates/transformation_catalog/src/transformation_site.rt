@@ -7,7 +7,7 @@ ghost use Rattle.peg_json.specs.Table.{rows_of};
 ghost use Rattle.transformation_catalog.specs.TransformationSite.{site_rows, installed_at};
 
 use crate::catalog::TransformationSite;
-use outside::{Memory, Text};
+use values::{Memory, Text};
 use peg_json::{
     FromTree, KeyRow, KeyTable, Kind, Listed, TreeFault, at_key, checked, gather, refuse_value, row,
 };

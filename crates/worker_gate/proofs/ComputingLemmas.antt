@@ -3,8 +3,8 @@ use Rattle.std.proofs.Common.{◌≡◌, ℕ, ◌<◌, ◌||◌, true, nat_eq, L
 use Rattle.std.specs.Prelude.{Option, Some, None, Vec, Ok, Err}
 use Rattle.std.specs.declared.alloc.Global.{Global}
 use Rattle.std.proofs.Math.Path.{fun_ext}
-use Rattle.outside.specs.Tool.{Apply}
-use Rattle.outside.specs.declared.numbers.JobId.{JobId}
+use Rattle.values.specs.Apply.{Apply}
+use Rattle.values.specs.declared.numbers.JobId.{JobId}
 use Rattle.plan_core.specs.declared.plan.Plan.{Plan}
 use Rattle.plan_core.specs.declared.plan.PlanJob.{PlanJob}
 use Rattle.plan_core.specs.declared.plan.TaskKind.{TaskKind}

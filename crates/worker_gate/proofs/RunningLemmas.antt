@@ -6,8 +6,8 @@ use Rattle.std.specs.declared.alloc.Global.{Global}
 use Rattle.worker_gate.specs.Table.{IsFound}
 use Rattle.std.proofs.Math.Path.{fun_ext}
 use Rattle.outside.specs.Counts.{Rose}
-use Rattle.outside.specs.Tool.{Apply, all_of, part}
-use Rattle.outside.specs.declared.numbers.JobId.{JobId}
+use Rattle.values.specs.Apply.{Apply, all_of, part}
+use Rattle.values.specs.declared.numbers.JobId.{JobId}
 use Rattle.plan_core.specs.declared.plan.PlanJob.{PlanJob}
 use Rattle.plan_core.specs.Carried.{after_job, after_jobs}
 use Rattle.plan_core.specs.Kinds.{makes}

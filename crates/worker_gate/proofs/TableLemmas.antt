@@ -3,8 +3,8 @@ use Rattle.std.proofs.Common.{◌≡◌, ℕ, zero, suc, ◌+◌, ◌-◌, ◌<�
 use Rattle.std.specs.Prelude.{Option, Some, None, is_some, if◌then◌else◌}
 use Rattle.std.proofs.lemmas.Bool.{cases_lt}
 use Rattle.std.proofs.lemmas.List.{take_more}
-use Rattle.outside.specs.Tool.{part}
-use Rattle.outside.specs.declared.numbers.FileId.{FileId}
+use Rattle.values.specs.Apply.{part}
+use Rattle.values.specs.declared.numbers.FileId.{FileId}
 use Rattle.plan_core.specs.Numbers.{has, or_else}
 use Rattle.plan_core.specs.Words.{file_numbers}
 use Rattle.plan_core.proofs.TestLemmas.{by_bool, is_itself, or_left, or_right, same_number}

@@ -3,7 +3,7 @@ use Rattle.std.proofs.Common.{◌≡◌, ℕ, ◌≤◌, List, [], ◌∷◌, le
 use Rattle.std.specs.Prelude.{Option, Some, None, IfSome, Vec, Ok, Err}
 use Rattle.std.specs.declared.alloc.Global.{Global}
 use Rattle.std.proofs.lemmas.List.{length-map}
-use Rattle.outside.specs.Tool.{Apply}
+use Rattle.values.specs.Apply.{Apply}
 use Rattle.outside.specs.declared.store.Store.{Store}
 use Rattle.plan_core.specs.declared.plan.Plan.{Plan}
 use Rattle.plan_core.specs.Words.{reads, writes}

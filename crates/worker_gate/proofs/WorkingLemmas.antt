@@ -3,8 +3,8 @@ use Rattle.std.proofs.Common.{◌≡◌, ℕ, ◌+◌, ◌≤◌, true, false, i
 use Rattle.std.specs.Prelude.{◌⊎◌, Option, Some, None, IfOk, IfSome, Result, Ok, Err, Vec}
 use Rattle.std.specs.declared.alloc.Global.{Global}
 use Rattle.std.specs.FinMap as files
-use Rattle.outside.specs.Tool.{Apply}
-use Rattle.outside.specs.declared.memory.Memory.{Memory}
+use Rattle.values.specs.Apply.{Apply}
+use Rattle.values.specs.declared.memory.Memory.{Memory}
 use Rattle.outside.specs.declared.store.Store.{Store}
 use Rattle.plan_core.specs.declared.plan.Plan.{Plan}
 use Rattle.plan_core.specs.Carried.{Bytes, carried}

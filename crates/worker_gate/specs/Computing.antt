@@ -2,8 +2,8 @@
 use Rattle.std.specs.Prelude.{◌≡◌, ℕ, true, List, [], map, Option, Some, None, Result, Ok, Err, Vec}
 use Rattle.std.specs.declared.alloc.Global.{Global}
 use Rattle.outside.specs.Counts.{Rose}
-use Rattle.outside.specs.Tool.{Apply, part}
-use Rattle.outside.specs.declared.numbers.JobId.{JobId}
+use Rattle.values.specs.Apply.{Apply, part}
+use Rattle.values.specs.declared.numbers.JobId.{JobId}
 use Rattle.plan_core.specs.declared.plan.Plan.{Plan}
 use Rattle.plan_core.specs.declared.plan.TaskKind.{TaskKind}
 use Rattle.plan_core.specs.declared.plan.TaskKind.TheVariants.{Run}

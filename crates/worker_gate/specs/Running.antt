@@ -1,8 +1,8 @@
 -- What jobs make of what stands at the files, one after the other.
 use Rattle.std.specs.Prelude.{◌≡◌, ℕ, true, List, length, map, is_some, Option, Some, None, option_and_then, Result, Ok, Err}
 use Rattle.outside.specs.Counts.{Rose}
-use Rattle.outside.specs.Tool.{Apply, all_of, part}
-use Rattle.outside.specs.declared.numbers.JobId.{JobId}
+use Rattle.values.specs.Apply.{Apply, all_of, part}
+use Rattle.values.specs.declared.numbers.JobId.{JobId}
 use Rattle.plan_core.specs.declared.plan.PlanJob.{PlanJob}
 use Rattle.plan_core.specs.Carried.{after_job, after_jobs}
 use Rattle.plan_core.specs.Kinds.{makes}

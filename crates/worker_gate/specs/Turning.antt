@@ -1,8 +1,8 @@
 -- What a worker's turns at a shared yard leave its pass with.
 use Rattle.std.specs.Prelude.{◌≡◌, ℕ, ◌⊎◌, true, false, cond, List, [], ◌∷◌, ◌++◌, Option, Some, None, IfSome, Result, Ok, Err, Vec}
 use Rattle.std.specs.declared.alloc.Global.{Global}
-use Rattle.outside.specs.Tool.{Apply}
-use Rattle.outside.specs.declared.memory.Memory.{Memory}
+use Rattle.values.specs.Apply.{Apply}
+use Rattle.values.specs.declared.memory.Memory.{Memory}
 use Rattle.outside.specs.declared.store.Store.{Store}
 use Rattle.plan_core.specs.declared.plan.Plan.{Plan}
 use Rattle.plan_core.specs.Words.{is_run, task_numbers}

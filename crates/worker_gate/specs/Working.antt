@@ -1,8 +1,8 @@
 -- What a worker adds to the record of a yard that several share.
 use Rattle.std.specs.Prelude.{◌≡◌, ℕ, List, [], ◌∷◌, ◌++◌, Result, Ok, Err, Vec}
 use Rattle.std.specs.declared.alloc.Global.{Global}
-use Rattle.outside.specs.Tool.{Apply}
-use Rattle.outside.specs.declared.memory.Memory.{Memory}
+use Rattle.values.specs.Apply.{Apply}
+use Rattle.values.specs.declared.memory.Memory.{Memory}
 use Rattle.plan_core.specs.declared.plan.Plan.{Plan}
 use Rattle.run_record.specs.declared.entry.Cause.{Cause}
 use Rattle.run_record.specs.declared.entry.Cause.TheVariants as why

@@ -1,7 +1,7 @@
 //! What the definitions come to.
 
 ghost use Rattle.std.specs.Prelude.{◌≡◌, ℕ, List, [], Option, Some, map, true};
-ghost use Rattle.outside.specs.Tool.{Apply};
+ghost use Rattle.values.specs.Apply.{Apply};
 ghost use Rattle.plan_core.specs.declared.plan.Plan.{Plan};
 ghost use Rattle.plan_core.specs.Carried.{Bytes, carried};
 ghost use Rattle.plan_core.specs.Proper.{IsProper};

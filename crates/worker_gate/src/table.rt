@@ -2,7 +2,7 @@
 
 ghost use Rattle.std.specs.Prelude.{◌≡◌, ◌==◌, ℕ, None, Some, OnOk, IfOk, cond, is_some, map, true};
 ghost use Rattle.std.specs.Option.{option_copied};
-ghost use Rattle.outside.specs.Tool.{all_of, part};
+ghost use Rattle.values.specs.Apply.{all_of, part};
 ghost use Rattle.plan_core.specs.Numbers.{has, or_else};
 ghost use Rattle.plan_core.specs.Words.{file_numbers};
 ghost use Rattle.storage_simulation.specs.Following.{AreOnce};

@@ -2,7 +2,7 @@
 use Rattle.std.proofs.Common.{◌≡◌, ℕ, ◌<◌, ◌≤◌, Bool, true, ◌&&◌, List, [], ◌∷◌, length, refl, nat_eq, nat_lt, nat_le, arith}
 use Rattle.std.specs.Prelude.{◌↔◌, ◌^◌, Option, Some, None}
 use Rattle.std.specs.List.{list_all, AllByRecursion}
-use Rattle.outside.specs.declared.numbers.JobId.{JobId}
+use Rattle.values.specs.declared.numbers.JobId.{JobId}
 use Rattle.workflow_core.specs.declared.workflow.Workflow.{Workflow}
 use Rattle.workflow_core.specs.declared.workflow.Job.{Job}
 use Rattle.workflow_core.specs.WellFormed.{are_distinct, inputs_of, outputs_of, before, after, IsJobOver, IsSmallSize, IsWellFormed}

@@ -3,7 +3,7 @@
 ghost use Rattle.std.specs.Prelude.{◌≡◌, ◌↔◌, true, map, nat_eq, nat_lt, IfOk};
 ghost use Rattle.std.specs.List.{list_all};
 ghost use Rattle.std.specs.Str.{bytes_eq};
-ghost use Rattle.outside.specs.declared.numbers.JobId.{JobId};
+ghost use Rattle.values.specs.declared.numbers.JobId.{JobId};
 ghost use Rattle.workflow_core.specs.declared.workflow.Job.{Job};
 ghost use Rattle.workflow_core.specs.WellFormed.{are_distinct, IsWellFormed};
 ghost use Rattle.workflow_core.specs.Checking.{are_files, is_job_over, is_pair_of, is_small_size, are_few, are_named, passes};
@@ -11,7 +11,7 @@ ghost use Rattle.workflow_core.specs.Checking.{are_files, is_job_over, is_pair_o
 use crate::names::Names;
 use crate::workflow::{Job, Workflow};
 use indexmap::IndexSet;
-use outside::{JobId, Memory, Text};
+use values::{JobId, Memory, Text};
 use std::alloc::Global;
 
 fn are_distinct(alloc: Global, numbers: &[u32]) -> Result<bool, Memory>

@@ -1,6 +1,6 @@
 //! Jobs put together into tasks.
 
-use outside::{Items, JobId};
+use values::{Items, JobId};
 
 /// The clusters of kept jobs, each in the order in which its jobs run.
 #[derive(Debug, Drop)]

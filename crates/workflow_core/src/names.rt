@@ -6,7 +6,7 @@ ghost use Rattle.std.specs.Str.{bytes_eq};
 ghost use Rattle.workflow_core.specs.Names.{number, with_name};
 
 use indexmap::IndexSet;
-use outside::{Items, Memory, Text};
+use values::{Items, Memory, Text};
 use std::alloc::Global;
 use std::marker::Model;
 

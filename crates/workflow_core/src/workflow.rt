@@ -1,6 +1,6 @@
 //! A workflow after its document.
 
-use outside::{FileId, Items, JobId, Text};
+use values::{FileId, Items, JobId, Text};
 use serde_json::Value;
 
 /// A list of jobs, the pairs of a job and one that comes after it, and the files in order of first

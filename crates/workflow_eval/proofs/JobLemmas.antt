@@ -7,13 +7,13 @@ use Rattle.std.proofs.Math.Bool.{or_assoc}
 use Rattle.std.proofs.lemmas.List.{take_more, length-map, get_or-map, get_or_default}
 use Rattle.std.proofs.lemmas.List.Elements.{All-get_or}
 use Rattle.std.proofs.lemmas.List.Recursion.{or_push}
-use Rattle.outside.specs.declared.numbers.JobId.{JobId}
+use Rattle.values.specs.declared.numbers.JobId.{JobId}
 use Rattle.workflow_core.specs.declared.workflow.Workflow.{Workflow}
 use Rattle.workflow_core.specs.declared.workflow.Job.{Job}
 use Rattle.workflow_core.specs.WellFormed.{inputs_of, outputs_of, IsJobOver, IsWellFormed}
 use Rattle.dependency_graph.specs.Edges.{is_among, has_output, producer, read_by, written_by}
 use Rattle.dependency_graph.specs.Value.{AllBased, Basis, run_of, tool_at, value, made_by}
-use Rattle.outside.specs.Tool.{part, all_of}
+use Rattle.values.specs.Apply.{part, all_of}
 use Rattle.dependency_graph.specs.Flow.{FlowsAlong, is_base, is_there, is_written}
 use Rattle.workflow_eval.specs.FileTable.{at, looked_up, placed}
 use Rattle.workflow_eval.proofs.PlaceLemmas.{at_placed, part_there}

@@ -5,7 +5,7 @@ use Rattle.std.specs.List.{list_any, AllByRecursion}
 use Rattle.std.proofs.lemmas.Grind.{common_steps}
 use Rattle.std.proofs.lemmas.List.Elements.{All-nil, All-cons}
 use Rattle.workflow_core.specs.declared.workflow.Output.{Output}
-use Rattle.outside.specs.Tool.{part}
+use Rattle.values.specs.Apply.{part}
 use Rattle.workflow_eval.specs.FileTable.{at, placed}
 
 pub length_placed : (os : List ℕ) (vs : List (List ℕ)) (table : List (Option (List ℕ))) → length (placed os vs table) ≡ length table

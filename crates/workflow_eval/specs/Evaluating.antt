@@ -1,7 +1,7 @@
 -- What an evaluation answers.
 use Rattle.std.specs.Prelude.{◌≡◌, ℕ, ◌<◌, List, [], ◌∷◌, length, map, take, if◌then◌else◌, is_some, Option, Some, None, Result, Ok, Err, Vec, slice_index_or}
 use Rattle.std.specs.declared.alloc.Global.{Global}
-use Rattle.outside.specs.declared.numbers.JobId.{JobId}
+use Rattle.values.specs.declared.numbers.JobId.{JobId}
 use Rattle.workflow_core.specs.declared.workflow.Workflow.{Workflow}
 use Rattle.dependency_graph.specs.Value.{Basis, made_by, tool_at, value}
 use Rattle.workflow_eval.specs.declared.fault.EvalFault.{EvalFault}

@@ -3,7 +3,7 @@ use Rattle.std.specs.Prelude.{◌≡◌, ℕ, List, [], ◌∷◌, map, Option, 
 use Rattle.std.specs.declared.alloc.Global.{Global}
 use Rattle.workflow_eval.specs.declared.fault.EvalFault.{EvalFault}
 use Rattle.workflow_eval.specs.declared.fault.EvalFault.TheVariants.{Declined, ToolFailed, Memory}
-use Rattle.outside.specs.Tool.{all_of}
+use Rattle.values.specs.Apply.{all_of}
 
 -- what stands at a file's place
 abbrev pub at : List (Option (List ℕ)) → ℕ → Option (List ℕ)

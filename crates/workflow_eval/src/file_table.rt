@@ -1,7 +1,7 @@
 //! A table with a place for each file, filled job by job.
 
 ghost use Rattle.std.specs.Prelude.{◌≡◌, ◌<◌, Option, Some, length, IfOk, IsSome, All};
-ghost use Rattle.outside.specs.Tool.{all_of};
+ghost use Rattle.values.specs.Apply.{all_of};
 ghost use Rattle.workflow_core.specs.WellFormed.{inputs_of, outputs_of};
 ghost use Rattle.workflow_eval.specs.FileTable.{looked_up, placed, IsLookedUp};
 

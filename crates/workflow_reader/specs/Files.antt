@@ -3,7 +3,7 @@ use Rattle.std.specs.Prelude.{ℕ, List, [], ◌∷◌, Bool, true, false, map, 
 use Rattle.std.specs.List.{flat_map}
 use Rattle.std.specs.Option.{option_or}
 use Rattle.std.specs.Str.{bytes_eq}
-use Rattle.outside.specs.declared.numbers.FileId.{FileId}
+use Rattle.values.specs.declared.numbers.FileId.{FileId}
 use Rattle.workflow_core.specs.Names.{distinct, number}
 use Rattle.workflow_core.specs.declared.workflow.Output.{Output}
 use Rattle.workflow_reader.specs.declared.document.Direction.{Direction}

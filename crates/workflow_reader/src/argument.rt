@@ -6,7 +6,7 @@ ghost use Rattle.peg_json.specs.Tree.{Gives};
 ghost use Rattle.workflow_reader.specs.Argument.{argument_of};
 ghost use Rattle.peg_json.specs.Lists.{list_or_none};
 
-use outside::{Items, Text};
+use values::{Items, Text};
 use peg_json::{FromTree, TreeFault, list_or_none};
 use serde_json::Value;
 use std::alloc::Global;

@@ -5,7 +5,7 @@ ghost use Rattle.serde_json.specs.View.{view as tree_view};
 ghost use Rattle.peg_json.specs.Tree.{Gives};
 ghost use Rattle.workflow_reader.specs.ConstantText.{constant_at};
 
-use outside::Text;
+use values::Text;
 use peg_json::{TreeFault, at_key, row};
 use serde_json::Value;
 use std::alloc::Global;

@@ -1,6 +1,6 @@
 //! What stands in a workflow's document, before its files and jobs have numbers.
 
-use outside::{Items, Text};
+use values::{Items, Text};
 use workflow_core::{Inlined, Transformation};
 
 /// A whole document.

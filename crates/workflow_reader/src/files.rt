@@ -6,7 +6,7 @@ ghost use Rattle.workflow_reader.specs.Files.{lfns_in, files_of, sizes_of};
 ghost use Rattle.workflow_reader.specs.Known.{with_size, with_sizes};
 
 use crate::document::{JobEntry, Use};
-use outside::{Items, Memory};
+use values::{Items, Memory};
 use std::alloc::Global;
 use workflow_core::{Names, names_are_numbered};
 

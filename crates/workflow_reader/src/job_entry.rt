@@ -7,7 +7,7 @@ ghost use Rattle.workflow_reader.specs.JobEntry.{job_rows};
 use crate::argument::arguments;
 use crate::constant_text::checked_constant;
 use crate::document::{JobEntry, Use};
-use outside::{Memory, Text};
+use values::{Memory, Text};
 use peg_json::{
     FromTree, KeyRow, KeyTable, Kind, Listed, Profiles, TreeFault, checked, gather, gather_list,
     gather_object, list_or_none, profiles_or_none, row,

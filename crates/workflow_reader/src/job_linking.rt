@@ -6,7 +6,7 @@ ghost use Rattle.workflow_reader.specs.Files.{uses_as, file_of, output_of};
 ghost use Rattle.workflow_reader.specs.Linking.{linked_job};
 
 use crate::document::{Direction, JobEntry, Use};
-use outside::{FileId, Items, Memory};
+use values::{FileId, Items, Memory};
 use std::alloc::Global;
 use workflow_core::{Job, Names, Output};
 

@@ -13,7 +13,7 @@ ghost use Rattle.workflow_reader.specs.Root.{unknown_of};
 
 use crate::document::Document;
 use crate::linking::workflow_of;
-use outside::Text;
+use values::Text;
 use peg_json::{FromTree, ReadFault, ignored_below, parse, root};
 use serde_json::Value;
 use std::alloc::Global;

@@ -5,7 +5,7 @@ ghost use Rattle.peg_json.specs.Table.{rows_of};
 ghost use Rattle.workflow_reader.specs.Root.{root_rows};
 
 use crate::document::{Dependency, Document, JobEntry};
-use outside::{Items, Memory, Text};
+use values::{Items, Memory, Text};
 use peg_json::{
     FromTree, KeyRow, KeyTable, Kind, Listed, TreeFault, checked, gather, gather_list,
     list_or_none, row, version,

@@ -7,7 +7,7 @@ ghost use Rattle.peg_json.specs.Table.{rows_of};
 ghost use Rattle.workflow_reader.specs.UseEntry.{use_rows, direction_at};
 
 use crate::document::{Direction, Use};
-use outside::{Memory, Text};
+use values::{Memory, Text};
 use peg_json::{FromTree, KeyRow, KeyTable, Kind, Listed, TreeFault, at_key, checked, gather, row};
 use serde_json::Value;
 use std::alloc::Global;

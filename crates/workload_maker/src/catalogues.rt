@@ -5,7 +5,7 @@ ghost use Rattle.workload_maker.specs.Catalogues.{others_text, request_text, sit
 
 use crate::jobs::push_number;
 use crate::pieces::{Piece, push_piece};
-use outside::{Blob, Memory};
+use values::{Blob, Memory};
 use std::alloc::Global;
 
 /// The text of the request.

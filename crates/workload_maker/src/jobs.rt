@@ -8,7 +8,7 @@ ghost use Rattle.workload_maker.specs.Jobs.{job};
 
 use crate::names::{File, push_digits, push_name};
 use crate::pieces::{Piece, push_piece};
-use outside::Memory;
+use values::Memory;
 use std::alloc::Global;
 
 /// Adds a number in decimal digits.

@@ -3,7 +3,7 @@
 ghost use Rattle.std.specs.Prelude.{◌≡◌, ◌<◌, ◌+◌, ◌++◌, OnOk};
 ghost use Rattle.workload_maker.specs.Names.{four_digits, name_text, numbered_text};
 
-use outside::Memory;
+use values::Memory;
 
 /// A file's name: of some that are numbered, or of a single one.
 #[derive(Debug, Clone, Copy)]

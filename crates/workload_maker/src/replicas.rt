@@ -7,7 +7,7 @@ ghost use Rattle.workload_maker.specs.Replicas.{image_of, image_text, pfn_text, 
 
 use crate::names::{FileName, push_digits, push_name};
 use crate::pieces::{Piece, push_piece};
-use outside::{Blob, Memory, Text};
+use values::{Blob, Memory, Text};
 use std::alloc::Global;
 
 /// Adds the entry of an image.

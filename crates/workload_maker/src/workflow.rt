@@ -8,7 +8,7 @@ ghost use Rattle.workload_maker.specs.Workflow.{add, background, bg, bg_model, c
 use crate::jobs::{Named, push_job};
 use crate::names::{File, FileName};
 use crate::pieces::{Piece, push_piece};
-use outside::{Blob, Memory};
+use values::{Blob, Memory};
 use std::alloc::Global;
 
 /// An image as it was taken.

@@ -1,6 +1,6 @@
 -- `plan`: prints the plan of the documents with its order. It touches nothing.
 use Rattle.std.specs.Prelude.{◌≡◌, ◌<◌, ℕ, List, [], get_or, length, Some, None, Ok, Err}
-use Rattle.outside.specs.declared.numbers.TaskId.{TaskId}
+use Rattle.values.specs.declared.numbers.TaskId.{TaskId}
 use Rattle.plan_core.specs.declared.plan.Plan.{Plan}
 use Rattle.plan_core.specs.Printing.{plan_text}
 use Rattle.plan_core.specs.Words.{task_numbers}

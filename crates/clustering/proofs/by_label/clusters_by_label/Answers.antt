@@ -3,7 +3,7 @@ use Rattle.std.specs.Prelude.{Option, slice_index_or}
 use Rattle.std.specs.List.{All}
 use Rattle.std.proofs.Math.Path.{fun_ext}
 use Rattle.std.proofs.lemmas.List.{length-map}
-use Rattle.outside.specs.declared.numbers.JobId.{JobId}
+use Rattle.values.specs.declared.numbers.JobId.{JobId}
 use Rattle.digraph.specs.Adjacency.{lists_of, neighbours}
 use Rattle.digraph.specs.Cycle.{IsNamedCycle, Returns}
 use Rattle.digraph.specs.Digraph as digraph

@@ -1,5 +1,5 @@
 use Rattle.std.proofs.Common.{◌≡◌, ◌≤◌, drop, length}
-use Rattle.outside.specs.declared.numbers.JobId.{JobId}
+use Rattle.values.specs.declared.numbers.JobId.{JobId}
 use Rattle.dependency_graph.specs.Graph.{job_lists}
 use Rattle.clustering.specs.Labels.{holder_from, holder_in}
 use Rattle.clustering.proofs.labels.holder_table.Given as goal

@@ -1,7 +1,7 @@
 use Rattle.std.proofs.Common.{◌<◌, get_or, length, arith}
 use Rattle.std.proofs.lemmas.Grind.{common_steps}
 use Rattle.std.proofs.lemmas.List.Elements.{All-get_or}
-use Rattle.outside.specs.declared.numbers.JobId.{JobId}
+use Rattle.values.specs.declared.numbers.JobId.{JobId}
 use Rattle.clustering.proofs.LabelsLemmas.{held_more}
 use Rattle.clustering.proofs.RunsLemmas.{no_job}
 use Rattle.clustering.proofs.labels.note_part.Goals as goal

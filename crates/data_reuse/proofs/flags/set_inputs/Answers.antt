@@ -1,7 +1,7 @@
 use Rattle.std.proofs.Common.{◌≡◌, ◌∙◌, ◌<◌, ◌||◌, ℕ, true, List, length, refl, ap, subst, sym, slice_index_or, slice_set, nat_eq, arith}
 use Rattle.std.specs.List.{list_any}
 use Rattle.std.proofs.lemmas.List.{length-set}
-use Rattle.outside.specs.declared.numbers.FileId.{FileId}
+use Rattle.values.specs.declared.numbers.FileId.{FileId}
 use Rattle.data_reuse.specs.Flags.{is_set, reads}
 use Rattle.data_reuse.proofs.TestsLemmas.{number_in, rest_more, rest_none}
 use Rattle.data_reuse.proofs.FlagsLemmas.{flag_true}

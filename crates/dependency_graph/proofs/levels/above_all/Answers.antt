@@ -1,6 +1,6 @@
 use Rattle.std.proofs.Common.{◌∙◌, ℕ, max, sym, ap, take, slice_index_or}
 use Rattle.std.proofs.lemmas.List.{take_more}
-use Rattle.outside.specs.declared.numbers.JobId.{JobId}
+use Rattle.values.specs.declared.numbers.JobId.{JobId}
 use Rattle.dependency_graph.specs.Levels.{above, above_all}
 use Rattle.dependency_graph.proofs.LevelsLemmas.{above_push}
 use Rattle.dependency_graph.proofs.levels.above_all.Goals as goal

@@ -1,5 +1,5 @@
 use Rattle.std.proofs.Common.{◌≡◌, ◌++◌, map, drop}
-use Rattle.outside.specs.declared.numbers.FileId.{FileId}
+use Rattle.values.specs.declared.numbers.FileId.{FileId}
 use Rattle.dependency_graph.specs.Sources.{found}
 use Rattle.dependency_graph.proofs.sources.found.Given as goal
 

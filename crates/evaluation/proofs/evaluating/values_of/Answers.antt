@@ -2,7 +2,7 @@ use Rattle.std.proofs.Common.{◌≡◌, ◌∙◌, ℕ, List, refl, sym, ap, su
 use Rattle.std.specs.Prelude.{Option, Ok, Err, Vec}
 use Rattle.std.specs.declared.alloc.Global.{Global}
 use Rattle.outside.specs.Counts.{Rose}
-use Rattle.outside.specs.declared.numbers.JobId.{JobId}
+use Rattle.values.specs.declared.numbers.JobId.{JobId}
 use Rattle.dependency_graph.specs.Value.{AllBased, Basis, basis}
 use Rattle.workflow_eval.specs.Evaluating.{Evaluates, IsReached}
 use Rattle.workflow_eval.specs.declared.fault.EvalFault.TheVariants.{ToolFailed}

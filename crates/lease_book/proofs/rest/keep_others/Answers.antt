@@ -1,6 +1,6 @@
 use Rattle.std.proofs.Common.{eqb, rules}
 use Rattle.std.specs.Prelude.{not}
-use Rattle.outside.specs.declared.numbers.TaskId.{TaskId}
+use Rattle.values.specs.declared.numbers.TaskId.{TaskId}
 use Rattle.std.proofs.lemmas.Fn.{filter_same}
 use Rattle.lease_book.proofs.rest.keep_others.Goals as goal
 

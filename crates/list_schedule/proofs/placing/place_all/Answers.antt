@@ -1,6 +1,6 @@
 use Rattle.std.proofs.Common.{◌≡◌, ℕ, ◌+◌, ◌*◌, ◌<◌, ◌^◌, length, get_or, ap, subst, ◌∙◌, arith}
 use Rattle.std.proofs.lemmas.List.{take_all, length-map}
-use Rattle.outside.specs.declared.numbers.JobId.{JobId}
+use Rattle.values.specs.declared.numbers.JobId.{JobId}
 use Rattle.digraph.specs.Adjacency.{has, lists_of}
 use Rattle.dependency_graph.specs.Graph.{numbers}
 use Rattle.dependency_graph.proofs.LevelsLemmas.{parents_kept}

@@ -1,5 +1,5 @@
 use Rattle.std.proofs.Common.{List, sym, subst}
-use Rattle.outside.specs.declared.numbers.JobId.{JobId}
+use Rattle.values.specs.declared.numbers.JobId.{JobId}
 use Rattle.dependency_graph.specs.Graph.{numbers}
 use Rattle.list_schedule.specs.Ranks.{IsRankOrder}
 use Rattle.list_schedule.specs.Schedule.{IsHeft}

@@ -1,6 +1,6 @@
 use Rattle.std.proofs.Common.{◌∙◌, ℕ, List, ap, subst}
 use Rattle.outside.specs.Store.{blank}
-use Rattle.outside.specs.declared.documents.Documents.{Documents}
+use Rattle.values.specs.declared.documents.Documents.{Documents}
 use Rattle.plan_request.specs.Reader.{read_of}
 use Rattle.planner.specs.Course.{Refuses}
 use Rattle.planner.specs.PlanFault.{FailsPlan, answered}

@@ -1,5 +1,5 @@
 use Rattle.std.proofs.Common.{◌<◌, length, arith}
-use Rattle.outside.specs.declared.numbers.PairId.{PairId}
+use Rattle.values.specs.declared.numbers.PairId.{PairId}
 use Rattle.site_yard.proofs.StoreLemmas.{past_here, within_here}
 use Rattle.site_yard.proofs.storing.first_past.Goals as goal
 

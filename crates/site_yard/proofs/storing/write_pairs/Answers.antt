@@ -1,5 +1,5 @@
 use Rattle.std.proofs.Common.{◌<◌, get_or, length, sym, ◌∙◌, arith}
-use Rattle.outside.specs.declared.numbers.PairId.{PairId}
+use Rattle.values.specs.declared.numbers.PairId.{PairId}
 use Rattle.site_yard.proofs.StoreLemmas.{later_both, lengths_here, wrote_here, wrote_stops}
 use Rattle.site_yard.proofs.storing.write_pairs.Goals as goal
 

@@ -1,5 +1,5 @@
 use Rattle.std.proofs.Common.{◌+◌, take, arith}
-use Rattle.outside.specs.declared.numbers.TaskId.{TaskId}
+use Rattle.values.specs.declared.numbers.TaskId.{TaskId}
 use Rattle.plan_core.specs.Words.{task_numbers}
 use Rattle.storage_simulation.specs.Standings.{held_of, phase_of, sizes}
 use Rattle.storage_simulation.proofs.ChangeLemmas.{cleaning_at, making_at, usage_small}

@@ -1,6 +1,6 @@
 use Rattle.std.proofs.Common.{rules, ◌∙◌}
 use Rattle.std.proofs.lemmas.List.Sorted.{answers_always}
-use Rattle.outside.specs.declared.numbers.PairId.{PairId}
+use Rattle.values.specs.declared.numbers.PairId.{PairId}
 use Rattle.storage_simulation.proofs.RisingLemmas.{found_has}
 use Rattle.storage_simulation.proofs.goods.is_among_rising.Goals as goal
 

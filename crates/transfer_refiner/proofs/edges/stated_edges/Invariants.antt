@@ -1,6 +1,6 @@
 use Rattle.std.proofs.Common.{◌≡◌, ℕ, ◌||◌, ◌&&◌, not, drop, nat_eq}
 use Rattle.std.specs.List.{list_any}
-use Rattle.outside.specs.declared.numbers.JobId.{JobId}
+use Rattle.values.specs.declared.numbers.JobId.{JobId}
 use Rattle.workflow_core.specs.WellFormed.{before, after}
 use Rattle.plan_core.specs.Numbers.{has}
 use Rattle.transfer_refiner.specs.Tasks.{part_of, comes_after}

@@ -1,6 +1,6 @@
 use Rattle.std.proofs.Common.{◌≡◌, ◌++◌, drop}
 use Rattle.std.specs.Prelude.{option_map}
-use Rattle.outside.specs.declared.numbers.SiteId.{SiteId}
+use Rattle.values.specs.declared.numbers.SiteId.{SiteId}
 use Rattle.transfer_refiner.specs.Listing.{moved_from}
 use Rattle.transfer_refiner.proofs.listing.push_moved.Given as goal
 

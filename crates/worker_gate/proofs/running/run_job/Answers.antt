@@ -1,5 +1,5 @@
 use Rattle.std.proofs.Common.{sym, ap, subst, ◌∙◌, refl, map}
-use Rattle.outside.specs.Tool.{all_of}
+use Rattle.values.specs.Apply.{all_of}
 use Rattle.plan_core.specs.Words.{file_numbers}
 use Rattle.worker_gate.specs.Running.{RunsTool}
 use Rattle.worker_gate.specs.Table.{at}

@@ -1,5 +1,5 @@
 use Rattle.std.proofs.Common.{get_or}
-use Rattle.outside.specs.declared.numbers.JobId.{JobId}
+use Rattle.values.specs.declared.numbers.JobId.{JobId}
 use Rattle.worker_gate.specs.Table.{at}
 use Rattle.worker_gate.proofs.RunLemmas.{both_counts}
 use Rattle.worker_gate.proofs.RunningLemmas.{after_next, all_dropped, declines_next, next_job, ran_all, stops, there_next}

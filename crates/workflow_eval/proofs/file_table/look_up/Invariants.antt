@@ -1,5 +1,5 @@
 use Rattle.std.proofs.Common.{◌≡◌, drop, map}
-use Rattle.outside.specs.declared.numbers.FileId.{FileId}
+use Rattle.values.specs.declared.numbers.FileId.{FileId}
 use Rattle.workflow_core.specs.WellFormed.{inputs_of}
 use Rattle.workflow_eval.specs.FileTable.{looked_up}
 use Rattle.workflow_eval.proofs.FileTableLemmas.{with_front}

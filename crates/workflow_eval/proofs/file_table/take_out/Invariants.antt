@@ -1,6 +1,6 @@
 use Rattle.std.proofs.Common.{◌≡◌}
 use Rattle.std.specs.Vec.Iter.{into_iter_items}
-use Rattle.outside.specs.Tool.{all_of}
+use Rattle.values.specs.Apply.{all_of}
 use Rattle.workflow_eval.proofs.FileTableLemmas.{with_front}
 use Rattle.workflow_eval.proofs.file_table.take_out.Given as goal
 

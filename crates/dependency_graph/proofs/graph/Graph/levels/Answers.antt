@@ -1,5 +1,5 @@
 use Rattle.std.proofs.Common.{◌∙◌, ◌+◌, ◌≤◌, ℕ, List, length, ap, sym, subst, slice_index_or, slice_set}
-use Rattle.outside.specs.declared.numbers.JobId.{JobId}
+use Rattle.values.specs.declared.numbers.JobId.{JobId}
 use Rattle.dependency_graph.specs.Levels.{level_by}
 use Rattle.dependency_graph.proofs.LevelsLemmas.{IsLeveled, job_is, leveled_all, leveled_more, levels_low, parents_kept}
 use Rattle.dependency_graph.proofs.graph.Graph.levels.Goals as goal

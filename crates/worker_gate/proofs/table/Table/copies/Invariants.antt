@@ -1,5 +1,5 @@
 use Rattle.std.proofs.Common.{◌≡◌, drop, map}
-use Rattle.outside.specs.Tool.{all_of}
+use Rattle.values.specs.Apply.{all_of}
 use Rattle.plan_core.specs.Words.{file_numbers}
 use Rattle.worker_gate.specs.Table.{at}
 use Rattle.worker_gate.proofs.TableLemmas.{with_front}

@@ -1,7 +1,7 @@
 use Rattle.std.proofs.Common.{◌≡◌, ◌-◌, length, drop, arith, sym, ap, ◌∙◌}
 use Rattle.std.proofs.lemmas.List.{length-map, get_or-map}
-use Rattle.outside.specs.Tool.{part}
-use Rattle.outside.specs.declared.numbers.FileId.{FileId}
+use Rattle.values.specs.Apply.{part}
+use Rattle.values.specs.declared.numbers.FileId.{FileId}
 use Rattle.plan_core.specs.Numbers.{or_else}
 use Rattle.plan_core.specs.Words.{file_numbers}
 use Rattle.worker_gate.specs.Table.{at}

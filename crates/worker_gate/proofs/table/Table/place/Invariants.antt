@@ -1,5 +1,5 @@
 use Rattle.std.proofs.Common.{◌≡◌, ℕ, ◌≤◌, drop, take, length}
-use Rattle.outside.specs.Tool.{part}
+use Rattle.values.specs.Apply.{part}
 use Rattle.plan_core.specs.Numbers.{or_else}
 use Rattle.plan_core.specs.Words.{file_numbers}
 use Rattle.worker_gate.specs.Table.{at}

@@ -1,5 +1,5 @@
 use Rattle.std.proofs.Common.{get_or}
-use Rattle.outside.specs.declared.numbers.FileId.{FileId}
+use Rattle.values.specs.declared.numbers.FileId.{FileId}
 use Rattle.worker_gate.proofs.TableLemmas.{next_file, once_rest, taken_more, there_rest}
 use Rattle.worker_gate.proofs.table.Table.take_all.Goals as goal
 

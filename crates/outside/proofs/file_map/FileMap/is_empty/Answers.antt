@@ -1,5 +1,0 @@
-use Rattle.outside.proofs.FileMapLemmas.{decides_empty}
-use Rattle.outside.proofs.file_map.FileMap.is_empty.Goals as goal
-
-pub returns : goal.returns
-returns c = rw c.self.view_is at (decides_empty c.self.inside.files c.is_empty.result c.is_empty.ensures)

@@ -1,6 +1,0 @@
-use Rattle.std.proofs.Common.{◌≡◌, ◌++◌, drop}
-use Rattle.outside.specs.Line.{spaced_names}
-use Rattle.outside.proofs.line.push_spaced.Given as goal
-
-abbrev pub invariant-loop-name : goal.invariant-loop-name
-invariant-loop-name l = l.text.items ++ spaced_names (drop l.name-index l.names) ≡ l.fn.text.items ++ spaced_names l.names

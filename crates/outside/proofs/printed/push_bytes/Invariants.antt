@@ -1,6 +1,0 @@
-use Rattle.std.proofs.Common.{◌≡◌, ◌++◌, drop}
-use Rattle.outside.specs.Printed.{printed_bytes}
-use Rattle.outside.proofs.printed.push_bytes.Given as goal
-
-abbrev pub invariant-loop-byte : goal.invariant-loop-byte
-invariant-loop-byte l = l.text.items ++ printed_bytes (drop l.byte-index l.bytes) ≡ l.fn.text.items ++ printed_bytes l.bytes

@@ -1,6 +1,0 @@
-use Rattle.std.proofs.Common.{sym}
-use Rattle.outside.proofs.SiteMapLemmas.{none_at}
-use Rattle.outside.proofs.site_map.SiteMap.get.Goals as goal
-
-pub returns-in-None : goal.returns-in-None
-returns-in-None c = sym (rw c.self.view_is at (none_at c.self.inside.sites c.args.site.now c.args.name.now c.in-None.ensures.value))

@@ -1,0 +1,2 @@
+pub mod FileMapLemmas
+pub mod SiteMapLemmas
