@@ -8,7 +8,7 @@ use Rattle.workflow_eval.specs.Evaluating.{AreValues, Evaluates, IsReached, firs
 use Rattle.workflow_eval.specs.declared.fault.EvalFault.{EvalFault}
 use Rattle.workflow_eval.specs.declared.fault.EvalFault.TheVariants as eval_faults
 use Rattle.evaluation.specs.Bases.{Bases, ReadsBases}
-use Rattle.evaluation.specs.Values.{chosen}
+use Rattle.evaluation.specs.ValueLines.{chosen}
 use Rattle.evaluation.specs.Evaluating.{AnswersFault, HasBases, HasNoValues, HasValues, prepared}
 use Rattle.values.specs.Apply.{Apply}
 use Rattle.evaluation.specs.Moments.{Meeting, Subject}
@@ -17,7 +17,7 @@ use Rattle.evaluation.specs.declared.evaluating.Prepared.{Prepared}
 use Rattle.evaluation.specs.declared.fault.EvaluationFault.{EvaluationFault}
 use Rattle.evaluation.specs.declared.fault.EvaluationFault.TheVariants.{NoReplica, ToolUnknown, Failed}
 use Rattle.run_record.specs.declared.run_fault.RunFault.TheVariants.{ReplicaAbsent, ReplicaTooLong, ChecksumDiffers, Declined, ToolFailed, HostFailed, Memory}
-use Rattle.evaluation.proofs.ValuesLemmas.{chosen_are}
+use Rattle.evaluation.proofs.ValueLinesLemmas.{chosen_are}
 use Rattle.evaluation.proofs.PreparedLemmas.{IsBaseFault, IsRefused, only_bases_fail, only_refuses}
 
 -- sources or tools are not to be had

@@ -21,7 +21,7 @@ use Rattle.evaluation.specs.declared.fault.EvaluationFault.{EvaluationFault}
 use Rattle.evaluation.specs.declared.fault.EvaluationFault.TheVariants.{NoReplica, ToolUnknown, Failed}
 use Rattle.run_record.specs.declared.run_fault.RunFault.TheVariants.{Declined, ToolFailed, Memory}
 use Rattle.evaluation.specs.declared.sources.Source.{Source}
-use Rattle.evaluation.proofs.ValuesLemmas.{rose_since}
+use Rattle.evaluation.proofs.ValueLinesLemmas.{rose_since}
 use Rattle.evaluation.proofs.RestLemmas.{both_came}
 
 -- it came as told, or memory ran out

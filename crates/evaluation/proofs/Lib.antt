@@ -1,6 +1,6 @@
 pub mod RestLemmas
 pub mod PreparedLemmas
 pub mod BasesLemmas
-pub mod ValuesLemmas
+pub mod ValueLinesLemmas
 pub mod EvaluatingLemmas
 pub mod FinishLemmas

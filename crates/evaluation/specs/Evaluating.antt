@@ -16,7 +16,7 @@ use Rattle.evaluation.specs.Bases.{Bases, ReadsBases, told_bases}
 use Rattle.evaluation.specs.JobTools.{tools_of}
 use Rattle.evaluation.specs.Moments.{Meeting, Subject}
 use Rattle.evaluation.specs.Sources.{sources_of}
-use Rattle.evaluation.specs.Values.{AreValued, Valued}
+use Rattle.evaluation.specs.ValueLines.{AreValued, Valued}
 use Rattle.evaluation.specs.declared.evaluating.Prepared.{Prepared}
 use Rattle.evaluation.specs.declared.fault.EvaluationFault.{EvaluationFault}
 use Rattle.evaluation.specs.declared.fault.EvaluationFault.TheVariants.{NoReplica, ToolUnknown, Failed}

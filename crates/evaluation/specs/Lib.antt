@@ -6,4 +6,4 @@ pub mod JobTools
 pub mod Bases
 pub mod Fault
 -- The lines that tell the values.
-pub mod Values
+pub mod ValueLines

@@ -7,7 +7,7 @@ ghost use Rattle.dependency_graph.specs.Graph.{IsGraphOf};
 ghost use Rattle.evaluation.specs.Evaluating.{AnswersFault, Evaluated, HasValues, IsIdOf, NamesJob, prepared};
 ghost use Rattle.evaluation.specs.Fault.{UnlessMemory};
 ghost use Rattle.evaluation.specs.Moments.{meeting, subject};
-ghost use Rattle.evaluation.specs.Values.{chosen};
+ghost use Rattle.evaluation.specs.ValueLines.{chosen};
 
 use crate::bases::read_bases;
 use crate::fault::EvaluationFault;

@@ -12,9 +12,9 @@ mod fault;
 mod job_tools;
 mod law;
 mod sources;
-mod values;
+mod value_lines;
 
 pub use evaluating::values_of;
 pub use fault::EvaluationFault;
 pub use law::evaluations_finish;
-pub use values::value_text;
+pub use value_lines::value_text;

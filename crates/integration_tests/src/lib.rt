@@ -12,4 +12,4 @@ mod files;
 #[cfg(test)]
 mod graphs;
 #[cfg(test)]
-mod values;
+mod workflow_values;

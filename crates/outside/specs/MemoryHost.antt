@@ -18,6 +18,10 @@ host_marked h = h.marked
 abbrev pub host_failing : MemoryHost → Failing
 host_failing h = h.failing
 
+-- the calls of its parts that are to fail
+abbrev pub host_parts : MemoryHost → List (ℕ × ℕ)
+host_parts h = h.parts.items
+
 abbrev pub host_counts : MemoryHost → Counts
 host_counts h = h.counts
 

@@ -7,9 +7,9 @@ ghost use Rattle.values.specs.FileMap.{Files};
 ghost use Rattle.outside.specs.declared.counts.Counts.{Counts};
 
 use crate::counts::Counts;
-use values::Memory;
 use std::alloc::Global;
 use thiserror::Error;
+use values::Memory;
 
 /// Why a document could not be fetched.
 #[derive(Clone, Copy, Debug, PartialEq, Eq, Error)]

@@ -6,12 +6,13 @@ ghost use Rattle.outside.specs.Counts.{IsLater};
 ghost use Rattle.outside.specs.declared.counts.Counts.{Counts};
 ghost use Rattle.outside.specs.declared.store.Store.{Store};
 
-use values::Blob;
 use crate::counts::Counts;
-use values::Memory;
+use crate::parts::{ReadPart, WritePart};
+use crate::place::Place;
 use crate::store::Store;
 use std::alloc::Global;
 use thiserror::Error;
+use values::{Blob, Memory};
 
 /// Why a host did nothing.
 #[derive(Clone, Copy, Debug, PartialEq, Eq, Error)]
@@ -42,6 +43,13 @@ pub trait Host: Drop {
     ghost use Rattle.outside.specs.Host.{Changes, Empties, Reads};
     ghost use Rattle.values.specs.SiteMap.{pair_at};
     ghost use Rattle.outside.specs.Store.{Delivers, Publishes, Removes};
+    ghost use Rattle.outside.specs.Lending.{Makes, Opens, Publishing, with_faults};
+
+    /// A file that is being read.
+    type Reading: ReadPart;
+
+    /// A file that is being written.
+    type Draft: WritePart;
 
     /// What it holds, where it is told.
     ghost told: { Self → Option Store };
@@ -100,6 +108,7 @@ pub trait Host: Drop {
     fn remove(&mut self, alloc: Global, site: &str, name: &str) -> Result<(), HostFault>
         ensures answer { Changes (told self.old) (told self.new) (counts self.old) (counts self.new)
             (IfSome (told self.old) (λ s. pair_at s.scratch site.now name.now ≡ None)) (Removes site.now name.now) result }
+        ensures stood { OnOk result (IfSome (told self.old) (λ s. pair_at s.scratch site.now name.now ≡ None → ⊥)) }
         ensures marked { marked self.new ≡ marked self.old }
         ensures later { IsLater (counts self.old) (counts self.new) };
 
@@ -108,6 +117,59 @@ pub trait Host: Drop {
         ensures answer { Empties (told self.old) site.now (counts self.old) (counts self.new) result }
         ensures told { told self.new ≡ told self.old }
         ensures marked { marked self.new ≡ marked self.old }
+        ensures later { IsLater (counts self.old) (counts self.new) };
+
+    /// Opens a replica by its physical name, if it is within the limit, at its first byte.
+    fn open_replica(
+        &mut self,
+        alloc: Global,
+        pfn: &str,
+        limit: u64,
+    ) -> Result<Self::Reading, HostFault>
+        ensures answer { Opens Self.Reading.state (option_map (λ s. map.get s.replicas pfn.now) (told self.old)) limit (counts self.old) (counts self.new) result }
+        ensures told { told self.new ≡ told self.old }
+        ensures marked { marked self.new ≡ marked self.old }
+        ensures later { IsLater (counts self.old) (counts self.new) };
+
+    /// Opens a site's file, if it is within the limit, at its first byte.
+    fn open_scratch(
+        &mut self,
+        alloc: Global,
+        site: &str,
+        name: &str,
+        limit: u64,
+    ) -> Result<Self::Reading, HostFault>
+        ensures answer { Opens Self.Reading.state (option_map (λ s. pair_at s.scratch site.now name.now) (told self.old)) limit (counts self.old) (counts self.new) result }
+        ensures told { told self.new ≡ told self.old }
+        ensures marked { marked self.new ≡ marked self.old }
+        ensures later { IsLater (counts self.old) (counts self.new) };
+
+    /// Makes a draft of a file that is to stand at a place. It is no file of the store before it is published.
+    fn draft(&mut self, alloc: Global, place: &Place, limit: u64) -> Result<Self::Draft, HostFault>
+        ensures answer { Makes Self.Draft.state (told self.old) place.now limit (counts self.old) (counts self.new) result }
+        ensures told { told self.new ≡ told self.old }
+        ensures marked { marked self.new ≡ marked self.old }
+        ensures later { IsLater (counts self.old) (counts self.new) };
+
+    /// Sets a draft's bytes at its place, in one step, in place of an earlier file. A refusal leaves all as it was, and
+    /// the draft is gone.
+    fn publish(&mut self, alloc: Global, draft: Self::Draft) -> Result<(), HostFault>
+        ensures answer { Publishing (Self.Draft.state draft) (told self.old) (told self.new) (counts self.old) (counts self.new) result }
+        ensures marked { marked self.new ≡ marked self.old }
+        ensures later { IsLater (counts self.old) (counts self.new) };
+
+    /// Takes a draft back that isn't to be published.
+    fn discard(&mut self, draft: Self::Draft)
+        ensures told { told self.new ≡ told self.old }
+        ensures marked { marked self.new ≡ marked self.old }
+        ensures counts { counts self.new ≡ with_faults (counts self.old) (Self.Draft.state draft).faults }
+        ensures later { IsLater (counts self.old) (counts self.new) };
+
+    /// Takes a reading back.
+    fn finish(&mut self, reading: Self::Reading)
+        ensures told { told self.new ≡ told self.old }
+        ensures marked { marked self.new ≡ marked self.old }
+        ensures counts { counts self.new ≡ with_faults (counts self.old) (Self.Reading.state reading).faults }
         ensures later { IsLater (counts self.old) (counts self.new) };
 
     /// Keeps what it tells now for later comparison.

@@ -6,9 +6,8 @@ ghost use Rattle.std.specs.FinMap as map;
 use crate::counts::Counts;
 use crate::docs::{DocFault, Docs};
 use crate::failing::Failing;
-use values::FileMap;
-use values::Memory;
 use std::alloc::Global;
+use values::{FileMap, Memory};
 
 /// Documents that are told, of whose fetches the listed ones fail.
 #[derive(Drop)]

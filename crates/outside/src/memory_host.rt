@@ -1,18 +1,23 @@
 //! A store in memory.
 
-ghost use Rattle.std.specs.Prelude.{◌≡◌, Some, IsErrOf, OnOk, OnErr, option_map};
+ghost use Rattle.std.specs.Prelude.{◌≡◌, ◌++◌, [], Some, IfOk, IsErrOf, OnOk, OnErr, option_map};
 ghost use Rattle.std.specs.FinMap as map;
 ghost use Rattle.outside.specs.Counts.{IsLater};
 ghost use Rattle.outside.specs.Host.{Reads};
+ghost use Rattle.outside.specs.Store.{changed};
+ghost use Rattle.outside.specs.Lending.{Opens, placing, with_faults};
+ghost use Rattle.outside.specs.Failing.{failing_calls};
+ghost use Rattle.outside.specs.MemoryParts.{listed_for, reading_failing, reading_state};
 
-use values::Blob;
 use crate::counts::Counts;
 use crate::failing::Failing;
 use crate::host::{Host, HostFault};
-use values::Memory;
+use crate::memory_parts::{MemoryDraft, MemoryReading};
 use crate::operation::Operation;
+use crate::place::Place;
 use crate::store::Store;
 use std::alloc::Global;
+use values::{Blob, Memory};
 
 /// A store that tells what it holds, of whose calls the listed ones fail.
 #[derive(Drop)]
@@ -20,13 +25,14 @@ pub struct MemoryHost {
     store: Store,
     marked: Store,
     failing: Failing,
+    parts: Vec<(u64, u64)>,
     counts: Counts,
 }
 
 impl MemoryHost {
     ghost use Rattle.outside.specs.Counts.{no_calls};
     ghost use Rattle.outside.specs.Failing.{calls_made, failing_calls};
-    ghost use Rattle.outside.specs.MemoryHost.{host_counts, host_failing, host_marked, host_store, with_replica, with_scratch};
+    ghost use Rattle.outside.specs.MemoryHost.{host_counts, host_failing, host_marked, host_parts, host_store, with_replica, with_scratch};
     ghost use Rattle.values.specs.SiteMap.{pair_at};
     ghost use Rattle.outside.specs.Store.{blank};
 
@@ -36,12 +42,27 @@ impl MemoryHost {
         ensures marked { host_marked result ≡ blank }
         ensures failing { failing_calls (host_failing result) ≡ failing.items }
         ensures calls { calls_made (host_failing result) ≡ 0 }
+        ensures parts { host_parts result ≡ [] }
+        ensures counts { host_counts result ≡ no_calls }
+    {
+        MemoryHost::with_parts(alloc, failing, Vec::new(alloc))
+    }
+
+    /// The same, with calls of its parts that are to fail: a pair (k, j) lets the j-th read or append of the part fail that
+    /// the k-th call made.
+    pub fn with_parts(alloc: Global, failing: Vec<u64>, parts: Vec<(u64, u64)>) -> MemoryHost
+        ensures store { host_store result ≡ blank }
+        ensures marked { host_marked result ≡ blank }
+        ensures failing { failing_calls (host_failing result) ≡ failing.items }
+        ensures calls { calls_made (host_failing result) ≡ 0 }
+        ensures parts { host_parts result ≡ parts.items }
         ensures counts { host_counts result ≡ no_calls }
     {
         MemoryHost {
             store: Store::new(alloc),
             marked: Store::new(alloc),
             failing: Failing::new(failing),
+            parts,
             counts: Counts::zero(),
         }
     }
@@ -121,15 +142,103 @@ fn read_found(
     Ok(bytes)
 }
 
+/// The calls that are to fail of the part that a call makes.
+fn listed_for(alloc: Global, parts: &[(u64, u64)], call: u64) -> Result<Vec<u64>, Memory>
+    ensures { IfOk result (λ v. v.items ≡ listed_for parts.now call) }
+{
+    let mut listed = Vec::new(alloc);
+    for part in parts {
+        if part.0 == call {
+            listed.push(part.1)?;
+        }
+    }
+    Ok(listed)
+}
+
+/// A reading of what was found, if it is within the limit.
+fn open_found(
+    alloc: Global,
+    counts: &mut Counts,
+    found: Option<&[u8]>,
+    limit: u64,
+    parts: &[(u64, u64)],
+    call: u64,
+) -> Result<MemoryReading, HostFault>
+    ensures answer { Opens reading_state (Some (option_map (λ b. b.now) found.entry)) limit counts.old counts.new result }
+    ensures never_fails { IsErrOf result HostFault.Failed → ⊥ }
+    ensures later { IsLater counts.old counts.new }
+    ensures listed { IfOk result (λ r. failing_calls (reading_failing r) ≡ listed_for parts.now call) }
+{
+    let Some(bytes) = found else {
+        counts.add_miss();
+        return Err(HostFault::Absent);
+    };
+    let length = bytes.len() as u64;
+    if length > limit {
+        counts.add_miss();
+        return Err(HostFault::Over(limit, length));
+    }
+    let listed = listed_for(alloc, parts, call)?;
+    let bytes = Blob::copy_of(alloc, bytes)?;
+    counts.add_done();
+    Ok(MemoryReading {
+        bytes,
+        at: 0,
+        failing: Failing::new(listed),
+        faults: 0,
+    })
+}
+
+/// Takes a part's count over.
+fn take_over(counts: &mut Counts, faults: u64)
+    ensures counted { counts.new ≡ with_faults counts.old faults }
+    ensures later { IsLater counts.old counts.new }
+{
+    counts.faults = counts.faults.saturating_add(faults);
+}
+
+/// Sets the bytes of a place. A refusal leaves all as it was.
+fn set_place(store: &mut Store, alloc: Global, place: &Place, bytes: &[u8]) -> Result<(), Memory>
+    ensures ok { OnOk result (store.new ≡ changed store.old (placing place.now bytes.now)) }
+    ensures err { OnErr result (store.new ≡ store.old) }
+{
+    match place {
+        Place::Scratch(site, name) => store.publish(alloc, site.as_str(), name.as_str(), bytes),
+        Place::Delivery(name) => store.deliver(alloc, name.as_str(), bytes),
+    }
+}
+
+fn copy_place(alloc: Global, place: &Place) -> Result<Place, Memory>
+    ensures { IfOk result (λ p. p ≡ place.now) }
+{
+    match place {
+        Place::Scratch(site, name) => {
+            let site = site.copied(alloc)?;
+            let name = name.copied(alloc)?;
+            Ok(Place::Scratch(site, name))
+        }
+        Place::Delivery(name) => {
+            let name = name.copied(alloc)?;
+            Ok(Place::Delivery(name))
+        }
+    }
+}
+
 impl Host for MemoryHost {
-    ghost use Rattle.std.specs.Prelude.{◌↔◌, IfSome, IsErrOf, None, OnErr, OnOk, Some, option_map, true};
+    ghost use Rattle.std.specs.Prelude.{◌↔◌, IfOk, IfSome, IsErrOf, None, OnErr, OnOk, Some, option_map, true};
     ghost use Rattle.std.specs.FinMap as map;
     ghost use Rattle.outside.specs.Counts.{IsLater};
-    ghost use Rattle.outside.specs.Failing.{IsNextCall, fails_next};
+    ghost use Rattle.outside.specs.Failing.{IsNextCall, calls_made, failing_calls, fails_next};
     ghost use Rattle.outside.specs.Host.{Changes, Empties, Reads};
-    ghost use Rattle.outside.specs.MemoryHost.{host_counts, host_failing, host_marked, host_store};
+    ghost use Rattle.outside.specs.MemoryHost.{host_counts, host_failing, host_marked, host_parts, host_store};
     ghost use Rattle.values.specs.SiteMap.{pair_at};
     ghost use Rattle.outside.specs.Store.{Delivers, Publishes, Removes};
+    ghost use Rattle.outside.specs.Lending.{Makes, Opens, Publishing, with_faults};
+    ghost use Rattle.outside.specs.MemoryParts.{draft_failing, draft_state, listed_for, reading_failing, reading_state};
+
+    type Reading = MemoryReading;
+
+    type Draft = MemoryDraft;
 
     ghost told = { λ h. Some h.store };
 
@@ -231,6 +340,7 @@ impl Host for MemoryHost {
     fn remove(&mut self, alloc: Global, site: &str, name: &str) -> Result<(), HostFault>
         ensures answer { Changes (Some (host_store self.old)) (Some (host_store self.new)) (host_counts self.old) (host_counts self.new)
             (pair_at (host_store self.old).scratch site.now name.now ≡ None) (Removes site.now name.now) result }
+        ensures stood { OnOk result (pair_at (host_store self.old).scratch site.now name.now ≡ None → ⊥) }
         ensures marked { host_marked self.new ≡ host_marked self.old }
         ensures later { IsLater (host_counts self.old) (host_counts self.new) }
         // A call fails exactly where its number is listed.
@@ -268,6 +378,120 @@ impl Host for MemoryHost {
         }
         self.counts.add_miss();
         Ok(false)
+    }
+
+    fn open_replica(
+        &mut self,
+        alloc: Global,
+        pfn: &str,
+        limit: u64,
+    ) -> Result<MemoryReading, HostFault>
+        ensures answer { Opens reading_state (Some (map.get (host_store self.old).replicas pfn.now)) limit (host_counts self.old) (host_counts self.new) result }
+        ensures told { Some (host_store self.new) ≡ Some (host_store self.old) }
+        ensures marked { host_marked self.new ≡ host_marked self.old }
+        ensures later { IsLater (host_counts self.old) (host_counts self.new) }
+        // A call fails exactly where its number is listed.
+        ensures failed { IsErrOf result HostFault.Failed ↔ (fails_next (host_failing self.old) ≡ true) }
+        ensures call { IsNextCall (host_failing self.old) (host_failing self.new) }
+        ensures listed { IfOk result (λ r. failing_calls (reading_failing r) ≡ listed_for (host_parts self.old) (calls_made (host_failing self.new))) }
+    {
+        if self.failing.call() {
+            self.counts.add_fault();
+            return Err(HostFault::Failed);
+        }
+        let call = self.failing.made();
+        let found = self.store.replicas.get(pfn);
+        open_found(alloc, &mut self.counts, found, limit, &self.parts, call)
+    }
+
+    fn open_scratch(
+        &mut self,
+        alloc: Global,
+        site: &str,
+        name: &str,
+        limit: u64,
+    ) -> Result<MemoryReading, HostFault>
+        ensures answer { Opens reading_state (Some (pair_at (host_store self.old).scratch site.now name.now)) limit (host_counts self.old) (host_counts self.new) result }
+        ensures told { Some (host_store self.new) ≡ Some (host_store self.old) }
+        ensures marked { host_marked self.new ≡ host_marked self.old }
+        ensures later { IsLater (host_counts self.old) (host_counts self.new) }
+        // A call fails exactly where its number is listed.
+        ensures failed { IsErrOf result HostFault.Failed ↔ (fails_next (host_failing self.old) ≡ true) }
+        ensures call { IsNextCall (host_failing self.old) (host_failing self.new) }
+        ensures listed { IfOk result (λ r. failing_calls (reading_failing r) ≡ listed_for (host_parts self.old) (calls_made (host_failing self.new))) }
+    {
+        if self.failing.call() {
+            self.counts.add_fault();
+            return Err(HostFault::Failed);
+        }
+        let call = self.failing.made();
+        let found = self.store.scratch.get(site, name);
+        open_found(alloc, &mut self.counts, found, limit, &self.parts, call)
+    }
+
+    fn draft(&mut self, alloc: Global, place: &Place, limit: u64) -> Result<MemoryDraft, HostFault>
+        ensures answer { Makes draft_state (Some (host_store self.old)) place.now limit (host_counts self.old) (host_counts self.new) result }
+        ensures told { Some (host_store self.new) ≡ Some (host_store self.old) }
+        ensures marked { host_marked self.new ≡ host_marked self.old }
+        ensures later { IsLater (host_counts self.old) (host_counts self.new) }
+        // A call fails exactly where its number is listed.
+        ensures failed { IsErrOf result HostFault.Failed ↔ (fails_next (host_failing self.old) ≡ true) }
+        ensures call { IsNextCall (host_failing self.old) (host_failing self.new) }
+        ensures listed { IfOk result (λ d. failing_calls (draft_failing d) ≡ listed_for (host_parts self.old) (calls_made (host_failing self.new))) }
+    {
+        if self.failing.call() {
+            self.counts.add_fault();
+            return Err(HostFault::Failed);
+        }
+        let listed = listed_for(alloc, &self.parts, self.failing.made())?;
+        let place = copy_place(alloc, place)?;
+        self.counts.add_done();
+        Ok(MemoryDraft {
+            place,
+            bytes: Vec::new(alloc),
+            limit,
+            failing: Failing::new(listed),
+            faults: 0,
+        })
+    }
+
+    fn publish(&mut self, alloc: Global, draft: MemoryDraft) -> Result<(), HostFault>
+        ensures answer { Publishing (draft_state draft) (Some (host_store self.old)) (Some (host_store self.new)) (host_counts self.old) (host_counts self.new) result }
+        ensures marked { host_marked self.new ≡ host_marked self.old }
+        ensures later { IsLater (host_counts self.old) (host_counts self.new) }
+        // A call fails exactly where its number is listed.
+        ensures failed { IsErrOf result HostFault.Failed ↔ (fails_next (host_failing self.old) ≡ true) }
+        ensures call { IsNextCall (host_failing self.old) (host_failing self.new) }
+    {
+        take_over(&mut self.counts, draft.faults);
+        if self.failing.call() {
+            self.counts.add_fault();
+            return Err(HostFault::Failed);
+        }
+        set_place(&mut self.store, alloc, &draft.place, &draft.bytes)?;
+        self.counts.add_done();
+        Ok(())
+    }
+
+    fn discard(&mut self, draft: MemoryDraft)
+        ensures told { Some (host_store self.new) ≡ Some (host_store self.old) }
+        ensures marked { host_marked self.new ≡ host_marked self.old }
+        ensures counts { host_counts self.new ≡ with_faults (host_counts self.old) (draft_state draft).faults }
+        ensures later { IsLater (host_counts self.old) (host_counts self.new) }
+        // It isn't one of the calls that are listed.
+        ensures failing { host_failing self.new ≡ host_failing self.old }
+    {
+        take_over(&mut self.counts, draft.faults);
+    }
+
+    fn finish(&mut self, reading: MemoryReading)
+        ensures told { Some (host_store self.new) ≡ Some (host_store self.old) }
+        ensures marked { host_marked self.new ≡ host_marked self.old }
+        ensures counts { host_counts self.new ≡ with_faults (host_counts self.old) (reading_state reading).faults }
+        ensures later { IsLater (host_counts self.old) (host_counts self.new) }
+        ensures failing { host_failing self.new ≡ host_failing self.old }
+    {
+        take_over(&mut self.counts, reading.faults);
     }
 
     fn mark(&mut self, _alloc: Global) -> Result<(), Memory>

@@ -3,9 +3,9 @@
 ghost use Rattle.std.specs.Prelude.{◌≡◌, ◌≤◌, ◌<◌, [], IfOk, vec_capacity, length};
 
 use crate::failing::Failing;
-use values::Memory;
 use crate::sink::{Sink, SinkFault};
 use std::alloc::Global;
+use values::Memory;
 
 /// A sink with room for so many bytes, of which one write takes a few at most.
 #[derive(Drop)]

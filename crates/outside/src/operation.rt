@@ -2,10 +2,9 @@
 
 ghost use Rattle.std.specs.Prelude.{◌≡◌, ◌++◌, ◌∷◌, [], List, OnOk, OnErr};
 
-use values::Memory;
-use values::Text;
 use std::alloc::{AllocError, Global};
 use std::marker::Model;
+use values::{Memory, Text};
 
 /// A change of a store.
 #[derive(Debug, Drop)]

@@ -2,12 +2,9 @@
 
 ghost use Rattle.std.specs.Prelude.{◌≡◌, OnErr, OnOk, None, Ok, true, false};
 
-use values::FileMap;
-use values::Memory;
 use crate::operation::{Operation, Operations};
-use values::SiteMap;
-use values::Text;
 use std::alloc::{AllocError, Global};
+use values::{FileMap, Memory, SiteMap, Text};
 
 /// The replicas by their physical names, each site's files and the delivered files by name, and the changes made.
 #[derive(Drop)]
@@ -74,6 +71,7 @@ impl Store {
     /// Takes a file out of a site, and tells whether it was there. Else, and at a refusal, all is as it was.
     pub fn remove(&mut self, alloc: Global, site: &str, name: &str) -> Result<bool, Memory>
         ensures removed { result ≡ Ok true → self.new ≡ changed self.old (Removes site.now name.now) }
+        ensures stood { result ≡ Ok true → pair_at self.old.scratch site.now name.now ≡ None → ⊥ }
         ensures absent { result ≡ Ok false → pair_at self.old.scratch site.now name.now ≡ None }
         ensures kept { (result ≡ Ok true → ⊥) → self.new ≡ self.old }
     {

@@ -102,6 +102,10 @@ pub none_is : {T : Type 0} (o : Option T) → is_some o ≡ false → o ≡ None
 none_is None e = refl
 none_is (Some x) e = absurd cc
 
+pub some_is : {T : Type 0} (o : Option T) → is_some o ≡ true → o ≡ None → ⊥
+some_is None e n = absurd cc
+some_is (Some x) e n = absurd cc
+
 pub none_here : (m : BTreeMap (String Global) Files) (site : List ℕ) → None ≡ get_by_text m site → Decides true (IsEmptyAt (sites_of m.entries) site)
 none_here m site is = (λ h name. none_at m site name is, λ h. refl)
 

@@ -2,7 +2,7 @@
 use Rattle.std.specs.Prelude.{◌≡◌, ℕ, List, [], Some, None, Ok, Err}
 use Rattle.evaluation.specs.Evaluating.{AllDefined, HasNoValues, HasValues}
 use Rattle.evaluation.specs.Moments.{Meeting, Moment, Subject, subject}
-use Rattle.evaluation.specs.Values.{Valued, value_lines}
+use Rattle.evaluation.specs.ValueLines.{Valued, value_lines}
 use Rattle.evaluation.specs.declared.fault.EvaluationFault.{EvaluationFault}
 use Rattle.planner.specs.declared.surveyed.Surveyed.{Surveyed}
 use Rattle.plan_run.specs.Moments.{Tools, Work, WorkMoment}

@@ -6,7 +6,7 @@ use Rattle.evaluation.specs.Bases.{IsBaseRead, ReadsBases}
 use Rattle.evaluation.specs.declared.sources.Source.{Source}
 use Rattle.evaluation.proofs.RestLemmas.{unless_then}
 use Rattle.evaluation.proofs.BasesLemmas.{all_came, goes_on_none, goes_on_some, stops_at}
-use Rattle.evaluation.proofs.ValuesLemmas.{later_still}
+use Rattle.evaluation.proofs.ValueLinesLemmas.{later_still}
 use Rattle.evaluation.proofs.bases.read_bases.Goals as goal
 use Rattle.evaluation.proofs.bases.read_bases.Goals.{in-Some+in-Ok+in_ok-push-in-Ok, in-None+in_ok-push-in-None}
 

@@ -1,7 +1,7 @@
 //! The lines that tell the requested files' values.
 
 ghost use Rattle.std.specs.Prelude.{◌≡◌, ◌++◌, OnOk, length, replicate, false, IfOk};
-ghost use Rattle.evaluation.specs.Values.{chosen, marked, marked_by, picked, value_line, value_lines};
+ghost use Rattle.evaluation.specs.ValueLines.{chosen, marked, marked_by, picked, value_line, value_lines};
 
 use hex::encode;
 use outside::{Blob, Memory, Text, Word, push_line};

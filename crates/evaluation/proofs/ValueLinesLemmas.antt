@@ -12,7 +12,7 @@ use Rattle.workflow_core.specs.declared.workflow.Output.{Output}
 use Rattle.workflow_core.specs.Requested.{requests, is_requested, requested, requested_from}
 use Rattle.dependency_graph.specs.Value.{Basis, value}
 use Rattle.workflow_eval.specs.Evaluating.{AreValues}
-use Rattle.evaluation.specs.Values.{AreValued, chosen, marked, marked_by, picked}
+use Rattle.evaluation.specs.ValueLines.{AreValued, chosen, marked, marked_by, picked}
 
 set_mark : (marks : List Bool) (k f : ℕ) → f < length marks → get_or (slice_set marks k true) f false ≡ ((k == f) || get_or marks f false)
 set_mark marks k f h = grind (arith, common_steps, nat_tests)

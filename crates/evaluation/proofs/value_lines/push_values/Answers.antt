@@ -1,8 +1,8 @@
 use Rattle.std.proofs.Common.{◌+◌, List, ◌++◌, drop, sym, ap, ◌∙◌, append_assoc, arith}
-use Rattle.evaluation.specs.Values.{Valued, picked, value_line, value_lines}
-use Rattle.evaluation.proofs.ValuesLemmas.{picked_here, picked_not_here}
-use Rattle.evaluation.proofs.values.push_values.Goals as goal
-use Rattle.evaluation.proofs.values.push_values.Goals.{then-marked+in_ok-push_value, else-marked}
+use Rattle.evaluation.specs.ValueLines.{Valued, picked, value_line, value_lines}
+use Rattle.evaluation.proofs.ValueLinesLemmas.{picked_here, picked_not_here}
+use Rattle.evaluation.proofs.value_lines.push_values.Goals as goal
+use Rattle.evaluation.proofs.value_lines.push_values.Goals.{then-marked+in_ok-push_value, else-marked}
 
 pub loop-i-preserved : goal.loop-i-preserved
 loop-i-preserved c = elim c.if-marked.branch [
