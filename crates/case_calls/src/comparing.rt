@@ -64,7 +64,7 @@ pub fn is_met(case: &Case, ended: &Ended) -> bool
 {
     ended.status == case.ending.status
         && is_written(ended.sink.bytes(), &case.ending)
-        && !(ended.held_out && case.weather.held.is_some())
+        && !ended.held_out
         && case.delivered.iter().all(|file| is_held(&ended.host, file))
         && case.stored.iter().all(|file| is_stored(&ended.host, file))
         && is_traced(&ended.trace, &case.trace)

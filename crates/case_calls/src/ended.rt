@@ -11,7 +11,7 @@ pub struct Ended {
     pub status: u8,
     pub host: MemoryHost,
     pub sink: MemorySink,
-    /// Whether the first run of a tool was held until its limit.
+    /// Whether the first run of a tool, or the first task at a gate, was held until its limit, where the case holds it.
     pub held_out: bool,
     /// What the host did, as text.
     pub trace: Vec<u8>,

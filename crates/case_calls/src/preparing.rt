@@ -4,14 +4,14 @@ ghost use Rattle.std.specs.Prelude.{◌≡◌, IfOk, length};
 
 use crate::found::{Found, Given};
 use case_files::Weather;
-use craft::{Crew, Faulty, Hold, Holding, OpenGate};
+use craft::{Crew, Faulty, Hold, Holding, HoldingGate};
 use outside::{Memory, MemoryDocs, MemoryHost, MemorySink};
 use std::alloc::Global;
 use std::sync::Arc;
 use toolbox::Shipped;
 
 /// A member of the crew, as the cases have it.
-pub type Member = Crew<Holding<Faulty<Shipped>>, OpenGate>;
+pub type Member = Crew<Holding<Faulty<Shipped>>, HoldingGate>;
 
 /// What a call is given.
 #[derive(Drop)]
@@ -20,7 +20,10 @@ pub struct Prepared {
     pub sink: MemorySink,
     pub host: MemoryHost,
     pub crew: Vec<Member>,
-    pub hold: Arc<Hold>,
+    /// The first run of a tool, where it is held.
+    pub runs: Option<Arc<Hold>>,
+    /// The first task at a gate.
+    pub gates: Arc<Hold>,
     ghost all: { length crew.items ≡ 16 },
 }
 
@@ -43,8 +46,10 @@ fn documents(
     Ok(docs)
 }
 
-fn host(alloc: Global, failing: &[u64], found: &Found<'_>) -> Result<MemoryHost, Memory> {
-    let mut host = MemoryHost::new(alloc, Vec::from_slice(alloc, failing)?);
+fn host(alloc: Global, weather: &Weather, found: &Found<'_>) -> Result<MemoryHost, Memory> {
+    let failing = Vec::from_slice(alloc, &weather.host_calls)?;
+    let parts = Vec::from_slice(alloc, &weather.parts)?;
+    let mut host = MemoryHost::with_parts(alloc, failing, parts);
     for replica in &found.replicas {
         host.put_replica(alloc, replica.name, &replica.bytes)?;
     }
@@ -54,21 +59,25 @@ fn host(alloc: Global, failing: &[u64], found: &Found<'_>) -> Result<MemoryHost,
     Ok(host)
 }
 
-/// As many members as the program has, of whose tools these runs fail, and of all of which the first run is held.
+/// As many members as the program has, of whose tools these runs fail, and of all of which the first run and the first task
+/// are held.
 fn crew_of(
     alloc: Global,
-    failing: &[u64],
-    hold: &Arc<Hold>,
-    limit: u64,
+    weather: &Weather,
+    runs: &Arc<Hold>,
+    gates: &Arc<Hold>,
 ) -> Result<Vec<Member>, Memory>
     ensures { IfOk result (λ crew. length crew.items ≡ 16) }
 {
+    let run_looks = weather.held.unwrap_or(0);
+    let gate_looks = weather.gate_held.unwrap_or(0);
     let mut crew = Vec::new(alloc);
     for member in 0..16_usize {
-        let tool = Faulty::new(Shipped::new(), Vec::from_slice(alloc, failing)?);
+        let failing = Vec::from_slice(alloc, &weather.runs)?;
+        let tool = Faulty::new(Shipped::new(), failing);
         crew.push(Crew {
-            tool: Holding::new(tool, hold.clone()?, limit),
-            gate: OpenGate,
+            tool: Holding::new(tool, runs.clone()?, run_looks),
+            gate: HoldingGate::new(gates.clone()?, gate_looks),
         })?;
     }
     Ok(crew)
@@ -82,13 +91,18 @@ pub fn prepare(
     cut: Option<(&str, usize)>,
 ) -> Result<Prepared, Memory> {
     let writes = Vec::from_slice(alloc, &weather.writes)?;
-    let hold = Arc::new(alloc, Hold::new())?;
-    let limit = weather.held.unwrap_or(0);
+    let runs = Arc::new(alloc, Hold::new())?;
+    let gates = Arc::new(alloc, Hold::new())?;
     Ok(Prepared {
         docs: documents(alloc, &weather.fetches, &found.documents, cut)?,
         sink: MemorySink::new(alloc, weather.room, weather.taken, writes)?,
-        host: host(alloc, &weather.host_calls, found)?,
-        crew: crew_of(alloc, &weather.runs, &hold, limit)?,
-        hold,
+        host: host(alloc, weather, found)?,
+        crew: crew_of(alloc, weather, &runs, &gates)?,
+        runs: if weather.held.is_some() {
+            Some(runs)
+        } else {
+            None
+        },
+        gates,
     })
 }

@@ -33,7 +33,7 @@ pub fn push_difference(
     let status = Word::Number(u64::from(ended.status));
     push_line(alloc, text, "  status", &[status])?;
     push_quoted(text, ended.sink.bytes())?;
-    if ended.held_out && case.weather.held.is_some() {
+    if ended.held_out {
         push_line(alloc, text, "  held to its limit", &[])?;
     }
     for file in &case.delivered {

@@ -108,9 +108,13 @@ pub struct Weather {
     pub writes: Vec<u64>,
     /// Calls of the host.
     pub host_calls: Vec<u64>,
+    /// The call of the host that makes a reading or a draft, and the call of that part.
+    pub parts: Vec<(u64, u64)>,
     pub runs: Vec<u64>,
     /// How often the first run of a tool looks whether another one was answered before it goes on, where it is held.
     pub held: Option<u64>,
+    /// The same of the first task at a gate, and another one that came.
+    pub gate_held: Option<u64>,
     /// How many bytes a write takes at most.
     pub taken: usize,
     /// How many bytes the output takes in all.
@@ -125,8 +129,10 @@ impl Weather {
             fetches: Vec::new(alloc),
             writes: Vec::new(alloc),
             host_calls: Vec::new(alloc),
+            parts: Vec::new(alloc),
             runs: Vec::new(alloc),
             held: None,
+            gate_held: None,
             taken: 65_536,
             room: 65_536,
         }

@@ -9,6 +9,9 @@ use std::alloc::Global;
 /// How often a held run looks whether another one was answered: for some seconds.
 const HELD_LOOKS: u64 = 1_000_000_000;
 
+/// How often a task that is held at its gate looks whether another one came.
+const GATE_LOOKS: u64 = 10_000_000;
+
 /// Adds the call of a line of words; tells whether it is one.
 pub fn add_words(alloc: Global, setup: &mut Setup, line: &str) -> Result<bool, Complaint> {
     let words = if line == "words" {
@@ -29,6 +32,14 @@ pub fn add_setting(alloc: Global, draft: &mut Draft, line: &str) -> Result<(), C
         draft.weather.held = Some(HELD_LOOKS);
         return Ok(());
     }
+    if line == "first gate held" {
+        draft.weather.gate_held = Some(GATE_LOOKS);
+        return Ok(());
+    }
+    if let Some(numbers) = line.strip_prefix("failing part ") {
+        draft.weather.parts.push(part_of(numbers)?)?;
+        return Ok(());
+    }
     let Some((setting, word)) = line.rsplit_once(' ') else {
         return Err(Complaint::UnknownSetting);
     };
@@ -37,6 +48,14 @@ pub fn add_setting(alloc: Global, draft: &mut Draft, line: &str) -> Result<(), C
         return Ok(());
     }
     add_weather(&mut draft.weather, setting, word)
+}
+
+/// The number of the call that makes a part, and that of the part's own call that fails.
+fn part_of(numbers: &str) -> Result<(u64, u64), Complaint> {
+    let Some((maker, call)) = numbers.split_once(' ') else {
+        return Err(Complaint::UnknownSetting);
+    };
+    Ok((number_of(maker)?, number_of(call)?))
 }
 
 fn add_weather(weather: &mut Weather, setting: &str, word: &str) -> Result<(), Complaint> {

@@ -58,7 +58,11 @@ fn call<R: Threads + Wait + Sync>(
         prepared.host,
         prepared.crew,
     );
-    let held_out = prepared.hold.spent.load(Ordering::SeqCst) != 0;
+    let run_held_out = match &prepared.runs {
+        Some(hold) => hold.spent.load(Ordering::SeqCst) != 0,
+        None => false,
+    };
+    let held_out = run_held_out || prepared.gates.spent.load(Ordering::SeqCst) != 0;
     Ended::new(alloc, status, host, sink, held_out)
 }
 

@@ -4,7 +4,7 @@ use outside::TaskId;
 
 /// Two calls that a worker makes outside the lock. Both return.
 pub trait Gate: Drop {
-    /// Before the jobs of a task are computed.
+    /// Before the bytes of a task are moved, or its jobs computed.
     fn before(&mut self, task: TaskId);
 
     /// After a look at the plan that found nothing to begin.

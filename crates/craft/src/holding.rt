@@ -7,7 +7,8 @@ use std::alloc::Global;
 use std::sync::Arc;
 use std::sync::atomic::{AtomicU64, Ordering};
 
-/// How many runs have started and been answered, of all tools that share it, and whether the first was held to its limit.
+/// How many runs have started and been answered, of all tools that share it, and whether the first was held to its limit;
+/// or the same of the tasks at gates.
 #[derive(Drop)]
 pub struct Hold {
     pub started: AtomicU64,
@@ -26,7 +27,7 @@ impl Hold {
     }
 
     /// Waits until a run was answered, by at most so many looks.
-    fn wait(&self, limit: u64) {
+    pub(crate) fn wait(&self, limit: u64) {
         for _ in 0..limit {
             if self.answered.load(Ordering::SeqCst) != 0 {
                 return;

@@ -1,15 +1,18 @@
 //! A worker's tool and gate, and tools over another one for tests.
 //!
-//! A [`Gate`] is called outside the lock, before a run of jobs and where a worker has nothing to do; [`OpenGate`] lets
-//! everything pass. [`Faulty`] fails at stated runs, and [`Holding`] holds the first run until another one was answered.
+//! A [`Gate`] is called outside the lock, before a task's bytes are moved and where a worker has nothing to do; [`OpenGate`]
+//! lets everything pass, and [`HoldingGate`] holds the first task until another one came. [`Faulty`] fails at stated runs,
+//! and [`Holding`] holds the first run until another one was answered.
 #![tactic(auto)]
 
 mod crew;
 mod faulty;
 mod gate;
 mod holding;
+mod holding_gate;
 
 pub use crew::Crew;
 pub use faulty::Faulty;
 pub use gate::{Gate, OpenGate};
 pub use holding::{Hold, Holding};
+pub use holding_gate::HoldingGate;

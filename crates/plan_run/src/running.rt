@@ -1,6 +1,6 @@
 //! A run of a plan by one worker, and how a run ends.
 
-ghost use Rattle.std.specs.Prelude.{◌≡◌, ◌≤◌, ◌⊎◌, [], Err, IfOk, Some, true};
+ghost use Rattle.std.specs.Prelude.{◌≡◌, ◌≤◌, ◌⊎◌, [], Err, IfOk, Some, take, true};
 ghost use Rattle.plan_core.specs.Words.{retries, task_numbers};
 ghost use Rattle.lease_book.specs.Book.{state_at};
 ghost use Rattle.lease_book.specs.Legal.{IsComplete};
@@ -70,6 +70,7 @@ fn end_of<H: Host, T: Tool>(alloc: Global, yard: &Yard<H, T>) -> Result<(), RunF
 
 /// The record of a run, and what it delivered.
 fn report_of<H: Host, T: Tool>(alloc: Global, yard: &Yard<H, T>) -> Result<Report, Memory>
+    requires fresh { take yard.now.opened yard.now.book.history.events ≡ [] }
     ensures { IfOk result (λ x. IsReport T.apply yard.now.ordered.plan yard.now.book.history.events (marked_if (H.told yard.now.host) (H.marked yard.now.host)) (reporting (Some x.history) x.text.items x.delivered.items)) }
 {
     let record = yard.book().record();
@@ -89,6 +90,7 @@ fn report_of<H: Host, T: Tool>(alloc: Global, yard: &Yard<H, T>) -> Result<Repor
 
 /// The end and the report of a run that is over, and its host.
 pub(crate) fn end_run<H: Host, T: Tool>(alloc: Global, yard: Yard<H, T>) -> Ran<H>
+    requires fresh { take yard.opened yard.book.history.events ≡ [] }
     requires over { IsComplete yard.ordered.plan (state_at yard.book) ⊎ ((state_at yard.book).failing ≡ true) }
     ensures ends { EndsAs yard.ordered.plan (task_numbers yard.ordered.tasks.items) yard.book.history.events result.end }
     ensures reports { Reports T.apply yard.ordered.plan yard.book.history.events (marked_if (H.told yard.host) (H.marked yard.host)) (reporting result.history result.text.items result.delivered.items) result.end }

@@ -1,6 +1,6 @@
 //! A run of a plan by several workers.
 
-ghost use Rattle.std.specs.Prelude.{◌≡◌, ◌<◌, ◌≤◌, ◌⊎◌, drop, false, length, map as list_map, true};
+ghost use Rattle.std.specs.Prelude.{◌≡◌, ◌<◌, ◌≤◌, ◌⊎◌, [], drop, false, length, map as list_map, take, true};
 ghost use Rattle.craft.specs.declared.crew.Crew.{Crew};
 ghost use Rattle.plan_core.specs.Words.{retries, task_numbers};
 ghost use Rattle.lease_book.specs.Book.{state_at};
@@ -28,6 +28,7 @@ struct RanBy<H: Host, T: Tool, G: Gate> {
 
 /// The end and the report of a run that is over, or that there was no memory to begin, and its host.
 fn end_many<H: Host, T: Tool>(alloc: Global, yard: Yard<H, T>, unstarted: bool) -> Ran<H>
+    requires fresh { take yard.opened yard.book.history.events ≡ [] }
     requires over { unstarted ≡ false → IsComplete yard.ordered.plan (state_at yard.book) ⊎ ((state_at yard.book).failing ≡ true) }
     ensures ends { EndsAs yard.ordered.plan (task_numbers yard.ordered.tasks.items) yard.book.history.events result.end }
     ensures reports { Reports T.apply yard.ordered.plan yard.book.history.events (marked_if (H.told yard.host) (H.marked yard.host)) (reporting result.history result.text.items result.delivered.items) result.end }

@@ -18,7 +18,7 @@ use Rattle.plan_core.specs.Words.{delivers, kind, kind_delivers, writes}
 use Rattle.plan_core.proofs.TestLemmas.{both, either, is_itself, or_left, or_right, same_number}
 use Rattle.run_record.specs.Events.{Event, Grant, Arrive, End, Clean, Fail, Again, Regrant}
 use Rattle.site_yard.specs.Changes.{arrival, carries, changes, changes_of, moved, or_nil, publishes, removal}
-use Rattle.site_yard.specs.Kept.{IsKept}
+use Rattle.site_yard.specs.Kept.{IsTruthful}
 use Rattle.site_yard.specs.Law.{HasPlanLaws}
 use Rattle.site_yard.specs.Names.{file_name}
 use Rattle.site_yard.specs.Places.{IsUndelivered, delivers_file, is_delivered}
@@ -86,9 +86,9 @@ record_off p c n (e ∷ r) x h =
     ∙ record_off p c n r _ (λ f d. h f (or_right (delivers_file p f e) (list_any (delivers_file p f) r) d))
     ∙ entry_off p c n e x (λ f d. h f (or_left (delivers_file p f e) (list_any (delivers_file p f) r) d))
 
-pub undelivered_kept : (p : Plan) (apply : Apply) (r : List Event) (s m : Store) (f0 m0 : ℕ) (counts : Counts) → IsKept apply p r (Some s) m f0 m0 counts → (name : List ℕ) → IsUndelivered p r name → files.get s.delivered name ≡ files.get m.delivered name
-undelivered_kept p apply r s m f0 m0 counts kept name h =
-    ap (λ z. files.get z.delivered name) kept.changed ∙ delivered_changed m (changes p (carries apply p m) r) name ∙ record_off p (carries apply p m) name r _ h
+pub undelivered_kept : (p : Plan) (apply : Apply) (r : List Event) (s m : Store) → s ≡ changed_by m (changes p (carries apply p m) r) → (name : List ℕ) → IsUndelivered p r name → files.get s.delivered name ≡ files.get m.delivered name
+undelivered_kept p apply r s m changed_ name h =
+    ap (λ z. files.get z.delivered name) changed_ ∙ delivered_changed m (changes p (carries apply p m) r) name ∙ record_off p (carries apply p m) name r _ h
 
 deliverer : (k : Option TaskKind) (f : ℕ) → kind_delivers k f ≡ true → (g : _) × (from : _) × (k ≡ Some (Transfer g from Delivery)) × (g.0 ≡ f)
 deliverer None f h = absurd cc
@@ -182,16 +182,16 @@ record_delivers apply told p c (e ∷ r) f is h = elim (either (delivers_file p 
 ]
 
 -- a file that was delivered is what its delivery carries
-pub delivered_kept : (p : Plan) → IsProper p → HasPlanLaws p → (apply : Apply) (r : List Event) (s m : Store) (f0 m0 : ℕ) (counts : Counts) → IsKept apply p r (Some s) m f0 m0 counts → (f : ℕ) → is_delivered p r f ≡ true
+pub delivered_kept : (p : Plan) → IsProper p → HasPlanLaws p → (apply : Apply) (r : List Event) (s m : Store) → s ≡ changed_by m (changes p (carries apply p m) r) → IsTruthful apply p m r → (f : ℕ) → is_delivered p r f ≡ true
     → (t : ℕ) × (n : ℕ) × (delivers p t f ≡ true) × (files.get s.delivered (file_name p f) ≡ carries apply p m t f) × (option_map length (carries apply p m t f) ≡ Some n)
-delivered_kept p proper plan_laws apply r s m f0 m0 counts kept f h =
+delivered_kept p proper plan_laws apply r s m changed_ truthful f h =
     let c : ℕ → ℕ → Option (List ℕ) = carries apply p m in
-    let found = record_delivers apply (λ pfn. files.get m.replicas pfn) p c r f kept.truthful h in
+    let found = record_delivers apply (λ pfn. files.get m.replicas pfn) p c r f truthful h in
     let t : ℕ = found.0 in
     let is = known (c t f) found.1 found.3 in (
       t,
       found.1,
       found.2,
-      ap (λ z. files.get z.delivered (file_name p f)) kept.changed ∙ delivered_changed m (changes p c r) (file_name p f) ∙ record_sets p proper plan_laws c t f (or_nil (c t f)) found.2 is r _ h ∙ sym is,
+      ap (λ z. files.get z.delivered (file_name p f)) changed_ ∙ delivered_changed m (changes p c r) (file_name p f) ∙ record_sets p proper plan_laws c t f (or_nil (c t f)) found.2 is r _ h ∙ sym is,
       found.3,
     )

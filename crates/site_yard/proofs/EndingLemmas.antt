@@ -13,8 +13,8 @@ use Rattle.site_yard.specs.Ending.{Ends, failed_in, fault_of, first_failed, firs
 use Rattle.site_yard.specs.declared.ending.Failed.{Failed}
 use Rattle.run_record.specs.declared.run_fault.RunFault.{RunFault}
 use Rattle.run_record.specs.declared.run_fault.RunFault.TheVariants.{Memory}
-use Rattle.site_yard.proofs.AgreesLemmas.{HasBookLaws}
-use Rattle.site_yard.proofs.MoveLemmas.{no_prop}
+use Rattle.site_yard.proofs.LoanLemmas.{HasBookLaws}
+use Rattle.site_yard.proofs.StoredLemmas.{no_prop}
 
 next_is : (k : ℕ) → suc k ≡ k + 1
 next_is k = omega arith

@@ -3,7 +3,7 @@ use Rattle.std.proofs.Common.{◌≡◌, ℕ, ◌<◌, inl, inr, Bool, true, fal
 use Rattle.std.specs.Prelude.{Option, Some, None}
 use Rattle.std.specs.List.{list_any}
 use Rattle.values.specs.SiteMap.{pair_at}
-use Rattle.outside.specs.Store.{Removes}
+use Rattle.outside.specs.Store.{Removes, changed_by}
 use Rattle.values.specs.Apply.{Apply}
 use Rattle.outside.specs.declared.counts.Counts.{Counts}
 use Rattle.outside.specs.declared.store.Store.{Store}
@@ -20,7 +20,6 @@ use Rattle.lease_book.specs.Legal.{Allowed, IsOpen, Legal, LegalFrom, MayFail}
 use Rattle.lease_book.specs.Reading.{ends, frees}
 use Rattle.lease_book.specs.State.{now}
 use Rattle.site_yard.specs.Changes.{arrival, carries, changes, changes_of, moved, or_nil, publishes, removal}
-use Rattle.site_yard.specs.Kept.{IsKept}
 use Rattle.site_yard.specs.Law.{HasPlanLaws, HasRecordLaws}
 use Rattle.site_yard.specs.Names.{pair_file, pair_file_name, pair_site_name}
 use Rattle.site_yard.specs.Places.{is_swept}
@@ -148,9 +147,9 @@ swept_range p plan_laws (e ∷ r) q f = elim (either (frees p q e) (list_any (fr
     by_entry (Again w t cause ns) h = absurd cc
     by_entry (Clean w t) h = by_kind t h
 
-pub swept_gone : (p : Plan) → IsProper p → HasPlanLaws p → (order : List ℕ) → HasRecordLaws p order → (apply : Apply) (r : List Event) (s m : Store) (f0 m0 : ℕ) (counts : Counts) → Legal p order r → IsKept apply p r (Some s) m f0 m0 counts → (q : ℕ) → is_swept p r q ≡ true → pair_at s.scratch (pair_site_name p q) (pair_file_name p q) ≡ None
-swept_gone p proper plan_laws order laws apply r s m f0 m0 counts legal kept q f =
+pub swept_gone : (p : Plan) → IsProper p → HasPlanLaws p → (order : List ℕ) → HasRecordLaws p order → (apply : Apply) (first r : List Event) (s m : Store) → Legal p order first → LegalFrom p (now p order first) r → s ≡ changed_by m (changes p (carries apply p m) r) → (q : ℕ) → is_swept p r q ≡ true → pair_at s.scratch (pair_site_name p q) (pair_file_name p q) ≡ None
+swept_gone p proper plan_laws order laws apply first r s m legal from changed q f =
     let writer = has_writer p plan_laws q (swept_range p plan_laws r q f) in
-    ap (λ z. pair_at z.scratch (pair_site_name p q) (pair_file_name p q)) kept.changed
+    ap (λ z. pair_at z.scratch (pair_site_name p q) (pair_file_name p q)) changed
     ∙ pair_changed m (changes p (carries apply p m) r) (pair_site_name p q) (pair_file_name p q)
-    ∙ gone p proper plan_laws order laws (carries apply p m) q writer.0 writer.1 [] r _ tt legal f
+    ∙ gone p proper plan_laws order laws (carries apply p m) q writer.0 writer.1 first r _ legal from f

@@ -1,15 +1,11 @@
 mod KeptLemmas
 mod PlaceLemmas
-mod PlanLemmas
+pub mod PlanLemmas
 mod SuitsLemmas
 mod FollowLemmas
 mod HoldsLemmas
 mod SourceLemmas
-mod MoveLemmas
 mod SweepLemmas
-mod BringLemmas
-mod HostFailLemmas
-mod LoadLemmas
 mod TraceLemmas
 mod GoneLemmas
 mod OthersLemmas
@@ -17,11 +13,24 @@ mod DeliveredLemmas
 mod AgreesLemmas
 mod DeliveryListLemmas
 mod DeliveryRoomLemmas
-mod StepLemmas
-mod StoreLemmas
-mod OverlongLemmas
 mod EndingLemmas
 mod FaultsLemmas
 mod FailingLemmas
 mod CompletingLemmas
 mod LeavingLemmas
+pub mod AimLemmas
+mod RoomLemmas
+mod LentLemmas
+mod SizedLemmas
+mod StandsLemmas
+mod OpenLemmas
+mod ListLemmas
+mod NextLemmas
+mod LoanLemmas
+mod StoredLemmas
+mod LendLemmas
+mod PartLemmas
+mod SettleLemmas
+mod PlacedLemmas
+mod SettledLemmas
+mod ReturnLemmas

@@ -5,6 +5,7 @@ use Rattle.std.specs.List.{list_any}
 use Rattle.values.specs.SiteMap.{pair_at}
 use Rattle.values.specs.Apply.{Apply}
 use Rattle.outside.specs.declared.counts.Counts.{Counts}
+use Rattle.outside.specs.Store.{changed_by}
 use Rattle.outside.specs.declared.store.Store.{Store}
 use Rattle.plan_core.specs.declared.plan.Plan.{Plan}
 use Rattle.plan_core.specs.declared.plan.TaskKind.{TaskKind}
@@ -17,7 +18,6 @@ use Rattle.plan_core.proofs.TestLemmas.{both, is_itself, or_left, or_right}
 use Rattle.run_record.specs.Events.{Event, Grant, Arrive, End, Clean, Fail, Again, Regrant}
 use Rattle.lease_book.specs.Reading.{frees}
 use Rattle.site_yard.specs.Changes.{arrival, carries, changes, changes_of, moved, or_nil, publishes, removal}
-use Rattle.site_yard.specs.Kept.{IsKept}
 use Rattle.site_yard.specs.Law.{HasPlanLaws}
 use Rattle.site_yard.specs.Names.{pair_file_name, pair_site_name}
 use Rattle.site_yard.specs.Places.{IsUntouched, is_published, is_swept, publishes_pair}
@@ -71,7 +71,7 @@ module _ (p : Plan) (proper : IsProper p) (plan_laws : HasPlanLaws p) (c : ℕ �
   rest_of false false false true h = refl
   rest_of false b false false h = absurd cc
 
-  record_off : (r : List Event) → IsUntouched p r s n → (x : Option (List ℕ)) → left_by s n (changes p c r) x ≡ x
+  pub record_off : (r : List Event) → IsUntouched p r s n → (x : Option (List ℕ)) → left_by s n (changes p c r) x ≡ x
   unfolding is_published is_swept
   record_off [] apart x = refl
   record_off (e ∷ r) apart x =
@@ -79,6 +79,6 @@ module _ (p : Plan) (proper : IsProper p) (plan_laws : HasPlanLaws p) (c : ℕ �
       ∙ record_off r (λ q h. apart q (rest_of (publishes_pair p q e) (frees p q e) (list_any (publishes_pair p q) r) (list_any (frees p q) r) h)) _
       ∙ entry_off e (λ q h. apart q (first_of (publishes_pair p q e) (frees p q e) (list_any (publishes_pair p q) r) (list_any (frees p q) r) h)) x
 
-pub others_kept : (p : Plan) → IsProper p → HasPlanLaws p → (apply : Apply) (r : List Event) (s m : Store) (f0 m0 : ℕ) (counts : Counts) → IsKept apply p r (Some s) m f0 m0 counts → (site name : List ℕ) → IsUntouched p r site name → pair_at s.scratch site name ≡ pair_at m.scratch site name
-others_kept p proper plan_laws apply r s m f0 m0 counts kept site name apart =
-    ap (λ z. pair_at z.scratch site name) kept.changed ∙ pair_changed m (changes p (carries apply p m) r) site name ∙ record_off p proper plan_laws (carries apply p m) site name r apart _
+pub others_kept : (p : Plan) → IsProper p → HasPlanLaws p → (apply : Apply) (r : List Event) (s m : Store) → s ≡ changed_by m (changes p (carries apply p m) r) → (site name : List ℕ) → IsUntouched p r site name → pair_at s.scratch site name ≡ pair_at m.scratch site name
+others_kept p proper plan_laws apply r s m changed site name apart =
+    ap (λ z. pair_at z.scratch site name) changed ∙ pair_changed m (changes p (carries apply p m) r) site name ∙ record_off p proper plan_laws (carries apply p m) site name r apart _

@@ -16,9 +16,11 @@ use Rattle.plan_core.specs.declared.plan.PlanSite.{PlanSite}
 use Rattle.plan_core.specs.declared.plan.TaskKind.{TaskKind}
 use Rattle.plan_core.specs.declared.plan.TaskKind.TheVariants.{Transfer}
 use Rattle.plan_core.specs.declared.plan.Source.{Source}
+use Rattle.plan_core.specs.declared.plan.Source.TheVariants.{Site as FromSite}
+use Rattle.plan_core.specs.declared.plan.Target.{Target}
 use Rattle.plan_core.specs.declared.plan.Target.TheVariants.{Site as Into}
 use Rattle.plan_core.specs.Carried.{stored, writer}
-use Rattle.plan_core.specs.Kinds.{kind_writes, on_pair, reads_file, writes_file}
+use Rattle.plan_core.specs.Kinds.{kind_reads, kind_writes, on_pair, reads_file, writes_file}
 use Rattle.plan_core.specs.Numbers.{has}
 use Rattle.plan_core.specs.Proper.{IsProper, stands}
 use Rattle.plan_core.specs.Words.{count_pairs, count_tasks, is_pair, kind, kind_in, pair, pair_at, reads, writes}
@@ -198,5 +200,39 @@ writes_one p proper laws t g from a e =
 pub transfer_writes : (p : Plan) → IsProper p → HasPlanLaws p → (t : ℕ) (g : FileId) (from : Source) (a : SiteId) → kind p t ≡ Some (Transfer g from (Into a)) → (q : ℕ) × (pair_site p q ≡ a.0) × (pair_file p q ≡ g.0) × (writes p t ≡ q ∷ [])
 transfer_writes p proper laws t g from a e =
     let found = writes_one p proper laws t g from a e in
+    let is = is_pair_of p found.0 a.0 g.0 found.1 in
+    (found.0, is.0, is.1, found.2)
+
+-- a Transfer from a site reads the one pair of its file there
+reads_at : (p : Plan) (k : Option TaskKind) (g : FileId) (a : SiteId) (to : Target) → k ≡ Some (Transfer g (FromSite a) to) → (q : ℕ) → is_pair p q a.0 g.0 ≡ on_pair (kind_reads p.jobs k) (slice_get p.pairs q)
+unfolding is_pair
+reads_at p k g a to e q = by (slice_get p.pairs q)
+  where
+    by : (o : Option Pair) → pair_at o a.0 g.0 ≡ on_pair (kind_reads p.jobs k) o
+    by None = refl
+    by (Some x) = turned x.site.0 x.file.0 a.0 g.0 ∙ sym (ap (λ (o : Option TaskKind). kind_reads p.jobs o x.site.0 x.file.0) e)
+
+reads_one : (p : Plan) → IsProper p → HasPlanLaws p → (t : ℕ) (g : FileId) (a : SiteId) (to : Target) → kind p t ≡ Some (Transfer g (FromSite a) to) → (q : ℕ) × (is_pair p q a.0 g.0 ≡ true) × (reads p t ≡ q ∷ [])
+unfolding kind reads
+reads_one p proper laws t g a to e =
+    let task = proper.tasks t in
+    let stand = task.read_stands a.0 g.0 (ap (λ (o : Option TaskKind). kind_reads p.jobs o a.0 g.0) e ∙ itself a.0 g.0) in
+    let q = pair_of p a.0 g.0 stand in
+    (q.0, q.1, task.reads ∙ sym (laws.rising (count_pairs p) (λ r. on_pair (kind_reads p.jobs (kind p t)) (slice_get p.pairs r)) (q.0 ∷ []) (omega arith, tt) (passing q.0 q.1) (others q.0 q.1)))
+  where
+    passing : (q : ℕ) → is_pair p q a.0 g.0 ≡ true → (x : ℕ) → has (q ∷ []) x ≡ true → (x < count_pairs p) × (on_pair (kind_reads p.jobs (kind p t)) (slice_get p.pairs x) ≡ true)
+    passing q is x h =
+        let e1 : q ≡ x = grind (arith, h) in
+        subst (λ z. (z < count_pairs p) × (on_pair (kind_reads p.jobs (kind p t)) (slice_get p.pairs z) ≡ true)) e1 ((is_pair_of p q a.0 g.0 is).2, sym (reads_at p (kind p t) g a to e q) ∙ is)
+
+    others : (q : ℕ) → is_pair p q a.0 g.0 ≡ true → (x : ℕ) → x < count_pairs p → on_pair (kind_reads p.jobs (kind p t)) (slice_get p.pairs x) ≡ true → has (q ∷ []) x ≡ true
+    others q is x l h =
+        let e1 : q ≡ x = laws.once q x a.0 g.0 is (reads_at p (kind p t) g a to e x ∙ h) in
+        grind (arith, e1)
+
+-- with what this says of the pair
+pub transfer_reads : (p : Plan) → IsProper p → HasPlanLaws p → (t : ℕ) (g : FileId) (a : SiteId) (to : Target) → kind p t ≡ Some (Transfer g (FromSite a) to) → (q : ℕ) × (pair_site p q ≡ a.0) × (pair_file p q ≡ g.0) × (reads p t ≡ q ∷ [])
+transfer_reads p proper laws t g a to e =
+    let found = reads_one p proper laws t g a to e in
     let is = is_pair_of p found.0 a.0 g.0 found.1 in
     (found.0, is.0, is.1, found.2)

@@ -1,7 +1,6 @@
 -- What was delivered, by the record: one element for each delivery that arrived, in the order of the record.
-use Rattle.std.specs.Prelude.{◌≡◌, ℕ, true, List, [], ◌∷◌, ◌++◌, map, length, Option, Some, None, option_map, is_some}
+use Rattle.std.specs.Prelude.{◌≡◌, ℕ, true, List, [], ◌∷◌, ◌++◌, map, length, Option, Some, None, option_map, is_some, IfSome}
 use Rattle.std.specs.List.{All}
-use Rattle.std.proofs.Props.{props}
 use Rattle.sha2.specs.Sha256.{sha256}
 use Rattle.values.specs.Apply.{Apply}
 use Rattle.values.specs.declared.numbers.FileId.{FileId}
@@ -15,6 +14,7 @@ use Rattle.plan_core.specs.Words.{count_tasks, kind}
 use Rattle.storage_simulation.specs.Goods.{is_delivery}
 use Rattle.run_record.specs.Events.{Event, Arrive}
 use Rattle.site_yard.specs.Changes.{carries}
+use Rattle.site_yard.specs.Kept.{IsOpening}
 use Rattle.site_yard.specs.declared.delivered.Delivered.{Delivered}
 
 -- a delivery that arrived: its task, the file of its Transfer and the size of its Arrive
@@ -56,23 +56,29 @@ AreDigests c ds arrived = map (λ (d : Delivered). Some d.digest) ds ≡ map (ca
 abbrev pub AreLong : List Delivered → Type 0
 AreLong ds = All (λ (d : Delivered). length d.digest ≡ 32) ds
 
--- what a yard's list says of its record; the digests where the host tells
-pub record AreDelivered (apply : Apply) (p : Plan) (r : List Event) (told : Option Store) (marked : Store) (ds : List Delivered) : Type 0 where
+-- What a yard's list says of the entries since its opening; the digests where the host tells, under the premise on the
+-- opening.
+pub record AreDelivered (apply : Apply) (p : Plan) (first r : List Event) (told : Option Store) (marked : Store) (ds : List Delivered) : Type 0 where
   pub files : AreFiles ds (arrivals p r)
   pub lengths : AreLengths ds (arrivals p r)
-  pub digests : is_some told ≡ true → AreDigests (carries apply p marked) ds (arrivals p r)
+  pub digests : IsOpening apply p first marked → is_some told ≡ true → AreDigests (carries apply p marked) ds (arrivals p r)
   pub long : AreLong ds
 
-pub AreDelivered-prop : (apply : Apply) (p : Plan) (r : List Event) (told : Option Store) (marked : Store) (ds : List Delivered) → IsProp (AreDelivered apply p r told marked ds)
-AreDelivered-prop apply p r told marked ds = Prim.hlevel props
+-- The same of a yard that was opened with no entry.
+pub record AreAllDelivered (apply : Apply) (p : Plan) (r : List Event) (told : Option Store) (marked : Store) (ds : List Delivered) : Type 0 where
+  pub files : AreFiles ds (arrivals p r)
+  pub lengths : AreLengths ds (arrivals p r)
+  pub digests : IfSome told (λ s. AreDigests (carries apply p marked) ds (arrivals p r))
+  pub long : AreLong ds
 
 -- the tasks of a plan that deliver a file; what is kept of a delivery of these bytes
 unfoldable pub count_deliveries : Plan → ℕ
 count_deliveries p = length (below (count_tasks p) (is_delivery p))
 
-abbrev pub kept_at : List ℕ → Option FileId → List Delivered
-kept_at bytes None = []
-kept_at bytes (Some f) = record { file = f; length = length bytes; digest = sha256 bytes } ∷ []
+abbrev pub kept_at : ℕ → Option (List ℕ) → Option FileId → List Delivered
+kept_at size None f = []
+kept_at size (Some digest) None = []
+kept_at size (Some digest) (Some f) = record { file = f; length = size; digest = digest } ∷ []
 
-abbrev pub delivery_of : Option TaskKind → List ℕ → List Delivered
-delivery_of k bytes = kept_at bytes (delivered_file k)
+abbrev pub delivery_of : Option TaskKind → ℕ → Option (List ℕ) → List Delivered
+delivery_of k size digest = kept_at size digest (delivered_file k)

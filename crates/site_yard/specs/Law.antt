@@ -17,7 +17,7 @@ use Rattle.lease_book.specs.Legal.{Legal}
 use Rattle.lease_book.specs.Reading.{IsRead}
 use Rattle.lease_book.specs.State.{now}
 use Rattle.site_yard.specs.Changes.{carries}
-use Rattle.site_yard.specs.Kept.{IsTruthful}
+use Rattle.site_yard.specs.Kept.{IsOpening, IsTruthful}
 use Rattle.site_yard.specs.Names.{file_name, pair_file, pair_file_name, pair_site_name}
 use Rattle.site_yard.specs.Places.{IsUndelivered, IsUntouched, is_delivered, is_published, is_swept}
 use Rattle.site_yard.specs.Trace.{trace_of}
@@ -50,10 +50,25 @@ IsPairOf p c q x = (t : ℕ) × (has (writes p t) q ≡ true) × (x ≡ c t (pai
 abbrev pub IsDeliveryOf : Plan → (ℕ → ℕ → Option (List ℕ)) → ℕ → Option (List ℕ) → Type 0
 IsDeliveryOf p c f x = (t : ℕ) × (delivers p t f ≡ true) × (x ≡ c t f) × (is_some x ≡ true)
 
--- What a store shows of a record, where m is the store that was marked. The record is Truthful over the marked
--- replicas, which stay; its operations follow the marked trace. A pair that was published holds what its writer
--- carries until it is swept, and then is gone; a delivered file is what its delivery carries; every other name is as
+-- What a store shows of the entries since a yard's opening, where m is the store that was marked then, under the premise
+-- on the entries before: the record is Truthful; a pair that was published since and not swept holds what its writer
+-- carries, one that was swept since is gone; a file delivered since is what its delivery carries; every other name is as
 -- it was marked.
+pub record Holds (apply : Apply) (p : Plan) (first r : List Event) (m s : Store) : Type 0 where
+  pub truthful : IsTruthful apply p m (first ++ r)
+  pub published : (q : ℕ) → is_published p r q ≡ true → is_swept p r q ≡ false → IsPairOf p (carries apply p m) q (pair_at s.scratch (pair_site_name p q) (pair_file_name p q))
+  pub swept : (q : ℕ) → is_swept p r q ≡ true → pair_at s.scratch (pair_site_name p q) (pair_file_name p q) ≡ None
+  pub untouched : (site name : List ℕ) → IsUntouched p r site name → pair_at s.scratch site name ≡ pair_at m.scratch site name
+  pub delivered : (f : ℕ) → is_delivered p r f ≡ true → IsDeliveryOf p (carries apply p m) f (files.get s.delivered (file_name p f))
+  pub undelivered : (name : List ℕ) → IsUndelivered p r name → files.get s.delivered name ≡ files.get m.delivered name
+
+-- and in any case: the replicas stay, and the operations of the entries since the opening follow the marked trace
+pub record AgreesSince (apply : Apply) (p : Plan) (first r : List Event) (m s : Store) : Type 0 where
+  pub replicas : s.replicas ≡ m.replicas
+  pub trace : s.trace ≡ m.trace ++ trace_of p r
+  pub holds : IsOpening apply p first m → Holds apply p first r m s
+
+-- The same of a yard that was opened with no entry: what its store shows of the whole record.
 pub record Agrees (apply : Apply) (p : Plan) (r : List Event) (m s : Store) : Type 0 where
   pub truthful : IsTruthful apply p m r
   pub replicas : s.replicas ≡ m.replicas

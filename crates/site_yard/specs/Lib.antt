@@ -4,15 +4,18 @@ pub mod Changes
 pub mod Trace
 pub mod Truthful
 pub mod Failures
-pub mod Kept
 pub mod Places
+pub mod Kept
 pub mod Delivered
 -- What the laws stand on.
 pub mod Law
 -- What the calls answer.
+pub mod Returning
 pub mod Moving
 pub mod Loading
 pub mod Storing
+pub mod Loan
+pub mod Lending
 pub mod Opening
 pub mod Ending
 pub mod Leased

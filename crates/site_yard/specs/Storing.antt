@@ -32,28 +32,3 @@ pub record IsOverlong (p : Plan) (t : ℕ) (outs : List (List ℕ)) (j f n : ℕ
   pub file : pair_file p pair ≡ f
   pub job : has_job (kind p t) j ≡ true
   pub made : has (outputs p.jobs j) f ≡ true
-
--- the changes that publish these bytes at these pairs
-abbrev pub publishing : Plan → List ℕ → List (List ℕ) → List Change
-publishing p [] bs = []
-publishing p (q ∷ qs) [] = []
-publishing p (q ∷ qs) (b ∷ bs) = Publishes (pair_site_name p q) (pair_file_name p q) b ∷ publishing p qs bs
-
--- a pair was published, or all that is told is as before
-abbrev pub WrotePair : Plan → ℕ → List ℕ → Option Store → Option Store → Counts → Counts → Result (Unit {0}) Cause → Type 0
-WrotePair p q bytes old new before now (Ok u) = new ≡ option_map (λ s. changed_by s (Publishes (pair_site_name p q) (pair_file_name p q) bytes ∷ [])) old
-WrotePair p q bytes old new before now (Err HostFailed) = HaveFaultsRisen before now × (new ≡ old)
-WrotePair p q bytes old new before now (Err Memory) = new ≡ old
-WrotePair p q bytes old new before now (Err _) = ⊥
-
--- the first outputs were published, as many as there are sizes, and these are their lengths
-pub record WroteFirst (p : Plan) (qs : List ℕ) (outs : List (List ℕ)) (old new : Option Store) (sizes : List ℕ) : Type 0 where
-  pub told : new ≡ option_map (λ s. changed_by s (publishing p (take (length sizes) qs) outs)) old
-  pub sizes_are : sizes ≡ map length (take (length sizes) outs)
-
--- all outputs were published, or the first of them
-abbrev pub WrotePairs : Plan → List ℕ → List (List ℕ) → Option Store → Option Store → List ℕ → Counts → Counts → Result (Unit {0}) Cause → Type 0
-WrotePairs p qs outs old new sizes before now (Ok u) = WroteFirst p qs outs old new sizes × (length sizes ≡ length qs)
-WrotePairs p qs outs old new sizes before now (Err HostFailed) = WroteFirst p qs outs old new sizes × HaveFaultsRisen before now
-WrotePairs p qs outs old new sizes before now (Err Memory) = WroteFirst p qs outs old new sizes
-WrotePairs p qs outs old new sizes before now (Err _) = ⊥

@@ -1,19 +1,20 @@
 //! A yard as the value of a lock: what never changes of it, and its record as its journal.
 
-ghost use Rattle.std.specs.Prelude.{is_some};
+ghost use Rattle.std.specs.Prelude.{is_some, take};
 ghost use Rattle.run_record.specs.Events.{Event, Grant};
 ghost use Rattle.lease_book.specs.Owning.{worker};
 
 use crate::yard::Yard;
-use outside::{Host, Store, TaskId, Tool};
+use outside::{Host, Items, Store, TaskId, Tool};
 use ruled_lock::Chronicle;
 use std::marker::Model;
 use storage_simulation::Ordered;
 
-/// What never changes of a yard: its plan with the order, what its host told at the opening, whether that host tells, and
-/// the host's counts at the opening. It is for contracts; no value of it is made.
+/// What never changes of a yard: its plan with the order, the entries with which it was opened, what its host told then,
+/// whether that host tells, and the host's counts at the opening. It is for contracts; no value of it is made.
 pub struct Charter {
     pub ordered: Ordered,
+    pub opened: Items<JournalEntry>,
     pub marked: Store,
     pub tells: bool,
     pub faults: u64,
@@ -37,7 +38,7 @@ impl<H: Host, T: Tool> Chronicle for Yard<H, T> {
 
     type Item = JournalEntry;
 
-    ghost charter = { λ y. record { ordered = y.ordered; marked = H.marked y.host; tells = is_some (H.told y.host); faults = y.faults; misses = y.misses } };
+    ghost charter = { λ y. record { ordered = y.ordered; opened = take y.opened y.book.history.events; marked = H.marked y.host; tells = is_some (H.told y.host); faults = y.faults; misses = y.misses } };
 
     ghost journal = { λ y. y.book.history.events };
 

@@ -1,6 +1,8 @@
 //! What complete records have done, and empty ones.
 
 ghost use Rattle.std.specs.Prelude.{◌≡◌, ℕ, true, false, List, []};
+ghost use Rattle.values.specs.Apply.{Apply};
+ghost use Rattle.outside.specs.declared.store.Store.{Store};
 ghost use Rattle.plan_core.specs.declared.plan.Plan.{Plan};
 ghost use Rattle.plan_core.specs.Proper.{IsProper};
 ghost use Rattle.plan_core.specs.Words.{delivers};
@@ -9,6 +11,7 @@ ghost use Rattle.lease_book.specs.Law.{FitsFromStart};
 ghost use Rattle.lease_book.specs.Legal.{IsComplete, IsOpen, Legal};
 ghost use Rattle.lease_book.specs.State.{now};
 ghost use Rattle.site_yard.specs.Failures.{host_faults, host_misses, tool_faults};
+ghost use Rattle.site_yard.specs.Kept.{IsOpening};
 ghost use Rattle.site_yard.specs.Places.{is_delivered, is_published, is_swept};
 
 use crate::law::record_laws;
@@ -30,4 +33,5 @@ pub fn empty_records()
     ensures faults { host_faults [] ≡ 0 }
     ensures misses { host_misses [] ≡ 0 }
     ensures tools { (w : ℕ) → tool_faults w [] ≡ 0 }
+    ensures opening { (apply : Apply) (p : Plan) (m : Store) → IsOpening apply p [] m }
 {}

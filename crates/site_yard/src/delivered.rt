@@ -6,7 +6,6 @@ ghost use Rattle.site_yard.specs.Delivered.{count_deliveries, delivered_file, de
 
 use outside::{FileId, TaskId};
 use plan_core::{Plan, Target, TaskKind};
-use sha2::{Digest, Sha256};
 use storage_simulation::is_delivery;
 
 /// A file that was delivered, its length in bytes and its SHA-256.
@@ -48,18 +47,27 @@ fn delivered_file(plan: &Plan, task: TaskId) -> Option<FileId>
     }
 }
 
-/// Adds a delivery of these bytes, where the task is one. It takes no memory.
-pub(crate) fn keep(plan: &Plan, delivered: &mut Vec<Delivered>, task: TaskId, bytes: &[u8])
+/// Adds a delivery of so many bytes with this digest, where the task is one. It takes no memory.
+pub(crate) fn keep(
+    plan: &Plan,
+    delivered: &mut Vec<Delivered>,
+    task: TaskId,
+    size: u64,
+    digest: Option<[u8; 32]>,
+)
     requires room { is_some (delivered_file (kind plan.now task.0)) ≡ true → length delivered.old.items < vec_capacity delivered.old }
-    ensures items { delivered.new.items ≡ delivered.old.items ++ delivery_of (kind plan.now task.0) bytes.now }
+    ensures items { delivered.new.items ≡ delivered.old.items ++ delivery_of (kind plan.now task.0) size digest }
     ensures room { vec_capacity delivered.new ≡ vec_capacity delivered.old }
 {
-    match delivered_file(plan, task) {
-        Some(file) => delivered.push_reserved(Delivered {
-            file,
-            length: bytes.len() as u64,
-            digest: Sha256::digest(bytes),
-        }),
+    match digest {
         None => {}
+        Some(digest) => match delivered_file(plan, task) {
+            Some(file) => delivered.push_reserved(Delivered {
+                file,
+                length: size,
+                digest,
+            }),
+            None => {}
+        },
     }
 }

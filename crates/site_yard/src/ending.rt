@@ -10,7 +10,6 @@ ghost use Rattle.run_record.specs.declared.run_fault.RunFault.TheVariants.{Overs
 ghost use Rattle.site_yard.specs.Names.{file_name};
 ghost use Rattle.site_yard.specs.Ending.{failed_in, fault_of, first_failed, job_name, moved_file, registered, source_pfn};
 
-use crate::moving::checksum;
 use crate::names::{declared_size, file_name};
 use outside::{FileId, JobId, Memory, TaskId, Text};
 use plan_core::{Plan, Source, TaskKind};
@@ -32,6 +31,17 @@ fn job_name(plan: &Plan, job: JobId) -> &str
     match plan.jobs.as_slice().get(job.0 as usize) {
         Some(found) => found.id.as_str(),
         None => "",
+    }
+}
+
+/// The checksum that is registered for a file.
+#[tactic(auto, unfolding(lease_book::specs::Legal::checksum))]
+fn checksum(plan: &Plan, file: FileId) -> Option<[u8; 32]>
+    ensures { result ≡ checksum plan.now file.0 }
+{
+    match plan.files.as_slice().get(file.0 as usize) {
+        Some(found) => found.checksum,
+        None => None,
     }
 }
 

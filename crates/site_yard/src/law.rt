@@ -1,6 +1,6 @@
 //! What the definitions come to.
 
-ghost use Rattle.std.specs.Prelude.{ℕ, List, Some};
+ghost use Rattle.std.specs.Prelude.{ℕ, ◌++◌, List, Some};
 ghost use Rattle.values.specs.Apply.{Apply};
 ghost use Rattle.outside.specs.declared.counts.Counts.{Counts};
 ghost use Rattle.outside.specs.declared.store.Store.{Store};
@@ -10,7 +10,7 @@ ghost use Rattle.run_record.specs.Events.{Event};
 ghost use Rattle.lease_book.specs.Law.{FitsFromStart};
 ghost use Rattle.lease_book.specs.Legal.{Legal};
 ghost use Rattle.site_yard.specs.Kept.{IsKept};
-ghost use Rattle.site_yard.specs.Law.{Agrees, HasPlanLaws, HasRecordLaws};
+ghost use Rattle.site_yard.specs.Law.{AgreesSince, HasPlanLaws, HasRecordLaws};
 
 use lease_book::{allowed_entries_keep_safe, records_read};
 use plan_core::{
@@ -19,7 +19,7 @@ use plan_core::{
 };
 
 /// What plan_core promises of a proper plan.
-pub(crate) fn plan_laws()
+pub fn plan_laws()
     ensures { (p : Plan) → IsProper p → HasPlanLaws p }
 {
     carried_is_carried_along();
@@ -39,9 +39,9 @@ pub(crate) fn record_laws()
     records_read();
 }
 
-/// A store that is the marked one with the changes of a Legal record that is Truthful shows the record.
+/// A store that a yard keeps shows the record.
 pub fn kept_stores_show_records()
-    ensures { (apply : Apply) (p : Plan) (order : List ℕ) (r : List Event) (s m : Store) (faults misses : ℕ) (now : Counts) → IsProper p → FitsFromStart p order → Legal p order r → IsKept apply p r (Some s) m faults misses now → Agrees apply p r m s }
+    ensures { (apply : Apply) (p : Plan) (order : List ℕ) (first r : List Event) (s m : Store) (faults misses : ℕ) (now : Counts) → IsProper p → FitsFromStart p order → Legal p order (first ++ r) → IsKept apply p order first r (Some s) m faults misses now → AgreesSince apply p first r m s }
 {
     plan_laws();
     record_laws();

@@ -11,6 +11,7 @@
 //! changes, and its record as the journal (`chronicle.rt`).
 #![tactic(auto)]
 
+mod asking;
 mod chronicle;
 mod completing;
 mod delivered;
@@ -18,20 +19,23 @@ mod ending;
 mod faults;
 mod law;
 mod leased;
+mod leasing;
 mod leaving;
-mod loading;
+mod lending;
+mod loans;
 mod moving;
 mod names;
 mod opening;
-mod storing;
+mod returning;
 mod yard;
 
 pub use chronicle::{Charter, JournalEntry};
 pub use completing::{complete_records_deliver, empty_records};
 pub use delivered::Delivered;
 pub use faults::{fails_show_in_the_state, nothing_else_fails};
-pub use law::kept_stores_show_records;
+pub use law::{kept_stores_show_records, plan_laws};
 pub use leased::Leased;
 pub use leaving::what_is_left_is_held;
+pub use lending::Loan;
 pub use opening::{OpenFault, OpenRefused, opening_fault};
 pub use yard::Yard;

@@ -2,12 +2,11 @@ mod SmallLemmas
 mod StateLemmas
 mod WorkLemmas
 mod RunLemmas
-mod CarriedLemmas
-mod TaskLemmas
+mod LoanLemmas
+mod MadeLemmas
+mod MovedLemmas
+mod FillingLemmas
 mod InputsLemmas
-mod TableLemmas
-mod RunningLemmas
-mod ComputingLemmas
 mod TurningLemmas
 mod TendingLemmas
 mod WorkingLemmas

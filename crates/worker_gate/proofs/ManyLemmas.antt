@@ -281,8 +281,8 @@ pub none_counted : (r : List Event) (counts : List ℕ) → r ≡ [] → AreTool
 none_counted r counts none = record { each = λ k l. (omega arith, λ small. let e = ap (tool_faults k) none ∙ no_faults k in omega (arith, e)) }
 
 -- a yard's charter
-abbrev pub charter_with : Ordered → Store → Bool → ℕ → ℕ → Charter
-charter_with o m t f k = record { ordered = o; marked = m; tells = t; faults = f; misses = k }
+abbrev pub charter_with : Ordered → List Event → Store → Bool → ℕ → ℕ → Charter
+charter_with o r m t f k = record { ordered = o; opened = r; marked = m; tells = t; faults = f; misses = k }
 
 -- the hands after they were lent as a slice
 pub lent : {X : Type 0} (n : ℕ) (after before : List X) → length after ≡ n → after ≡ take n (after ++ drop (length after) before)

@@ -17,7 +17,7 @@ use Rattle.lease_book.specs.Room.{entries_room}
 use Rattle.lease_book.specs.State.{State, after, now_from, put}
 use Rattle.worker_gate.specs.Alone.{BeginFirst, NoneOpen}
 use Rattle.worker_gate.specs.Law.{HasLeaseLaws}
-use Rattle.worker_gate.specs.Stepping.{IsDone}
+use Rattle.worker_gate.specs.Tending.{HasLoan, IsDone}
 use Rattle.worker_gate.proofs.SmallLemmas.{not_none, not_true, put_at, put_off, true_false}
 
 pub same_number : (t : ℕ) → eqb t t ≡ true
@@ -146,19 +146,17 @@ has_kind p t l e = by (slice_get p.tasks t) refl e
     by None is k = not_none p.tasks t l is
     by (Some x) is k = absurd cc
 
-kind_run : (k : Option TaskKind) → (k ≡ None → ⊥) → is_transfer_kind k ≡ false → is_clean_kind k ≡ false → is_run_kind k ≡ true
-kind_run None some transfer clean = absurd (some refl)
-kind_run (Some (Transfer f from to)) some transfer clean = absurd cc
-kind_run (Some (Run s js)) some transfer clean = refl
-kind_run (Some (CleanTask q)) some transfer clean = absurd cc
+kind_loan : (k : Option TaskKind) → (k ≡ None → ⊥) → is_clean_kind k ≡ false → HasLoan k
+kind_loan None some clean = absurd (some refl)
+kind_loan (Some (Transfer f from to)) some clean = tt
+kind_loan (Some (Run s js)) some clean = tt
+kind_loan (Some (CleanTask q)) some clean = absurd cc
 
--- a task that runs and is no Transfer is a Run
-open_run : (p : Plan) (s : State) (t : ℕ) → IsSoundState p s → s.phase t ≡ Runs → is_transfer p t ≡ false → is_run p t ≡ true
-open_run p s t sound runs transfer = let is = sound.running_kind t runs in kind_run (kind p t) (has_kind p t is.1) transfer is.0
-
-pub open_run_at : (p q x : Plan) (s : State) (t : ℕ) (b : Bool) → p ≡ q → x ≡ q → IsSoundState p s → s.phase t ≡ Runs → b ≡ is_transfer x t → b ≡ false → is_run q t ≡ true
-open_run_at p q x s t b here there sound runs is off =
-    subst (λ z. is_run z t ≡ true) here (open_run p s t sound runs (ap (λ z. is_transfer z t) (here ∙ sym there) ∙ sym is ∙ off))
+-- a task that runs has a loan
+pub open_loan : (p q : Plan) (s : State) (t : ℕ) → p ≡ q → IsSoundState p s → s.phase t ≡ Runs → HasLoan (kind q t)
+open_loan p q s t same sound runs =
+    let is = sound.running_kind t runs in
+    subst (λ z. HasLoan (kind z t)) same (kind_loan (kind p t) (has_kind p t is.1) is.0)
 
 pub step_one : (p : Plan) (s : State) (r : List Event) (e : Event) → now_from p s (r ++ e ∷ []) ≡ after p (now_from p s r) e
 step_one p s [] e = refl

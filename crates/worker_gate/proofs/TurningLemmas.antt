@@ -1,18 +1,19 @@
 -- What a worker's own entries say of what is open for it, from turn to turn.
-use Rattle.std.proofs.Common.{◌≡◌, ℕ, ◌||◌, ◌&&◌, Bool, true, false, cond, eqb, inl, inr, List, [], ◌∷◌, ◌++◌, refl, sym, ap, subst, ◌∙◌}
-use Rattle.std.specs.Prelude.{Decides, IfOk, IfSome, Option, Some, None, Result, Ok, Err, Vec, is_some, map, not}
-use Rattle.std.specs.declared.alloc.Global.{Global}
+use Rattle.std.proofs.Common.{◌≡◌, ℕ, zero, suc, ◌≤◌, ◌||◌, ◌&&◌, Bool, true, false, cond, eqb, inl, inr, List, [], ◌∷◌, ◌++◌, length, take, refl, sym, ap, subst, ◌∙◌, arith}
+use Rattle.std.specs.Prelude.{Decides, IfNone, IfOk, IfSome, Option, Some, None, Result, Ok, Err, is_some, not}
+use Rattle.std.specs.FinMap as files
 use Rattle.std.proofs.Math.Logic.{∥∥₁_elim}
 use mathlib.Core.Bool.{Bool-set}
 use mathlib.Core.List.{IsPrefix}
 use Rattle.values.specs.Apply.{Apply}
+use Rattle.outside.specs.Parts.{DraftState, ReadState}
 use Rattle.outside.specs.declared.counts.Counts.{Counts}
 use Rattle.values.specs.declared.memory.Memory.{Memory}
 use Rattle.values.specs.declared.numbers.TaskId.{TaskId}
 use Rattle.outside.specs.declared.store.Store.{Store}
 use Rattle.plan_core.specs.declared.plan.Plan.{Plan}
 use Rattle.plan_core.specs.Proper.{IsProper}
-use Rattle.plan_core.specs.Words.{reads, task_numbers}
+use Rattle.plan_core.specs.Words.{kind, task_numbers}
 use Rattle.run_record.specs.declared.entry.Cause.{Cause}
 use Rattle.run_record.specs.Events.{Event, Grant, Arrive, End, Clean, Fail, Again, Regrant}
 use Rattle.storage_simulation.specs.declared.ordered.Ordered.{Ordered}
@@ -27,14 +28,18 @@ use Rattle.site_yard.specs.declared.chronicle.Charter.{Charter}
 use Rattle.site_yard.specs.declared.leased.Leased.{Leased}
 use Rattle.site_yard.specs.declared.leased.Leased.TheVariants as leased
 use Rattle.site_yard.specs.Changes.{carries}
-use Rattle.site_yard.specs.Yard.{AreOutputs, IsAgain, IsFail, IsTold, Leases, content}
+use Rattle.site_yard.specs.Loan.{Aim, AreCarried, AreDrafts, IsDraftOf, IsLent, targets}
+use Rattle.site_yard.specs.Truthful.{IsCause}
+use Rattle.site_yard.specs.Yard.{Adds, IsAgain, IsFail, IsFailure, Leases}
 use Rattle.site_yard.specs.Failures.{tool_fault_in, tool_faults_of}
 use Rattle.worker_gate.specs.Alone.{IsOver}
-use Rattle.worker_gate.specs.Stepping.{IsDone}
-use Rattle.worker_gate.specs.Tending.{Begins, Finishes, IsLast, IsMade}
-use Rattle.worker_gate.specs.Turning.{BeginsOwn, IsOverFor, IsPlanOf, LeasesOwn, NoneOpenBy, NoneOpenFor, plan_of, state_of, told_of}
+use Rattle.task_work.specs.declared.filling.Filled.{Filled}
+use Rattle.worker_gate.specs.Inputs.{IsFilledOf}
+use Rattle.worker_gate.specs.Tending.{CanFinish, Finishes, HasLoan, IsDone, IsLast, digest_in}
+use Rattle.worker_gate.specs.Turning.{IsHeldFor, IsOverFor, IsPlanOf, LeasesOwn, NoneOpenBy, NoneOpenFor, plan_of, state_of, told_of}
 use Rattle.worker_gate.proofs.StateLemmas.{same_number}
-use Rattle.worker_gate.proofs.WorkLemmas.{cause_zero, if_zero}
+use Rattle.worker_gate.proofs.LoanLemmas.{held_by, lent_held}
+use Rattle.worker_gate.proofs.WorkLemmas.{failure_done, if_zero, stop_zero}
 
 -- lists
 open_more : (t : ℕ) (b : Bool) (r : List Event) (e : Event) → is_open_after t b (r ++ e ∷ []) ≡ open_after t (is_open_after t b r) e
@@ -164,8 +169,18 @@ none_by_seen law tells b g w seen mine p o front same none t =
         ∙ ap (is_open_after t false) same
 
 -- charters
-pub charter_kept : (g : Option Charter) (o o2 : Ordered) (m m2 : Store) (t t2 : Bool) (f f2 k k2 : ℕ) → g ≡ Some (record { ordered = o; marked = m; tells = t; faults = f; misses = k }) → o2 ≡ o → m2 ≡ m → t2 ≡ t → f2 ≡ f → k2 ≡ k → g ≡ Some (record { ordered = o2; marked = m2; tells = t2; faults = f2; misses = k2 })
-charter_kept g o o2 m m2 t t2 f f2 k k2 is eo em et ef ek = is ∙ (λ i. Some (record { ordered = sym eo i; marked = sym em i; tells = sym et i; faults = sym ef i; misses = sym ek i }))
+pub charter_kept : (g : Option Charter) (o o2 : Ordered) (r r2 : List Event) (m m2 : Store) (t t2 : Bool) (f f2 k k2 : ℕ) → g ≡ Some (record { ordered = o; opened = r; marked = m; tells = t; faults = f; misses = k }) → o2 ≡ o → r2 ≡ r → m2 ≡ m → t2 ≡ t → f2 ≡ f → k2 ≡ k → g ≡ Some (record { ordered = o2; opened = r2; marked = m2; tells = t2; faults = f2; misses = k2 })
+charter_kept g o o2 r r2 m m2 t t2 f f2 k k2 is eo er em et ef ek = is ∙ (λ i. Some (record { ordered = sym eo i; opened = sym er i; marked = sym em i; tells = sym et i; faults = sym ef i; misses = sym ek i }))
+
+-- the entries of the opening stay
+take_more : (h x : List Event) (n : ℕ) → n ≤ length h → take n (h ++ x) ≡ take n h
+take_more h x zero l = refl
+take_more [] x (suc n) l = absurd (omega (arith, l))
+take_more (e ∷ h) x (suc n) l = ap (λ z. e ∷ z) (take_more h x n (omega (arith, l)))
+
+pub opened_kept : (w n k : ℕ) (r next : List Event) → n ≤ length r → k ≡ n → AddsAtMostOne worker w r next → take k next ≡ take n r
+opened_kept w n k r next begun same (inl is) = ap (λ i. take i next) same ∙ ap (take n) is
+opened_kept w n k r next begun same (inr more) = ap (λ i. take i next) same ∙ ap (take n) more.2 ∙ take_more r (more.0 ∷ []) n begun
 
 -- what a turn adds
 pub finishes_adds : (w t n : ℕ) (r next : List Event) → Finishes w t n r next → AddsAtMostOne worker w r next
@@ -181,7 +196,7 @@ fail_last w t (Clean v u) h = absurd h
 fail_last w t (Arrive v u n) h = absurd h
 fail_last w t (End v u ns) h = absurd h
 fail_last w t (Again v u c ns) h = absurd h
-fail_last w t (Fail v u c ns) h = ((h.0, h.1), if_zero _ (tool_fault_in c) (cause_zero c h.2))
+fail_last w t (Fail v u c ns) h = ((h.0, h.1), if_zero _ (tool_fault_in c) (stop_zero c h.2))
 
 again_last : (w t : ℕ) (e : Event) → IsAgain w t e → IsLast w t e × (tool_faults_of w e ≡ 0)
 again_last w t (Grant v u) h = absurd h
@@ -190,7 +205,7 @@ again_last w t (Clean v u) h = absurd h
 again_last w t (Arrive v u n) h = absurd h
 again_last w t (End v u ns) h = absurd h
 again_last w t (Fail v u c ns) h = absurd h
-again_last w t (Again v u c ns) h = ((h.0, h.1), if_zero _ (tool_fault_in c) (cause_zero c h.2))
+again_last w t (Again v u c ns) h = ((h.0, h.1), if_zero _ (tool_fault_in c) (stop_zero c h.2))
 
 pub lease_adds : (p : Plan) (s : State) (w : ℕ) (r next : List Event) (o : Option Store) (before now_ : Counts) (x : Leased) → Leases p s w r next o before now_ x → AddsAtMostOne worker w r next
 lease_adds p s w r next o before now_ (leased.Granted t) h = elim h.1 [
@@ -217,18 +232,6 @@ lease_own p s w r next mine after_ seen g o before now_ leased.Done grow over h 
 lease_own p s w r next mine after_ seen g o before now_ leased.Stopped grow over h = (grow.0 h.1, over h.1 (inr h.0))
 lease_own p s w r next mine after_ seen g o before now_ leased.NotYet grow over h = grow.0 h.4
 
--- what the host tells, by the charter
-abbrev pub map_reads : Apply → Charter → ℕ → List (Option (List ℕ))
-map_reads apply c t = map (content (plan_of c) (carries apply (plan_of c) c.marked)) (reads (plan_of c) t)
-
-pub told_there : (o : Option Store) (m : Store) (P : Type 0) → IfSome o (λ s. P) → IfSome (cond (is_some o) (Some m) None) (λ s. P)
-told_there None m P h = tt
-told_there (Some s) m P h = h
-
-pub told_back : (o : Option Store) (m : Store) (P : Type 0) → IfSome (cond (is_some o) (Some m) None) (λ s. P) → IfSome o (λ s. P)
-told_back None m P h = tt
-told_back (Some s) m P h = h
-
 -- The turn in which a worker leases. The pass knows the charter g; v is the number that the yard was asked with.
 pub lease_turn : (law : OwnLaw) (tells : OpenLaw) (b : Book) (c : Charter) (g : Option Charter) (w v : ℕ) (taken next mine mid after_ seen : List Event) (o : Option Store) (before now_ : Counts) (x : Leased)
     → b.plan ≡ c.ordered.plan → b.order.items ≡ c.ordered.tasks.items → g ≡ Some c → v ≡ w → taken ≡ b.history.events → mid ≡ mine → entries_by w b.history.events ≡ mine → NoneOpenBy mine → GrowsAlike taken next mid after_ → seen ≡ next
@@ -248,31 +251,81 @@ pub finishes_there : (w v t n : ℕ) (taken r next mine mid after_ : List Event)
 finishes_there w v t n taken r next mine mid after_ number took middle grow h =
     finishes_grow w t n r next mine after_ (subst (λ (l : List Event). GrowsAlike l next mine after_) took (subst (λ (l : List Event). GrowsAlike taken next l after_) middle grow)) (subst (λ (k : ℕ). Finishes k t n r next) number h)
 
-pub begin_adds : (apply : Apply) (p : Plan) (m : Store) (o : Option Store) (w t : ℕ) (r next : List Event) (x : Option (Vec (List ℕ) Global)) → Begins apply p m o w t r next x → AddsAtMostOne worker w r next
-begin_adds apply p m o w t r next (Some blobs) h = inl h.0
-begin_adds apply p m o w t r next None h = finishes_adds w t 0 r next h
-
-pub begin_turn : (apply : Apply) (b : Book) (c : Charter) (g : Option Charter) (o : Option Store) (w v t : ℕ) (taken next mine mid after_ : List Event) (x : Option (Vec (List ℕ) Global))
-    → b.plan ≡ c.ordered.plan → g ≡ Some c → c.tells ≡ is_some o → v ≡ w → taken ≡ b.history.events → mid ≡ mine → GrowsAlike taken next mid after_
-    → Begins apply c.ordered.plan c.marked o v t b.history.events next x → BeginsOwn apply g w t mine after_ x
-begin_turn apply b c g o w v t taken next mine mid after_ None plan is tells number took middle grow h = finishes_there w v t 0 taken b.history.events next mine mid after_ number took middle grow h
-begin_turn apply b c g o w v t taken next mine mid after_ (Some blobs) plan is tells number took middle grow h = (
-  grow.0 (h.0 ∙ sym took) ∙ middle,
-  record {
-    charter = c;
-    is = is;
-    proper = subst IsProper plan b.proper;
-    run = h.1;
-    read = subst (λ (q : Bool). IfSome (cond q (Some c.marked) None) (λ s. map_reads apply c t ≡ map Some blobs.items)) (sym tells) (told_there o c.marked (map_reads apply c t ≡ map Some blobs.items) h.2);
-  },
-)
-
-pub made_here : (apply : Apply) (g : Option Charter) (c : Charter) (o : Option Store) (t : ℕ) (made : Result (Vec (List ℕ) Global) Cause) → g ≡ Some c → c.tells ≡ is_some o → IfSome g (λ d. IsMade apply (plan_of d) d.marked (told_of d) t made) → IsMade apply c.ordered.plan c.marked o t made
-made_here apply g c o t made is tells h = by made (subst (λ (k : Option Charter). IfSome k (λ d. IsMade apply (plan_of d) d.marked (told_of d) t made)) is h)
+-- The turn in which a loan is made. `rs` and `ds` are the states of its parts.
+pub lend_adds : {L : Type 0} (w t : ℕ) (r next : List Event) (o : Option Store) (before now_ : Counts) (x : Option L) → IfSome x (λ l. next ≡ r) → IfNone x (Adds r next (IsFailure w t) o before now_) → AddsAtMostOne worker w r next
+lend_adds w t r next o before now_ None same adds = finishes_adds w t 0 r next (ends_last (failure_done w t adds.entry adds.kind) adds.is)
   where
-    by : (x : Result (Vec (List ℕ) Global) Cause) → IsMade apply c.ordered.plan c.marked (told_of c) t x → IsMade apply c.ordered.plan c.marked o t x
-    by (Ok outs) k = (k.0, k.1, told_back o c.marked _ (subst (λ (q : Bool). AreOutputs apply c.ordered.plan c.marked (cond q (Some c.marked) None) t outs.items) tells k.2))
-    by (Err cause) k = (k.0, k.1, told_back o c.marked _ (subst (λ (q : Bool). IsTold apply c.ordered.plan c.marked (cond q (Some c.marked) None) t cause) tells k.2))
+    ends_last : {e : Event} → IsDone w t e × (tool_faults_of w e ≡ 0) → next ≡ r ++ e ∷ [] → Finishes w t 0 r next
+    ends_last {e} d is = record { entry = e; is = is; last = done_last w t e d.0; failures = d.1 }
+lend_adds w t r next o before now_ (Some l) same adds = inl same
+
+pub none_turn : {L : Type 0} (w v t : ℕ) (taken r next mine mid after_ : List Event) (o : Option Store) (before now_ : Counts) (x : Option L) → v ≡ w → taken ≡ r → mid ≡ mine → GrowsAlike taken next mid after_ → IfNone x (Adds r next (IsFailure v t) o before now_) → IfNone x (Finishes w t 0 mine after_)
+none_turn w v t taken r next mine mid after_ o before now_ (Some l) number took middle grow adds = tt
+none_turn w v t taken r next mine mid after_ o before now_ None number took middle grow adds =
+    let d = failure_done v t adds.entry adds.kind in
+    finishes_there w v t 0 taken r next mine mid after_ number took middle grow (record { entry = adds.entry; is = adds.is; last = done_last v t adds.entry d.0; failures = d.1 })
+
+pub same_turn : {L : Type 0} (taken r next mine mid after_ : List Event) (x : Option L) → taken ≡ r → mid ≡ mine → GrowsAlike taken next mid after_ → IfSome x (λ l. next ≡ r) → IfSome x (λ l. after_ ≡ mine)
+same_turn taken r next mine mid after_ None took middle grow same = tt
+same_turn taken r next mine mid after_ (Some l) took middle grow same = grow.0 (same ∙ sym took) ∙ middle
+
+told_case : (b : Bool) (m : Store) → is_some (cond b (Some m) None) ≡ b
+told_case true m = refl
+told_case false m = refl
+
+pub held_turn : {L : Type 0} (apply : Apply) (b : Book) (c : Charter) (g : Option Charter) (o : Option Store) (t : ℕ) (rs : L → List ReadState) (ds : L → List DraftState) (x : Option L) → b.plan ≡ c.ordered.plan → g ≡ Some c → c.tells ≡ is_some o → HasLoan (kind c.ordered.plan t) → IfSome x (λ l. IsLent apply c.ordered.plan c.opened c.marked o t (rs l) (ds l)) → IfSome x (λ l. IsHeldFor apply g t (rs l) (ds l))
+held_turn apply b c g o t rs ds None plan is tells has lent = tt
+held_turn apply b c g o t rs ds (Some l) plan is tells has lent = record {
+  charter = c;
+  is = is;
+  proper = subst IsProper plan b.proper;
+  has_loan = has;
+  held = held_by apply c.ordered.plan c.opened c.marked o (told_of c) t (rs l) (ds l) (told_case c.tells c.marked ∙ tells) (lent_held apply c.ordered.plan c.opened c.marked o t (rs l) (ds l) lent);
+}
+
+-- The turn in which a loan is settled or abandoned: only the case of what is told matters.
+draft_by : (o n : Option Store) (x : Aim) (d : DraftState) → is_some n ≡ is_some o → IsDraftOf o x d → IsDraftOf n x d
+draft_by None None x d e h = h
+draft_by None (Some s) x d e h = absurd cc
+draft_by (Some s) None x d e h = absurd cc
+draft_by (Some s) (Some z) x d e h = h
+
+drafts_by : (o n : Option Store) (xs : List Aim) (ds : List DraftState) → is_some n ≡ is_some o → AreDrafts o xs ds → AreDrafts n xs ds
+drafts_by o n [] [] e h = tt
+drafts_by o n [] (d ∷ ds) e h = absurd h
+drafts_by o n (x ∷ xs) [] e h = absurd h
+drafts_by o n (x ∷ xs) (d ∷ ds) e h = (draft_by o n x d e h.0, drafts_by o n xs ds e h.1)
+
+told_by : (P : Type 0) (o n : Option Store) → is_some n ≡ is_some o → IfSome o (λ s. P) → IfSome n (λ s. P)
+told_by P None None e h = tt
+told_by P None (Some s) e h = absurd cc
+told_by P (Some s) None e h = absurd cc
+told_by P (Some s) (Some z) e h = h
+
+finish_by : (apply : Apply) (p : Plan) (first : List Event) (m : Store) (o n : Option Store) (t : ℕ) (rs : List ReadState) (ds : List DraftState) (filled : Result Filled Cause) → is_some n ≡ is_some o → CanFinish apply p first m o t rs ds filled → CanFinish apply p first m n t rs ds filled
+finish_by apply p first m o n t rs ds (Ok f) e h = record {
+  loan = record { readings = h.loan.readings; drafts = drafts_by o n (targets p t) ds e h.loan.drafts };
+  sizes_are = h.sizes_are;
+  small = h.small;
+  delivery = h.delivery;
+  long = h.long;
+  carried = λ opening. told_by (AreCarried p (carries apply p m) t ds (digest_in f)) o n e (h.carried opening);
+}
+finish_by apply p first m o n t rs ds (Err c) e h = record {
+  loan = record { readings = h.loan.readings; drafts = drafts_by o n (targets p t) ds e h.loan.drafts };
+  kind_is = h.kind_is;
+  fits = h.fits;
+  shown = h.shown;
+  is_told = λ opening. told_by (IsCause apply (λ pfn. files.get m.replicas pfn) p (carries apply p m) t c) o n e (h.is_told opening);
+}
+
+pub finish_here : (apply : Apply) (g : Option Charter) (c : Charter) (o : Option Store) (t : ℕ) (rs : List ReadState) (ds : List DraftState) (filled : Result Filled Cause) → g ≡ Some c → c.tells ≡ is_some o → IfSome g (λ d. CanFinish apply (plan_of d) d.opened d.marked (told_of d) t rs ds filled) → CanFinish apply c.ordered.plan c.opened c.marked o t rs ds filled
+finish_here apply g c o t rs ds filled is tells h =
+    finish_by apply c.ordered.plan c.opened c.marked (told_of c) o t rs ds filled (sym (told_case c.tells c.marked ∙ tells))
+    (subst (λ (k : Option Charter). IfSome k (λ d. CanFinish apply (plan_of d) d.opened d.marked (told_of d) t rs ds filled)) is h)
+
+pub filled_here : (apply : Apply) (g : Option Charter) (c : Charter) (t : ℕ) (filled : Result Filled Cause) → g ≡ Some c → IfSome g (λ d. IsFilledOf apply (plan_of d) t filled) → IsFilledOf apply c.ordered.plan t filled
+filled_here apply g c t filled is h = subst (λ (k : Option Charter). IfSome k (λ d. IsFilledOf apply (plan_of d) t filled)) is h
 
 -- a copy of the yard's plan is that of the charter
 pub plan_copied : (g : Option Charter) (c : Charter) (q : Plan) (copied : Result Plan Memory) → g ≡ Some c → IfOk copied (λ p. p ≡ q) → q ≡ plan_of c → IsPlanOf g copied

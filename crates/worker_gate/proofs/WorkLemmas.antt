@@ -20,12 +20,13 @@ use Rattle.lease_book.specs.Legal.{IsOpen}
 use Rattle.lease_book.specs.State.{State, after, now, opened}
 use Rattle.lease_book.specs.RunState.{IsSame, state_of}
 use Rattle.site_yard.specs.Failures.{RoseBy, tool_fault_in, tool_faults, tool_faults_of}
-use Rattle.site_yard.specs.Yard.{Adds, IsAgain, IsArrival, IsEnding, IsFail, IsFailure, NamesNoJob, IsStop, Leases}
+use Rattle.site_yard.specs.Yard.{Adds, IsAgain, IsFail, IsFailure, IsLending, IsSettled, IsStop, Leases}
 use Rattle.site_yard.specs.declared.leased.Leased.TheVariants as leased
 use Rattle.lease_book.specs.Owning.{worker}
 use Rattle.worker_gate.specs.Alone.{NoneOpen, begun_by, is_afresh}
 use Rattle.worker_gate.specs.Law.{HasLeaseLaws}
-use Rattle.worker_gate.specs.Stepping.{DoesTask, IsDone, WorksOn}
+use Rattle.worker_gate.specs.Stepping.{DoesTask, WorksOn}
+use Rattle.worker_gate.specs.Tending.{IsDone}
 use Rattle.worker_gate.proofs.StateLemmas.{Closes, OnlyOpen, choice_first, done_closes, granted_only, granted_open, no_fresh, none_after, none_only, none_runs, same_number, step_one}
 
 -- a count that stays
@@ -39,78 +40,43 @@ pub rose_both : (n m a b c : ℕ) → b ≤ c → RoseBy n a b → RoseBy m b c 
 rose_both n m a b c le x y = λ h. let first = x (omega (arith, le, h)) in let second = y h in omega (arith, first, second)
 
 -- causes that aren't the tool's
-pub cause_zero : (c : Cause) → NamesNoJob c → tool_fault_in c ≡ 0
-cause_zero why.Absent h = refl
-cause_zero (why.TooLong n) h = refl
-cause_zero (why.Checksum d) h = refl
-cause_zero (why.Oversize j f n) h = refl
-cause_zero (why.Declined j) h = refl
-cause_zero (why.ToolFailed j) h = absurd h
-cause_zero why.HostFailed h = refl
-cause_zero why.Memory h = refl
+pub stop_zero : (c : Cause) → IsStop c → tool_fault_in c ≡ 0
+stop_zero why.HostFailed h = refl
+stop_zero why.Memory h = refl
+stop_zero c h = absurd h
 
-stop_zero : (p : Plan) (qs : List ℕ) (outs : List (List ℕ)) (c : Cause) (ns : List ℕ) → IsStop p qs outs c ns → tool_fault_in c ≡ 0
-stop_zero p qs outs why.Absent ns h = refl
-stop_zero p qs outs (why.TooLong n) ns h = refl
-stop_zero p qs outs (why.Checksum d) ns h = refl
-stop_zero p qs outs (why.Oversize j f n) ns h = refl
-stop_zero p qs outs (why.Declined j) ns h = refl
-stop_zero p qs outs (why.ToolFailed j) ns h = absurd h
-stop_zero p qs outs why.HostFailed ns h = refl
-stop_zero p qs outs why.Memory ns h = refl
+lending_zero : (c : Cause) → IsLending c → tool_fault_in c ≡ 0
+lending_zero why.Absent h = refl
+lending_zero (why.TooLong n) h = refl
+lending_zero why.HostFailed h = refl
+lending_zero why.Memory h = refl
+lending_zero c h = absurd h
 
 pub if_zero : (b : Bool) (n : ℕ) → n ≡ 0 → cond b n 0 ≡ 0
 if_zero true n e = e
 if_zero false n e = refl
 
 -- what a call of the yard adds for a task is the worker's entry after its grant, and no failure of its tool
-pub arrival_done : (w t : ℕ) (e : Event) → IsArrival w t e → IsDone w t e × (tool_faults_of w e ≡ 0)
-arrival_done w t (Grant v u) h = absurd h
-arrival_done w t (Regrant v u) h = absurd h
-arrival_done w t (Clean v u) h = absurd h
-arrival_done w t (End v u ns) h = absurd h
-arrival_done w t (Arrive v u n) h = ((h.0, h.1), refl)
-arrival_done w t (Fail v u c ns) h = ((h.0, h.1), if_zero _ (tool_fault_in c) (cause_zero c h.2))
-arrival_done w t (Again v u c ns) h = ((h.0, h.1), if_zero _ (tool_fault_in c) (cause_zero c h.2))
-
 pub failure_done : (w t : ℕ) (e : Event) → IsFailure w t e → IsDone w t e × (tool_faults_of w e ≡ 0)
+failure_done w t (Fail v u c ns) h = ((h.0, h.1), if_zero _ (tool_fault_in c) (lending_zero c h.2))
+failure_done w t (Again v u c ns) h = ((h.0, h.1), if_zero _ (tool_fault_in c) (lending_zero c h.2))
 failure_done w t (Grant v u) h = absurd h
 failure_done w t (Regrant v u) h = absurd h
 failure_done w t (Clean v u) h = absurd h
 failure_done w t (End v u ns) h = absurd h
 failure_done w t (Arrive v u n) h = absurd h
-failure_done w t (Fail v u c ns) h = ((h.0, h.1), if_zero _ (tool_fault_in c) (cause_zero c h.2))
-failure_done w t (Again v u c ns) h = ((h.0, h.1), if_zero _ (tool_fault_in c) (cause_zero c h.2))
 
-pub ending_done : (p : Plan) (w t : ℕ) (outs : List (List ℕ)) (e : Event) → IsEnding p w t outs e → IsDone w t e × (tool_faults_of w e ≡ 0)
-ending_done p w t outs (Grant v u) h = absurd h
-ending_done p w t outs (Regrant v u) h = absurd h
-ending_done p w t outs (Clean v u) h = absurd h
-ending_done p w t outs (Arrive v u n) h = absurd h
-ending_done p w t outs (End v u ns) h = ((h.0, h.1), refl)
-ending_done p w t outs (Fail v u c ns) h = ((h.0, h.1), if_zero _ (tool_fault_in c) (stop_zero p (writes p t) outs c ns h.2))
-ending_done p w t outs (Again v u c ns) h = ((h.0, h.1), if_zero _ (tool_fault_in c) (stop_zero p (writes p t) outs c ns h.2))
-
-does_entry : (r new : List Event) (t a : ℕ) (e : Event) → new ≡ r ++ e ∷ [] → IsDone 0 t e → tool_faults_of 0 e ≡ 0 → DoesTask r new t a a
-does_entry r new t a e is done zero_ = record { entry = e; is = is; done = done; counted = rose_zero (tool_faults_of 0 e) a zero_ }
-
-pub brought : (r new : List Event) (t a : ℕ) (o : Option Store) (before now_ : Counts) → Adds r new (IsArrival 0 t) o before now_ → DoesTask r new t a a
-brought r new t a o before now_ adds = let d = arrival_done 0 t adds.entry adds.kind in does_entry r new t a adds.entry adds.is d.0 d.1
-
-pub unloaded : (r new : List Event) (t a : ℕ) (o : Option Store) (before now_ : Counts) → Adds r new (IsFailure 0 t) o before now_ → DoesTask r new t a a
-unloaded r new t a o before now_ adds = let d = failure_done 0 t adds.entry adds.kind in does_entry r new t a adds.entry adds.is d.0 d.1
+pub settled_done : (p : Plan) (w t : ℕ) (sizes : List ℕ) (e : Event) → IsSettled p w t sizes e → IsDone w t e × (tool_faults_of w e ≡ 0)
+settled_done p w t sizes (Arrive v u n) h = ((h.0, h.1), refl)
+settled_done p w t sizes (End v u ns) h = ((h.0, h.1), refl)
+settled_done p w t sizes (Fail v u c ns) h = ((h.0, h.1), if_zero _ (tool_fault_in c) (stop_zero c h.2))
+settled_done p w t sizes (Again v u c ns) h = ((h.0, h.1), if_zero _ (tool_fault_in c) (stop_zero c h.2))
+settled_done p w t sizes (Grant v u) h = absurd h
+settled_done p w t sizes (Regrant v u) h = absurd h
+settled_done p w t sizes (Clean v u) h = absurd h
 
 pub wide : (n a b : ℕ) → n ≡ 0 → a ≤ b → RoseBy n a b
 wide n a b e le = λ h. omega (arith, e, le)
-
-pub ended_task : (p : Plan) (r mid new : List Event) (t a b : ℕ) (outs : List (List ℕ)) (o : Option Store) (before now_ : Counts) → mid ≡ r → a ≤ b → Adds mid new (IsEnding p 0 t outs) o before now_ → DoesTask r new t a b
-ended_task p r mid new t a b outs o before now_ same le adds =
-    let d = ending_done p 0 t outs adds.entry adds.kind in record {
-      entry = adds.entry;
-      is = adds.is ∙ ap (λ l. l ++ adds.entry ∷ []) same;
-      done = d.0;
-      counted = wide (tool_faults_of 0 adds.entry) a b d.1 le;
-    }
 
 -- the cause that a worker tells
 pub failed_done : (b : Bool) (w t : ℕ) (c : Cause) → IsDone w t (cond b (Again w t c []) (Fail w t c []))
@@ -120,14 +86,6 @@ failed_done false w t c = (refl, refl)
 pub failed_faults : (b : Bool) (w t : ℕ) (c : Cause) → tool_faults_of w (cond b (Again w t c []) (Fail w t c [])) ≡ tool_fault_in c
 failed_faults true w t c = ap (λ (x : Bool). cond x (tool_fault_in c) 0) (same_number w)
 failed_faults false w t c = ap (λ (x : Bool). cond x (tool_fault_in c) 0) (same_number w)
-
-pub faulted : (p : Plan) (s : State) (r mid new : List Event) (t a b : ℕ) (c : Cause) → mid ≡ r → RoseBy (tool_fault_in c) a b → new ≡ mid ++ failure p s 0 t c [] ∷ [] → DoesTask r new t a b
-faulted p s r mid new t a b c same rose is = record {
-  entry = failure p s 0 t c [];
-  is = is ∙ ap (λ l. l ++ failure p s 0 t c [] ∷ []) same;
-  done = failed_done (is_tried_again p s t c) 0 t c;
-  counted = subst (λ n. RoseBy n a b) (sym (failed_faults (is_tried_again p s t c) 0 t c)) rose;
-}
 
 -- how the count of the tool shows a cause that a worker tells
 pub told_rose : (c : Cause) (a b : ℕ) → a ≤ b → ((j : _) → c ≡ why.ToolFailed j → Rose a b) → RoseBy (tool_fault_in c) a b
@@ -254,7 +212,7 @@ fail_is t (Clean w u) h = absurd h
 fail_is t (Arrive w u n) h = absurd h
 fail_is t (End w u ns) h = absurd h
 fail_is t (Again w u c ns) h = absurd h
-fail_is t (Fail w u c ns) h = (h.1, h.0, refl, λ xs. refl, if_zero _ (tool_fault_in c) (cause_zero c h.2))
+fail_is t (Fail w u c ns) h = (h.1, h.0, refl, λ xs. refl, if_zero _ (tool_fault_in c) (stop_zero c h.2))
 
 again_is : (t : ℕ) (e : Event) → IsAgain 0 t e → Closes t e × (worker e ≡ 0) × (is_afresh e ≡ false) × ((xs : List ℕ) → begun_by e ≡ take (length (begun_by e)) xs) × (tool_faults_of 0 e ≡ 0)
 again_is t (Grant w u) h = absurd h
@@ -263,7 +221,7 @@ again_is t (Clean w u) h = absurd h
 again_is t (Arrive w u n) h = absurd h
 again_is t (End w u ns) h = absurd h
 again_is t (Fail w u c ns) h = absurd h
-again_is t (Again w u c ns) h = (h.1, h.0, refl, λ xs. refl, if_zero _ (tool_fault_in c) (cause_zero c h.2))
+again_is t (Again w u c ns) h = (h.1, h.0, refl, λ xs. refl, if_zero _ (tool_fault_in c) (stop_zero c h.2))
 
 pub failed_works : (a b : Book) (t : TaskId) (x : ℕ) (o : Option Store) (before now_ : Counts) → IsOneRun a b → NoneOpen (state_at a) → Leases a.plan (state_at a) 0 a.history.events b.history.events o before now_ (leased.Failed t)
     → WorksOn a.plan (state_at a) a.history.events b.history.events (state_at b) x x × (length a.history.events < length b.history.events)

@@ -1,91 +1,96 @@
 -- What a worker among many has added, from task to task.
 use Rattle.std.proofs.Common.{◌≡◌, ℕ, ◌+◌, ◌≤◌, true, false, inl, inr, List, [], ◌∷◌, ◌++◌, map, refl, sym, ap, subst, ◌∙◌, arith, append_assoc}
-use Rattle.std.specs.Prelude.{◌⊎◌, Option, Some, None, IfOk, IfSome, Result, Ok, Err, Vec}
-use Rattle.std.specs.declared.alloc.Global.{Global}
-use Rattle.std.specs.FinMap as files
+use Rattle.std.specs.Prelude.{◌⊎◌, Option, Some, None, IfOk, IfSome, Result, Ok, Err}
 use Rattle.values.specs.Apply.{Apply}
 use Rattle.values.specs.declared.memory.Memory.{Memory}
-use Rattle.outside.specs.declared.store.Store.{Store}
+use Rattle.outside.specs.Parts.{DraftState, ReadState}
 use Rattle.plan_core.specs.declared.plan.Plan.{Plan}
-use Rattle.plan_core.specs.Carried.{Bytes, carried}
 use Rattle.plan_core.specs.Proper.{IsProper}
-use Rattle.plan_core.specs.Words.{is_run, reads}
+use Rattle.plan_core.specs.Words.{kind}
 use Rattle.run_record.specs.declared.entry.Cause.{Cause}
 use Rattle.run_record.specs.declared.entry.Cause.TheVariants as why
 use Rattle.run_record.specs.Events.{Event, Grant, Regrant}
-use Rattle.lease_book.specs.Legal.{CauseFits}
 use Rattle.lease_book.specs.Owning.{is_open_after}
 use Rattle.ruled_lock.specs.Pass.{IsSamePass}
 use Rattle.ruled_lock.specs.declared.pass.Pass.{Pass}
 use Rattle.site_yard.specs.Failures.{RoseBy, tool_faults, tool_faults_of}
-use Rattle.site_yard.specs.Yard.{IsTold, IsWorkers, content}
+use Rattle.site_yard.specs.Law.{HasPlanLaws}
 use Rattle.site_yard.specs.declared.chronicle.Charter.{Charter}
-use Rattle.worker_gate.specs.Computing.{Computes, IsComputed}
-use Rattle.worker_gate.specs.Tending.{Finishes, IsMade, failures_in}
-use Rattle.worker_gate.specs.Turning.{IsOverFor, IsPlanOf, IsReadFor, NoneOpenBy, plan_of, told_of}
-use Rattle.worker_gate.specs.Working.{ComputesWith, DoesOwn, Works, WorksOwn}
+use Rattle.task_work.specs.Filling.{AreParts}
+use Rattle.task_work.specs.Making.{AreBegun, AreEmpty}
+use Rattle.task_work.specs.declared.filling.Filled.{Filled}
+use Rattle.worker_gate.specs.Inputs.{IsFilledOf}
+use Rattle.worker_gate.specs.Tending.{CanFinish, Fills, Finishes, failures_in}
+use Rattle.worker_gate.specs.Turning.{IsHeldFor, IsOverFor, IsPlanOf, NoneOpenBy, plan_of, told_of}
+use Rattle.worker_gate.specs.Working.{DoesOwn, FillsWith, Works, WorksOwn}
 use Rattle.worker_gate.proofs.RunLemmas.{faults_append, no_faults, nothing_more}
-use Rattle.worker_gate.proofs.TaskLemmas.{cause_rose, cause_told, outputs_carried, outputs_many}
+use Rattle.worker_gate.proofs.FillingLemmas.{fills_finish, fills_of, fills_rose}
+use Rattle.worker_gate.proofs.LoanLemmas.{held_begun, held_empty, memory_finishes, parts_are}
+use Rattle.worker_gate.proofs.MadeLemmas.{CarryLaw}
 use Rattle.worker_gate.proofs.TurningLemmas.{IsGrant, finished_none, granted_is_open_by, granted_only_by, none_only_by}
 use Rattle.worker_gate.proofs.WorkLemmas.{one_fault, rose_both, rose_zero, wide}
 
--- a cause that computing answers is a worker's, and fits
-cause_workers : (apply : Apply) (p : Plan) (t : ℕ) (blobs : List (List ℕ)) (x y : ℕ) (c : Cause) → Computes apply p t blobs x y (Err c) → IsWorkers c × CauseFits p t c []
-cause_workers apply p t blobs x y why.Absent h = absurd h
-cause_workers apply p t blobs x y (why.TooLong n) h = absurd h
-cause_workers apply p t blobs x y (why.Checksum d) h = absurd h
-cause_workers apply p t blobs x y (why.Oversize j f n) h = absurd h
-cause_workers apply p t blobs x y (why.Declined j) h = (tt, (h.1, refl))
-cause_workers apply p t blobs x y (why.ToolFailed j) h = (tt, (h.1, refl))
-cause_workers apply p t blobs x y why.HostFailed h = absurd h
-cause_workers apply p t blobs x y why.Memory h = (tt, (λ e. refl, tt))
+-- the copy of the plan is that of the charter
+plan_there : (apply : Apply) (g : Option Charter) (p : Plan) (t : ℕ) (rs : List ReadState) (ds : List DraftState) → IsPlanOf g (Ok p) → (held : IsHeldFor apply g t rs ds) → p ≡ plan_of held.charter
+plan_there apply g p t rs ds of held = subst (λ (k : Option Charter). IfSome k (λ d. p ≡ plan_of d)) held.is of
 
-memory_told : (apply : Apply) (p : Plan) (m : Store) (o : Option Store) (t : ℕ) → IsTold apply p m o t why.Memory
-memory_told apply p m None t = tt
-memory_told apply p m (Some s) t = tt
+-- what filling asks of it, and of the parts
+pub plan_proper : (apply : Apply) (g : Option Charter) (plan : Result Plan Memory) (t : ℕ) (rs : List ReadState) (ds : List DraftState) → IsPlanOf g plan → IsHeldFor apply g t rs ds → IfOk plan IsProper
+plan_proper apply g (Ok p) t rs ds of held = subst IsProper (sym (plan_there apply g p t rs ds of held)) held.proper
+plan_proper apply g (Err refused) t rs ds of held = tt
 
--- the law of what a Run carries
-abbrev pub CarryLaw : Apply → Type 0
-CarryLaw apply = (told : Bytes → Option Bytes) (p : Plan) (t : ℕ) (blobs : List Bytes) → IsProper p → is_run p t ≡ true → map (content p (carried apply told p)) (reads p t) ≡ map Some blobs → IsComputed apply p (carried apply told p) t blobs
+abbrev pub PlanLaw : Type 0
+PlanLaw = (p : Plan) → IsProper p → HasPlanLaws p
 
-made_there : (apply : Apply) → CarryLaw apply → (g : Option Charter) (t : ℕ) (blobs : List (List ℕ)) (x y : ℕ) (made : Result (Vec (List ℕ) Global) Cause) (read : IsReadFor apply g t blobs) → Computes apply (plan_of read.charter) t blobs x y made → IsMade apply (plan_of read.charter) read.charter.marked (told_of read.charter) t made
-made_there apply law g t blobs x y (Ok outs) read h = (
-  read.run,
-  outputs_many apply (plan_of read.charter) t blobs x y outs h,
-  outputs_carried apply (plan_of read.charter) read.charter.marked (told_of read.charter) t blobs x y outs (law (λ pfn. files.get read.charter.marked.replicas pfn) (plan_of read.charter) t blobs read.proper read.run) read.read h,
-)
-made_there apply law g t blobs x y (Err cause) read h =
-    let fits = cause_workers apply (plan_of read.charter) t blobs x y cause h in
-    (fits.0, fits.1, cause_told apply (plan_of read.charter) read.charter.marked (told_of read.charter) t blobs x y cause (law (λ pfn. files.get read.charter.marked.replicas pfn) (plan_of read.charter) t blobs read.proper read.run) read.read h)
+pub plan_parts : (laws : PlanLaw) (apply : Apply) (g : Option Charter) (plan : Result Plan Memory) (t : ℕ) (rs : List ReadState) (ds : List DraftState) → IsPlanOf g plan → IsHeldFor apply g t rs ds → IfOk plan (λ p. AreParts p t (kind p t) rs ds)
+plan_parts laws apply g (Ok p) t rs ds of held =
+    let c = held.charter in
+    subst (λ (q : Plan). AreParts q t (kind q t) rs ds) (sym (plan_there apply g p t rs ds of held))
+    (parts_are apply (plan_of c) held.proper (laws (plan_of c) held.proper) c.opened c.marked (told_of c) t rs ds held.has_loan held.held)
+plan_parts laws apply g (Err refused) t rs ds of held = tt
 
-no_memory : (apply : Apply) (c : Charter) (t : ℕ) → IsMade apply (plan_of c) c.marked (told_of c) t (Err why.Memory)
-no_memory apply c t = (tt, (λ e. refl, tt), memory_told apply (plan_of c) c.marked (told_of c) t)
+pub begun_for : (apply : Apply) (g : Option Charter) (t : ℕ) (rs : List ReadState) (ds : List DraftState) → IsHeldFor apply g t rs ds → AreBegun rs
+begun_for apply g t rs ds held = held_begun apply (plan_of held.charter) held.charter.opened held.charter.marked (told_of held.charter) t rs ds held.held
 
-plan_there : (apply : Apply) (g : Option Charter) (p : Plan) (t : ℕ) (blobs : List (List ℕ)) → IsPlanOf g (Ok p) → (read : IsReadFor apply g t blobs) → p ≡ plan_of read.charter
-plan_there apply g p t blobs of read = subst (λ (k : Option Charter). IfSome k (λ d. p ≡ plan_of d)) read.is of
+pub empty_for : (apply : Apply) (g : Option Charter) (t : ℕ) (rs : List ReadState) (ds : List DraftState) → IsHeldFor apply g t rs ds → AreEmpty ds
+empty_for apply g t rs ds held = held_empty apply (plan_of held.charter) held.charter.opened held.charter.marked (told_of held.charter) t rs ds held.held
 
-pub made_of : (apply : Apply) → CarryLaw apply → (g h : Option Charter) (plan : Result Plan Memory) (t : ℕ) (blobs : List (List ℕ)) (x y : ℕ) (made : Result (Vec (List ℕ) Global) Cause) → h ≡ g → IsPlanOf g plan → IsReadFor apply g t blobs → ComputesWith apply plan t blobs x y made → IfSome h (λ c. IsMade apply (plan_of c) c.marked (told_of c) t made)
-made_of apply law g h plan t blobs x y made same of read computes =
-    subst (λ (k : Option Charter). IfSome k (λ d. IsMade apply (plan_of d) d.marked (told_of d) t made)) (sym (same ∙ read.is)) (by plan of computes)
-  where
-    by : (q : Result Plan Memory) → IsPlanOf g q → ComputesWith apply q t blobs x y made → IsMade apply (plan_of read.charter) read.charter.marked (told_of read.charter) t made
-    by (Ok p) here is = made_there apply law g t blobs x y made read (subst (λ (k : Plan). Computes apply k t blobs x y made) (plan_there apply g p t blobs here read) is)
-    by (Err refused) here is = subst (IsMade apply (plan_of read.charter) read.charter.marked (told_of read.charter) t) (sym is.1) (no_memory apply read.charter t)
+-- what was filled can be settled or abandoned, and is of some such bytes
+filled_there : (laws : PlanLaw) (apply : Apply) → CarryLaw apply → (g : Option Charter) (plan : Result Plan Memory) (t : ℕ) (rs0 rs1 : List ReadState) (ds0 ds1 : List DraftState) (x y : ℕ) (filled : Result Filled Cause) → IsPlanOf g plan → (held : IsHeldFor apply g t rs0 ds0) → FillsWith apply plan t rs0 rs1 ds0 ds1 x y filled
+    → CanFinish apply (plan_of held.charter) held.charter.opened held.charter.marked (told_of held.charter) t rs1 ds1 filled × IsFilledOf apply (plan_of held.charter) t filled
+filled_there laws apply law g (Ok p) t rs0 rs1 ds0 ds1 x y filled of held fills =
+    let c = held.charter in
+    let q : Plan = plan_of c in
+    let here : Fills apply q t rs0 rs1 ds0 ds1 x y filled = subst (λ (k : Plan). Fills apply k t rs0 rs1 ds0 ds1 x y filled) (plan_there apply g p t rs0 ds0 of held) fills in (
+      fills_finish apply q held.proper (laws q held.proper) law c.opened c.marked t rs0 rs1 ds0 ds1 (told_of c) x y filled held.held here,
+      fills_of apply q held.proper (laws q held.proper) law c.opened c.marked t rs0 rs1 ds0 ds1 (told_of c) x y filled held.held here,
+    )
+filled_there laws apply law g (Err refused) t rs0 rs1 ds0 ds1 x y filled of held fills =
+    let c = held.charter in
+    let q : Plan = plan_of c in
+    subst (λ f. CanFinish apply q c.opened c.marked (told_of c) t rs1 ds1 f × IsFilledOf apply q t f) (sym fills.3)
+    (subst (λ rs. CanFinish apply q c.opened c.marked (told_of c) t rs ds1 (Err why.Memory)) (sym fills.0)
+    (subst (λ ds. CanFinish apply q c.opened c.marked (told_of c) t rs0 ds (Err why.Memory)) (sym fills.1)
+    (memory_finishes apply q held.proper (laws q held.proper) c.opened c.marked t (told_of c) rs0 ds0 held.held)), tt)
 
--- what computing asks of the plan's copy: it is proper, and the task is a Run of it
-pub plan_proper : (apply : Apply) (g : Option Charter) (plan : Result Plan Memory) (t : ℕ) (blobs : List (List ℕ)) → IsPlanOf g plan → IsReadFor apply g t blobs → IfOk plan IsProper
-plan_proper apply g (Ok p) t blobs of read = subst IsProper (sym (plan_there apply g p t blobs of read)) read.proper
-plan_proper apply g (Err refused) t blobs of read = tt
+pub finish_of : (laws : PlanLaw) (apply : Apply) → CarryLaw apply → (g h : Option Charter) (plan : Result Plan Memory) (t : ℕ) (rs0 rs1 : List ReadState) (ds0 ds1 : List DraftState) (x y : ℕ) (filled : Result Filled Cause) → h ≡ g → IsPlanOf g plan → IsHeldFor apply g t rs0 ds0 → FillsWith apply plan t rs0 rs1 ds0 ds1 x y filled
+    → IfSome h (λ c. CanFinish apply (plan_of c) c.opened c.marked (told_of c) t rs1 ds1 filled)
+finish_of laws apply law g h plan t rs0 rs1 ds0 ds1 x y filled same of held fills =
+    subst (λ (k : Option Charter). IfSome k (λ c. CanFinish apply (plan_of c) c.opened c.marked (told_of c) t rs1 ds1 filled)) (sym (same ∙ held.is)) (filled_there laws apply law g plan t rs0 rs1 ds0 ds1 x y filled of held fills).0
 
-pub plan_run : (apply : Apply) (g : Option Charter) (plan : Result Plan Memory) (t : ℕ) (blobs : List (List ℕ)) → IsPlanOf g plan → IsReadFor apply g t blobs → IfOk plan (λ p. is_run p t ≡ true)
-plan_run apply g (Ok p) t blobs of read = ap (λ (q : Plan). is_run q t) (plan_there apply g p t blobs of read) ∙ read.run
-plan_run apply g (Err refused) t blobs of read = tt
+pub inputs_of : (laws : PlanLaw) (apply : Apply) → CarryLaw apply → (g h : Option Charter) (plan : Result Plan Memory) (t : ℕ) (rs0 rs1 : List ReadState) (ds0 ds1 : List DraftState) (x y : ℕ) (filled : Result Filled Cause) → h ≡ g → IsPlanOf g plan → IsHeldFor apply g t rs0 ds0 → FillsWith apply plan t rs0 rs1 ds0 ds1 x y filled
+    → IfSome h (λ c. IsFilledOf apply (plan_of c) t filled)
+inputs_of laws apply law g h plan t rs0 rs1 ds0 ds1 x y filled same of held fills =
+    subst (λ (k : Option Charter). IfSome k (λ c. IsFilledOf apply (plan_of c) t filled)) (sym (same ∙ held.is)) (filled_there laws apply law g plan t rs0 rs1 ds0 ds1 x y filled of held fills).1
 
--- how the tool's count shows what was made
-pub made_rose : (apply : Apply) (plan : Result Plan Memory) (t : ℕ) (blobs : List (List ℕ)) (x y : ℕ) (made : Result (Vec (List ℕ) Global) Cause) → x ≤ y → ComputesWith apply plan t blobs x y made → RoseBy (failures_in made) x y
-made_rose apply (Ok p) t blobs x y (Ok outs) le h = wide 0 x y refl le
-made_rose apply (Ok p) t blobs x y (Err c) le h = cause_rose apply p t blobs x y c le h
-made_rose apply (Err refused) t blobs x y made le h = wide (failures_in made) x y (ap failures_in h.1) le
+-- how the tool's count shows what was filled
+pub filled_rose : (apply : Apply) (plan : Result Plan Memory) (t : ℕ) (rs0 rs1 : List ReadState) (ds0 ds1 : List DraftState) (x y : ℕ) (filled : Result Filled Cause) → FillsWith apply plan t rs0 rs1 ds0 ds1 x y filled → RoseBy (failures_in filled) x y
+filled_rose apply (Ok p) t rs0 rs1 ds0 ds1 x y filled h = fills_rose apply p t rs0 rs1 ds0 ds1 x y filled h
+filled_rose apply (Err refused) t rs0 rs1 ds0 ds1 x y filled h = let same : y ≡ x = h.2 in wide (failures_in filled) x y (ap failures_in h.3) (omega (arith, same))
+
+pub filled_later : (apply : Apply) (plan : Result Plan Memory) (t : ℕ) (rs0 rs1 : List ReadState) (ds0 ds1 : List DraftState) (x y : ℕ) (filled : Result Filled Cause) → FillsWith apply plan t rs0 rs1 ds0 ds1 x y filled → x ≤ y
+filled_later apply (Ok p) t rs0 rs1 ds0 ds1 x y filled h = h.tool
+filled_later apply (Err refused) t rs0 rs1 ds0 ds1 x y filled h = let same : y ≡ x = h.2 in omega (arith, same)
 
 pub does_none : (w t : ℕ) (mine after : List Event) (x : ℕ) → Finishes w t 0 mine after → DoesOwn w t mine after x x
 does_none w t mine after x f = record { entry = f.entry; is = f.is; last = f.last; counted = rose_zero (tool_faults_of w f.entry) x f.failures }

@@ -1,15 +1,21 @@
--- What entries say of the bytes that a Run read, told or not.
-use Rattle.std.specs.Prelude.{◌≡◌, ℕ, List, [], ◌∷◌, ◌++◌, length, map, Some, None, Result, Ok, Err, Vec}
-use Rattle.std.specs.declared.alloc.Global.{Global}
+-- What entries say of the bytes that a task read, told or not.
+use Rattle.std.specs.Prelude.{◌≡◌, ℕ, ◌≤◌, true, List, [], ◌∷◌, ◌++◌, length, map, Option, Some, None, Result, Ok, Err}
+use Rattle.sha2.specs.Sha256.{sha256}
 use Rattle.values.specs.Apply.{Apply}
 use Rattle.plan_core.specs.declared.plan.Plan.{Plan}
-use Rattle.plan_core.specs.Words.{reads, writes}
+use Rattle.plan_core.specs.declared.plan.TaskKind.{TaskKind}
+use Rattle.plan_core.specs.declared.plan.TaskKind.TheVariants.{Transfer}
+use Rattle.plan_core.specs.Words.{declared, is_transfer, kind, reads, writes}
+use Rattle.storage_simulation.specs.Goods.{or_zero}
 use Rattle.run_record.specs.declared.entry.Cause.{Cause}
-use Rattle.run_record.specs.declared.entry.Cause.TheVariants.{Declined, Oversize}
+use Rattle.run_record.specs.declared.entry.Cause.TheVariants.{Checksum, Declined, Oversize}
 use Rattle.run_record.specs.Events.{Event, Again, End, Fail}
 use Rattle.site_yard.specs.Names.{pair_file}
 use Rattle.site_yard.specs.Storing.{AreWithin, IsFirstPast}
-use Rattle.worker_gate.specs.Computing.{computed, files_of, first_declined}
+use Rattle.task_work.specs.Computing.{first_declined}
+use Rattle.task_work.specs.Running.{Makes}
+use Rattle.task_work.specs.declared.filling.Filled.{Filled}
+use Rattle.task_work.specs.declared.filling.Filled.TheVariants.{Moved, Made}
 
 -- of some bytes, one text for each of the task's reads, this holds
 pub record OfInputs (p : Plan) (t : ℕ) (Holds : List (List ℕ) → Type 0) : Type 0 where
@@ -17,29 +23,35 @@ pub record OfInputs (p : Plan) (t : ℕ) (Holds : List (List ℕ) → Type 0) : 
   pub many : length blobs ≡ length (reads p t)
   pub holds : Holds blobs
 
--- of them each job of the task makes something, in the end these outputs
-abbrev pub Makes : Apply → Plan → ℕ → List (List ℕ) → List (List ℕ) → Type 0
-Makes apply p t blobs outs = (map (computed apply p t blobs) (files_of p (writes p t)) ≡ map Some outs) × (first_declined apply p t blobs ≡ None)
-
 -- of some such bytes the outputs are made, and this holds of them
 abbrev pub OfOutputs : Apply → Plan → ℕ → (List (List ℕ) → Type 0) → Type 0
 OfOutputs apply p t Holds = OfInputs p t (λ blobs. (outs : List (List ℕ)) × Makes apply p t blobs outs × Holds outs)
 
+-- some bytes have this digest, no more of them than are declared of the file that the task moves
+abbrev pub IsDigestOfBytes : Plan → Option TaskKind → List ℕ → Type 0
+IsDigestOfBytes p (Some (Transfer f from to)) d = (bytes : List ℕ) × (sha256 bytes ≡ d) × (length bytes ≤ or_zero (declared p f.0))
+IsDigestOfBytes p _ d = ⊥
+
 -- A job that declined is the first on whose inputs its tool makes nothing. A file that is too long is that of the first
--- such output, of this length.
+-- such output, of this length. A digest that differs from the registered checksum is that of some bytes.
 abbrev pub IsCauseOfInputs : Apply → Plan → ℕ → Cause → Type 0
 IsCauseOfInputs apply p t (Declined j) = OfInputs p t (λ blobs. first_declined apply p t blobs ≡ Some j.0)
 IsCauseOfInputs apply p t (Oversize j f n) = OfOutputs apply p t (λ outs. (q : ℕ) × IsFirstPast p (writes p t) outs q n × (pair_file p q ≡ f.0))
+IsCauseOfInputs apply p t (Checksum d) = IsDigestOfBytes p (kind p t) d
 IsCauseOfInputs apply p t _ = Unit {0}
 
--- what was made of a Run's reads, or why nothing was, is so of some such bytes
-abbrev pub IsMadeOf : Apply → Plan → ℕ → Result (Vec (List ℕ) Global) Cause → Type 0
-IsMadeOf apply p t (Ok outs) = OfInputs p t (λ blobs. Makes apply p t blobs outs.items)
-IsMadeOf apply p t (Err cause) = IsCauseOfInputs apply p t cause
+-- the sizes are the lengths of all outputs, none too long
+abbrev pub AreLengths : Apply → Plan → ℕ → List ℕ → Type 0
+AreLengths apply p t ns = OfOutputs apply p t (λ outs. AreWithin p (writes p t) outs × (ns ≡ map length outs))
 
--- the sizes of an End are the lengths of all outputs, none too long
+-- what was filled of a task's inputs, or why nothing was, is so of some such bytes
+abbrev pub IsFilledOf : Apply → Plan → ℕ → Result Filled Cause → Type 0
+IsFilledOf apply p t (Ok (Moved n digest)) = is_transfer p t ≡ true
+IsFilledOf apply p t (Ok (Made sizes)) = AreLengths apply p t sizes.items
+IsFilledOf apply p t (Err cause) = IsCauseOfInputs apply p t cause
+
 abbrev pub IsOfInputs : Apply → Plan → Event → Type 0
-IsOfInputs apply p (End w t ns) = OfOutputs apply p t (λ outs. AreWithin p (writes p t) outs × (ns ≡ map length outs))
+IsOfInputs apply p (End w t ns) = AreLengths apply p t ns
 IsOfInputs apply p (Fail w t cause ns) = IsCauseOfInputs apply p t cause
 IsOfInputs apply p (Again w t cause ns) = IsCauseOfInputs apply p t cause
 IsOfInputs apply p _ = Unit {0}

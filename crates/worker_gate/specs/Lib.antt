@@ -1,5 +1,6 @@
 -- What the public contract says.
 pub mod Alone
+pub mod Tending
 pub mod Turning
 pub mod Working
 pub mod Many
@@ -8,8 +9,4 @@ pub mod Inputs
 pub mod Law
 -- What its parts answer.
 pub mod Stepping
-pub mod Tending
-pub mod Computing
-pub mod Running
-pub mod Table
 pub mod Hands

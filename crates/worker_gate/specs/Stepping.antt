@@ -2,18 +2,11 @@
 use Rattle.std.specs.Prelude.{◌≡◌, ℕ, ◌<◌, Bool, true, false, List, [], ◌∷◌, ◌++◌, length}
 use Rattle.std.specs.List.{list_any}
 use Rattle.plan_core.specs.declared.plan.Plan.{Plan}
-use Rattle.run_record.specs.Events.{Event, Arrive, End, Fail, Again}
+use Rattle.run_record.specs.Events.{Event}
 use Rattle.lease_book.specs.State.{State}
 use Rattle.site_yard.specs.Failures.{RoseBy, tool_faults, tool_faults_of}
 use Rattle.worker_gate.specs.Alone.{AllBy, BeginFirst, IsOver, NoneOpen, is_afresh}
-
--- a worker's entry after the grant of a task
-abbrev pub IsDone : ℕ → ℕ → Event → Type 0
-IsDone w t (Arrive v u n) = (v ≡ w) × (u ≡ t)
-IsDone w t (End v u ns) = (v ≡ w) × (u ≡ t)
-IsDone w t (Fail v u c ns) = (v ≡ w) × (u ≡ t)
-IsDone w t (Again v u c ns) = (v ≡ w) × (u ≡ t)
-IsDone w t _ = ⊥
+use Rattle.worker_gate.specs.Tending.{IsDone}
 
 -- one entry more, which the tool's count shows
 pub record DoesTask (r after : List Event) (t before later : ℕ) : Type 0 where

@@ -1,11 +1,11 @@
 -- What a worker's turns at a shared yard leave its pass with.
-use Rattle.std.specs.Prelude.{◌≡◌, ℕ, ◌⊎◌, true, false, cond, List, [], ◌∷◌, ◌++◌, Option, Some, None, IfSome, Result, Ok, Err, Vec}
-use Rattle.std.specs.declared.alloc.Global.{Global}
+use Rattle.std.specs.Prelude.{◌≡◌, ℕ, ◌⊎◌, true, false, cond, List, [], ◌∷◌, ◌++◌, Option, Some, None, IfSome, Result, Ok, Err}
 use Rattle.values.specs.Apply.{Apply}
 use Rattle.values.specs.declared.memory.Memory.{Memory}
+use Rattle.outside.specs.Parts.{DraftState, ReadState}
 use Rattle.outside.specs.declared.store.Store.{Store}
 use Rattle.plan_core.specs.declared.plan.Plan.{Plan}
-use Rattle.plan_core.specs.Words.{is_run, task_numbers}
+use Rattle.plan_core.specs.Words.{kind, task_numbers}
 use Rattle.plan_core.specs.Proper.{IsProper}
 use Rattle.run_record.specs.Events.{Event, Grant, Regrant}
 use Rattle.lease_book.specs.Legal.{IsOpen}
@@ -15,7 +15,7 @@ use Rattle.site_yard.specs.declared.chronicle.Charter.{Charter}
 use Rattle.site_yard.specs.declared.leased.Leased.{Leased}
 use Rattle.site_yard.specs.declared.leased.Leased.TheVariants as leased
 use Rattle.worker_gate.specs.Alone.{IsOver}
-use Rattle.worker_gate.specs.Tending.{AreRead, Finishes}
+use Rattle.worker_gate.specs.Tending.{Finishes, HasLoan, IsHeld}
 
 -- the plan of a charter; what the host tells, if it does; the state of a record
 abbrev pub plan_of : Charter → Plan
@@ -40,13 +40,13 @@ pub record IsOverFor (g : Charter) (w : ℕ) (r : List Event) : Type 0 where
   pub over : IsOver (plan_of g) (state_of g r)
   pub none_open : NoneOpenFor g w r
 
--- The task is a Run of the charter's plan, and where the host tells the bytes are what it reads.
-pub record IsReadFor (apply : Apply) (g : Option Charter) (t : ℕ) (blobs : List (List ℕ)) : Type 0 where
+-- The loan is one of a task of the charter's plan, as it was made.
+pub record IsHeldFor (apply : Apply) (g : Option Charter) (t : ℕ) (rs : List ReadState) (ds : List DraftState) : Type 0 where
   pub charter : Charter
   pub is : g ≡ Some charter
   pub proper : IsProper (plan_of charter)
-  pub run : is_run (plan_of charter) t ≡ true
-  pub read : AreRead apply (plan_of charter) charter.marked (told_of charter) t blobs
+  pub has_loan : HasLoan (kind (plan_of charter) t)
+  pub held : IsHeld apply (plan_of charter) charter.opened charter.marked (told_of charter) t rs ds
 
 -- what a lease answers, with the worker's own entries before and after, and the record after
 abbrev pub LeasesOwn : Option Charter → ℕ → List Event → List Event → List Event → Leased → Type 0
@@ -57,12 +57,6 @@ LeasesOwn g w mine after seen (leased.Again t) = Finishes w t.0 0 mine after
 LeasesOwn g w mine after seen leased.NotYet = after ≡ mine
 LeasesOwn g w mine after seen leased.Done = (after ≡ mine) × IfSome g (λ c. IsOverFor c w seen)
 LeasesOwn g w mine after seen leased.Stopped = (after ≡ mine) × IfSome g (λ c. IsOverFor c w seen)
-
--- what the beginning of a task answers: the bytes that a Run of the charter's plan reads, and no entry; or none, and the
--- task is done with
-abbrev pub BeginsOwn : Apply → Option Charter → ℕ → ℕ → List Event → List Event → Option (Vec (List ℕ) Global) → Type 0
-BeginsOwn apply g w t mine after (Some blobs) = (after ≡ mine) × IsReadFor apply g t blobs.items
-BeginsOwn apply g w t mine after None = Finishes w t 0 mine after
 
 -- a plan that was copied is that of the charter
 abbrev pub IsPlanOf : Option Charter → Result Plan Memory → Type 0

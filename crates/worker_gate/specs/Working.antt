@@ -1,7 +1,7 @@
 -- What a worker adds to the record of a yard that several share.
-use Rattle.std.specs.Prelude.{◌≡◌, ℕ, List, [], ◌∷◌, ◌++◌, Result, Ok, Err, Vec}
-use Rattle.std.specs.declared.alloc.Global.{Global}
+use Rattle.std.specs.Prelude.{◌≡◌, ℕ, List, [], ◌∷◌, ◌++◌, Result, Ok, Err}
 use Rattle.values.specs.Apply.{Apply}
+use Rattle.outside.specs.Parts.{DraftState, ReadState}
 use Rattle.values.specs.declared.memory.Memory.{Memory}
 use Rattle.plan_core.specs.declared.plan.Plan.{Plan}
 use Rattle.run_record.specs.declared.entry.Cause.{Cause}
@@ -10,14 +10,14 @@ use Rattle.run_record.specs.Events.{Event}
 use Rattle.site_yard.specs.Failures.{RoseBy, tool_faults, tool_faults_of}
 use Rattle.site_yard.specs.declared.chronicle.Charter.{Charter}
 use Rattle.worker_gate.specs.Alone.{IsOver}
-use Rattle.worker_gate.specs.Computing.{Computes}
-use Rattle.worker_gate.specs.Tending.{IsLast}
+use Rattle.task_work.specs.declared.filling.Filled.{Filled}
+use Rattle.worker_gate.specs.Tending.{Fills, IsLast}
 use Rattle.worker_gate.specs.Turning.{NoneOpenBy, NoneOpenFor, plan_of, state_of}
 
--- what the computing of a Run answers by a plan; without one memory was wanted
-abbrev pub ComputesWith : Apply → Result Plan Memory → ℕ → List (List ℕ) → ℕ → ℕ → Result (Vec (List ℕ) Global) Cause → Type 0
-ComputesWith apply (Ok p) t blobs before later made = Computes apply p t blobs before later made
-ComputesWith apply (Err refused) t blobs before later made = (later ≡ before) × (made ≡ Err why.Memory)
+-- what the filling of a task's drafts comes to by a plan; without one memory was wanted
+abbrev pub FillsWith : Apply → Result Plan Memory → ℕ → List ReadState → List ReadState → List DraftState → List DraftState → ℕ → ℕ → Result Filled Cause → Type 0
+FillsWith apply (Ok p) t rs0 rs1 ds0 ds1 before later filled = Fills apply p t rs0 rs1 ds0 ds1 before later filled
+FillsWith apply (Err refused) t rs0 rs1 ds0 ds1 before later filled = (rs1 ≡ rs0) × (ds1 ≡ ds0) × (later ≡ before) × (filled ≡ Err why.Memory)
 
 -- one entry more, by which the worker is done with the task, and which its tool's count shows
 pub record DoesOwn (w t : ℕ) (mine after : List Event) (before later : ℕ) : Type 0 where

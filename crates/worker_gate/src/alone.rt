@@ -26,6 +26,7 @@ pub fn run_alone<H: Host, T: Tool, G: Gate>(
     ensures tool { T.faults crew.old.tool ≤ T.faults crew.new.tool }
     ensures gate { crew.new.gate ≡ crew.old.gate }
     ensures ordered { result.ordered ≡ yard.ordered }
+    ensures opened { result.opened ≡ yard.opened }
     ensures marked { H.marked result.host ≡ H.marked yard.host }
     ensures faults { result.faults ≡ yard.faults }
     ensures misses { result.misses ≡ yard.misses }

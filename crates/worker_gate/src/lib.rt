@@ -3,19 +3,16 @@
 //! [`run_many`] lets up to sixteen workers share a yard by a `RuledLock`, each in a thread of its own, and joins them all
 //! (`specs/Many.antt`); [`work`] is one of them (`specs/Working.antt`), and does each of its steps in a turn of the lock
 //! (`specs/Turning.antt`). [`run_alone`] is one worker that has the yard to itself and waits for nobody
-//! (`specs/Alone.antt`). What the jobs of a Run make of the bytes that were read is in `specs/Computing.antt`, told or not;
-//! that this is what the Run carries, where it is told, follows by `law.rt`. What an entry says of it is in
-//! `specs/Inputs.antt`.
+//! (`specs/Alone.antt`). A task's bytes move between two turns: the first makes a loan of readings and drafts, `task_work`
+//! fills the drafts, and the second settles the loan or abandons it (`specs/Tending.antt`). What an entry says of the
+//! bytes that were read, told or not, is in `specs/Inputs.antt`.
 #![tactic(auto)]
 
 mod alone;
-mod computing;
 mod hands;
 mod law;
 mod many;
-mod running;
 mod stepping;
-mod table;
 mod tending;
 mod turning;
 mod working;

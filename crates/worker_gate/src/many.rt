@@ -1,6 +1,6 @@
 //! All workers over one yard.
 
-ghost use Rattle.std.specs.Prelude.{◌≡◌, ◌≤◌, ◌<◌, [], is_some, length, map, true};
+ghost use Rattle.std.specs.Prelude.{◌≡◌, ◌≤◌, ◌<◌, [], is_some, length, map, take, true};
 ghost use Rattle.plan_core.specs.Words.{task_numbers};
 ghost use Rattle.worker_gate.specs.Inputs.{AreOfInputs};
 ghost use Rattle.worker_gate.specs.Many.{AreToolsCounted, CanAllWork, CanWork, HasWorked, HaveAllWorked, WorksMany};
@@ -62,6 +62,7 @@ pub fn run_many<R: Threads + Wait + Sync, H: Host + Send, T: Tool + Send, G: Gat
     requires members { (0 < length crew.items) × (length crew.items ≤ 16) }
     requires empty { yard.book.history.events ≡ [] }
     ensures ordered { result.yard.ordered ≡ yard.ordered }
+    ensures opened { take result.yard.opened result.yard.book.history.events ≡ take yard.opened yard.book.history.events }
     ensures marked { H.marked result.yard.host ≡ H.marked yard.host }
     ensures faults { result.yard.faults ≡ yard.faults }
     ensures misses { result.yard.misses ≡ yard.misses }

@@ -1,43 +1,55 @@
 //! One task of a worker alone, from its lease to its end.
 
-ghost use Rattle.std.specs.Prelude.{◌≡◌, ◌≤◌, is_some, true};
+ghost use Rattle.std.specs.Prelude.{◌≡◌, ◌≤◌, is_some, map, take};
 ghost use Rattle.outside.specs.Counts.{IsLater};
-ghost use Rattle.plan_core.specs.Words.{is_run};
 ghost use Rattle.lease_book.specs.Book.{state_at};
 ghost use Rattle.lease_book.specs.Legal.{IsOpen};
 ghost use Rattle.worker_gate.specs.Alone.{NoneOpen};
 ghost use Rattle.worker_gate.specs.Inputs.{AddsOfInputs};
 ghost use Rattle.worker_gate.specs.Stepping.{DoesTask, Steps};
+ghost use Rattle.worker_gate.specs.Tending.{IsHeld};
 
-use crate::computing::compute;
-use crate::law::{lease_laws, runs_carry_what_they_compute};
+use crate::law::lease_laws;
+use crate::tending::finish_at;
 use outside::{Host, TaskId, Tool};
-use site_yard::{Leased, Yard};
+use site_yard::{Leased, Loan, Yard, plan_laws};
 use std::alloc::Global;
+use task_work::{fill, runs_carry_what_they_compute};
 
-/// Reads what a Run reads, computes its jobs and stores what they make.
-fn run_task<H: Host, T: Tool>(alloc: Global, yard: &mut Yard<H, T>, tool: &mut T, task: TaskId)
+/// Fills the drafts of a task's loan, and ends the task.
+fn fill_loan<H: Host, T: Tool>(
+    alloc: Global,
+    yard: &mut Yard<H, T>,
+    tool: &mut T,
+    task: TaskId,
+    loan: Loan<H>,
+)
     requires open { IsOpen (state_at yard.old.book) 0 task.0 }
-    requires kind { is_run yard.old.ordered.plan task.0 ≡ true }
+    requires held { IsHeld T.apply yard.old.ordered.plan (take yard.old.opened yard.old.book.history.events) (H.marked yard.old.host) (H.told yard.old.host) task.0 (map H.Reading.state loan.readings.items) (map H.Draft.state loan.drafts.items) }
     ensures does { DoesTask yard.old.book.history.events yard.new.book.history.events task.0 (T.faults tool.old) (T.faults tool.new) }
     ensures inputs { AddsOfInputs T.apply yard.old.ordered.plan yard.old.book.history.events yard.new.book.history.events }
     ensures tool { T.faults tool.old ≤ T.faults tool.new }
     ensures ordered { yard.new.ordered ≡ yard.old.ordered }
+    ensures opened { yard.new.opened ≡ yard.old.opened }
     ensures marked { H.marked yard.new.host ≡ H.marked yard.old.host }
     ensures faults { yard.new.faults ≡ yard.old.faults }
     ensures misses { yard.new.misses ≡ yard.old.misses }
     ensures tells { is_some (H.told yard.new.host) ≡ is_some (H.told yard.old.host) }
     ensures later { IsLater (H.counts yard.old.host) (H.counts yard.new.host) }
 {
-    // A law for the proof: it does nothing.
+    // Laws for the proof: they do nothing.
+    plan_laws();
     runs_carry_what_they_compute();
-    match yard.load(alloc, 0, task) {
-        None => {}
-        Some(blobs) => match compute(alloc, yard.plan(), task, blobs, tool) {
-            Ok(outputs) => yard.store_outputs(alloc, 0, task, &outputs),
-            Err(cause) => yard.fault(0, task, &cause),
-        },
-    }
+    let mut loan = loan;
+    let filled = fill(
+        alloc,
+        yard.plan(),
+        task,
+        loan.readings.as_mut_slice(),
+        loan.drafts.as_mut_slice(),
+        tool,
+    );
+    finish_at(alloc, yard, 0, task, loan, filled);
 }
 
 /// Does what a task says that is open.
@@ -47,16 +59,15 @@ fn do_task<H: Host, T: Tool>(alloc: Global, yard: &mut Yard<H, T>, tool: &mut T,
     ensures inputs { AddsOfInputs T.apply yard.old.ordered.plan yard.old.book.history.events yard.new.book.history.events }
     ensures tool { T.faults tool.old ≤ T.faults tool.new }
     ensures ordered { yard.new.ordered ≡ yard.old.ordered }
+    ensures opened { yard.new.opened ≡ yard.old.opened }
     ensures marked { H.marked yard.new.host ≡ H.marked yard.old.host }
     ensures faults { yard.new.faults ≡ yard.old.faults }
     ensures misses { yard.new.misses ≡ yard.old.misses }
     ensures tells { is_some (H.told yard.new.host) ≡ is_some (H.told yard.old.host) }
     ensures later { IsLater (H.counts yard.old.host) (H.counts yard.new.host) }
 {
-    if yard.plan().is_transfer(task) {
-        yard.bring(alloc, 0, task);
-    } else {
-        run_task(alloc, yard, tool, task);
+    if let Some(loan) = yard.lend(alloc, 0, task) {
+        fill_loan(alloc, yard, tool, task, loan);
     }
 }
 
@@ -67,6 +78,7 @@ pub(crate) fn step<H: Host, T: Tool>(alloc: Global, yard: &mut Yard<H, T>, tool:
     ensures inputs { AddsOfInputs T.apply yard.old.ordered.plan yard.old.book.history.events yard.new.book.history.events }
     ensures tool { T.faults tool.old ≤ T.faults tool.new }
     ensures ordered { yard.new.ordered ≡ yard.old.ordered }
+    ensures opened { yard.new.opened ≡ yard.old.opened }
     ensures marked { H.marked yard.new.host ≡ H.marked yard.old.host }
     ensures faults { yard.new.faults ≡ yard.old.faults }
     ensures misses { yard.new.misses ≡ yard.old.misses }

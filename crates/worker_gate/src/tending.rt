@@ -1,63 +1,45 @@
-//! One task at a yard, as the worker that it is open for does it: what it reads, and what comes of it.
+//! One task at a yard, as the worker that it is open for ends it.
 
-ghost use Rattle.std.specs.Prelude.{◌≡◌, IfSome, is_some, length};
-ghost use Rattle.plan_core.specs.Words.{reads};
+ghost use Rattle.std.specs.Prelude.{◌≡◌, is_some, map, take};
+ghost use Rattle.outside.specs.Counts.{IsLater};
 ghost use Rattle.lease_book.specs.Book.{state_at};
 ghost use Rattle.lease_book.specs.Legal.{IsOpen};
-ghost use Rattle.worker_gate.specs.Inputs.{AddsOfInputs, IsMadeOf};
-ghost use Rattle.worker_gate.specs.Tending.{Begins, Finishes, IsMade, failures_in};
+ghost use Rattle.worker_gate.specs.Inputs.{AddsOfInputs, IsFilledOf};
+ghost use Rattle.worker_gate.specs.Tending.{CanFinish, EndsTask, failures_in};
 
-use outside::{Blob, Host, TaskId, Tool};
+use outside::{Host, TaskId, Tool};
 use run_record::Cause;
-use site_yard::Yard;
+use site_yard::{Loan, Yard};
 use std::alloc::Global;
+use task_work::Filled;
 
-/// Moves a Transfer's bytes, or reads what a Run reads.
-pub(crate) fn begin_at<H: Host, T: Tool>(
-    alloc: Global,
-    yard: &mut Yard<H, T>,
-    worker: u32,
-    task: TaskId,
-) -> Option<Vec<Blob>>
-    requires { IsOpen (state_at yard.old.book) worker task.0 }
-    ensures begins { Begins T.apply yard.old.ordered.plan (H.marked yard.old.host) (H.told yard.old.host) worker task.0 yard.old.book.history.events yard.new.book.history.events result }
-    ensures many { IfSome result (λ blobs. length blobs.items ≡ length (reads yard.old.ordered.plan task.0)) }
-    ensures inputs { AddsOfInputs T.apply yard.old.ordered.plan yard.old.book.history.events yard.new.book.history.events }
-    ensures ordered { yard.new.ordered ≡ yard.old.ordered }
-    ensures marked { H.marked yard.new.host ≡ H.marked yard.old.host }
-    ensures faults { yard.new.faults ≡ yard.old.faults }
-    ensures misses { yard.new.misses ≡ yard.old.misses }
-    ensures tells { is_some (H.told yard.new.host) ≡ is_some (H.told yard.old.host) }
-{
-    if yard.plan().is_transfer(task) {
-        yard.bring(alloc, worker, task);
-        None
-    } else {
-        yard.load(alloc, worker, task)
-    }
-}
-
-/// Stores what a Run made, or adds why it made nothing.
+/// Settles a loan that was filled, or abandons it with why it wasn't.
 pub(crate) fn finish_at<H: Host, T: Tool>(
     alloc: Global,
     yard: &mut Yard<H, T>,
     worker: u32,
     task: TaskId,
-    made: Result<Vec<Blob>, Cause>,
+    loan: Loan<H>,
+    filled: Result<Filled, Cause>,
 )
     requires open { IsOpen (state_at yard.old.book) worker task.0 }
-    requires made { IsMade T.apply yard.old.ordered.plan (H.marked yard.old.host) (H.told yard.old.host) task.0 made }
-    requires inputs { IsMadeOf T.apply yard.old.ordered.plan task.0 made }
-    ensures finishes { Finishes worker task.0 (failures_in made) yard.old.book.history.events yard.new.book.history.events }
+    requires can { CanFinish T.apply yard.old.ordered.plan (take yard.old.opened yard.old.book.history.events) (H.marked yard.old.host) (H.told yard.old.host) task.0 (map H.Reading.state loan.readings.items) (map H.Draft.state loan.drafts.items) filled }
+    requires inputs { IsFilledOf T.apply yard.old.ordered.plan task.0 filled }
+    ensures ends { EndsTask worker task.0 (failures_in filled) yard.old.book.history.events yard.new.book.history.events }
     ensures inputs { AddsOfInputs T.apply yard.old.ordered.plan yard.old.book.history.events yard.new.book.history.events }
     ensures ordered { yard.new.ordered ≡ yard.old.ordered }
+    ensures opened { yard.new.opened ≡ yard.old.opened }
     ensures marked { H.marked yard.new.host ≡ H.marked yard.old.host }
     ensures faults { yard.new.faults ≡ yard.old.faults }
     ensures misses { yard.new.misses ≡ yard.old.misses }
     ensures tells { is_some (H.told yard.new.host) ≡ is_some (H.told yard.old.host) }
+    ensures later { IsLater (H.counts yard.old.host) (H.counts yard.new.host) }
 {
-    match made {
-        Ok(outputs) => yard.store_outputs(alloc, worker, task, &outputs),
-        Err(cause) => yard.fault(worker, task, &cause),
+    match filled {
+        Ok(Filled::Moved(length, digest)) => {
+            yard.settle(alloc, worker, task, loan, &[length], digest);
+        }
+        Ok(Filled::Made(sizes)) => yard.settle(alloc, worker, task, loan, &sizes, None),
+        Err(cause) => yard.abandon(worker, task, loan, &cause),
     }
 }

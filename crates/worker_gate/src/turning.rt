@@ -1,24 +1,24 @@
 //! The turns of a worker at a yard that several share. In each it makes one call of the yard, which adds one entry at
 //! most.
 
-ghost use Rattle.std.specs.Prelude.{◌≡◌, ◌<◌, IfOk, IfSome, false, length, true};
-ghost use Rattle.plan_core.specs.Words.{reads};
+ghost use Rattle.std.specs.Prelude.{◌≡◌, ◌<◌, IfNone, IfOk, IfSome, false, map, true};
 ghost use Rattle.lease_book.specs.Owning.{is_open_after};
 ghost use Rattle.ruled_lock.specs.Lock.{IsOf};
 ghost use Rattle.ruled_lock.specs.Pass.{IsIdle, IsSamePass, charter_of, mine_of, seen_of, worker_of};
-ghost use Rattle.worker_gate.specs.Inputs.{AddsOfInputs, IsMadeOf};
-ghost use Rattle.worker_gate.specs.Tending.{Finishes, IsMade, failures_in};
-ghost use Rattle.worker_gate.specs.Turning.{BeginsOwn, IsPlanOf, LeasesOwn, NoneOpenBy, NoneOpenFor, plan_of, told_of};
+ghost use Rattle.worker_gate.specs.Inputs.{AddsOfInputs, IsFilledOf};
+ghost use Rattle.worker_gate.specs.Tending.{CanFinish, Finishes, failures_in};
+ghost use Rattle.worker_gate.specs.Turning.{IsHeldFor, IsPlanOf, LeasesOwn, NoneOpenBy, NoneOpenFor, plan_of, told_of};
 
-use crate::tending::{begin_at, finish_at};
+use crate::tending::finish_at;
 use lease_book::own_entries_tell_open_tasks;
-use outside::{Blob, Host, Memory, TaskId, Tool};
+use outside::{Host, Memory, TaskId, Tool};
 use plan_core::Plan;
 use ruled_lock::{Pass, RuledLock};
 use run_record::Cause;
-use site_yard::{Leased, Yard};
+use site_yard::{Leased, Loan, Yard};
 use std::alloc::Global;
 use std::sync::Wait;
+use task_work::Filled;
 
 /// Copies the plan in a first turn.
 pub(crate) fn copy_plan<R: Wait, H: Host, T: Tool>(
@@ -69,53 +69,56 @@ pub(crate) fn lease<R: Wait, H: Host, T: Tool>(
     leased
 }
 
-/// Does a Transfer that is open, or reads what a Run reads.
+/// Makes the loan of a task that is open, or adds why there is none.
 pub(crate) fn begin<R: Wait, H: Host, T: Tool>(
     rt: &R,
     alloc: Global,
     lock: &RuledLock<Yard<H, T>>,
     pass: &mut Pass<Yard<H, T>>,
     task: TaskId,
-) -> Option<Vec<Blob>>
+) -> Option<Loan<H>>
     requires of { IsOf lock.now pass.old }
     requires idle { IsIdle pass.old }
     requires open { is_open_after task.0 false (mine_of pass.old) ≡ true }
     ensures of { IsOf lock.now pass.new }
     ensures idle { IsIdle pass.new }
     ensures same { IsSamePass pass.old pass.new }
-    ensures begins { BeginsOwn T.apply (charter_of pass.old) (worker_of pass.old) task.0 (mine_of pass.old) (mine_of pass.new) result }
-    ensures many { IfSome result (λ blobs. IfSome (charter_of pass.old) (λ g. length blobs.items ≡ length (reads (plan_of g) task.0))) }
+    ensures held { IfSome result (λ l. IsHeldFor T.apply (charter_of pass.old) task.0 (map H.Reading.state l.readings.items) (map H.Draft.state l.drafts.items)) }
+    ensures mine { IfSome result (λ l. mine_of pass.new ≡ mine_of pass.old) }
+    ensures none { IfNone result (Finishes (worker_of pass.old) task.0 0 (mine_of pass.old) (mine_of pass.new)) }
     ensures inputs { IfSome (charter_of pass.old) (λ g. AddsOfInputs T.apply (plan_of g) (mine_of pass.old) (mine_of pass.new)) }
 {
+    // Laws for the proof: they do nothing.
     own_entries_tell_open_tasks();
     let mut yard = lock.take(rt, pass);
-    let begun = begin_at(alloc, &mut yard, pass.worker(), task);
+    let lent = yard.lend(alloc, pass.worker(), task);
     lock.give(pass, yard);
-    begun
+    lent
 }
 
-/// Stores what a Run made that is open, or adds why it made nothing.
+/// Settles the loan of a task that is open, or abandons it.
 pub(crate) fn finish<R: Wait, H: Host, T: Tool>(
     rt: &R,
     alloc: Global,
     lock: &RuledLock<Yard<H, T>>,
     pass: &mut Pass<Yard<H, T>>,
     task: TaskId,
-    made: Result<Vec<Blob>, Cause>,
+    loan: Loan<H>,
+    filled: Result<Filled, Cause>,
 )
     requires of { IsOf lock.now pass.old }
     requires idle { IsIdle pass.old }
     requires open { is_open_after task.0 false (mine_of pass.old) ≡ true }
-    requires made { IfSome (charter_of pass.old) (λ g. IsMade T.apply (plan_of g) g.marked (told_of g) task.0 made) }
-    requires inputs { IfSome (charter_of pass.old) (λ g. IsMadeOf T.apply (plan_of g) task.0 made) }
+    requires can { IfSome (charter_of pass.old) (λ g. CanFinish T.apply (plan_of g) g.opened g.marked (told_of g) task.0 (map H.Reading.state loan.readings.items) (map H.Draft.state loan.drafts.items) filled) }
+    requires inputs { IfSome (charter_of pass.old) (λ g. IsFilledOf T.apply (plan_of g) task.0 filled) }
     ensures of { IsOf lock.now pass.new }
     ensures idle { IsIdle pass.new }
     ensures same { IsSamePass pass.old pass.new }
-    ensures finishes { Finishes (worker_of pass.old) task.0 (failures_in made) (mine_of pass.old) (mine_of pass.new) }
+    ensures finishes { Finishes (worker_of pass.old) task.0 (failures_in filled) (mine_of pass.old) (mine_of pass.new) }
     ensures inputs { IfSome (charter_of pass.old) (λ g. AddsOfInputs T.apply (plan_of g) (mine_of pass.old) (mine_of pass.new)) }
 {
     own_entries_tell_open_tasks();
     let mut yard = lock.take(rt, pass);
-    finish_at(alloc, &mut yard, pass.worker(), task, made);
+    finish_at(alloc, &mut yard, pass.worker(), task, loan, filled);
     lock.give(pass, yard);
 }

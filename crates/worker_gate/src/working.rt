@@ -1,47 +1,56 @@
 //! One worker among many.
 
-ghost use Rattle.std.specs.Prelude.{◌≡◌, ◌≤◌, ◌<◌, IfOk, IfSome, false, true};
+ghost use Rattle.std.specs.Prelude.{◌≡◌, ◌≤◌, ◌<◌, IfOk, IfSome, false, map, true};
 ghost use Rattle.plan_core.specs.Proper.{IsProper};
-ghost use Rattle.plan_core.specs.Words.{is_run};
+ghost use Rattle.plan_core.specs.Words.{kind};
 ghost use Rattle.lease_book.specs.Owning.{is_open_after};
 ghost use Rattle.ruled_lock.specs.Lock.{IsOf};
 ghost use Rattle.ruled_lock.specs.Pass.{IsIdle, IsSamePass, charter_of, mine_of, seen_of, worker_of};
 ghost use Rattle.worker_gate.specs.Inputs.{AddsOfInputs};
 ghost use Rattle.worker_gate.specs.Turning.{IsPlanOf, NoneOpenFor, plan_of};
-ghost use Rattle.worker_gate.specs.Working.{ComputesWith, DoesOwn, Works};
+ghost use Rattle.task_work.specs.Filling.{AreParts};
+ghost use Rattle.task_work.specs.Making.{AreBegun, AreEmpty};
+ghost use Rattle.worker_gate.specs.Working.{DoesOwn, FillsWith, Works};
 
-use crate::computing::compute;
-use crate::law::runs_carry_what_they_compute;
 use crate::turning::{begin, copy_plan, finish, lease};
 use craft::{Crew, Gate};
-use outside::{Blob, Host, Memory, TaskId, Tool};
+use outside::{Host, Memory, TaskId, Tool};
 use plan_core::Plan;
 use ruled_lock::{Pass, RuledLock};
 use run_record::Cause;
-use site_yard::{Leased, Yard};
+use site_yard::{Leased, Loan, Yard, plan_laws};
 use std::alloc::Global;
 use std::sync::Wait;
+use task_work::{Filled, fill, runs_carry_what_they_compute};
 
-/// What a Run makes of the bytes that it reads, by a worker's copy of the plan, if it has one.
-fn compute_with<T: Tool>(
+/// Fills a loan's drafts, by a worker's copy of the plan, if it has one.
+fn fill_with<H: Host, T: Tool>(
     alloc: Global,
     plan: &Result<Plan, Memory>,
     task: TaskId,
-    blobs: Vec<Blob>,
+    loan: &mut Loan<H>,
     tool: &mut T,
-) -> Result<Vec<Blob>, Cause>
+) -> Result<Filled, Cause>
     requires proper { IfOk plan.now IsProper }
-    requires run { IfOk plan.now (λ p. is_run p task.0 ≡ true) }
-    ensures answer { ComputesWith T.apply plan.now task.0 blobs.items (T.faults tool.old) (T.faults tool.new) result }
-    ensures tool { T.faults tool.old ≤ T.faults tool.new }
+    requires parts { IfOk plan.now (λ p. AreParts p task.0 (kind p task.0) (map H.Reading.state loan.old.readings.items) (map H.Draft.state loan.old.drafts.items)) }
+    requires start { AreBegun (map H.Reading.state loan.old.readings.items) }
+    requires empty { AreEmpty (map H.Draft.state loan.old.drafts.items) }
+    ensures fills { FillsWith T.apply plan.now task.0 (map H.Reading.state loan.old.readings.items) (map H.Reading.state loan.new.readings.items) (map H.Draft.state loan.old.drafts.items) (map H.Draft.state loan.new.drafts.items) (T.faults tool.old) (T.faults tool.new) result }
 {
     match plan {
-        Ok(plan) => compute(alloc, plan, task, blobs, tool),
+        Ok(plan) => fill(
+            alloc,
+            plan,
+            task,
+            loan.readings.as_mut_slice(),
+            loan.drafts.as_mut_slice(),
+            tool,
+        ),
         Err(_) => Err(Cause::Memory),
     }
 }
 
-/// Does what a task says that is open. Its jobs are computed between two turns.
+/// Does what a task says that is open. Its bytes are moved, and its jobs computed, between two turns.
 fn do_task<R: Wait, H: Host, T: Tool, G: Gate>(
     rt: &R,
     alloc: Global,
@@ -62,16 +71,15 @@ fn do_task<R: Wait, H: Host, T: Tool, G: Gate>(
     ensures inputs { IfSome (charter_of pass.old) (λ g. AddsOfInputs T.apply (plan_of g) (mine_of pass.old) (mine_of pass.new)) }
     ensures tool { T.faults crew.old.tool ≤ T.faults crew.new.tool }
 {
-    // A law for the proof: it does nothing.
+    // Laws for the proof: they do nothing.
+    plan_laws();
     runs_carry_what_they_compute();
-    match begin(rt, alloc, lock, pass, task) {
-        None => {}
-        Some(blobs) => {
-            crew.gate.before(task);
-            let made = compute_with(alloc, plan, task, blobs, &mut crew.tool);
-            finish(rt, alloc, lock, pass, task, made);
-        }
-    }
+    let Some(mut loan) = begin(rt, alloc, lock, pass, task) else {
+        return;
+    };
+    crew.gate.before(task);
+    let filled = fill_with(alloc, plan, task, &mut loan, &mut crew.tool);
+    finish(rt, alloc, lock, pass, task, loan, filled);
 }
 
 /// Leases and works until all is done or something failed, its own failure included. Between two of its turns others may

@@ -1,4 +1,4 @@
-use Rattle.std.proofs.Common.{[], ◌∙◌, ap, refl}
+use Rattle.std.proofs.Common.{[], ◌∙◌, ap, refl, take}
 use Rattle.std.proofs.Math.Logic.{∥∥₁_elim, ∥∥₁_map, ∥∥₁_prop}
 use Rattle.std.specs.Prelude.{is_some}
 use Rattle.plan_core.specs.Words.{task_numbers}
@@ -17,7 +17,8 @@ returns-in-Ok-clause-ran g c =
     let end_ = c.end_run.result.end in
     let same = c.run_alone-yard.ensures.ordered ∙ c.in-Ok.ensures.ordered in
     let legal = rw same at c.agrees.ensures.legal in
-    let shows = rw same at c.agrees.ensures.shows in
+    let fresh = ap (λ n. take n r) (c.run_alone-yard.ensures.opened ∙ c.in-Ok.ensures.opened) in
+    let shows = rw same at c.agrees.ensures.shows_all fresh in
     let ends = rw same at c.end_run.ensures.ends in
     let reports = rw same at c.end_run.ensures.reports in
     let works = rw (c.in-Ok.ensures.ordered, c.in-Ok.ensures.history) at c.run_alone-yard.ensures.works in
@@ -26,7 +27,7 @@ returns-in-Ok-clause-ran g c =
     let before = work_moment g.H.Host c.args.host (g.T.Tool.faults c.args.crew.now.tool) in
     let after = work_moment g.H.Host y.host (g.T.Tool.faults c.run_alone-yard.new.crew.tool) in
     let w = working g.T.Tool.apply g.T.Tool.known before after in
-    rw c.end_run.ensures.host (∥∥₁_elim legal ∥∥₁_prop (λ l. ∥∥₁_elim shows ∥∥₁_prop (λ s. ∥∥₁_map c.agrees.ensures.counted (λ k.
+    rw c.end_run.ensures.host (∥∥₁_elim legal ∥∥₁_prop (λ l. ∥∥₁_elim shows ∥∥₁_prop (λ s. ∥∥₁_map (c.agrees.ensures.counts_all fresh) (λ k.
     ran_alone w p order r (g.H.Host.told y.host) (g.H.Host.marked y.host) y.faults y.misses x end_
     (record {
       told_is = refl;
@@ -60,3 +61,6 @@ returns-in-Err-clause-ran g c =
       left = λ n site. c.what_is_left_is_held.ensures p order [] c.args.ordered.proper fits tt n site;
     })
     c.in-Err.ensures.back.1 c.in-Err.ensures.back.2 refl c.in-Err.ensures.refused refusal ∣₁)
+
+pub end_run-requires-clause-fresh : goal.end_run-requires-clause-fresh
+end_run-requires-clause-fresh g c = ap (λ n. take n c.run_alone-yard.result.book.history.events) (c.run_alone-yard.ensures.opened ∙ c.in-Ok.ensures.opened)

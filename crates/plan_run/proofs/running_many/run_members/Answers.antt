@@ -1,4 +1,4 @@
-use Rattle.std.proofs.Common.{[], length, map, ◌∙◌, ap, refl}
+use Rattle.std.proofs.Common.{[], length, take, map, ◌∙◌, ap, refl}
 use Rattle.std.proofs.Math.Logic.{∥∥₁_elim, ∥∥₁_map, ∥∥₁_prop}
 use Rattle.std.proofs.lemmas.List.{length-map}
 use Rattle.std.specs.Prelude.{is_some}
@@ -25,7 +25,8 @@ returns-in-Ok-clause-ran g c =
     let end_ = c.end_many-ran.result.end in
     let same = c.run_many-end.ensures.ordered ∙ c.in-Ok.ensures.ordered in
     let legal = rw same at c.agrees.ensures.legal in
-    let shows = rw same at c.agrees.ensures.shows in
+    let fresh = c.run_many-end.ensures.opened ∙ ap (λ n. take n c.in-Ok.yard.book.history.events) c.in-Ok.ensures.opened in
+    let shows = rw same at c.agrees.ensures.shows_all fresh in
     let ends = rw same at c.end_many-ran.ensures.ends in
     let reports = rw same at c.end_many-ran.ensures.reports in
     let works = rw c.in-Ok.ensures.ordered at c.run_many-end.ensures.works in
@@ -41,7 +42,7 @@ returns-in-Ok-clause-ran g c =
     (c.run_many-end.ensures.faults ∙ c.in-Ok.ensures.faults)
     (c.run_many-end.ensures.misses ∙ c.in-Ok.ensures.misses)
     c.in-Ok.ensures.unused works (λ u. (c.run_many-end.ensures.unstarted u).0) (length-map c.args.members.items count) c.run_many-end.ensures.tools inputs in
-    rw c.end_many-ran.ensures.host (∥∥₁_elim legal ∥∥₁_prop (λ l. ∥∥₁_elim shows ∥∥₁_prop (λ s. ∥∥₁_map c.agrees.ensures.counted (λ k.
+    rw c.end_many-ran.ensures.host (∥∥₁_elim legal ∥∥₁_prop (λ l. ∥∥₁_elim shows ∥∥₁_prop (λ s. ∥∥₁_map (c.agrees.ensures.counts_all fresh) (λ k.
     ran w t n p order r (g.H.Host.told y.host) (g.H.Host.marked y.host) y.faults y.misses x end_ end
     (record {
       safe = λ j. c.legal_records_are_safe.ensures.always p order r c.args.ordered.proper fits l j;
@@ -66,3 +67,6 @@ returns-in-Err-clause-ran g c =
       left = λ n site. c.what_is_left_is_held.ensures p order [] c.args.ordered.proper fits tt n site;
     })
     c.in-Err.ensures.back.1 c.in-Err.ensures.back.2 refl c.in-Err.ensures.refused refusal ∣₁)
+
+pub end_many-ran-requires-clause-fresh : goal.end_many-ran-requires-clause-fresh
+end_many-ran-requires-clause-fresh g c = c.run_many-end.ensures.opened ∙ ap (λ n. take n c.in-Ok.yard.book.history.events) c.in-Ok.ensures.opened

@@ -1,3 +1,4 @@
+use Rattle.site_yard.proofs.AgreesLemmas.{opening_of_none}
 use Rattle.site_yard.proofs.CompletingLemmas.{no_faults, no_misses, no_tool_faults, none_delivered, none_open, none_published, none_swept}
 use Rattle.site_yard.proofs.completing.empty_records.Goals as goal
 
@@ -21,3 +22,6 @@ returns-clause-misses c = no_misses
 
 pub returns-clause-tools : goal.returns-clause-tools
 returns-clause-tools c = no_tool_faults
+
+pub returns-clause-opening : goal.returns-clause-opening
+returns-clause-opening c = opening_of_none

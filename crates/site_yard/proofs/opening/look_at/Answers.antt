@@ -1,5 +1,5 @@
 use Rattle.std.proofs.Common.{refl, sym, ◌∙◌}
-use Rattle.site_yard.proofs.StepLemmas.{in_use}
+use Rattle.site_yard.proofs.OpenLemmas.{in_use}
 use Rattle.site_yard.proofs.opening.look_at.Goals as goal
 
 pub returns-in-Ok-false-clause-answer : goal.returns-in-Ok-false-clause-answer

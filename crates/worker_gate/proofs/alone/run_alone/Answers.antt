@@ -12,7 +12,7 @@ use Rattle.worker_gate.proofs.alone.run_alone.Goals as goal
 pub loop-alloc-init : goal.loop-alloc-init
 loop-alloc-init g c =
     let x = g.T.Tool.faults c.args.crew.now.tool in
-    (works_first c.args.yard.book x c.requires, same_count x, refl, refl, refl, refl, refl, still (g.H.Host.counts c.args.yard.host), adds_none g.T.Tool.apply c.args.yard.ordered.plan c.args.yard.book.history.events, refl)
+    (works_first c.args.yard.book x c.requires, same_count x, refl, refl, refl, refl, refl, still (g.H.Host.counts c.args.yard.host), adds_none g.T.Tool.apply c.args.yard.ordered.plan c.args.yard.book.history.events, refl, refl)
 
 pub loop-alloc-smaller : goal.loop-alloc-smaller
 loop-alloc-smaller g c =
@@ -46,6 +46,7 @@ loop-alloc-preserved g c =
       later_both (g.H.Host.counts a.host) (g.H.Host.counts b.host) (g.H.Host.counts d.host) i.7 e.later,
       adds_both g.T.Tool.apply a.ordered.plan a.book.history.events b.book.history.events d.book.history.events i.8 (subst (λ p. AddsOfInputs g.T.Tool.apply p b.book.history.events d.book.history.events) (ap (λ o. o.plan) i.2) e.inputs),
       i.9,
+      e.opened ∙ i.10,
     )
 
 pub returns-clause-works : goal.returns-clause-works

@@ -19,6 +19,7 @@ invariant-loop-alloc g l =
     × IsLater (g.H.Host.counts l.fn.yard.host) (g.H.Host.counts l.yard.host)
     × AddsOfInputs g.T.Tool.apply l.fn.yard.ordered.plan l.fn.yard.book.history.events l.yard.book.history.events
     × (l.crew.gate ≡ l.initial.crew.gate)
+    × (l.yard.opened ≡ l.fn.yard.opened)
 
 abbrev pub decreases-loop-alloc : goal.decreases-loop-alloc
 decreases-loop-alloc g l = entries_room l.yard.book.plan (state_at l.yard.book)

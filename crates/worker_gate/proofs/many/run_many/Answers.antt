@@ -15,7 +15,7 @@ returns-in-Err-clause-tools g c = none_counted c.in-Err.field-0.value.book.histo
 pub work_all-requires-after_bounds : goal.work_all-requires-after_bounds
 work_all-requires-after_bounds g c κs within =
     let y = c.args.yard in
-    let there = charter_with y.ordered (g.H.Host.marked y.host) (is_some (g.H.Host.told y.host)) y.faults y.misses in
+    let there = charter_with y.ordered (take y.opened y.book.history.events) (g.H.Host.marked y.host) (is_some (g.H.Host.told y.host)) y.faults y.misses in
     let first = c.in-Ok-new.first in
     let p = c.in-Ok-new.ensures.pass in
     let hs = c.deal.new.hands.items in
@@ -27,7 +27,7 @@ work_all-requires-after_bounds g c κs within =
 pub gather-pass-requires-clause-hands : goal.gather-pass-requires-clause-hands
 gather-pass-requires-clause-hands g c =
     let y = c.args.yard in
-    let there = charter_with y.ordered (g.H.Host.marked y.host) (is_some (g.H.Host.told y.host)) y.faults y.misses in
+    let there = charter_with y.ordered (take y.opened y.book.history.events) (g.H.Host.marked y.host) (is_some (g.H.Host.told y.host)) y.faults y.misses in
     let first = c.in-Ok-new.first in
     let lock = c.in-Ok-new.lock in
     let p = c.in-Ok-new.ensures.pass in
@@ -50,12 +50,12 @@ gather-pass-requires-clause-room g c =
     omega (arith, whole, same, many, c.deal.ensures.crew_room)
 
 -- the charter of the yard that comes back
-back : (g : given.Over) (c : goal.After-close g) → charter_with c.close.result.ordered (g.H.Host.marked c.close.result.host) (is_some (g.H.Host.told c.close.result.host)) c.close.result.faults c.close.result.misses ≡ charter_with c.args.yard.ordered (g.H.Host.marked c.args.yard.host) (is_some (g.H.Host.told c.args.yard.host)) c.args.yard.faults c.args.yard.misses
+back : (g : given.Over) (c : goal.After-close g) → charter_with c.close.result.ordered (take c.close.result.opened c.close.result.book.history.events) (g.H.Host.marked c.close.result.host) (is_some (g.H.Host.told c.close.result.host)) c.close.result.faults c.close.result.misses ≡ charter_with c.args.yard.ordered (take c.args.yard.opened c.args.yard.book.history.events) (g.H.Host.marked c.args.yard.host) (is_some (g.H.Host.told c.args.yard.host)) c.args.yard.faults c.args.yard.misses
 back g c =
     let y = c.args.yard in
     let z = c.close.result in
-    let there = charter_with y.ordered (g.H.Host.marked y.host) (is_some (g.H.Host.told y.host)) y.faults y.misses in
-    let here = charter_with z.ordered (g.H.Host.marked z.host) (is_some (g.H.Host.told z.host)) z.faults z.misses in
+    let there = charter_with y.ordered (take y.opened y.book.history.events) (g.H.Host.marked y.host) (is_some (g.H.Host.told y.host)) y.faults y.misses in
+    let here = charter_with z.ordered (take z.opened z.book.history.events) (g.H.Host.marked z.host) (is_some (g.H.Host.told z.host)) z.faults z.misses in
     let first = c.in-Ok-new.first in
     let lock = c.in-Ok-new.lock in
     let p = c.in-Ok-new.ensures.pass in
@@ -71,6 +71,9 @@ back g c =
 
 pub returns-in-Ok-new-clause-ordered : goal.returns-in-Ok-new-clause-ordered
 returns-in-Ok-new-clause-ordered g c = ap (λ x. x.ordered) (back g c)
+
+pub returns-in-Ok-new-clause-opened : goal.returns-in-Ok-new-clause-opened
+returns-in-Ok-new-clause-opened g c = ap (λ x. x.opened) (back g c)
 
 pub returns-in-Ok-new-clause-marked : goal.returns-in-Ok-new-clause-marked
 returns-in-Ok-new-clause-marked g c = ap (λ x. x.marked) (back g c)
@@ -99,7 +102,7 @@ pub returns-in-Ok-new-clause-works : goal.returns-in-Ok-new-clause-works
 returns-in-Ok-new-clause-works g c =
     let y = c.args.yard in
     let z = c.close.result in
-    let there = charter_with y.ordered (g.H.Host.marked y.host) (is_some (g.H.Host.told y.host)) y.faults y.misses in
+    let there = charter_with y.ordered (take y.opened y.book.history.events) (g.H.Host.marked y.host) (is_some (g.H.Host.told y.host)) y.faults y.misses in
     let first = c.in-Ok-new.first in
     let lock = c.in-Ok-new.lock in
     let p = c.in-Ok-new.ensures.pass in
@@ -120,7 +123,7 @@ pub returns-in-Ok-new-clause-tools : goal.returns-in-Ok-new-clause-tools
 returns-in-Ok-new-clause-tools g c =
     let y = c.args.yard in
     let z = c.close.result in
-    let there = charter_with y.ordered (g.H.Host.marked y.host) (is_some (g.H.Host.told y.host)) y.faults y.misses in
+    let there = charter_with y.ordered (take y.opened y.book.history.events) (g.H.Host.marked y.host) (is_some (g.H.Host.told y.host)) y.faults y.misses in
     let first = c.in-Ok-new.first in
     let lock = c.in-Ok-new.lock in
     let p = c.in-Ok-new.ensures.pass in
@@ -145,7 +148,7 @@ pub returns-in-Ok-new-clause-inputs : goal.returns-in-Ok-new-clause-inputs
 returns-in-Ok-new-clause-inputs g c =
     let y = c.args.yard in
     let z = c.close.result in
-    let there = charter_with y.ordered (g.H.Host.marked y.host) (is_some (g.H.Host.told y.host)) y.faults y.misses in
+    let there = charter_with y.ordered (take y.opened y.book.history.events) (g.H.Host.marked y.host) (is_some (g.H.Host.told y.host)) y.faults y.misses in
     let first = c.in-Ok-new.first in
     let lock = c.in-Ok-new.lock in
     let p = c.in-Ok-new.ensures.pass in

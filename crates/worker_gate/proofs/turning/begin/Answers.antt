@@ -1,51 +1,67 @@
-use Rattle.std.proofs.Common.{◌∙◌, refl}
+use Rattle.std.proofs.Common.{◌∙◌, ap, map, refl, take}
 use Rattle.std.specs.Prelude.{is_some}
+use Rattle.lease_book.specs.Book.{state_at}
 use Rattle.ruled_lock.specs.Pass.{charter_of, mine_of, taken_of, worker_of}
-use Rattle.worker_gate.proofs.InputsLemmas.{inputs_turn, many_turn}
-use Rattle.worker_gate.proofs.TurningLemmas.{adds_there, begin_adds, begin_turn, charter_kept, open_there}
+use Rattle.worker_gate.proofs.InputsLemmas.{inputs_turn, lends_so}
+use Rattle.worker_gate.proofs.StateLemmas.{open_loan}
+use Rattle.worker_gate.proofs.TurningLemmas.{adds_there, charter_kept, held_turn, lend_adds, none_turn, open_there, opened_kept, same_turn}
+use Rattle.worker_gate.proofs.WorkLemmas.{consistent_at}
 use Rattle.worker_gate.proofs.turning.begin.Goals as goal
 
-pub begin_at-begun-requires : goal.begin_at-begun-requires
-begin_at-begun-requires g c =
+pub lend-lent-requires : goal.lend-lent-requires
+lend-lent-requires g c =
     let old = c.args.pass.now in
     open_there c.own_entries_tell_open_tasks.ensures.entries c.own_entries_tell_open_tasks.ensures.decides c.take-yard.result.book (worker_of old) c.worker.result c.args.task.0 (mine_of old) (c.worker.ensures.number ∙ c.take-yard.ensures.same.worker) c.take-yard.ensures.mine c.requires.open
 
 pub give-requires-clause-charter : goal.give-requires-clause-charter
 give-requires-clause-charter g c =
     let y = c.take-yard.result in
-    let z = c.begin_at-begun.new.yard in
-    let e = c.begin_at-begun.ensures in
-    charter_kept _ y.ordered z.ordered (g.H.Host.marked y.host) (g.H.Host.marked z.host) (is_some (g.H.Host.told y.host)) (is_some (g.H.Host.told z.host)) y.faults z.faults y.misses z.misses (c.take-yard.ensures.same.charter ∙ c.take-yard.ensures.charter) e.ordered e.marked e.tells e.faults e.misses
+    let z = c.lend-lent.new.self in
+    let e = c.lend-lent.ensures in
+    charter_kept _ y.ordered z.ordered (take y.opened y.book.history.events) (take z.opened z.book.history.events) (g.H.Host.marked y.host) (g.H.Host.marked z.host) (is_some (g.H.Host.told y.host)) (is_some (g.H.Host.told z.host)) y.faults z.faults y.misses z.misses (c.take-yard.ensures.same.charter ∙ c.take-yard.ensures.charter) e.ordered
+    (opened_kept c.worker.result y.opened z.opened y.book.history.events z.book.history.events y.begun e.opened (lend_adds c.worker.result c.args.task.0 y.book.history.events z.book.history.events (g.H.Host.told y.host) (g.H.Host.counts y.host) (g.H.Host.counts z.host) c.lend-lent.result e.same e.none))
+    e.marked (ap is_some e.told) e.faults e.misses
 
 pub give-requires-clause-journal : goal.give-requires-clause-journal
 give-requires-clause-journal g c =
     let y = c.take-yard.result in
-    let z = c.begin_at-begun.new.yard in
+    let z = c.lend-lent.new.self in
+    let e = c.lend-lent.ensures in
     adds_there (worker_of c.take-yard.new.pass) c.worker.result (taken_of c.take-yard.new.pass) y.book.history.events z.book.history.events c.worker.ensures.number c.take-yard.ensures.taken
-    (begin_adds g.T.Tool.apply y.ordered.plan (g.H.Host.marked y.host) (g.H.Host.told y.host) c.worker.result c.args.task.0 y.book.history.events z.book.history.events c.begin_at-begun.result c.begin_at-begun.ensures.begins)
+    (lend_adds c.worker.result c.args.task.0 y.book.history.events z.book.history.events (g.H.Host.told y.host) (g.H.Host.counts y.host) (g.H.Host.counts z.host) c.lend-lent.result e.same e.none)
 
-pub returns-clause-begins : goal.returns-clause-begins
-returns-clause-begins g c =
+pub returns-clause-held : goal.returns-clause-held
+returns-clause-held g c =
     let y = c.take-yard.result in
-    let z = c.begin_at-begun.new.yard in
+    let old = c.args.pass.now in
+    let open_ = open_there c.own_entries_tell_open_tasks.ensures.entries c.own_entries_tell_open_tasks.ensures.decides y.book (worker_of old) c.worker.result c.args.task.0 (mine_of old) (c.worker.ensures.number ∙ c.take-yard.ensures.same.worker) c.take-yard.ensures.mine c.requires.open in
+    held_turn g.T.Tool.apply y.book (record { ordered = y.ordered; opened = take y.opened y.book.history.events; marked = g.H.Host.marked y.host; tells = is_some (g.H.Host.told y.host); faults = y.faults; misses = y.misses }) (charter_of old) (g.H.Host.told y.host) c.args.task.0 (λ l. map g.H.Reading.ReadPart.state l.readings.items) (λ l. map g.H.Draft.WritePart.state l.drafts.items) c.lend-lent.result
+    y.same_plan c.take-yard.ensures.charter refl (open_loan y.book.plan y.ordered.plan (state_at y.book) c.args.task.0 y.same_plan (consistent_at y.book).sound open_.runs) c.lend-lent.ensures.lent
+
+pub returns-clause-mine : goal.returns-clause-mine
+returns-clause-mine g c =
+    let y = c.take-yard.result in
+    let z = c.lend-lent.new.self in
+    let mid = c.take-yard.new.pass in
+    same_turn (taken_of mid) y.book.history.events z.book.history.events (mine_of c.args.pass.now) (mine_of mid) (mine_of c.give.new.pass) c.lend-lent.result c.take-yard.ensures.taken c.take-yard.ensures.lists.1 c.give.ensures.grown c.lend-lent.ensures.same
+
+pub returns-clause-none : goal.returns-clause-none
+returns-clause-none g c =
+    let y = c.take-yard.result in
+    let z = c.lend-lent.new.self in
     let old = c.args.pass.now in
     let mid = c.take-yard.new.pass in
-    let new = c.give.new.pass in
-    begin_turn g.T.Tool.apply y.book (record { ordered = y.ordered; marked = g.H.Host.marked y.host; tells = is_some (g.H.Host.told y.host); faults = y.faults; misses = y.misses }) (charter_of old) (g.H.Host.told y.host) (worker_of old) c.worker.result c.args.task.0 (taken_of mid) z.book.history.events (mine_of old) (mine_of mid) (mine_of new) c.begin_at-begun.result
-    y.same_plan c.take-yard.ensures.charter refl (c.worker.ensures.number ∙ c.take-yard.ensures.same.worker) c.take-yard.ensures.taken c.take-yard.ensures.lists.1 c.give.ensures.grown c.begin_at-begun.ensures.begins
-
-pub returns-clause-many : goal.returns-clause-many
-returns-clause-many g c =
-    let y = c.take-yard.result in
-    many_turn (record { ordered = y.ordered; marked = g.H.Host.marked y.host; tells = is_some (g.H.Host.told y.host); faults = y.faults; misses = y.misses }) (charter_of c.args.pass.now) c.args.task.0 c.begin_at-begun.result c.take-yard.ensures.charter c.begin_at-begun.ensures.many
+    none_turn (worker_of old) c.worker.result c.args.task.0 (taken_of mid) y.book.history.events z.book.history.events (mine_of old) (mine_of mid) (mine_of c.give.new.pass) (g.H.Host.told y.host) (g.H.Host.counts y.host) (g.H.Host.counts z.host) c.lend-lent.result (c.worker.ensures.number ∙ c.take-yard.ensures.same.worker) c.take-yard.ensures.taken c.take-yard.ensures.lists.1 c.give.ensures.grown c.lend-lent.ensures.none
 
 pub returns-clause-inputs : goal.returns-clause-inputs
 returns-clause-inputs g c =
     let y = c.take-yard.result in
-    let z = c.begin_at-begun.new.yard in
+    let z = c.lend-lent.new.self in
+    let e = c.lend-lent.ensures in
     let old = c.args.pass.now in
     let mid = c.take-yard.new.pass in
-    inputs_turn g.T.Tool.apply (record { ordered = y.ordered; marked = g.H.Host.marked y.host; tells = is_some (g.H.Host.told y.host); faults = y.faults; misses = y.misses }) (charter_of old) c.worker.result (taken_of mid) y.book.history.events z.book.history.events (mine_of old) (mine_of mid) (mine_of c.give.new.pass)
+    inputs_turn g.T.Tool.apply (record { ordered = y.ordered; opened = take y.opened y.book.history.events; marked = g.H.Host.marked y.host; tells = is_some (g.H.Host.told y.host); faults = y.faults; misses = y.misses }) (charter_of old) c.worker.result (taken_of mid) y.book.history.events z.book.history.events (mine_of old) (mine_of mid) (mine_of c.give.new.pass)
     c.take-yard.ensures.charter c.take-yard.ensures.taken c.take-yard.ensures.lists.1
-    (begin_adds g.T.Tool.apply y.ordered.plan (g.H.Host.marked y.host) (g.H.Host.told y.host) c.worker.result c.args.task.0 y.book.history.events z.book.history.events c.begin_at-begun.result c.begin_at-begun.ensures.begins)
-    c.give.ensures.grown c.begin_at-begun.ensures.inputs
+    (lend_adds c.worker.result c.args.task.0 y.book.history.events z.book.history.events (g.H.Host.told y.host) (g.H.Host.counts y.host) (g.H.Host.counts z.host) c.lend-lent.result e.same e.none)
+    c.give.ensures.grown
+    (lends_so g.T.Tool.apply y.ordered.plan c.worker.result c.args.task.0 y.book.history.events z.book.history.events (g.H.Host.told y.host) (g.H.Host.counts y.host) (g.H.Host.counts z.host) c.lend-lent.result e.same e.none)

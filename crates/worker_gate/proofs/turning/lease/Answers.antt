@@ -1,9 +1,9 @@
-use Rattle.std.proofs.Common.{◌∙◌}
+use Rattle.std.proofs.Common.{◌∙◌, take}
 use Rattle.std.specs.Prelude.{is_some}
 use Rattle.ruled_lock.specs.Pass.{charter_of, mine_of, seen_of, taken_of, worker_of}
 use Rattle.lease_book.specs.Book.{state_at}
 use Rattle.worker_gate.proofs.InputsLemmas.{inputs_turn, leases_so}
-use Rattle.worker_gate.proofs.TurningLemmas.{adds_there, charter_kept, lease_adds, lease_turn}
+use Rattle.worker_gate.proofs.TurningLemmas.{adds_there, charter_kept, lease_adds, lease_turn, opened_kept}
 use Rattle.worker_gate.proofs.turning.lease.Goals as goal
 
 pub give-requires-clause-charter : goal.give-requires-clause-charter
@@ -11,7 +11,9 @@ give-requires-clause-charter g c =
     let y = c.take-yard.result in
     let z = c.lease-leased.new.self in
     let e = c.lease-leased.ensures in
-    charter_kept _ y.ordered z.ordered (g.H.Host.marked y.host) (g.H.Host.marked z.host) (is_some (g.H.Host.told y.host)) (is_some (g.H.Host.told z.host)) y.faults z.faults y.misses z.misses (c.take-yard.ensures.same.charter ∙ c.take-yard.ensures.charter) e.ordered e.marked e.tells e.faults e.misses
+    charter_kept _ y.ordered z.ordered (take y.opened y.book.history.events) (take z.opened z.book.history.events) (g.H.Host.marked y.host) (g.H.Host.marked z.host) (is_some (g.H.Host.told y.host)) (is_some (g.H.Host.told z.host)) y.faults z.faults y.misses z.misses (c.take-yard.ensures.same.charter ∙ c.take-yard.ensures.charter) e.ordered
+    (opened_kept c.worker.result y.opened z.opened y.book.history.events z.book.history.events y.begun e.opened (lease_adds y.ordered.plan (state_at y.book) c.worker.result y.book.history.events z.book.history.events (g.H.Host.told y.host) (g.H.Host.counts y.host) (g.H.Host.counts z.host) c.lease-leased.result e.leased))
+    e.marked e.tells e.faults e.misses
 
 pub give-requires-clause-journal : goal.give-requires-clause-journal
 give-requires-clause-journal g c =
@@ -28,7 +30,7 @@ returns-clause-leased g c =
     let mid = c.take-yard.new.pass in
     let new = c.give.new.pass in
     lease_turn c.own_entries_tell_open_tasks.ensures.entries c.own_entries_tell_open_tasks.ensures.decides y.book
-    (record { ordered = y.ordered; marked = g.H.Host.marked y.host; tells = is_some (g.H.Host.told y.host); faults = y.faults; misses = y.misses }) (charter_of old) (worker_of old) c.worker.result (taken_of mid) z.book.history.events (mine_of old) (mine_of mid) (mine_of new) (seen_of new) (g.H.Host.told y.host) (g.H.Host.counts y.host) (g.H.Host.counts z.host) c.lease-leased.result
+    (record { ordered = y.ordered; opened = take y.opened y.book.history.events; marked = g.H.Host.marked y.host; tells = is_some (g.H.Host.told y.host); faults = y.faults; misses = y.misses }) (charter_of old) (worker_of old) c.worker.result (taken_of mid) z.book.history.events (mine_of old) (mine_of mid) (mine_of new) (seen_of new) (g.H.Host.told y.host) (g.H.Host.counts y.host) (g.H.Host.counts z.host) c.lease-leased.result
     y.same_plan y.same_order c.take-yard.ensures.charter (c.worker.ensures.number ∙ c.take-yard.ensures.same.worker) c.take-yard.ensures.taken c.take-yard.ensures.lists.1 c.take-yard.ensures.mine c.requires.none_open c.give.ensures.grown c.give.ensures.seen c.lease-leased.ensures.leased
 
 pub returns-clause-inputs : goal.returns-clause-inputs
@@ -37,7 +39,7 @@ returns-clause-inputs g c =
     let z = c.lease-leased.new.self in
     let old = c.args.pass.now in
     let mid = c.take-yard.new.pass in
-    inputs_turn g.T.Tool.apply (record { ordered = y.ordered; marked = g.H.Host.marked y.host; tells = is_some (g.H.Host.told y.host); faults = y.faults; misses = y.misses }) (charter_of old) c.worker.result (taken_of mid) y.book.history.events z.book.history.events (mine_of old) (mine_of mid) (mine_of c.give.new.pass)
+    inputs_turn g.T.Tool.apply (record { ordered = y.ordered; opened = take y.opened y.book.history.events; marked = g.H.Host.marked y.host; tells = is_some (g.H.Host.told y.host); faults = y.faults; misses = y.misses }) (charter_of old) c.worker.result (taken_of mid) y.book.history.events z.book.history.events (mine_of old) (mine_of mid) (mine_of c.give.new.pass)
     c.take-yard.ensures.charter c.take-yard.ensures.taken c.take-yard.ensures.lists.1
     (lease_adds y.ordered.plan (state_at y.book) c.worker.result y.book.history.events z.book.history.events (g.H.Host.told y.host) (g.H.Host.counts y.host) (g.H.Host.counts z.host) c.lease-leased.result c.lease-leased.ensures.leased)
     c.give.ensures.grown

@@ -1,17 +1,28 @@
-use Rattle.std.proofs.Common.{sym}
-use Rattle.site_yard.proofs.DeliveryListLemmas.{digests_told}
+use Rattle.std.proofs.Common.{sym, drop, take}
+use Rattle.site_yard.proofs.DeliveryListLemmas.{are_long, digests_told, files_are, fresh_delivered, lengths_are}
 use Rattle.site_yard.proofs.yard.Yard.delivered.Goals as goal
 
 pub returns-clause-files : goal.returns-clause-files
-returns-clause-files g c = let y = c.args.self.now in rw (c.deref.ensures.value, sym y.same_plan) y.listed.files
+returns-clause-files g c =
+    let y = c.args.self.now in
+    rw (c.deref.ensures.value, sym y.same_plan) (files_are g.T.Tool.apply y.book.plan (take y.opened y.book.history.events) (drop y.opened y.book.history.events) (g.H.Host.told y.host) (g.H.Host.marked y.host) y.delivered.items y.listed)
 
 pub returns-clause-lengths : goal.returns-clause-lengths
-returns-clause-lengths g c = let y = c.args.self.now in rw (c.deref.ensures.value, sym y.same_plan) y.listed.lengths
+returns-clause-lengths g c =
+    let y = c.args.self.now in
+    rw (c.deref.ensures.value, sym y.same_plan) (lengths_are g.T.Tool.apply y.book.plan (take y.opened y.book.history.events) (drop y.opened y.book.history.events) (g.H.Host.told y.host) (g.H.Host.marked y.host) y.delivered.items y.listed)
 
 pub returns-clause-digests : goal.returns-clause-digests
 returns-clause-digests g c =
     let y = c.args.self.now in
-    rw (c.deref.ensures.value, sym y.same_plan) (digests_told g.T.Tool.apply y.book.plan y.book.history.events (g.H.Host.told y.host) (g.H.Host.marked y.host) y.delivered.items y.listed)
+    rw (c.deref.ensures.value, sym y.same_plan) (digests_told g.T.Tool.apply y.book.plan (take y.opened y.book.history.events) (drop y.opened y.book.history.events) (g.H.Host.told y.host) (g.H.Host.marked y.host) y.delivered.items y.listed)
 
 pub returns-clause-long : goal.returns-clause-long
-returns-clause-long g c = rw c.deref.ensures.value c.args.self.now.listed.long
+returns-clause-long g c =
+    let y = c.args.self.now in
+    rw c.deref.ensures.value (are_long g.T.Tool.apply y.book.plan (take y.opened y.book.history.events) (drop y.opened y.book.history.events) (g.H.Host.told y.host) (g.H.Host.marked y.host) y.delivered.items y.listed)
+
+pub returns-clause-all : goal.returns-clause-all
+returns-clause-all g c = λ none.
+    let y = c.args.self.now in
+    rw (c.deref.ensures.value, sym y.same_plan) (fresh_delivered g.T.Tool.apply y.book.plan y.opened y.book.history.events (g.H.Host.told y.host) (g.H.Host.marked y.host) y.delivered.items y.listed none)

@@ -1,14 +1,13 @@
 use Rattle.std.proofs.Common.{sym, ap, ◌∙◌}
 use Rattle.plan_core.specs.Words.{kind}
-use Rattle.site_yard.proofs.SweepLemmas.{clean_is, next_keeps}
-use Rattle.site_yard.proofs.StepLemmas.{next_choice, next_leases}
-use Rattle.site_yard.proofs.DeliveryListLemmas.{next_lists}
+use Rattle.site_yard.proofs.NextLemmas.{clean_is, next_begun, next_choice, next_keeps, next_leases}
+use Rattle.site_yard.proofs.ListLemmas.{next_lists}
 use Rattle.site_yard.proofs.yard.Yard.lease.Goals as goal
 
 pub invariant_of-self-clause-kept : goal.invariant_of-self-clause-kept
 invariant_of-self-clause-kept g c =
     let y = c.args.self.now in
-    rw c.next.ensures.plan (next_keeps g.T.Tool.apply y.book.plan _ c.args.worker c.next.result y.book.history.events _ _ _ y.faults y.misses _ c.next.ensures.next y.kept)
+    rw (c.next.ensures.plan, c.next.ensures.order) (next_keeps g.T.Tool.apply y.book.plan _ _ c.args.worker c.next.result y.book.history.events _ y.opened _ _ y.faults y.misses _ y.begun c.next.ensures.next y.kept)
 
 pub sweep-requires-clause-choice : goal.sweep-requires-clause-choice
 sweep-requires-clause-choice g c =
@@ -28,4 +27,9 @@ returns-in-NotYet-clause-leased g c = rw (sym c.args.self.now.same_plan) c.in-No
 pub invariant_of-self-clause-listed : goal.invariant_of-self-clause-listed
 invariant_of-self-clause-listed g c =
     let y = c.args.self.now in
-    rw c.next.ensures.plan (next_lists g.T.Tool.apply y.book.plan _ c.args.worker c.next.result y.book.history.events _ _ _ y.delivered.items c.next.ensures.next y.listed)
+    rw c.next.ensures.plan (next_lists g.T.Tool.apply y.book.plan _ c.args.worker c.next.result y.book.history.events _ y.opened _ _ y.delivered.items y.begun c.next.ensures.next y.listed)
+
+pub invariant_of-self-clause-begun : goal.invariant_of-self-clause-begun
+invariant_of-self-clause-begun g c =
+    let y = c.args.self.now in
+    next_begun y.book.plan _ c.args.worker c.next.result y.book.history.events _ y.opened y.begun c.next.ensures.next

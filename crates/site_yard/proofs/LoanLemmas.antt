@@ -1,0 +1,175 @@
+-- What the calls with a loan keep.
+use Rattle.std.proofs.Common.{◌≡◌, ℕ, zero, suc, ◌+◌, ◌-◌, ◌^◌, ◌≤◌, ◌<◌, min, ◌⊎◌, inl, inr, Bool, true, false, cond, List, [], ◌∷◌, ◌++◌, map, length, drop, take, refl, sym, ap, ◌∙◌, subst, nat_eq, arith}
+use Rattle.std.specs.Prelude.{Option, Some, None, option_map, is_some, IfSome, Ok, Err}
+use Rattle.std.specs.FinMap as files
+use Rattle.std.proofs.Math.Logic.{∥∥₁_elim, ∥∥₁_map}
+use Rattle.std.specs.Coded.{le_prop}
+use Rattle.outside.specs.Counts.{IsLater, Rose}
+use Rattle.values.specs.Apply.{Apply}
+use Rattle.outside.specs.declared.counts.Counts.{Counts}
+use Rattle.outside.specs.declared.store.Store.{Store}
+use Rattle.outside.specs.Store.{Change, changed_by, operation}
+use Rattle.outside.specs.Parts.{DraftState, ReadState}
+use Rattle.site_yard.specs.Returning.{TakesOver, draft_faults, reading_faults}
+use Rattle.plan_core.specs.declared.plan.Plan.{Plan}
+use Rattle.plan_core.specs.declared.plan.TaskKind.{TaskKind}
+use Rattle.plan_core.specs.declared.plan.TaskKind.TheVariants.{Transfer, Run, Clean as CleanTask}
+use Rattle.plan_core.specs.declared.plan.Source.TheVariants.{Pfn, Site}
+use Rattle.plan_core.specs.Proper.{IsProper}
+use Rattle.plan_core.specs.Words.{kind, reads, task_numbers, writes}
+use Rattle.run_record.specs.declared.entry.Cause.{Cause}
+use Rattle.run_record.specs.declared.entry.Cause.TheVariants.{Absent, TooLong, Checksum, Oversize, Declined, ToolFailed, HostFailed, Memory}
+use Rattle.run_record.specs.Events.{Event, Grant, Arrive, End, Clean, Fail, Again, Regrant}
+use Rattle.lease_book.specs.declared.book.Book.{Book}
+use Rattle.lease_book.specs.Book.{failure, is_tried_again, state_at}
+use Rattle.lease_book.specs.Law.{FitsFromStart}
+use Rattle.lease_book.specs.Legal.{Allowed, ArePublished, CauseFits, IsOpen, Legal, LegalFrom, is_from_pfn, is_too_long, is_too_long_for}
+use Rattle.lease_book.specs.State.{State, after, holder_after, now, now_from, opened}
+use Rattle.site_yard.specs.Changes.{carries, changes_of}
+use Rattle.site_yard.specs.Failures.{IsCounted}
+use Rattle.site_yard.specs.Kept.{IsKept, IsOpening}
+use Rattle.site_yard.specs.Law.{HasPlanLaws, HasRecordLaws}
+use Rattle.site_yard.specs.Lending.{IsHostCause, IsReplicaCause, RefusesLoan, RefusesReadings}
+use Rattle.site_yard.specs.Loading.{ReadPairs, SomeUnfit}
+use Rattle.site_yard.specs.Moving.{HaveFaultsRisen, HaveMissesRisen}
+use Rattle.site_yard.specs.Trace.{operations_of, published_at}
+use Rattle.site_yard.specs.Truthful.{IsCause, IsTrue}
+use Rattle.site_yard.specs.Yard.{Adds, IsBehind, IsFailure, IsLending, IsTold, IsWorkers}
+use Rattle.site_yard.proofs.KeptLemmas.{KeepsSizes, Makes, failed, keeps, sized_failed, told_all}
+use Rattle.site_yard.proofs.NextLemmas.{rose_none}
+
+-- the laws of a book's plan and of its records
+pub record HasBookLaws (b : Book) : Type 0 where
+  pub plans : HasPlanLaws b.plan
+  pub records : HasRecordLaws b.plan (task_numbers b.order.items)
+
+pub book_laws : (b : Book) → ((p : Plan) → IsProper p → HasPlanLaws p) → ((p : Plan) (order : List ℕ) → IsProper p → FitsFromStart p order → HasRecordLaws p order) → HasBookLaws b
+book_laws b plans records = record { plans = plans b.plan b.proper; records = records b.plan (task_numbers b.order.items) b.proper b.kept.fits }
+
+-- every worker is below 16
+put_small : (f : ℕ → ℕ) (u w t : ℕ) → w < 16 → ((x : ℕ) → f x < 16) → cond (nat_eq u t) w (f t) < 16
+put_small f u w t a h = by (nat_eq u t)
+  where
+    by : (b : Bool) → cond b w (f t) < 16
+    by true = a
+    by false = h t
+
+holder_small : (p : Plan) (s : State) (e : Event) → Allowed p s e → ((x : ℕ) → s.holder x < 16) → (t : ℕ) → holder_after e s.holder t < 16
+holder_small p s (Grant w u) a h t = put_small s.holder u w t a.0 h
+holder_small p s (Regrant w u) a h t = put_small s.holder u w t a.0 h
+holder_small p s (Arrive w u n) a h t = h t
+holder_small p s (End w u ns) a h t = h t
+holder_small p s (Clean w u) a h t = h t
+holder_small p s (Fail w u c ns) a h t = h t
+holder_small p s (Again w u c ns) a h t = h t
+
+holders_small : (p : Plan) (s : State) (r : List Event) → LegalFrom p s r → ((x : ℕ) → s.holder x < 16) → (t : ℕ) → (now_from p s r).holder t < 16
+holders_small p s [] l h t = h t
+holders_small p s (e ∷ r) l h t = holders_small p (after p s e) r l.1 (holder_small p s e l.0 h) t
+
+zero_small : (x : ℕ) → 0 < 16
+zero_small x = omega arith
+
+open_worker : (p : Plan) (order : List ℕ) (r : List Event) (w t : ℕ) → Legal p order r → IsOpen (now p order r) w t → w < 16
+open_worker p order r w t legal opened_ = subst (λ z. z < 16) opened_.holds (holders_small p (opened order) r legal zero_small t)
+
+pub worker_low : (b : Book) (w t : ℕ) → IsOpen (state_at b) w t → w < 16
+worker_low b w t opened_ = ∥∥₁_elim b.kept.legal (hlevel le_prop) (λ l. open_worker b.plan (task_numbers b.order.items) b.history.events w t l opened_)
+
+-- what a failure says of counts, tried again or not
+pub failed_counted : (o : Option Store) (before now_ : Counts) (b : Bool) (w t : ℕ) (cause : Cause) (ns : List ℕ) → IsCounted o before now_ (Fail w t cause ns) → IsCounted o before now_ (failed b w t cause ns)
+failed_counted None before now_ true w t cause ns h = h
+failed_counted (Some s) before now_ true w t cause ns h = h
+failed_counted o before now_ false w t cause ns h = h
+
+pub rose_fault : (o : Option Store) (before now_ : Counts) (w t : ℕ) (ns : List ℕ) → IsLater before now_ → HaveFaultsRisen before now_ → IsCounted o before now_ (Fail w t HostFailed ns)
+rose_fault None before now_ w t ns later rose =
+    let lm : before.misses ≤ now_.misses = later.misses in
+    (later, λ x y. omega (arith, lm, x, rose))
+rose_fault (Some s) before now_ w t ns later rose = (later, λ x. omega (arith, x, rose))
+
+-- a cause that a worker tells
+taken_over : (rs : List ReadState) (ds : List DraftState) (before mid now_ : Counts) → 1 ≤ reading_faults rs + draft_faults ds → TakesOver (reading_faults rs) before mid → TakesOver (draft_faults ds) mid now_ → HaveFaultsRisen before now_
+taken_over rs ds before mid now_ some a b = omega (arith, some, a, b)
+
+pub abandon_counted : (o : Option Store) (rs : List ReadState) (ds : List DraftState) (before mid now_ : Counts) (b : Bool) (w t : ℕ) (cause : Cause) → IsWorkers cause → IsBehind rs ds cause → IsLater before now_ → TakesOver (reading_faults rs) before mid → TakesOver (draft_faults ds) mid now_ → IsCounted o before now_ (failed b w t cause [])
+abandon_counted o rs ds before mid now_ b w t cause own behind later first second = failed_counted o before now_ b w t cause [] (by cause own behind)
+  where
+    by : (cause : Cause) → IsWorkers cause → IsBehind rs ds cause → IsCounted o before now_ (Fail w t cause [])
+    by Absent own behind = absurd own
+    by (TooLong n) own behind = absurd own
+    by (Checksum d) own behind = rose_none o before now_ (Fail w t (Checksum d) []) refl refl later
+    by (Oversize j f n) own behind = rose_none o before now_ (Fail w t (Oversize j f n) []) refl refl later
+    by (Declined j) own behind = rose_none o before now_ (Fail w t (Declined j) []) refl refl later
+    by (ToolFailed j) own behind = rose_none o before now_ (Fail w t (ToolFailed j) []) refl refl later
+    by HostFailed own behind = rose_fault o before now_ w t [] later (taken_over rs ds before mid now_ behind first second)
+    by Memory own behind = rose_none o before now_ (Fail w t Memory []) refl refl later
+
+failed_changes : (p : Plan) (c : ℕ → ℕ → Option (List ℕ)) (b : Bool) (w t : ℕ) (cause : Cause) → [] ≡ changes_of p c (failed b w t cause [])
+failed_changes p c true w t cause = refl
+failed_changes p c false w t cause = refl
+
+pub failed_operations : (p : Plan) (b : Bool) (w t : ℕ) (cause : Cause) → map operation [] ≡ operations_of p (failed b w t cause [])
+failed_operations p true w t cause = by (writes p t)
+  where
+    by : (qs : List ℕ) → [] ≡ published_at p qs []
+    by [] = refl
+    by (q ∷ qs) = refl
+failed_operations p false w t cause = by (writes p t)
+  where
+    by : (qs : List ℕ) → [] ≡ published_at p qs []
+    by [] = refl
+    by (q ∷ qs) = refl
+
+failed_true : (apply : Apply) (told : List ℕ → Option (List ℕ)) (p : Plan) (c : ℕ → ℕ → Option (List ℕ)) (b : Bool) (w t : ℕ) (cause : Cause) → IsCause apply told p c t cause → IsTrue apply told p c (failed b w t cause [])
+failed_true apply told p c true w t cause is = refl
+failed_true apply told p c false w t cause is = (refl, is)
+
+pub failed_made : (apply : Apply) (p : Plan) (first : List Event) (m : Store) (o : Option Store) (b : Bool) (w t : ℕ) (cause : Cause) → (IsOpening apply p first m → IsTold apply p m o t cause) → Makes apply p first m o (failed b w t cause []) []
+failed_made apply p first m None b w t cause told = λ opening. tt
+failed_made apply p first m (Some s) b w t cause told = λ opening. (failed_changes p (carries apply p m) b w t cause, failed_true apply (λ pfn. files.get m.replicas pfn) p (carries apply p m) b w t cause (told opening))
+
+unchanged_as : (o n : Option Store) → n ≡ o → n ≡ option_map (λ s. changed_by s []) o
+unchanged_as None n e = e
+unchanged_as (Some s) n e = e
+
+-- a failure by which nothing that is told changes
+pub plain_keeps : (apply : Apply) (b : Book) (k : ℕ) (o n : Option Store) (m : Store) (f0 m0 : ℕ) (before now_ : Counts) (w t : ℕ) (cause : Cause) → k ≤ length b.history.events → ∥ IsKept apply b.plan (task_numbers b.order.items) (take k b.history.events) (drop k b.history.events) o m f0 m0 before ∥₁
+    → n ≡ o → (IsOpening apply b.plan (take k b.history.events) m → IsTold apply b.plan m o t cause) → IsCounted o before now_ (failure b.plan (state_at b) w t cause [])
+    → ∥ IsKept apply b.plan (task_numbers b.order.items) (take k (b.history.events ++ failure b.plan (state_at b) w t cause [] ∷ [])) (drop k (b.history.events ++ failure b.plan (state_at b) w t cause [] ∷ [])) n m f0 m0 now_ ∥₁
+plain_keeps apply b k o n m f0 m0 before now_ w t cause begun kept same told counted =
+    let again = is_tried_again b.plan (state_at b) t cause in
+    keeps apply b.plan (task_numbers b.order.items) b.history.events k (failed again w t cause []) o n m f0 m0 before now_ [] begun kept (unchanged_as o n same) (told_all (map operation [] ≡ operations_of b.plan (failed again w t cause [])) o (failed_operations b.plan again w t cause))
+    (failed_made apply b.plan (take k b.history.events) m o again w t cause told) (told_all (KeepsSizes b.plan (state_at b) (failed again w t cause []) []) o (sized_failed b.plan (state_at b) again w t cause [])) counted
+
+-- a refused loan
+pub none_published : (p : Plan) (t : ℕ) → ArePublished p t []
+none_published p t = (λ h. refl, tt)
+
+replica_fits : (p : Plan) (t f : ℕ) (x : List ℕ) (g : _) (to : _) (found : Option (Option (List ℕ))) (before now_ : Counts) (cause : Cause) → kind p t ≡ Some (Transfer g (Pfn x) to) → g.0 ≡ f → IsReplicaCause p f found before now_ cause → CauseFits p t cause []
+replica_fits p t f x g to found before now_ Absent e same h = (ap is_from_pfn e, refl)
+replica_fits p t f x g to found before now_ (TooLong n) e same h = (ap is_from_pfn e, ap (λ k. is_too_long_for p k n) e ∙ ap (λ z. is_too_long p z n) same ∙ h.1, refl)
+replica_fits p t f x g to found before now_ HostFailed e same h = none_published p t
+replica_fits p t f x g to found before now_ Memory e same h = none_published p t
+replica_fits p t f x g to found before now_ cause e same h = absurd h
+
+host_fits : (p : Plan) (t : ℕ) (before now_ : Counts) (cause : Cause) → IsHostCause before now_ cause → CauseFits p t cause []
+host_fits p t before now_ HostFailed h = none_published p t
+host_fits p t before now_ Memory h = none_published p t
+host_fits p t before now_ cause h = absurd h
+
+pairs_fit : (p : Plan) (t : ℕ) (qs : List ℕ) (o : Option Store) (before now_ : Counts) (cause : Cause) → ReadPairs p qs o before now_ (Err cause) → CauseFits p t cause []
+pairs_fit p t qs o before now_ HostFailed h = none_published p t
+pairs_fit p t qs o before now_ Memory h = none_published p t
+pairs_fit p t qs o before now_ cause h = absurd h
+
+readings_fit : (p : Plan) (t : ℕ) (k : Option TaskKind) (o : Option Store) (before now_ : Counts) (cause : Cause) → kind p t ≡ k → RefusesReadings p k (reads p t) o before now_ cause → CauseFits p t cause []
+readings_fit p t None o before now_ cause e h = pairs_fit p t (reads p t) o before now_ cause h
+readings_fit p t (Some (Run a js)) o before now_ cause e h = pairs_fit p t (reads p t) o before now_ cause h
+readings_fit p t (Some (CleanTask q)) o before now_ cause e h = pairs_fit p t (reads p t) o before now_ cause h
+readings_fit p t (Some (Transfer g (Site a) to)) o before now_ cause e h = pairs_fit p t (reads p t) o before now_ cause h
+readings_fit p t (Some (Transfer g (Pfn x) to)) o before now_ cause e h = replica_fits p t g.0 x g to _ before now_ cause e refl h
+
+pub lend_fits : (p q : Plan) (t : ℕ) (o : Option Store) (before now_ : Counts) (cause : Cause) → q ≡ p → RefusesLoan q (kind q t) (reads q t) o before now_ cause → CauseFits p t cause []
+lend_fits p q t o before now_ cause same (inl h) = subst (λ z. CauseFits z t cause []) same (readings_fit q t (kind q t) o before now_ cause refl h)
+lend_fits p q t o before now_ cause same (inr h) = host_fits p t before now_ cause h

@@ -1,7 +1,0 @@
-use Rattle.std.proofs.Common.{take}
-use Rattle.plan_core.specs.Words.{pair_numbers}
-use Rattle.site_yard.specs.Storing.{AreWithin}
-use Rattle.site_yard.proofs.storing.first_past.Given as goal
-
-abbrev pub invariant-loop-k : goal.invariant-loop-k
-invariant-loop-k l = AreWithin l.plan (pair_numbers (take l.k l.pairs)) (take l.k l.outputs)

@@ -1,6 +1,0 @@
-use Rattle.std.proofs.Common.{◌≡◌, true, drop}
-use Rattle.plan_core.specs.Kinds.{makes}
-use Rattle.site_yard.proofs.storing.maker_among.Given as goal
-
-abbrev pub invariant-loop-k : goal.invariant-loop-k
-invariant-loop-k l = makes l.jobs (drop l.k l.some) l.file.0 ≡ true

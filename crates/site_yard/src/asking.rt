@@ -1,0 +1,87 @@
+//! What is asked of a yard.
+
+ghost use Rattle.std.specs.Prelude.{◌≡◌, ◌⊎◌, [], IfOk, IfSome, drop, take, true};
+ghost use Rattle.plan_core.specs.Words.{task_numbers};
+ghost use Rattle.lease_book.specs.Book.{state_at};
+ghost use Rattle.lease_book.specs.Legal.{IsComplete, Legal};
+ghost use Rattle.site_yard.specs.Changes.{carries};
+ghost use Rattle.site_yard.specs.Delivered.{AreAllDelivered, AreDigests, AreFiles, AreLengths, AreLong, arrivals};
+ghost use Rattle.site_yard.specs.Ending.{Ends};
+ghost use Rattle.site_yard.specs.Failures.{AreCounted};
+ghost use Rattle.site_yard.specs.Kept.{IsOpening};
+ghost use Rattle.site_yard.specs.Law.{Agrees, AgreesSince};
+
+use crate::delivered::Delivered;
+use crate::ending::{first_failed, run_fault};
+use crate::law::{plan_laws, record_laws};
+use crate::yard::Yard;
+use lease_book::Book;
+use outside::{Host, Tool};
+use plan_core::Plan;
+use run_record::RunFault;
+use std::alloc::Global;
+
+impl<H: Host, T: Tool> Yard<H, T> {
+    /// The record is Legal; a host that tells shows its entries since the opening, and the host's counts their failures. Of
+    /// a yard that was opened with no entry they are all.
+    pub fn agrees(&self)
+        ensures legal { ∥ Legal self.now.ordered.plan (task_numbers self.now.ordered.tasks.items) self.now.book.history.events ∥₁ }
+        ensures shows { ∥ IfSome (H.told self.now.host) (AgreesSince T.apply self.now.ordered.plan (take self.now.opened self.now.book.history.events) (drop self.now.opened self.now.book.history.events) (H.marked self.now.host)) ∥₁ }
+        ensures counted { ∥ AreCounted (H.told self.now.host) self.now.faults self.now.misses (H.counts self.now.host) (drop self.now.opened self.now.book.history.events) ∥₁ }
+        ensures shows_all { take self.now.opened self.now.book.history.events ≡ [] → ∥ IfSome (H.told self.now.host) (Agrees T.apply self.now.ordered.plan self.now.book.history.events (H.marked self.now.host)) ∥₁ }
+        ensures counts_all { take self.now.opened self.now.book.history.events ≡ [] → ∥ AreCounted (H.told self.now.host) self.now.faults self.now.misses (H.counts self.now.host) self.now.book.history.events ∥₁ }
+    {
+        plan_laws();
+        record_laws();
+        let _record = self.book.record();
+    }
+
+    /// Why the run failed, by its first Fail.
+    pub fn ending(&self, alloc: Global) -> Result<(), RunFault>
+        requires over { IsComplete self.now.ordered.plan (state_at self.now.book) ⊎ ((state_at self.now.book).failing ≡ true) }
+        ensures ends { Ends self.now.ordered.plan self.now.book.history.events result }
+        ensures done { IfOk result (λ u. IsComplete self.now.ordered.plan (state_at self.now.book)) }
+    {
+        plan_laws();
+        record_laws();
+        let ordered = &self.ordered;
+        match first_failed(self.book.record()) {
+            None => Ok(()),
+            Some(failed) => match run_fault(ordered.plan(), alloc, failed.task, &failed.cause) {
+                Ok(fault) => Err(fault),
+                Err(_) => Err(RunFault::Memory),
+            },
+        }
+    }
+
+    /// What was delivered since the opening, in the order of the record.
+    pub fn delivered(&self) -> &[Delivered]
+        ensures files { AreFiles result.now (arrivals self.now.ordered.plan (drop self.now.opened self.now.book.history.events)) }
+        ensures lengths { AreLengths result.now (arrivals self.now.ordered.plan (drop self.now.opened self.now.book.history.events)) }
+        ensures digests { IsOpening T.apply self.now.ordered.plan (take self.now.opened self.now.book.history.events) (H.marked self.now.host) → IfSome (H.told self.now.host) (λ s. AreDigests (carries T.apply self.now.ordered.plan (H.marked self.now.host)) result.now (arrivals self.now.ordered.plan (drop self.now.opened self.now.book.history.events))) }
+        ensures long { AreLong result.now }
+        ensures all { take self.now.opened self.now.book.history.events ≡ [] → AreAllDelivered T.apply self.now.ordered.plan self.now.book.history.events (H.told self.now.host) (H.marked self.now.host) result.now }
+    {
+        &self.delivered
+    }
+
+    /// The plan of the record.
+    pub fn plan(&self) -> &Plan
+        ensures { result.now ≡ self.now.ordered.plan }
+    {
+        let ordered = &self.ordered;
+        ordered.plan()
+    }
+
+    pub fn book(&self) -> &Book
+        ensures { result.now ≡ self.now.book }
+    {
+        &self.book
+    }
+
+    pub fn into_host(self) -> H
+        ensures { result ≡ self.host }
+    {
+        self.host
+    }
+}

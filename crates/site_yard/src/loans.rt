@@ -1,0 +1,147 @@
+//! Loans of a yard: made, settled or abandoned. Each adds one entry at most.
+
+ghost use Rattle.std.specs.Prelude.{◌≡◌, ◌++◌, ◌∷◌, [], IfErr, IfNone, IfOk, IfSome, is_some, length, map, take};
+ghost use Rattle.outside.specs.Counts.{IsLater};
+ghost use Rattle.plan_core.specs.Words.{kind, reads};
+ghost use Rattle.lease_book.specs.Book.{failure, state_at};
+ghost use Rattle.lease_book.specs.Legal.{CauseFits, IsOpen};
+ghost use Rattle.site_yard.specs.Failures.{IsCounted};
+ghost use Rattle.site_yard.specs.Kept.{IsOpening};
+ghost use Rattle.site_yard.specs.Lending.{RefusesLoan};
+ghost use Rattle.site_yard.specs.Loan.{AreReadings, CanSettle, IsLent, IsLoan, fresh_at, targets};
+ghost use Rattle.site_yard.specs.Yard.{Adds, IsBehind, IsFailure, IsSettled, IsTold, IsWorkers};
+
+use crate::delivered::keep;
+use crate::law::{plan_laws, record_laws};
+use crate::lending::{Loan, make_loan};
+use crate::moving::scratch_cause;
+use crate::returning::{discard_all, finish_all, publish_all};
+use crate::yard::Yard;
+use outside::{Host, TaskId, Tool};
+use run_record::Cause;
+use std::alloc::Global;
+
+/// The size of the one draft of a Transfer.
+fn only_size(sizes: &[u64]) -> u64
+    requires { length sizes.now ≡ 1 }
+    ensures { sizes.now ≡ result ∷ [] }
+{
+    sizes[0]
+}
+
+impl<H: Host, T: Tool> Yard<H, T> {
+    /// Makes the loan of a task, and adds nothing.
+    fn make(&mut self, alloc: Global, task: TaskId) -> Result<Loan<H>, Cause>
+        ensures readings { IfOk result (λ l. AreReadings self.old.ordered.plan (kind self.old.ordered.plan task.0) (reads self.old.ordered.plan task.0) (H.told self.old.host) (map H.Reading.state l.readings.items)) }
+        ensures drafts { IfOk result (λ l. map H.Draft.state l.drafts.items ≡ map (fresh_at (H.told self.old.host)) (targets self.old.ordered.plan task.0)) }
+        ensures refused { IfErr result (λ c. RefusesLoan self.old.ordered.plan (kind self.old.ordered.plan task.0) (reads self.old.ordered.plan task.0) (H.told self.old.host) (H.counts self.old.host) (H.counts self.new.host) c) }
+        ensures told { H.told self.new.host ≡ H.told self.old.host }
+        ensures ordered { self.new.ordered ≡ self.old.ordered }
+        ensures book { self.new.book ≡ self.old.book }
+        ensures opened { self.new.opened ≡ self.old.opened }
+        ensures later { IsLater (H.counts self.old.host) (H.counts self.new.host) }
+        ensures marked { H.marked self.new.host ≡ H.marked self.old.host }
+        ensures faults { self.new.faults ≡ self.old.faults }
+        ensures misses { self.new.misses ≡ self.old.misses }
+        ensures delivered { self.new.delivered ≡ self.old.delivered }
+    {
+        let ordered = &self.ordered;
+        make_loan(ordered.plan(), &mut self.host, alloc, task)
+    }
+
+    /// Opens the readings and makes the drafts of a task that is open, or adds a failure. While the loan is out the yard
+    /// knows nothing of it.
+    pub fn lend(&mut self, alloc: Global, worker: u32, task: TaskId) -> Option<Loan<H>>
+        requires open { IsOpen (state_at self.old.book) worker task.0 }
+        ensures same { IfSome result (λ l. self.new.book.history.events ≡ self.old.book.history.events) }
+        ensures lent { IfSome result (λ l. IsLent T.apply self.old.ordered.plan (take self.old.opened self.old.book.history.events) (H.marked self.old.host) (H.told self.old.host) task.0 (map H.Reading.state l.readings.items) (map H.Draft.state l.drafts.items)) }
+        ensures none { IfNone result (Adds self.old.book.history.events self.new.book.history.events (IsFailure worker task.0) (H.told self.old.host) (H.counts self.old.host) (H.counts self.new.host)) }
+        ensures told { H.told self.new.host ≡ H.told self.old.host }
+        ensures ordered { self.new.ordered ≡ self.old.ordered }
+        ensures opened { self.new.opened ≡ self.old.opened }
+        ensures later { IsLater (H.counts self.old.host) (H.counts self.new.host) }
+        ensures marked { H.marked self.new.host ≡ H.marked self.old.host }
+        ensures faults { self.new.faults ≡ self.old.faults }
+        ensures misses { self.new.misses ≡ self.old.misses }
+    {
+        plan_laws();
+        record_laws();
+        match self.make(alloc, task) {
+            Ok(loan) => Some(loan),
+            Err(cause) => {
+                self.book.fail(worker, task, &cause, &[]);
+                None
+            }
+        }
+    }
+
+    /// Publishes the drafts of a loan in order, and adds an Arrive, with what was delivered, or an End; or a failure of the
+    /// host or want of memory, with the sizes of the drafts that were published. All parts are given back.
+    pub fn settle(
+        &mut self,
+        alloc: Global,
+        worker: u32,
+        task: TaskId,
+        loan: Loan<H>,
+        sizes: &[u64],
+        digest: Option<[u8; 32]>,
+    )
+        requires open { IsOpen (state_at self.old.book) worker task.0 }
+        requires settles { CanSettle T.apply self.old.ordered.plan (take self.old.opened self.old.book.history.events) (H.marked self.old.host) (H.told self.old.host) task.0 (map H.Reading.state loan.readings.items) (map H.Draft.state loan.drafts.items) sizes.now digest }
+        ensures entry { Adds self.old.book.history.events self.new.book.history.events (IsSettled self.old.ordered.plan worker task.0 sizes.now) (H.told self.old.host) (H.counts self.old.host) (H.counts self.new.host) }
+        ensures ordered { self.new.ordered ≡ self.old.ordered }
+        ensures opened { self.new.opened ≡ self.old.opened }
+        ensures tells { is_some (H.told self.new.host) ≡ is_some (H.told self.old.host) }
+        ensures later { IsLater (H.counts self.old.host) (H.counts self.new.host) }
+        ensures marked { H.marked self.new.host ≡ H.marked self.old.host }
+        ensures faults { self.new.faults ≡ self.old.faults }
+        ensures misses { self.new.misses ≡ self.old.misses }
+    {
+        plan_laws();
+        record_laws();
+        let Loan { readings, drafts } = loan;
+        finish_all(&mut self.host, readings);
+        let done = publish_all(&mut self.host, alloc, drafts);
+        match done.refused {
+            Some(fault) => {
+                let cause = scratch_cause(fault);
+                self.book.fail(worker, task, &cause, &sizes[..done.count]);
+            }
+            None => {
+                let ordered = &self.ordered;
+                let plan = ordered.plan();
+                if plan.is_transfer(task) {
+                    let size = only_size(sizes);
+                    keep(plan, &mut self.delivered, task, size, digest);
+                    self.book.arrive(worker, task, size);
+                } else {
+                    self.book.end(worker, task, sizes);
+                }
+            }
+        }
+    }
+
+    /// Gives the parts of a loan back, publishes nothing, and adds the failure that a worker tells. It takes no memory.
+    pub fn abandon(&mut self, worker: u32, task: TaskId, loan: Loan<H>, cause: &Cause)
+        requires open { IsOpen (state_at self.old.book) worker task.0 }
+        requires loan { IsLoan self.old.ordered.plan (H.told self.old.host) task.0 (map H.Reading.state loan.readings.items) (map H.Draft.state loan.drafts.items) }
+        requires kind { IsWorkers cause.now }
+        requires fits { CauseFits self.old.ordered.plan task.0 cause.now [] }
+        requires shown { IsBehind (map H.Reading.state loan.readings.items) (map H.Draft.state loan.drafts.items) cause.now }
+        requires told { IsOpening T.apply self.old.ordered.plan (take self.old.opened self.old.book.history.events) (H.marked self.old.host) → IsTold T.apply self.old.ordered.plan (H.marked self.old.host) (H.told self.old.host) task.0 cause.now }
+        ensures entry { self.new.book.history.events ≡ self.old.book.history.events ++ failure self.old.ordered.plan (state_at self.old.book) worker task.0 cause.now [] ∷ [] }
+        ensures counted { IsCounted (H.told self.old.host) (H.counts self.old.host) (H.counts self.new.host) (failure self.old.ordered.plan (state_at self.old.book) worker task.0 cause.now []) }
+        ensures told { H.told self.new.host ≡ H.told self.old.host }
+        ensures ordered { self.new.ordered ≡ self.old.ordered }
+        ensures opened { self.new.opened ≡ self.old.opened }
+        ensures later { IsLater (H.counts self.old.host) (H.counts self.new.host) }
+        ensures marked { H.marked self.new.host ≡ H.marked self.old.host }
+        ensures faults { self.new.faults ≡ self.old.faults }
+        ensures misses { self.new.misses ≡ self.old.misses }
+    {
+        let Loan { readings, drafts } = loan;
+        finish_all(&mut self.host, readings);
+        discard_all(&mut self.host, drafts);
+        self.book.fail(worker, task, cause, &[]);
+    }
+}

@@ -1,0 +1,68 @@
+//! Parts, given back to their host.
+
+ghost use Rattle.std.specs.Prelude.{◌≡◌, map};
+ghost use Rattle.outside.specs.Counts.{IsLater};
+ghost use Rattle.site_yard.specs.Returning.{Publishes, TakesOver, draft_faults, reading_faults};
+
+use outside::{Host, HostFault};
+use std::alloc::Global;
+
+/// How many drafts were published, and what refused the next one.
+#[derive(Debug, Clone, Copy)]
+pub(crate) struct Publication {
+    pub count: usize,
+    pub refused: Option<HostFault>,
+}
+
+/// Gives readings back.
+pub(crate) fn finish_all<H: Host>(host: &mut H, readings: Vec<H::Reading>)
+    ensures told { H.told host.new ≡ H.told host.old }
+    ensures marked { H.marked host.new ≡ H.marked host.old }
+    ensures counts { TakesOver (reading_faults (map H.Reading.state readings.items)) (H.counts host.old) (H.counts host.new) }
+    ensures later { IsLater (H.counts host.old) (H.counts host.new) }
+{
+    let mut readings = readings;
+    while let Some(reading) = readings.pop() {
+        host.finish(reading);
+    }
+}
+
+/// Gives drafts back that aren't published.
+pub(crate) fn discard_all<H: Host>(host: &mut H, drafts: Vec<H::Draft>)
+    ensures told { H.told host.new ≡ H.told host.old }
+    ensures marked { H.marked host.new ≡ H.marked host.old }
+    ensures counts { TakesOver (draft_faults (map H.Draft.state drafts.items)) (H.counts host.old) (H.counts host.new) }
+    ensures later { IsLater (H.counts host.old) (H.counts host.new) }
+{
+    let mut drafts = drafts;
+    while let Some(draft) = drafts.pop() {
+        host.discard(draft);
+    }
+}
+
+/// Publishes drafts in order. After a refusal the others are discarded.
+pub(crate) fn publish_all<H: Host>(host: &mut H, alloc: Global, drafts: Vec<H::Draft>) -> Publication
+    ensures answer { Publishes (map H.Draft.state drafts.items) (H.told host.old) (H.told host.new) (H.counts host.old) (H.counts host.new) result.count result.refused }
+    ensures marked { H.marked host.new ≡ H.marked host.old }
+    ensures later { IsLater (H.counts host.old) (H.counts host.new) }
+{
+    let mut drafts = drafts;
+    let mut count = 0;
+    while !drafts.is_empty() {
+        let draft = drafts.remove(0);
+        match host.publish(alloc, draft) {
+            Ok(()) => count += 1,
+            Err(fault) => {
+                discard_all(host, drafts);
+                return Publication {
+                    count,
+                    refused: Some(fault),
+                };
+            }
+        }
+    }
+    Publication {
+        count,
+        refused: None,
+    }
+}

@@ -1,0 +1,96 @@
+//! Bytes between parts, outside the lock.
+
+ghost use Rattle.std.specs.Prelude.{◌≡◌, ◌≤◌, ◌++◌, IfErr, IfOk, OnOk, length};
+ghost use Rattle.task_work.specs.Pieces.{HasMoved, HasRead, HasWritten, IsPartFault, IsReadFault, IsSteadyDraft, IsSteadyReading};
+
+use outside::{Blob, HostFault, Memory, ReadPart, WritePart};
+use sha2::{Digest, Sha256};
+use std::alloc::Global;
+
+/// How many bytes are moved at a time.
+const PIECE: usize = 65536;
+
+/// What was moved: how many bytes, and their SHA-256.
+#[derive(Debug, Clone, Copy)]
+pub struct Moved {
+    pub length: u64,
+    pub digest: [u8; 32],
+}
+
+/// Moves a reading's bytes to a draft, in pieces, and computes their digest on the way.
+pub fn move_pieces<I: ReadPart, O: WritePart>(
+    alloc: Global,
+    reading: &mut I,
+    draft: &mut O,
+) -> Result<Moved, HostFault>
+    requires start { (I.state reading.old).given ≡ 0 }
+    requires empty { (O.state draft.old).size ≡ 0 }
+    requires limit { (I.state reading.old).size ≤ (O.state draft.old).limit }
+    ensures moved { IfOk result (λ m. HasMoved (I.state reading.old) (O.state draft.old) (O.state draft.new) m.length m.digest) }
+    ensures fault { IfErr result (λ e. IsPartFault (I.state reading.old) (I.state reading.new) (O.state draft.old) (O.state draft.new) e) }
+    ensures reading { IsSteadyReading (I.state reading.old) (I.state reading.new) }
+    ensures draft { IsSteadyDraft (O.state draft.old) (O.state draft.new) }
+{
+    let mut piece = [0u8; PIECE];
+    let mut hasher = Sha256::new();
+    loop {
+        let count = match reading.read(&mut piece) {
+            Ok(0) => {
+                return Ok(Moved {
+                    length: draft.length(),
+                    digest: hasher.finalize(),
+                });
+            }
+            Ok(count) => count,
+            Err(fault) => return Err(fault),
+        };
+        let bytes = &piece[..count];
+        hasher.update(bytes);
+        match draft.append(alloc, bytes) {
+            Ok(()) => {}
+            Err(fault) => return Err(fault),
+        }
+    }
+}
+
+fn push_piece(bytes: &mut Vec<u8>, piece: &[u8]) -> Result<(), Memory>
+    ensures { OnOk result (bytes.new.items ≡ bytes.old.items ++ piece.now) }
+{
+    bytes.extend_from_slice(piece)?;
+    Ok(())
+}
+
+/// All bytes of a reading, from its beginning.
+pub fn read_whole<I: ReadPart>(alloc: Global, reading: &mut I) -> Result<Blob, HostFault>
+    requires start { (I.state reading.old).given ≡ 0 }
+    ensures read { IfOk result (λ b. HasRead (I.state reading.old) b) }
+    ensures fault { IfErr result (λ e. IsReadFault (I.state reading.old) (I.state reading.new) e) }
+    ensures reading { IsSteadyReading (I.state reading.old) (I.state reading.new) }
+{
+    let mut piece = [0u8; PIECE];
+    let mut bytes = Vec::new(alloc);
+    loop {
+        let count = match reading.read(&mut piece) {
+            Ok(0) => return Ok(Blob::new(bytes)),
+            Ok(count) => count,
+            Err(fault) => return Err(fault),
+        };
+        match push_piece(&mut bytes, &piece[..count]) {
+            Ok(()) => {}
+            Err(_) => return Err(HostFault::Memory),
+        }
+    }
+}
+
+/// Writes bytes to an empty draft.
+pub fn write_whole<O: WritePart>(
+    alloc: Global,
+    draft: &mut O,
+    bytes: &[u8],
+) -> Result<(), HostFault>
+    requires empty { (O.state draft.old).size ≡ 0 }
+    requires limit { length bytes.now ≤ (O.state draft.old).limit }
+    ensures answer { HasWritten (O.state draft.old) (O.state draft.new) bytes.now result }
+{
+    draft.append(alloc, bytes)
+}

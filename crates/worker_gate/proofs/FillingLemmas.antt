@@ -1,0 +1,99 @@
+-- What the filling of a loan comes to: it can be settled, or abandoned.
+use Rattle.std.proofs.Common.{◌≡◌, ℕ, ◌+◌, ◌≤◌, true, List, [], ◌∷◌, map, length, refl, sym, ap, ◌∙◌, subst, arith}
+use Rattle.std.specs.Prelude.{Option, Some, None, IfSome, Result, Ok, Err}
+use Rattle.std.specs.FinMap as files
+use Rattle.values.specs.Apply.{Apply}
+use Rattle.outside.specs.Counts.{Rose}
+use Rattle.outside.specs.Parts.{DraftState, ReadState}
+use Rattle.outside.specs.declared.store.Store.{Store}
+use Rattle.plan_core.specs.declared.plan.Plan.{Plan}
+use Rattle.plan_core.specs.Proper.{IsProper}
+use Rattle.plan_core.specs.Words.{kind}
+use Rattle.run_record.specs.declared.entry.Cause.{Cause}
+use Rattle.run_record.specs.declared.entry.Cause.TheVariants as why
+use Rattle.run_record.specs.Events.{Event}
+use Rattle.lease_book.specs.Legal.{CauseFits}
+use Rattle.site_yard.specs.Changes.{carries}
+use Rattle.site_yard.specs.Failures.{RoseBy, tool_fault_in}
+use Rattle.site_yard.specs.Kept.{IsOpening}
+use Rattle.site_yard.specs.Law.{HasPlanLaws}
+use Rattle.site_yard.specs.Returning.{draft_faults, reading_faults}
+use Rattle.site_yard.specs.Truthful.{IsCause}
+use Rattle.site_yard.specs.Yard.{IsBehind, IsTold, IsWorkers}
+use Rattle.task_work.specs.Filling.{HasFilled, IsWhy}
+use Rattle.task_work.specs.Making.{IsShown, part_faults}
+use Rattle.task_work.specs.declared.filling.Filled.{Filled}
+use Rattle.task_work.specs.declared.filling.Filled.TheVariants.{Moved, Made}
+use Rattle.worker_gate.specs.Inputs.{IsFilledOf}
+use Rattle.worker_gate.specs.Tending.{CanFinish, Fills, IsHeld, failures_in}
+use Rattle.worker_gate.proofs.LoanLemmas.{no_faults, same_drafts, same_readings, steady_loan}
+use Rattle.worker_gate.proofs.MadeLemmas.{CarryLaw, declined_so, job_run, made_settles, overlong_so}
+use Rattle.worker_gate.proofs.MovedLemmas.{checksum_so, digest_of_bytes, moved_settles}
+use Rattle.worker_gate.proofs.WorkLemmas.{told_rose, wide}
+
+-- a cause that filling tells is a worker's
+workers : (apply : Apply) (p : Plan) (t : ℕ) (rs : List ReadState) (ds es : List DraftState) (c : Cause) → IsWhy apply p t rs ds es c → IsWorkers c
+workers apply p t rs ds es why.Absent h = h
+workers apply p t rs ds es (why.TooLong n) h = h
+workers apply p t rs ds es c h = tt
+
+-- a failed call of a part shows in the counts, which were 0
+behind : (rs : List ReadState) (ds : List DraftState) (before x y : ℕ) (c : Cause) → before ≡ 0 → IsShown before (part_faults rs ds) x y c → IsBehind rs ds c
+behind rs ds before x y why.HostFailed none h =
+    let a = same_readings rs in
+    let b = same_drafts ds in
+    let one : Rose 0 (part_faults rs ds) = subst (λ n. Rose n (part_faults rs ds)) none h in
+    omega (arith, a, b, one)
+behind rs ds before x y c none h = tt
+
+module _ (apply : Apply) (p : Plan) (proper : IsProper p) (laws : HasPlanLaws p) (law : CarryLaw apply) (first : List Event) (m : Store) (t : ℕ) (rs0 rs1 : List ReadState) (ds0 ds1 : List DraftState) where
+  cause_so : (s : Store) (c : Cause) → IsHeld apply p first m (Some s) t rs0 ds0 → IsOpening apply p first m → IsWhy apply p t rs0 ds0 ds1 c → CauseFits p t c [] → IsCause apply (λ pfn. files.get m.replicas pfn) p (carries apply p m) t c
+  cause_so s why.Absent held opening h fits = absurd h
+  cause_so s (why.TooLong n) held opening h fits = absurd h
+  cause_so s (why.Checksum d) held opening h fits = checksum_so apply p proper laws first m t s rs0 ds0 ds1 h.0 d fits.0 held opening h.1
+  cause_so s (why.Oversize j f n) held opening h fits = overlong_so apply p proper laws law first m t (job_run (kind p t) j.0 fits.0) s rs0 ds0 j.0 f.0 n held opening h
+  cause_so s (why.Declined j) held opening h fits = declined_so apply p proper laws law first m t (job_run (kind p t) j.0 fits.0) s rs0 ds0 j.0 held opening h
+  cause_so s (why.ToolFailed j) held opening h fits = tt
+  cause_so s why.HostFailed held opening h fits = tt
+  cause_so s why.Memory held opening h fits = tt
+
+  told_so : (o : Option Store) (c : Cause) → IsHeld apply p first m o t rs0 ds0 → IsWhy apply p t rs0 ds0 ds1 c → CauseFits p t c [] → IsOpening apply p first m → IsTold apply p m o t c
+  told_so None c held h fits opening = tt
+  told_so (Some s) c held h fits opening = cause_so s c held opening h fits
+
+  pub fills_finish : (o : Option Store) (x y : ℕ) (result : Result Filled Cause) → IsHeld apply p first m o t rs0 ds0 → Fills apply p t rs0 rs1 ds0 ds1 x y result → CanFinish apply p first m o t rs1 ds1 result
+  fills_finish o x y (Ok (Moved n given)) held fills = moved_settles apply p proper laws first m t fills.filled.0 o rs0 rs1 ds0 ds1 n given held fills.filled.1 fills.readings fills.drafts
+  fills_finish o x y (Ok (Made sizes)) held fills = made_settles apply p proper laws law first m t fills.filled.0 o rs0 rs1 ds0 ds1 sizes.items held fills.filled.1 fills.readings fills.drafts
+  fills_finish o x y (Err c) held fills = record {
+    loan = steady_loan apply p proper laws first m t o rs0 rs1 ds0 ds1 held fills.readings fills.drafts;
+    kind_is = workers apply p t rs0 ds0 ds1 c fills.why;
+    fits = fills.fits;
+    shown = behind rs1 ds1 (part_faults rs0 ds0) x y c (no_faults apply p proper laws first m t o rs0 ds0 held) fills.shown;
+    is_told = told_so o c held fills.why fills.fits;
+  }
+
+  -- told or not, what was filled is of some such bytes
+  why_of : (o : Option Store) (c : Cause) → IsHeld apply p first m o t rs0 ds0 → IsWhy apply p t rs0 ds0 ds1 c → CauseFits p t c [] → IsFilledOf apply p t (Err c)
+  why_of o why.Absent held h fits = tt
+  why_of o (why.TooLong n) held h fits = tt
+  why_of o (why.Checksum d) held h fits = digest_of_bytes apply p proper laws first m t o rs0 ds0 ds1 h.0 d fits.0 held h.1
+  why_of o (why.Oversize j f n) held h fits = record { blobs = h.blobs; many = h.many; holds = (h.holds.0, h.holds.1, (h.holds.2.pair, h.holds.2.first, h.holds.2.file)) }
+  why_of o (why.Declined j) held h fits = record { blobs = h.blobs; many = h.many; holds = h.holds }
+  why_of o (why.ToolFailed j) held h fits = tt
+  why_of o why.HostFailed held h fits = tt
+  why_of o why.Memory held h fits = tt
+
+  pub fills_of : (o : Option Store) (x y : ℕ) (result : Result Filled Cause) → IsHeld apply p first m o t rs0 ds0 → Fills apply p t rs0 rs1 ds0 ds1 x y result → IsFilledOf apply p t result
+  fills_of o x y (Ok (Moved n given)) held fills = fills.filled.0
+  fills_of o x y (Ok (Made sizes)) held fills =
+      let made = fills.filled.1 in
+      record { blobs = made.blobs; many = made.many; holds = (made.holds.outs, made.holds.made, (made.holds.within, made.holds.sizes_are)) }
+  fills_of o x y (Err c) held fills = why_of o c held fills.why fills.fits
+
+-- how the tool's count shows what was filled
+pub fills_rose : (apply : Apply) (p : Plan) (t : ℕ) (rs0 rs1 : List ReadState) (ds0 ds1 : List DraftState) (x y : ℕ) (result : Result Filled Cause) → Fills apply p t rs0 rs1 ds0 ds1 x y result → RoseBy (failures_in result) x y
+fills_rose apply p t rs0 rs1 ds0 ds1 x y (Ok filled) fills = wide 0 x y refl fills.tool
+fills_rose apply p t rs0 rs1 ds0 ds1 x y (Err c) fills = told_rose c x y fills.tool (λ j e. shown_tool (part_faults rs0 ds0) (part_faults rs1 ds1) x y c j e fills.shown)
+  where
+    shown_tool : (a b x y : ℕ) (c : Cause) (j : _) → c ≡ why.ToolFailed j → IsShown a b x y c → Rose x y
+    shown_tool a b x y c j e h = subst (IsShown a b x y) e h
