@@ -1,5 +1,5 @@
 -- Lists of parts, and what a caller has of the promises.
-use Rattle.std.proofs.Common.{◌≡◌, ℕ, ◌≤◌, ◌<◌, true, List, [], ◌∷◌, length, map, get_or, set, refl, sym, ap, ◌∙◌, subst, arith}
+use Rattle.std.proofs.Common.{◌≡◌, ℕ, ◌+◌, ◌≤◌, ◌<◌, true, List, [], ◌∷◌, length, map, get_or, set, refl, sym, ap, ◌∙◌, subst, arith}
 use Rattle.std.specs.Prelude.{Option, Some, None, option_map, is_some, IfSome, Result, Ok, Err}
 use Rattle.outside.specs.Counts.{Rose}
 use Rattle.outside.specs.Parts.{DraftState, Drafted, ReadState, extended}
@@ -21,7 +21,7 @@ use Rattle.task_work.specs.Computing.{IsComputed, Makes, computed}
 use Rattle.task_work.specs.Filling.{AreParts}
 use Rattle.task_work.specs.Making.{AreWritten, Each, part_faults}
 use Rattle.task_work.specs.Moving.{Agrees, IsAgreed, Moves, part_cause}
-use Rattle.task_work.specs.Pieces.{HasMoved, HasRead, IsPartFault}
+use Rattle.task_work.specs.Pieces.{HasMoved, HasRead, IsPartFault, IsSteadyDraft}
 use Rattle.values.specs.Apply.{Apply}
 
 -- a Transfer has one reading and one draft
@@ -136,3 +136,10 @@ sizes_written (d ∷ ds0) (e ∷ ds1) (b ∷ outs) h = both_heads e.size (length
 -- of parts whose counts were 0 a count shows that one rose
 pub none_before : (rs0 rs1 : List ReadState) (ds0 ds1 : List DraftState) → part_faults rs0 ds0 ≡ 0 → Rose (part_faults rs0 ds0) (part_faults rs1 ds1) → 1 ≤ part_faults rs1 ds1
 none_before rs0 rs1 ds0 ds1 none rose = omega (arith, none, rose)
+
+-- whatever came of it, a draft that told its place and no bytes tells its place and bytes of its size
+pub still_tells : (d0 d1 : DraftState) (place : Place) → d0.told ≡ Some (record { place = place; bytes = [] }) → d0.size ≡ 0 → (h : IsSteadyDraft d0 d1) → (d1.told ≡ Some (record { place = place; bytes = h.bytes })) × (d1.size ≡ length h.bytes)
+still_tells d0 d1 place told empty h = (h.told ∙ ap (option_map (extended h.bytes)) told, (let s : d1.size ≡ d0.size + length h.bytes = h.size in omega (arith, s, empty)))
+
+pub still_untold : (d0 d1 : DraftState) → d0.told ≡ None → IsSteadyDraft d0 d1 → d1.told ≡ None
+still_untold d0 d1 told h = h.told ∙ ap (option_map (extended h.bytes)) told

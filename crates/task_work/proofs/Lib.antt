@@ -8,4 +8,4 @@ mod OverlongLemmas
 mod MakingLemmas
 mod RunLemmas
 mod CarriedLemmas
-mod FillingLemmas
+pub mod FillingLemmas

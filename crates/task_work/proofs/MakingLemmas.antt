@@ -1,6 +1,6 @@
 -- Readings read and drafts written, one by one.
 use Rattle.std.proofs.Common.{◌≡◌, ℕ, zero, suc, ◌+◌, ◌-◌, ◌^◌, ◌≤◌, ◌<◌, min, List, [], ◌∷◌, ◌++◌, length, map, get_or, set, take, drop, refl, sym, ap, ◌∙◌, subst, drop-cons, arith}
-use Rattle.std.specs.Prelude.{Option, Some, None, option_map, Result, Ok, Err}
+use Rattle.std.specs.Prelude.{Result, Ok, Err}
 use Rattle.std.proofs.lemmas.List.{drop-set-lt, length-map}
 use Rattle.std.proofs.Math.ListN.{get_or-map}
 use Rattle.outside.specs.Counts.{Rose}
@@ -11,7 +11,7 @@ use Rattle.plan_core.specs.declared.plan.Plan.{Plan}
 use Rattle.site_yard.specs.Loading.{pair_limit}
 use Rattle.site_yard.specs.Storing.{AreWithin}
 use Rattle.task_work.specs.Making.{AreBegun, AreEmpty, AreWritten, Each, Fits, IsFaultOf, draft_faults, limit_of, reading_faults}
-use Rattle.task_work.specs.Pieces.{HasRead, HasWritten, IsReadFault, IsSteadyDraft, IsSteadyReading}
+use Rattle.task_work.specs.Pieces.{HasWritten, IsReadFault, IsSteadyDraft, IsSteadyReading}
 use Rattle.task_work.proofs.PieceLemmas.{no_longer, steady_draft}
 
 next_is : (k : ℕ) → suc k ≡ k + 1
@@ -22,6 +22,10 @@ pub here_is : {X S : Type 0} (f : X → S) (old now_ : List X) (k : ℕ) (x d : 
 here_is f old now_ k x d less at same =
     let long : length (map f now_) ≡ length now_ = length-map now_ f in
     sym same ∙ drop-cons (map f now_) k (f d) (omega (arith, long, less)) ∙ ap (λ z. z ∷ drop (suc k) (map f now_)) (get_or-map f now_ k d ∙ ap f (sym at))
+
+-- the output at which a loop is
+pub output_is : (outs : List (List ℕ)) (k : ℕ) (x bytes : List ℕ) → k < length outs → x ≡ get_or outs k x → bytes ≡ x → drop k outs ≡ bytes ∷ drop (suc k) outs
+output_is outs k x bytes less at is = drop-cons outs k x less ∙ ap (λ z. z ∷ drop (suc k) outs) (sym at ∙ sym is)
 
 -- two lists, one by one
 pub each_long : {A B : Type 0} (R : A → B → Type 0) (xs : List A) (ys : List B) → Each R xs ys → length xs ≡ length ys

@@ -5,7 +5,6 @@ use Rattle.std.proofs.Math.Seq.{take-add}
 use Rattle.sha2.specs.Hashers.{Holds256}
 use Rattle.sha2.specs.Sha256.{sha256}
 use Rattle.sha2.specs.declared.Sha256.{Sha256}
-use Rattle.outside.specs.Counts.{Rose, next_count}
 use Rattle.outside.specs.declared.host.HostFault.{HostFault}
 use Rattle.outside.specs.declared.host.HostFault.TheVariants.{Absent, Failed, Over, Memory}
 use Rattle.outside.specs.Parts.{AppendsOn, DraftState, Drafted, ReadState, ReadsNext, ReadsOn, extended, longer}

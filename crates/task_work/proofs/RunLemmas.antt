@@ -1,10 +1,8 @@
 -- What comes of a Run: its outputs, or why there are none.
-use Rattle.std.proofs.Common.{◌≡◌, ℕ, suc, ◌+◌, ◌-◌, ◌^◌, ◌≤◌, min, List, [], ◌∷◌, length, map, refl, sym, ap, ◌∙◌, subst, arith}
-use Rattle.std.specs.Prelude.{Some, Err, Vec}
-use Rattle.std.specs.declared.alloc.Global.{Global}
+use Rattle.std.proofs.Common.{◌≡◌, ℕ, ◌+◌, ◌≤◌, List, [], ◌∷◌, length, map, refl, sym, ap, ◌∙◌, arith}
+use Rattle.std.specs.Prelude.{Some, Err}
 use Rattle.std.proofs.lemmas.List.{length-map}
 use Rattle.values.specs.Apply.{Apply}
-use Rattle.outside.specs.Counts.{Rose}
 use Rattle.outside.specs.Parts.{DraftState, ReadState}
 use Rattle.outside.specs.declared.host.HostFault.{HostFault}
 use Rattle.outside.specs.declared.host.HostFault.TheVariants as fault
@@ -15,9 +13,9 @@ use Rattle.run_record.specs.declared.entry.Cause.TheVariants as why
 use Rattle.storage_simulation.specs.Goods.{makes}
 use Rattle.lease_book.specs.Legal.{AreOfFirst, CauseFits}
 use Rattle.site_yard.specs.Names.{pair_file}
-use Rattle.site_yard.specs.Storing.{AreWithin, IsOverlong}
+use Rattle.site_yard.specs.Storing.{AreWithin}
 use Rattle.task_work.specs.Computing.{Computes, Makes, computed, files_of}
-use Rattle.task_work.specs.Making.{AreStored, AreWritten, Each, IsFaultOf, IsRunCause, IsShown, MakesWithin, OfRead, part_faults}
+use Rattle.task_work.specs.Making.{AreStored, AreWritten, Each, IsFaultOf, IsRunCause, IsShown, MakesWithin, OfRead}
 use Rattle.task_work.specs.Moving.{part_cause}
 use Rattle.task_work.specs.Pieces.{HasRead}
 

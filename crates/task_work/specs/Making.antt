@@ -12,7 +12,7 @@ use Rattle.run_record.specs.declared.entry.Cause.{Cause}
 use Rattle.run_record.specs.declared.entry.Cause.TheVariants.{Declined, HostFailed, Memory, Oversize, ToolFailed}
 use Rattle.site_yard.specs.Storing.{AreWithin, IsOverlong}
 use Rattle.task_work.specs.Computing.{Computes, Makes, first_declined}
-use Rattle.task_work.specs.Pieces.{HasRead, HasWritten, IsSteadyDraft, IsSteadyReading}
+use Rattle.task_work.specs.Pieces.{HasRead, HasWritten}
 
 -- of each element of two lists in order this holds
 abbrev pub Each : {A B : Type 0} → (A → B → Type 0) → List A → List B → Type 0

@@ -52,6 +52,7 @@ fn write_all<O: WritePart>(
     outputs: &[Blob],
 ) -> Result<(), HostFault>
     requires empty { AreEmpty (map O.state drafts.old) }
+    requires many { length outputs.now ≡ length drafts.old }
     requires fit { Each Fits (map O.state drafts.old) outputs.now }
     ensures written { OnOk result (AreWritten (map O.state drafts.old) (map O.state drafts.new) outputs.now) }
     ensures fault { IfErr result (λ e. IsFaultOf (draft_faults (map O.state drafts.old)) (draft_faults (map O.state drafts.new)) e) }
@@ -107,6 +108,7 @@ fn store<O: WritePart>(
     outputs: &[Blob],
 ) -> Result<Vec<u64>, HostFault>
     requires empty { AreEmpty (map O.state drafts.old) }
+    requires many { length outputs.now ≡ length drafts.old }
     requires fit { Each Fits (map O.state drafts.old) outputs.now }
     ensures written { IfOk result (λ v. AreWritten (map O.state drafts.old) (map O.state drafts.new) outputs.now) }
     ensures sizes { IfOk result (λ v. v.items ≡ map length outputs.now) }

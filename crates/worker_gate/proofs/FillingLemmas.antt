@@ -1,5 +1,6 @@
 -- What the filling of a loan comes to: it can be settled, or abandoned.
-use Rattle.std.proofs.Common.{◌≡◌, ℕ, ◌+◌, ◌≤◌, true, List, [], ◌∷◌, map, length, refl, sym, ap, ◌∙◌, subst, arith}
+use Rattle.std.proofs.Common.{◌≡◌, ℕ, ◌+◌, ◌≤◌, true, List, [], ◌∷◌, ◌++◌, map, length, take, drop, refl, sym, ap, ◌∙◌, subst, arith}
+use Rattle.std.proofs.lemmas.List.{length-map}
 use Rattle.std.specs.Prelude.{Option, Some, None, IfSome, Result, Ok, Err}
 use Rattle.std.specs.FinMap as files
 use Rattle.values.specs.Apply.{Apply}
@@ -21,14 +22,16 @@ use Rattle.site_yard.specs.Returning.{draft_faults, reading_faults}
 use Rattle.site_yard.specs.Truthful.{IsCause}
 use Rattle.site_yard.specs.Yard.{IsBehind, IsTold, IsWorkers}
 use Rattle.task_work.specs.Filling.{HasFilled, IsWhy}
-use Rattle.task_work.specs.Making.{IsShown, part_faults}
+use Rattle.task_work.specs.Making.{Each, IsShown, part_faults}
+use Rattle.task_work.specs.Pieces.{IsSteadyDraft, IsSteadyReading}
 use Rattle.task_work.specs.declared.filling.Filled.{Filled}
 use Rattle.task_work.specs.declared.filling.Filled.TheVariants.{Moved, Made}
 use Rattle.worker_gate.specs.Inputs.{IsFilledOf}
 use Rattle.worker_gate.specs.Tending.{CanFinish, Fills, IsHeld, failures_in}
-use Rattle.worker_gate.proofs.LoanLemmas.{no_faults, same_drafts, same_readings, steady_loan}
+use Rattle.worker_gate.proofs.LoanLemmas.{no_faults, same_drafts, same_readings, steady_loan, steady_many}
 use Rattle.worker_gate.proofs.MadeLemmas.{CarryLaw, declined_so, job_run, made_settles, overlong_so}
 use Rattle.worker_gate.proofs.MovedLemmas.{checksum_so, digest_of_bytes, moved_settles}
+use Rattle.worker_gate.proofs.SmallLemmas.{lent}
 use Rattle.worker_gate.proofs.WorkLemmas.{told_rose, wide}
 
 -- a cause that filling tells is a worker's
@@ -97,3 +100,32 @@ fills_rose apply p t rs0 rs1 ds0 ds1 x y (Err c) fills = told_rose c x y fills.t
   where
     shown_tool : (a b x y : ℕ) (c : Cause) (j : _) → c ≡ why.ToolFailed j → IsShown a b x y c → Rose x y
     shown_tool a b x y c j e h = subst (IsShown a b x y) e h
+
+steady_drafts_many : (ds es : List DraftState) → Each IsSteadyDraft ds es → length es ≡ length ds
+steady_drafts_many [] [] h = refl
+steady_drafts_many [] (e ∷ es) h = absurd h
+steady_drafts_many (d ∷ ds) [] h = absurd h
+steady_drafts_many (d ∷ ds) (e ∷ es) h = let more = steady_drafts_many ds es h.1 in omega (arith, more)
+
+-- parts that were lent as slices
+back : {X S : Type 0} (state : X → S) (old slice new : List X) (n : ℕ) → slice ≡ old → length slice ≡ n → length (map state new) ≡ length (map state slice) → map state new ≡ map state (take n (new ++ drop (length new) old))
+back state old slice new n same many steady = ap (map state) (lent n new old (sym (length-map new state) ∙ steady ∙ length-map slice state ∙ many))
+
+pub fills_lent : {I O : Type 0} (reading : I → ReadState) (draft : O → DraftState) (apply : Apply) (p : Plan) (t : ℕ) (rs slice_rs new_rs : List I) (n : ℕ) (ds slice_ds new_ds : List O) (k : ℕ) (x y : ℕ) (result : Result Filled Cause)
+    → slice_rs ≡ rs → length slice_rs ≡ n → slice_ds ≡ ds → length slice_ds ≡ k → Fills apply p t (map reading slice_rs) (map reading new_rs) (map draft slice_ds) (map draft new_ds) x y result
+    → Fills apply p t (map reading rs) (map reading (take n (new_rs ++ drop (length new_rs) rs))) (map draft ds) (map draft (take k (new_ds ++ drop (length new_ds) ds))) x y result
+fills_lent reading draft apply p t rs slice_rs new_rs n ds slice_ds new_ds k x y result same_rs many_rs same_ds many_ds fills =
+    subst (λ (l : List ReadState). Fills apply p t (map reading rs) l (map draft ds) (map draft (take k (new_ds ++ drop (length new_ds) ds))) x y result)
+    (back reading rs slice_rs new_rs n same_rs many_rs (steady_many (map reading slice_rs) (map reading new_rs) fills.readings))
+    (subst (λ (l : List DraftState). Fills apply p t (map reading rs) (map reading new_rs) (map draft ds) l x y result)
+    (back draft ds slice_ds new_ds k same_ds many_ds (steady_drafts_many (map draft slice_ds) (map draft new_ds) fills.drafts))
+    (subst (λ l. Fills apply p t (map reading l) (map reading new_rs) (map draft ds) (map draft new_ds) x y result) same_rs
+    (subst (λ l. Fills apply p t (map reading slice_rs) (map reading new_rs) (map draft l) (map draft new_ds) x y result) same_ds fills)))
+
+-- the same of a yard after the loan was made
+pub finish_then : (apply : Apply) (p q : Plan) (first then : List Event) (m n : Store) (o u : Option Store) (t : ℕ) (rs : List ReadState) (ds : List DraftState) (result : Result Filled Cause) → q ≡ p → then ≡ first → n ≡ m → u ≡ o → CanFinish apply p first m o t rs ds result → CanFinish apply q then n u t rs ds result
+finish_then apply p q first then m n o u t rs ds result plan entries marked told h =
+    subst (λ (z : Plan). CanFinish apply z then n u t rs ds result) (sym plan)
+    (subst (λ (z : List Event). CanFinish apply p z n u t rs ds result) (sym entries)
+    (subst (λ (z : Store). CanFinish apply p first z u t rs ds result) (sym marked)
+    (subst (λ (z : Option Store). CanFinish apply p first m z t rs ds result) (sym told) h)))

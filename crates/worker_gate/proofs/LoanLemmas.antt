@@ -177,7 +177,7 @@ steady_drafts o (x ∷ xs) [] es steady h = absurd h
 steady_drafts o (x ∷ xs) (d ∷ ds) [] steady h = absurd steady
 steady_drafts o (x ∷ xs) (d ∷ ds) (e ∷ es) steady h = (steady_draft o x d e steady.0 h.0, steady_drafts o xs ds es steady.1 h.1)
 
-steady_many : (rs ss : List ReadState) → Each IsSteadyReading rs ss → length ss ≡ length rs
+pub steady_many : (rs ss : List ReadState) → Each IsSteadyReading rs ss → length ss ≡ length rs
 steady_many [] [] h = refl
 steady_many [] (s ∷ ss) h = absurd h
 steady_many (r ∷ rs) [] h = absurd h
@@ -200,7 +200,7 @@ unread_faults o (n ∷ ns) (r ∷ rs) h = let one = h.0.faults in let more = unr
 
 fresh_faults : (o : Option Store) (xs : List Aim) → parts.draft_faults (map (fresh_at o) xs) ≡ 0
 fresh_faults o [] = refl
-fresh_faults o (x ∷ xs) = fresh_faults o xs
+fresh_faults o (x ∷ xs) = let more = fresh_faults o xs in omega (arith, more)
 
 module _ (apply : Apply) (p : Plan) (proper : IsProper p) (laws : HasPlanLaws p) (first : List Event) (m : Store) (t : ℕ) where
   held_loan : (o : Option Store) (rs : List ReadState) (ds : List DraftState) → IsHeld apply p first m o t rs ds → IsLoan p o t rs ds

@@ -27,7 +27,7 @@ use Rattle.site_yard.specs.Storing.{AreWithin, IsFirstPast, IsOverlong}
 use Rattle.site_yard.specs.Truthful.{HasChecksum, IsLongAs, declined, is_over, oversize_among}
 use Rattle.site_yard.specs.Yard.{content}
 use Rattle.task_work.specs.Computing.{IsComputed, Makes, computed, files_of, first_declined}
-use Rattle.task_work.specs.Making.{AreStored, AreWritten, Each, IsTooLong, OfRead}
+use Rattle.task_work.specs.Making.{AreStored, AreWritten, Each, MakesOverlong, OfRead}
 use Rattle.task_work.specs.Pieces.{HasRead, IsSteadyDraft, IsSteadyReading}
 use Rattle.task_work.proofs.FillingLemmas.{AllTell, AllTellNone, told_read, told_written}
 use Rattle.worker_gate.specs.Tending.{AreUnread, IsHeld, limits_in}
@@ -173,7 +173,7 @@ module _ (apply : Apply) (p : Plan) (proper : IsProper p) (laws : HasPlanLaws p)
   pub declined_so : (s : Store) (rs : List ReadState) (ds : List DraftState) (j : ℕ) → IsHeld apply p first m (Some s) t rs ds → IsOpening apply p first m → OfRead p t rs (λ blobs. first_declined apply p t blobs ≡ Some j) → declined apply p (carries apply p m) t ≡ Some j
   declined_so s rs ds j held opening of = (computed_so s rs ds of.blobs held opening of.read).declines ∙ of.holds
 
-  pub overlong_so : (s : Store) (rs : List ReadState) (ds : List DraftState) (j f n : ℕ) → IsHeld apply p first m (Some s) t rs ds → IsOpening apply p first m → OfRead p t rs (IsTooLong apply p t j f n)
+  pub overlong_so : (s : Store) (rs : List ReadState) (ds : List DraftState) (j f n : ℕ) → IsHeld apply p first m (Some s) t rs ds → IsOpening apply p first m → OfRead p t rs (MakesOverlong apply p t j f n)
       → (declined apply p (carries apply p m) t ≡ None) × (oversize_among p (carries apply p m t) (writes p t) ≡ Some f) × (has (outputs p.jobs j) f ≡ true) × IsLongAs n (carries apply p m t f)
   overlong_so s rs ds j f n held opening of =
       let is = computed_so s rs ds of.blobs held opening of.read in

@@ -3,7 +3,7 @@ use Rattle.std.proofs.Common.{◌≡◌, ◌⊎◌, ℕ, zero, suc, ◌+◌, ◌
 use Rattle.std.specs.Prelude.{IfSome, Option, Some}
 use Rattle.std.specs.Coded.{le_prop}
 use Rattle.std.proofs.Math.Logic.{∥∥₁_elim}
-use Rattle.std.proofs.lemmas.List.{get_or-map, length-map, take_at}
+use Rattle.std.proofs.lemmas.List.{get_or-map, length-map}
 use mathlib.Core.Bool.{Bool-set}
 use mathlib.Core.List.{IsPrefix}
 use Rattle.values.specs.Apply.{Apply}
@@ -283,10 +283,6 @@ none_counted r counts none = record { each = λ k l. (omega arith, λ small. let
 -- a yard's charter
 abbrev pub charter_with : Ordered → List Event → Store → Bool → ℕ → ℕ → Charter
 charter_with o r m t f k = record { ordered = o; opened = r; marked = m; tells = t; faults = f; misses = k }
-
--- the hands after they were lent as a slice
-pub lent : {X : Type 0} (n : ℕ) (after before : List X) → length after ≡ n → after ≡ take n (after ++ drop (length after) before)
-lent n after before e = sym (take_at after (drop (length after) before) n e)
 
 pub dealt_many : {X Y : Type 0} (f : X → Y) (xs : List X) (ys : List Y) → map f xs ≡ ys → length ys ≡ length xs
 dealt_many f xs ys e = ap length (sym e) ∙ length-map xs f

@@ -1,5 +1,6 @@
 -- Tests, and places in lists.
-use Rattle.std.proofs.Common.{◌≡◌, ℕ, zero, suc, ◌<◌, Bool, true, false, cond, eqb, List, [], ◌∷◌, length, refl, ap, arith}
+use Rattle.std.proofs.Common.{◌≡◌, ℕ, zero, suc, ◌<◌, Bool, true, false, cond, eqb, List, [], ◌∷◌, ◌++◌, length, take, drop, refl, sym, ap, arith}
+use Rattle.std.proofs.lemmas.List.{take_at}
 use Rattle.std.specs.Prelude.{None, slice_get}
 use Rattle.lease_book.specs.State.{put}
 
@@ -22,3 +23,7 @@ put_at f t x = ap (λ (b : Bool). cond b x (f t)) (let e : eqb t t ≡ true = gr
 
 pub put_off : {X : Type 0} (f : ℕ → X) (t : ℕ) (x : X) (u : ℕ) → eqb t u ≡ false → put f t x u ≡ f u
 put_off f t x u e = ap (λ (b : Bool). cond b x (f u)) e
+
+-- what was lent as a slice
+pub lent : {X : Type 0} (n : ℕ) (after before : List X) → length after ≡ n → after ≡ take n (after ++ drop (length after) before)
+lent n after before e = sym (take_at after (drop (length after) before) n e)

@@ -12,8 +12,7 @@ use Rattle.run_record.specs.declared.entry.Cause.TheVariants.{Checksum, Declined
 use Rattle.run_record.specs.Events.{Event, Again, End, Fail}
 use Rattle.site_yard.specs.Names.{pair_file}
 use Rattle.site_yard.specs.Storing.{AreWithin, IsFirstPast}
-use Rattle.task_work.specs.Computing.{first_declined}
-use Rattle.task_work.specs.Running.{Makes}
+use Rattle.task_work.specs.Computing.{first_declined, Makes}
 use Rattle.task_work.specs.declared.filling.Filled.{Filled}
 use Rattle.task_work.specs.declared.filling.Filled.TheVariants.{Moved, Made}
 

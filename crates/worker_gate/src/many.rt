@@ -44,6 +44,9 @@ fn work_all<R: Threads + Wait + Sync, H: Host + Send, T: Tool + Send, G: Gate + 
     lock: &RuledLock<Yard<H, T>>,
     hands: &mut [Hand<Yard<H, T>, Crew<T, G>>],
 )
+where
+    H::Reading: Send,
+    H::Draft: Send,
     requires { CanAllWork lock.now hands.old }
     ensures length { length hands.new ≡ length hands.old }
     ensures worked { HaveAllWorked T.apply lock.now (λ c. T.faults c.tool) hands.old hands.new }
@@ -59,6 +62,9 @@ pub fn run_many<R: Threads + Wait + Sync, H: Host + Send, T: Tool + Send, G: Gat
     yard: Yard<H, T>,
     crew: Vec<Crew<T, G>>,
 ) -> ManyEnd<H, T, G>
+where
+    H::Reading: Send,
+    H::Draft: Send,
     requires members { (0 < length crew.items) × (length crew.items ≤ 16) }
     requires empty { yard.book.history.events ≡ [] }
     ensures ordered { result.yard.ordered ≡ yard.ordered }

@@ -1,56 +1,19 @@
 //! One task of a worker alone, from its lease to its end.
 
-ghost use Rattle.std.specs.Prelude.{◌≡◌, ◌≤◌, is_some, map, take};
+ghost use Rattle.std.specs.Prelude.{◌≡◌, ◌≤◌, is_some};
 ghost use Rattle.outside.specs.Counts.{IsLater};
 ghost use Rattle.lease_book.specs.Book.{state_at};
 ghost use Rattle.lease_book.specs.Legal.{IsOpen};
 ghost use Rattle.worker_gate.specs.Alone.{NoneOpen};
 ghost use Rattle.worker_gate.specs.Inputs.{AddsOfInputs};
 ghost use Rattle.worker_gate.specs.Stepping.{DoesTask, Steps};
-ghost use Rattle.worker_gate.specs.Tending.{IsHeld};
 
 use crate::law::lease_laws;
-use crate::tending::finish_at;
+use crate::tending::{fill_loan, finish_at};
 use outside::{Host, TaskId, Tool};
-use site_yard::{Leased, Loan, Yard, plan_laws};
+use site_yard::{Leased, Yard, plan_laws};
 use std::alloc::Global;
-use task_work::{fill, runs_carry_what_they_compute};
-
-/// Fills the drafts of a task's loan, and ends the task.
-fn fill_loan<H: Host, T: Tool>(
-    alloc: Global,
-    yard: &mut Yard<H, T>,
-    tool: &mut T,
-    task: TaskId,
-    loan: Loan<H>,
-)
-    requires open { IsOpen (state_at yard.old.book) 0 task.0 }
-    requires held { IsHeld T.apply yard.old.ordered.plan (take yard.old.opened yard.old.book.history.events) (H.marked yard.old.host) (H.told yard.old.host) task.0 (map H.Reading.state loan.readings.items) (map H.Draft.state loan.drafts.items) }
-    ensures does { DoesTask yard.old.book.history.events yard.new.book.history.events task.0 (T.faults tool.old) (T.faults tool.new) }
-    ensures inputs { AddsOfInputs T.apply yard.old.ordered.plan yard.old.book.history.events yard.new.book.history.events }
-    ensures tool { T.faults tool.old ≤ T.faults tool.new }
-    ensures ordered { yard.new.ordered ≡ yard.old.ordered }
-    ensures opened { yard.new.opened ≡ yard.old.opened }
-    ensures marked { H.marked yard.new.host ≡ H.marked yard.old.host }
-    ensures faults { yard.new.faults ≡ yard.old.faults }
-    ensures misses { yard.new.misses ≡ yard.old.misses }
-    ensures tells { is_some (H.told yard.new.host) ≡ is_some (H.told yard.old.host) }
-    ensures later { IsLater (H.counts yard.old.host) (H.counts yard.new.host) }
-{
-    // Laws for the proof: they do nothing.
-    plan_laws();
-    runs_carry_what_they_compute();
-    let mut loan = loan;
-    let filled = fill(
-        alloc,
-        yard.plan(),
-        task,
-        loan.readings.as_mut_slice(),
-        loan.drafts.as_mut_slice(),
-        tool,
-    );
-    finish_at(alloc, yard, 0, task, loan, filled);
-}
+use task_work::runs_carry_what_they_compute;
 
 /// Does what a task says that is open.
 fn do_task<H: Host, T: Tool>(alloc: Global, yard: &mut Yard<H, T>, tool: &mut T, task: TaskId)
@@ -66,8 +29,12 @@ fn do_task<H: Host, T: Tool>(alloc: Global, yard: &mut Yard<H, T>, tool: &mut T,
     ensures tells { is_some (H.told yard.new.host) ≡ is_some (H.told yard.old.host) }
     ensures later { IsLater (H.counts yard.old.host) (H.counts yard.new.host) }
 {
-    if let Some(loan) = yard.lend(alloc, 0, task) {
-        fill_loan(alloc, yard, tool, task, loan);
+    // Laws for the proof: they do nothing.
+    plan_laws();
+    runs_carry_what_they_compute();
+    if let Some(mut loan) = yard.lend(alloc, 0, task) {
+        let filled = fill_loan(alloc, yard.plan(), task, &mut loan, tool);
+        finish_at(alloc, yard, 0, task, loan, filled);
     }
 }
 

@@ -1,17 +1,46 @@
 //! One task at a yard, as the worker that it is open for ends it.
 
 ghost use Rattle.std.specs.Prelude.{◌≡◌, is_some, map, take};
+ghost use Rattle.plan_core.specs.Proper.{IsProper};
+ghost use Rattle.plan_core.specs.Words.{kind};
 ghost use Rattle.outside.specs.Counts.{IsLater};
 ghost use Rattle.lease_book.specs.Book.{state_at};
 ghost use Rattle.lease_book.specs.Legal.{IsOpen};
+ghost use Rattle.task_work.specs.Filling.{AreParts};
+ghost use Rattle.task_work.specs.Making.{AreBegun, AreEmpty};
 ghost use Rattle.worker_gate.specs.Inputs.{AddsOfInputs, IsFilledOf};
-ghost use Rattle.worker_gate.specs.Tending.{CanFinish, EndsTask, failures_in};
+ghost use Rattle.worker_gate.specs.Tending.{CanFinish, EndsTask, Fills, failures_in};
 
 use outside::{Host, TaskId, Tool};
+use plan_core::Plan;
 use run_record::Cause;
 use site_yard::{Loan, Yard};
 use std::alloc::Global;
-use task_work::Filled;
+use task_work::{Filled, fill};
+
+/// Fills a loan's drafts.
+pub(crate) fn fill_loan<H: Host, T: Tool>(
+    alloc: Global,
+    plan: &Plan,
+    task: TaskId,
+    loan: &mut Loan<H>,
+    tool: &mut T,
+) -> Result<Filled, Cause>
+    requires proper { IsProper plan.now }
+    requires parts { AreParts plan.now task.0 (kind plan.now task.0) (map H.Reading.state loan.old.readings.items) (map H.Draft.state loan.old.drafts.items) }
+    requires start { AreBegun (map H.Reading.state loan.old.readings.items) }
+    requires empty { AreEmpty (map H.Draft.state loan.old.drafts.items) }
+    ensures fills { Fills T.apply plan.now task.0 (map H.Reading.state loan.old.readings.items) (map H.Reading.state loan.new.readings.items) (map H.Draft.state loan.old.drafts.items) (map H.Draft.state loan.new.drafts.items) (T.faults tool.old) (T.faults tool.new) result }
+{
+    fill(
+        alloc,
+        plan,
+        task,
+        loan.readings.as_mut_slice(),
+        loan.drafts.as_mut_slice(),
+        tool,
+    )
+}
 
 /// Settles a loan that was filled, or abandons it with why it wasn't.
 pub(crate) fn finish_at<H: Host, T: Tool>(

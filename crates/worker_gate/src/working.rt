@@ -12,6 +12,7 @@ ghost use Rattle.task_work.specs.Filling.{AreParts};
 ghost use Rattle.task_work.specs.Making.{AreBegun, AreEmpty};
 ghost use Rattle.worker_gate.specs.Working.{DoesOwn, FillsWith, Works};
 
+use crate::tending::fill_loan;
 use crate::turning::{begin, copy_plan, finish, lease};
 use craft::{Crew, Gate};
 use outside::{Host, Memory, TaskId, Tool};
@@ -21,7 +22,7 @@ use run_record::Cause;
 use site_yard::{Leased, Loan, Yard, plan_laws};
 use std::alloc::Global;
 use std::sync::Wait;
-use task_work::{Filled, fill, runs_carry_what_they_compute};
+use task_work::{Filled, runs_carry_what_they_compute};
 
 /// Fills a loan's drafts, by a worker's copy of the plan, if it has one.
 fn fill_with<H: Host, T: Tool>(
@@ -38,14 +39,7 @@ fn fill_with<H: Host, T: Tool>(
     ensures fills { FillsWith T.apply plan.now task.0 (map H.Reading.state loan.old.readings.items) (map H.Reading.state loan.new.readings.items) (map H.Draft.state loan.old.drafts.items) (map H.Draft.state loan.new.drafts.items) (T.faults tool.old) (T.faults tool.new) result }
 {
     match plan {
-        Ok(plan) => fill(
-            alloc,
-            plan,
-            task,
-            loan.readings.as_mut_slice(),
-            loan.drafts.as_mut_slice(),
-            tool,
-        ),
+        Ok(plan) => fill_loan(alloc, plan, task, loan, tool),
         Err(_) => Err(Cause::Memory),
     }
 }

@@ -1,4 +1,4 @@
-use Rattle.std.proofs.Common.{arith, refl, subst, sym, take, ◌++◌}
+use Rattle.std.proofs.Common.{refl, subst, sym, take}
 use Rattle.task_work.proofs.PieceLemmas.{ReadSo, read_fault, read_more}
 use Rattle.task_work.proofs.pieces.read_whole.Goals as goal
 

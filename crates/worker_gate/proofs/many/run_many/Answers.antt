@@ -2,7 +2,8 @@ use Rattle.std.proofs.Common.{◌≡◌, ◌++◌, ◌∙◌, length, map, take,
 use Rattle.std.specs.Prelude.{is_some}
 use Rattle.worker_gate.specs.Hands.{AreReady, member_of}
 use Rattle.worker_gate.specs.Many.{CanAllWork, HaveAllWorked}
-use Rattle.worker_gate.proofs.ManyLemmas.{all_ready, can_all, charter_back, charter_with, dealt_as, dealt_many, lent, many_counted, many_done, many_inputs, no_inputs, none_counted}
+use Rattle.worker_gate.proofs.ManyLemmas.{all_ready, can_all, charter_back, charter_with, dealt_as, dealt_many, many_counted, many_done, many_inputs, no_inputs, none_counted}
+use Rattle.worker_gate.proofs.SmallLemmas.{lent}
 use Rattle.worker_gate.proofs.many.run_many.Given as given
 use Rattle.worker_gate.proofs.many.run_many.Goals as goal
 

@@ -11,7 +11,7 @@ use Rattle.worker_gate.proofs.turning.begin.Goals as goal
 pub lend-lent-requires : goal.lend-lent-requires
 lend-lent-requires g c =
     let old = c.args.pass.now in
-    open_there c.own_entries_tell_open_tasks.ensures.entries c.own_entries_tell_open_tasks.ensures.decides c.take-yard.result.book (worker_of old) c.worker.result c.args.task.0 (mine_of old) (c.worker.ensures.number ∙ c.take-yard.ensures.same.worker) c.take-yard.ensures.mine c.requires.open
+    record { «open» = open_there c.own_entries_tell_open_tasks.ensures.entries c.own_entries_tell_open_tasks.ensures.decides c.take-yard.result.book (worker_of old) c.worker.result c.args.task.0 (mine_of old) (c.worker.ensures.number ∙ c.take-yard.ensures.same.worker) c.take-yard.ensures.mine c.requires.open }
 
 pub give-requires-clause-charter : goal.give-requires-clause-charter
 give-requires-clause-charter g c =

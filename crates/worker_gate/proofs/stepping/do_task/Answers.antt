@@ -1,0 +1,95 @@
+use Rattle.std.proofs.Common.{◌≡◌, ◌∙◌, List, ap, map, refl, subst, sym, take}
+use Rattle.plan_core.specs.declared.plan.Plan.{Plan}
+use Rattle.plan_core.specs.Proper.{IsProper}
+use Rattle.plan_core.specs.Words.{kind}
+use Rattle.lease_book.specs.Book.{state_at}
+use Rattle.task_work.specs.Filling.{AreParts}
+use Rattle.worker_gate.specs.Inputs.{AddsOfInputs, IsFilledOf}
+use Rattle.worker_gate.specs.Tending.{Fills, failures_in}
+use Rattle.worker_gate.proofs.FillingLemmas.{fills_finish, fills_of, finish_then}
+use Rattle.worker_gate.proofs.LoanLemmas.{held_begun, held_empty, lent_held, parts_are}
+use Rattle.worker_gate.proofs.StateLemmas.{open_loan}
+use Rattle.worker_gate.proofs.WorkLemmas.{consistent_at}
+use Rattle.worker_gate.proofs.stepping.do_task.Goals as goal
+
+pub fill_loan-filled-requires-clause-parts : goal.fill_loan-filled-requires-clause-parts
+fill_loan-filled-requires-clause-parts g c =
+    let y = c.args.yard.now in
+    let p = y.ordered.plan in
+    let first = take y.opened y.book.history.events in
+    let m = g.H.Host.marked y.host in
+    let o = g.H.Host.told y.host in
+    let t = c.args.task.0 in
+    let rs = map g.H.Reading.ReadPart.state c.in-Some.loan.readings.items in
+    let ds = map g.H.Draft.WritePart.state c.in-Some.loan.drafts.items in
+    let proper = subst IsProper y.same_plan y.book.proper in
+    subst (λ (q : Plan). AreParts q t (kind q t) rs ds) (sym (c.plan.ensures ∙ ap (λ z. z.plan) c.lend.ensures.ordered))
+    (parts_are g.T.Tool.apply p proper (c.plan_laws.ensures p proper) first m o t rs ds (open_loan y.book.plan p (state_at y.book) t y.same_plan (consistent_at y.book).sound c.requires.runs) (lent_held g.T.Tool.apply p first m o t rs ds c.in-Some.ensures.lent))
+
+pub fill_loan-filled-requires-clause-start : goal.fill_loan-filled-requires-clause-start
+fill_loan-filled-requires-clause-start g c =
+    let y = c.args.yard.now in
+    let p = y.ordered.plan in
+    let first = take y.opened y.book.history.events in
+    let m = g.H.Host.marked y.host in
+    let o = g.H.Host.told y.host in
+    let t = c.args.task.0 in
+    let rs = map g.H.Reading.ReadPart.state c.in-Some.loan.readings.items in
+    let ds = map g.H.Draft.WritePart.state c.in-Some.loan.drafts.items in
+    held_begun g.T.Tool.apply p first m o t rs ds (lent_held g.T.Tool.apply p first m o t rs ds c.in-Some.ensures.lent)
+
+pub fill_loan-filled-requires-clause-empty : goal.fill_loan-filled-requires-clause-empty
+fill_loan-filled-requires-clause-empty g c =
+    let y = c.args.yard.now in
+    let p = y.ordered.plan in
+    let first = take y.opened y.book.history.events in
+    let m = g.H.Host.marked y.host in
+    let o = g.H.Host.told y.host in
+    let t = c.args.task.0 in
+    let rs = map g.H.Reading.ReadPart.state c.in-Some.loan.readings.items in
+    let ds = map g.H.Draft.WritePart.state c.in-Some.loan.drafts.items in
+    held_empty g.T.Tool.apply p first m o t rs ds (lent_held g.T.Tool.apply p first m o t rs ds c.in-Some.ensures.lent)
+
+pub finish_at-requires-clause-can : goal.finish_at-requires-clause-can
+finish_at-requires-clause-can g c =
+    let y = c.args.yard.now in
+    let z = c.lend.new.self in
+    let e = c.in-Some.ensures in
+    let p = y.ordered.plan in
+    let first = take y.opened y.book.history.events in
+    let m = g.H.Host.marked y.host in
+    let o = g.H.Host.told y.host in
+    let t = c.args.task.0 in
+    let rs = map g.H.Reading.ReadPart.state c.in-Some.loan.readings.items in
+    let ds = map g.H.Draft.WritePart.state c.in-Some.loan.drafts.items in
+    let filled = c.fill_loan-filled in
+    let rs1 = map g.H.Reading.ReadPart.state filled.new.loan.readings.items in
+    let ds1 = map g.H.Draft.WritePart.state filled.new.loan.drafts.items in
+    let a = g.T.Tool.faults c.args.tool.now in
+    let b = g.T.Tool.faults filled.new.tool in
+    let proper = subst IsProper y.same_plan y.book.proper in
+    let fills = subst (λ (q : Plan). Fills g.T.Tool.apply q t rs rs1 ds ds1 a b filled.result) (c.plan.ensures ∙ ap (λ x. x.plan) c.lend.ensures.ordered) filled.ensures.fills in
+    finish_then g.T.Tool.apply p z.ordered.plan first (take z.opened z.book.history.events) m (g.H.Host.marked z.host) o (g.H.Host.told z.host) t rs1 ds1 filled.result
+    (ap (λ x. x.plan) c.lend.ensures.ordered) (λ i. take (c.lend.ensures.opened i) (e.same i)) c.lend.ensures.marked c.lend.ensures.told
+    (fills_finish g.T.Tool.apply p proper (c.plan_laws.ensures p proper) (c.runs_carry_what_they_compute.ensures g.T.Tool.apply) first m t rs rs1 ds ds1 o a b filled.result (lent_held g.T.Tool.apply p first m o t rs ds e.lent) fills)
+
+pub finish_at-requires-clause-inputs : goal.finish_at-requires-clause-inputs
+finish_at-requires-clause-inputs g c =
+    let y = c.args.yard.now in
+    let e = c.in-Some.ensures in
+    let p = y.ordered.plan in
+    let first = take y.opened y.book.history.events in
+    let m = g.H.Host.marked y.host in
+    let o = g.H.Host.told y.host in
+    let t = c.args.task.0 in
+    let rs = map g.H.Reading.ReadPart.state c.in-Some.loan.readings.items in
+    let ds = map g.H.Draft.WritePart.state c.in-Some.loan.drafts.items in
+    let filled = c.fill_loan-filled in
+    let rs1 = map g.H.Reading.ReadPart.state filled.new.loan.readings.items in
+    let ds1 = map g.H.Draft.WritePart.state filled.new.loan.drafts.items in
+    let a = g.T.Tool.faults c.args.tool.now in
+    let b = g.T.Tool.faults filled.new.tool in
+    let proper = subst IsProper y.same_plan y.book.proper in
+    let fills = subst (λ (q : Plan). Fills g.T.Tool.apply q t rs rs1 ds ds1 a b filled.result) (c.plan.ensures ∙ ap (λ x. x.plan) c.lend.ensures.ordered) filled.ensures.fills in
+    subst (λ (q : Plan). IsFilledOf g.T.Tool.apply q t filled.result) (sym (ap (λ x. x.plan) c.lend.ensures.ordered))
+    (fills_of g.T.Tool.apply p proper (c.plan_laws.ensures p proper) (c.runs_carry_what_they_compute.ensures g.T.Tool.apply) first m t rs rs1 ds ds1 o a b filled.result (lent_held g.T.Tool.apply p first m o t rs ds e.lent) fills)
