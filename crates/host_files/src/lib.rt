@@ -17,6 +17,7 @@ mod folder_draft;
 mod folder_host;
 mod folder_reading;
 mod law;
+mod opening;
 mod pfn;
 mod progress;
 mod reading;
