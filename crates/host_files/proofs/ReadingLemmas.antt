@@ -1,8 +1,9 @@
 -- Bytes read so far, where they are told.
-use Rattle.std.proofs.Common.{◌≡◌, ℕ, ◌+◌, ◌<◌, List, [], ◌++◌, length, refl, sym, ap, ◌∙◌, length-append, append_assoc, arith}
+use Rattle.std.proofs.Common.{◌≡◌, ℕ, ◌+◌, List, [], ◌++◌, length, refl, sym, ap, ◌∙◌, length-append, append_assoc, arith}
 use Rattle.std.proofs.lemmas.List.{append-nil}
 use Rattle.std.specs.Prelude.{Option, Some, None, IfSome}
 use Rattle.std.specs.Io.KnownBytes.{Consumes, IsAtEnd}
+use Rattle.host_files.specs.Reading.{HasPassed}
 
 pub nothing_read : (known : Option (List ℕ)) → Consumes known known []
 nothing_read None = tt
@@ -22,12 +23,11 @@ all_read (Some xs) None new read before now end = absurd before
 all_read (Some xs) (Some ys) None read before now end = absurd now
 all_read (Some xs) (Some ys) (Some zs) read before now end = sym (before ∙ ap (λ (us : List ℕ). read ++ us) (now ∙ end) ∙ append-nil read)
 
--- a piece that is too much
-pub too_much : (first old new : Option (List ℕ)) (read piece : List ℕ) (limit : ℕ) → Consumes first old read → Consumes old new piece → limit < length read + length piece → IfSome first (λ bytes. limit < length bytes)
-too_much None old new read piece limit before now more = tt
-too_much (Some xs) None new read piece limit before now more = absurd before
-too_much (Some xs) (Some ys) None read piece limit before now more = absurd now
-too_much (Some xs) (Some ys) (Some zs) read piece limit before now more =
-    let first_is : length xs ≡ length read + length ys = ap length before ∙ length-append read ys in
-    let rest_is : length ys ≡ length piece + length zs = ap length now ∙ length-append piece zs in
-    omega (arith, first_is, rest_is, more)
+-- ---- how many
+
+-- those that were kept, and a piece more
+pub passed : (first old new : Option (List ℕ)) (read piece : List ℕ) (n : ℕ) → Consumes first old read → Consumes old new piece → length read + length piece ≡ n → HasPassed first new n
+passed first old new read piece n before now long = (read ++ piece, read_more first old new read piece before now, length-append read piece ∙ long)
+
+pub more_passed : (first old new : Option (List ℕ)) (piece : List ℕ) (n m : ℕ) → HasPassed first old n → Consumes old new piece → length piece ≡ m → HasPassed first new (n + m)
+more_passed first old new piece n m before now long = passed first old new before.0 piece (n + m) before.1 now (omega (arith, before.2, long))

@@ -3,7 +3,7 @@
 ghost use Rattle.std.specs.Prelude.{◌≡◌};
 ghost use Rattle.outside.specs.Counts.{no_calls};
 
-use crate::reading::{Reading, read_within};
+use crate::reading::{Reading, read_front};
 use outside::{Counts, DocFault, Docs};
 use std::alloc::Global;
 use std::fs;
@@ -61,7 +61,7 @@ impl<R: Files> Docs for FolderDocs<R> {
                 return Err(DocFault::Failed);
             }
         };
-        match read_within(&mut file, limit, into) {
+        match read_front(&mut file, limit, into) {
             Reading::Whole => {
                 self.counts.add_done();
                 Ok(())

@@ -1,22 +1,23 @@
 //! A store of files.
 
-ghost use Rattle.std.specs.Prelude.{◌≡◌, None};
-ghost use Rattle.outside.specs.Counts.{IsLater, no_calls};
-ghost use Rattle.outside.specs.Host.{Changes, Empties, Reads};
-ghost use Rattle.outside.specs.Store.{Change};
+ghost use Rattle.std.specs.Prelude.{◌≡◌, ◌+◌, IfErr, IfOk, Ok, OnErr, OnOk, string_bytes};
+ghost use Rattle.outside.specs.Counts.{IsLater, no_calls, one_done, one_fault};
+ghost use Rattle.outside.specs.Lending.{with_faults};
+ghost use Rattle.host_files.specs.FolderHost.{Refuses};
+ghost use Rattle.host_files.specs.Writing.{part_path};
 
-use crate::file_name::path_in;
-use crate::reading::{Reading, read_within};
-use crate::standing::{SITES, Standing, is_empty, standing_at_site};
-use crate::writing::{make_folder, write_file};
-use outside::{Blob, Counts, Host, HostFault, Memory};
+use crate::folder_draft::{FolderDraft, make_draft, write_whole};
+use crate::folder_reading::FolderReading;
+use crate::opening::{find_at_site, open_file, read_file};
+use crate::pfn::path_of;
+use crate::standing::{Standing, is_empty, standing_at_site};
+use crate::target::{SitePath, Target, output_path, site_folder, site_path, target_of};
+use crate::writing::part_path;
+use outside::{Blob, Counts, Host, HostFault, Memory, Place, ReadPart, WritePart};
 use std::alloc::Global;
 use std::io::ErrorKind;
 use std::rt::Files;
 use std::{fs, io};
-
-/// The folder of the delivered files.
-const OUTPUT: &str = "output";
 
 /// Replicas are files of the machine, a site's file is `sites/SITE/NAME` in the working folder and a delivered one
 /// `output/NAME`, with names escaped. What it holds isn't told. One run at a time has the working folder.
@@ -24,6 +25,8 @@ const OUTPUT: &str = "output";
 pub struct FolderHost<R> {
     rt: R,
     counts: Counts,
+    /// How many drafts were made: each is in a file of its own, which has this number.
+    drafts: u64,
 }
 
 impl<R: Files + Drop> FolderHost<R> {
@@ -33,78 +36,40 @@ impl<R: Files + Drop> FolderHost<R> {
         FolderHost {
             rt,
             counts: Counts::zero(),
+            drafts: 0,
         }
     }
-}
 
-/// Whether a URL's scheme has this spelling (RFC 3986, 3.1).
-fn is_scheme(word: &str) -> bool {
-    match word.as_bytes() {
-        [first, rest @ ..] if first.is_ascii_alphabetic() => rest.iter().all(
-            |b| b.is_ascii_alphanumeric() || matches!(*b, b'+' | b'-' | b'.'),
-        ),
-        _ => false,
-    }
-}
-
-/// The path of a pfn: a pfn is a path, with or without `file://` before it. One with another scheme has none.
-fn path_of(pfn: &str) -> Option<&str> {
-    match pfn.split_once("://") {
-        Some(("file", path)) => Some(path),
-        Some((scheme, _)) if is_scheme(scheme) => None,
-        _ => Some(pfn),
-    }
-}
-
-/// Reads a file of the machine, and counts the call.
-fn read_file<R: Files>(
-    alloc: Global,
-    rt: &R,
-    counts: &mut Counts,
-    path: &str,
-    limit: u64,
-) -> Result<Blob, HostFault>
-    ensures answer { Reads None limit counts.old counts.new result }
-    ensures later { IsLater counts.old counts.new }
-{
-    let mut file = match fs::open(rt, path) {
-        Ok(file) => file,
-        Err(e) if e.kind() == ErrorKind::NotFound => {
-            counts.add_miss();
-            return Err(HostFault::Absent);
-        }
-        Err(_) => {
-            counts.add_fault();
+    /// The path of a draft that this host has made none at. It fails where the numbers are used up.
+    fn next_part(&mut self, alloc: Global) -> Result<String, HostFault>
+        ensures part { IfOk result (λ p. string_bytes p ≡ part_path self.new.drafts) }
+        ensures next { OnOk result (self.new.drafts ≡ self.old.drafts + 1) }
+        ensures ok { OnOk result (self.new.counts ≡ self.old.counts) }
+        ensures err { IfErr result (Refuses self.old.counts self.new.counts) }
+        ensures later { IsLater self.old.counts self.new.counts }
+    {
+        let Some(number) = self.drafts.checked_add(1) else {
+            self.counts.add_fault();
             return Err(HostFault::Failed);
-        }
-    };
-    let mut bytes = Vec::new(alloc);
-    match read_within(&mut file, limit, &mut bytes) {
-        Reading::Whole => {
-            counts.add_done();
-            Ok(Blob::new(bytes))
-        }
-        Reading::Longer(length) => {
-            counts.add_miss();
-            Err(HostFault::Over(limit, length))
-        }
-        Reading::Failed => {
-            counts.add_fault();
-            Err(HostFault::Failed)
-        }
-        Reading::Memory => Err(HostFault::Memory),
+        };
+        let part = part_path(alloc, number)?;
+        self.drafts = number;
+        Ok(part)
     }
 }
 
-/// Counts a change that was made or failed.
-fn count_change(counts: &mut Counts, made: io::Result<()>) -> Result<(), HostFault>
-    ensures answer { (c : Change) → Changes None None counts.old counts.new ⊥ c result }
+/// Counts a call that was done or failed.
+fn count_call<T: Drop>(counts: &mut Counts, made: io::Result<T>) -> Result<T, HostFault>
+    ensures made { IfOk result (λ t. made ≡ Ok t) }
+    ensures done { OnOk result (counts.new ≡ one_done counts.old) }
+    ensures failed { IfErr result (λ e. e ≡ HostFault.Failed) }
+    ensures fault { OnErr result (counts.new ≡ one_fault counts.old) }
     ensures later { IsLater counts.old counts.new }
 {
     match made {
-        Ok(()) => {
+        Ok(made) => {
             counts.add_done();
-            Ok(())
+            Ok(made)
         }
         Err(_) => {
             counts.add_fault();
@@ -113,22 +78,18 @@ fn count_change(counts: &mut Counts, made: io::Result<()>) -> Result<(), HostFau
     }
 }
 
-/// Writes a site's file.
-fn publish<R: Files>(rt: &R, folder: &str, path: &str, bytes: &[u8]) -> io::Result<()> {
-    make_folder(rt, SITES)?;
-    make_folder(rt, folder)?;
-    write_file(rt, path, bytes)
-}
-
-/// Writes a delivered file.
-fn deliver<R: Files>(rt: &R, path: &str, bytes: &[u8]) -> io::Result<()> {
-    make_folder(rt, OUTPUT)?;
-    write_file(rt, path, bytes)
+/// Takes a part's count over.
+fn take_over(counts: &mut Counts, faults: u64)
+    ensures counted { counts.new ≡ with_faults counts.old faults }
+    ensures later { IsLater counts.old counts.new }
+{
+    counts.faults = counts.faults.saturating_add(faults);
 }
 
 /// Takes a file out of a site's folder, and tells whether it was there.
-fn remove_at_site<R: Files>(rt: &R, folder: &str, path: &str) -> io::Result<bool> {
-    match standing_at_site(rt, folder, path)? {
+fn remove_at_site<R: Files>(rt: &R, at: &SitePath) -> io::Result<bool> {
+    let path = at.path.as_str();
+    match standing_at_site(rt, at.folder.as_str(), path)? {
         Standing::Nothing => Ok(false),
         Standing::File => {
             fs::remove_file(rt, path)?;
@@ -141,6 +102,10 @@ fn remove_at_site<R: Files>(rt: &R, folder: &str, path: &str) -> io::Result<bool
 impl<R: Files + Drop> Host for FolderHost<R> {
     ghost use Rattle.std.specs.Prelude.{None};
     ghost use Rattle.outside.specs.Store.{blank};
+
+    type Reading = FolderReading<R::File>;
+
+    type Draft = FolderDraft<R::File>;
 
     ghost told = { λ _. None };
 
@@ -171,21 +136,9 @@ impl<R: Files + Drop> Host for FolderHost<R> {
         name: &str,
         limit: u64,
     ) -> Result<Blob, HostFault> {
-        let folder = path_in(alloc, SITES, site)?;
-        let path = path_in(alloc, folder.as_str(), name)?;
-        match standing_at_site(&self.rt, folder.as_str(), path.as_str()) {
-            Ok(Standing::File) => {
-                read_file(alloc, &self.rt, &mut self.counts, path.as_str(), limit)
-            }
-            Ok(Standing::Nothing) => {
-                self.counts.add_miss();
-                Err(HostFault::Absent)
-            }
-            _ => {
-                self.counts.add_fault();
-                Err(HostFault::Failed)
-            }
-        }
+        let at = site_path(alloc, site, name)?;
+        find_at_site(&self.rt, &mut self.counts, &at)?;
+        read_file(alloc, &self.rt, &mut self.counts, at.path.as_str(), limit)
     }
 
     fn write_scratch(
@@ -195,22 +148,22 @@ impl<R: Files + Drop> Host for FolderHost<R> {
         name: &str,
         bytes: &[u8],
     ) -> Result<(), HostFault> {
-        let folder = path_in(alloc, SITES, site)?;
-        let path = path_in(alloc, folder.as_str(), name)?;
-        let written = publish(&self.rt, folder.as_str(), path.as_str(), bytes);
-        count_change(&mut self.counts, written)
+        let target = Target::Site(site_path(alloc, site, name)?);
+        let part = self.next_part(alloc)?;
+        let written = write_whole(&self.rt, alloc, part, target, bytes);
+        count_call(&mut self.counts, written)
     }
 
     fn deliver(&mut self, alloc: Global, name: &str, bytes: &[u8]) -> Result<(), HostFault> {
-        let path = path_in(alloc, OUTPUT, name)?;
-        let written = deliver(&self.rt, path.as_str(), bytes);
-        count_change(&mut self.counts, written)
+        let target = Target::Output(output_path(alloc, name)?);
+        let part = self.next_part(alloc)?;
+        let written = write_whole(&self.rt, alloc, part, target, bytes);
+        count_call(&mut self.counts, written)
     }
 
     fn remove(&mut self, alloc: Global, site: &str, name: &str) -> Result<(), HostFault> {
-        let folder = path_in(alloc, SITES, site)?;
-        let path = path_in(alloc, folder.as_str(), name)?;
-        match remove_at_site(&self.rt, folder.as_str(), path.as_str()) {
+        let at = site_path(alloc, site, name)?;
+        match remove_at_site(&self.rt, &at) {
             Ok(true) => {
                 self.counts.add_done();
                 Ok(())
@@ -227,7 +180,7 @@ impl<R: Files + Drop> Host for FolderHost<R> {
     }
 
     fn scratch_empty(&mut self, alloc: Global, site: &str) -> Result<bool, HostFault> {
-        let folder = path_in(alloc, SITES, site)?;
+        let folder = site_folder(alloc, site)?;
         match is_empty(alloc, &self.rt, folder.as_str()) {
             Ok(true) => {
                 self.counts.add_done();
@@ -243,6 +196,58 @@ impl<R: Files + Drop> Host for FolderHost<R> {
                 Err(HostFault::Failed)
             }
         }
+    }
+
+    fn open_replica(
+        &mut self,
+        _alloc: Global,
+        pfn: &str,
+        limit: u64,
+    ) -> Result<FolderReading<R::File>, HostFault> {
+        let Some(path) = path_of(pfn) else {
+            self.counts.add_miss();
+            return Err(HostFault::Absent);
+        };
+        open_file(&self.rt, &mut self.counts, path, limit)
+    }
+
+    fn open_scratch(
+        &mut self,
+        alloc: Global,
+        site: &str,
+        name: &str,
+        limit: u64,
+    ) -> Result<FolderReading<R::File>, HostFault> {
+        let at = site_path(alloc, site, name)?;
+        find_at_site(&self.rt, &mut self.counts, &at)?;
+        open_file(&self.rt, &mut self.counts, at.path.as_str(), limit)
+    }
+
+    fn draft(
+        &mut self,
+        alloc: Global,
+        place: &Place,
+        limit: u64,
+    ) -> Result<FolderDraft<R::File>, HostFault> {
+        let target = target_of(alloc, place)?;
+        let part = self.next_part(alloc)?;
+        let made = make_draft(&self.rt, part, target, limit);
+        count_call(&mut self.counts, made)
+    }
+
+    fn publish(&mut self, _alloc: Global, draft: FolderDraft<R::File>) -> Result<(), HostFault> {
+        take_over(&mut self.counts, draft.faults());
+        let placed = draft.place(&self.rt);
+        count_call(&mut self.counts, placed)
+    }
+
+    fn discard(&mut self, draft: FolderDraft<R::File>) {
+        take_over(&mut self.counts, draft.faults());
+        draft.remove(&self.rt);
+    }
+
+    fn finish(&mut self, reading: FolderReading<R::File>) {
+        take_over(&mut self.counts, reading.faults());
     }
 
     fn mark(&mut self, _alloc: Global) -> Result<(), Memory> {

@@ -3,7 +3,9 @@
 //! [`FolderDocs`] meets `outside::Docs` over files, [`FolderHost`] meets `outside::Host` over files, and
 //! [`StreamSink`] meets `outside::Sink` over a writer. Nothing is assumed of real files: what they hold isn't
 //! told, and what a stream holds is told only where the writer tells it. A reading within a limit is defined in
-//! `specs/Reading.antt`, the path of a name ([`path_in`]) in `specs/FileName.antt`.
+//! `specs/Reading.antt`, the path of a name ([`path_in`]) in `specs/FileName.antt`, that of a pfn in `specs/Pfn.antt`.
+//!
+//! A host's files are read and written in pieces by a [`FolderReading`] and a [`FolderDraft`].
 //!
 //! [`Progress`] is a line on a terminal: [`ShownTool`] counts a tool's runs in it, and [`WipingSink`] takes it away before
 //! a text is written.
@@ -11,19 +13,26 @@
 
 mod file_name;
 mod folder_docs;
+mod folder_draft;
 mod folder_host;
+mod folder_reading;
 mod law;
+mod opening;
+mod pfn;
 mod progress;
 mod reading;
 mod shown_tool;
 mod standing;
 mod stream_sink;
+mod target;
 mod wiping_sink;
 mod writing;
 
 pub use file_name::path_in;
 pub use folder_docs::FolderDocs;
+pub use folder_draft::FolderDraft;
 pub use folder_host::FolderHost;
+pub use folder_reading::FolderReading;
 pub use law::escaped_names_stay_apart;
 pub use progress::Progress;
 pub use shown_tool::ShownTool;

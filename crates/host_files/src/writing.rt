@@ -1,15 +1,40 @@
-//! Writing a file of the working folder.
+//! Writing a file of the working folder: as a draft with a name of its own, which is renamed in one step.
 
-use crate::standing::{Standing, found_at};
-use std::io::{ErrorKind, Write};
+ghost use Rattle.std.specs.Prelude.{◌≡◌, IfOk, string_bytes};
+ghost use Rattle.host_files.specs.Writing.{part_path};
+
+use crate::standing::{SITES, Standing, found_at};
+use crate::target::{OUTPUT, Target};
+use outside::Memory;
+use std::alloc::Global;
+use std::io::ErrorKind;
 use std::rt::Files;
 use std::{fs, io};
 
-/// The file that a file is written to before it gets its name.
-const PART: &str = ".pegasus.part";
+/// The path of the draft with a number.
+pub fn part_path(alloc: Global, number: u64) -> Result<String, Memory>
+    ensures { IfOk result (λ p. string_bytes p ≡ part_path number) }
+{
+    let path = format!(in alloc; ".pegasus.part.{number}")?;
+    Ok(path)
+}
+
+/// Makes a file, in place of an earlier one of this path.
+pub fn create_part<R: Files>(rt: &R, part: &str) -> io::Result<R::File> {
+    match fs::remove_file(rt, part) {
+        Err(e) if e.kind() != ErrorKind::NotFound => return Err(e),
+        _ => {}
+    }
+    fs::File::create_new(rt, part)
+}
+
+/// Removes a draft's file. One that stays is replaced by the next draft of that number.
+pub fn remove_part<R: Files>(rt: &R, part: &str) {
+    let _removed = fs::remove_file(rt, part);
+}
 
 /// Makes a folder, if nothing stands there.
-pub fn make_folder<R: Files>(rt: &R, path: &str) -> io::Result<()> {
+fn make_folder<R: Files>(rt: &R, path: &str) -> io::Result<()> {
     match found_at(rt, path)? {
         Standing::Folder => Ok(()),
         Standing::Nothing => fs::create_dir(rt, path),
@@ -17,17 +42,25 @@ pub fn make_folder<R: Files>(rt: &R, path: &str) -> io::Result<()> {
     }
 }
 
-fn write_part<R: Files>(rt: &R, bytes: &[u8]) -> io::Result<()> {
-    let mut file = fs::File::create_new(rt, PART)?;
-    file.write_all(bytes)
+fn rename_part<R: Files>(rt: &R, part: &str, target: &Target) -> io::Result<()> {
+    match target {
+        Target::Site(site) => {
+            make_folder(rt, SITES)?;
+            make_folder(rt, site.folder.as_str())?;
+            fs::rename(rt, part, site.path.as_str())
+        }
+        Target::Output(path) => {
+            make_folder(rt, OUTPUT)?;
+            fs::rename(rt, part, path.as_str())
+        }
+    }
 }
 
-/// Writes a file of its own and gives it the path's name, in place of an earlier file.
-pub fn write_file<R: Files>(rt: &R, path: &str, bytes: &[u8]) -> io::Result<()> {
-    match fs::remove_file(rt, PART) {
-        Err(e) if e.kind() != ErrorKind::NotFound => return Err(e),
-        _ => {}
+/// Gives a draft's file its name, in place of an earlier file, or removes it.
+pub fn place_part<R: Files>(rt: &R, part: &str, target: &Target) -> io::Result<()> {
+    let placed = rename_part(rt, part, target);
+    if placed.is_err() {
+        remove_part(rt, part);
     }
-    write_part(rt, bytes)?;
-    fs::rename(rt, PART, path)
+    placed
 }

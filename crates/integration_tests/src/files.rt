@@ -1,7 +1,7 @@
 //! Files as documents, as replicas, and as what a store keeps.
 
 use host_files::*;
-use outside::{DocFault, Docs, Host, HostFault};
+use outside::{DocFault, Docs, Host, HostFault, Place, ReadPart, Text, WritePart};
 use std::alloc::Global;
 use std::fs;
 use std::os::unix::fs::symlink;
@@ -132,6 +132,59 @@ fn scratch_of_a_folder(rt: HostRuntime) -> Result<(), Fail> {
     Ok(())
 }
 
+/// A draft of a site's file `x`, with these bytes.
+fn drafted<H: Host>(
+    alloc: Global,
+    host: &mut H,
+    site: &str,
+    bytes: &[u8],
+) -> Result<H::Draft, HostFault> {
+    let place = Place::Scratch(Text::copy_of(alloc, site)?, Text::copy_of(alloc, "x")?);
+    let mut draft = host.draft(alloc, &place, 5)?;
+    draft.append(alloc, bytes)?;
+    Ok(draft)
+}
+
+/// Reads a file in pieces of three bytes, and tells how many came each time.
+fn pieces_of<I: ReadPart>(reading: &mut I) -> Result<[usize; 3], HostFault> {
+    let mut piece = [0u8; 3];
+    let first = reading.read(&mut piece)?;
+    let second = reading.read(&mut piece)?;
+    let third = reading.read(&mut piece)?;
+    Ok([first, second, third])
+}
+
+#[test]
+fn drafts_of_a_folder(rt: HostRuntime) -> Result<(), Fail> {
+    let alloc = rt.alloc();
+    let mut host = FolderHost::new(rt);
+    let site = "host_files_drafts";
+    let mut kept = drafted(alloc, &mut host, site, b"he")?;
+    let other = drafted(alloc, &mut host, site, b"other")?;
+    assert!(rt; kept.append(alloc, b"llo!") == Err(HostFault::Over(5, 6)));
+    kept.append(alloc, b"llo")?;
+    assert!(rt; host.scratch_empty(alloc, site) == Ok(true));
+    host.publish(alloc, kept)?;
+    host.discard(other);
+    assert!(rt; !fs::exists(&rt, ".pegasus.part.1")?);
+    assert!(rt; !fs::exists(&rt, ".pegasus.part.2")?);
+    assert_eq!(rt;
+        fs::read_to_string(&rt, "sites/host_files_drafts/x")?.as_str(),
+        "hello"
+    );
+    let mut reading = host.open_scratch(alloc, site, "x", 5)?;
+    assert!(rt; pieces_of(&mut reading) == Ok([3, 2, 0]));
+    host.finish(reading);
+    assert_eq!(rt; host.faults(), 0);
+    fs::remove_dir_all(&rt, "sites/host_files_drafts")?;
+    Ok(())
+}
+
+/// Why a site's file isn't opened.
+fn refusal<H: Host>(alloc: Global, host: &mut H, site: &str, name: &str) -> Option<HostFault> {
+    host.open_scratch(alloc, site, name, 5).err()
+}
+
 #[test]
 fn links_are_not_followed(rt: HostRuntime) -> Result<(), Fail> {
     let alloc = rt.alloc();
@@ -142,8 +195,9 @@ fn links_are_not_followed(rt: HostRuntime) -> Result<(), Fail> {
     symlink(&rt, "../../host_files_outside", "sites/host_files_links/y")?;
     assert!(rt; scratch_at(alloc, &mut host, site, "x") == Ok(5));
     assert!(rt; scratch_at(alloc, &mut host, site, "y") == Err(HostFault::Failed));
+    assert!(rt; refusal(alloc, &mut host, site, "y") == Some(HostFault::Failed));
     assert!(rt; host.remove(alloc, site, "y") == Err(HostFault::Failed));
-    assert_eq!(rt; host.faults(), 2);
+    assert_eq!(rt; host.faults(), 3);
     fs::remove_dir_all(&rt, "sites/host_files_links")?;
     fs::remove_file(&rt, "host_files_outside")?;
     Ok(())

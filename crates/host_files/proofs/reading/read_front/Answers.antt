@@ -1,7 +1,7 @@
 use Rattle.std.proofs.Common.{◌≡◌, ◌+◌, ◌<◌, ◌≤◌, ℕ, [], length, take, length-append, ap, arith}
 use Rattle.std.proofs.lemmas.List.{length-replicate}
-use Rattle.host_files.proofs.ReadingLemmas.{nothing_read, read_more, all_read, too_much}
-use Rattle.host_files.proofs.reading.read_within.Goals as goal
+use Rattle.host_files.proofs.ReadingLemmas.{nothing_read, read_more, all_read, passed}
+use Rattle.host_files.proofs.reading.read_front.Goals as goal
 
 pub loop-init : goal.loop-init
 loop-init g c = rw c.requires (nothing_read (g.F.Read.remaining c.args.file.now), omega arith, omega (arith, length-replicate {A = ℕ} 16384 0))
@@ -15,9 +15,9 @@ returns-in-Ok-eq0 g c =
 
 pub returns-then-count-room : goal.returns-then-count-room
 returns-then-count-room g c =
-    let more : c.args.limit < length c.loop.into.items + length (take c.in-Ok.count c.read.new.buf) = omega (arith, c.if-count-room.true, c.saturating_sub-room.ensures, c.len.ensures, c.loop.invariant.1, c.in-Ok.ensures.bound.1) in
     let seen : c.args.limit < c.len-then-count-room.result + c.in-Ok.count = omega (arith, c.if-count-room.true, c.saturating_sub-room.ensures, c.len.ensures, c.len-then-count-room.ensures, c.loop.invariant.1) in
-    (seen, too_much _ _ _ _ _ c.args.limit c.loop.invariant.0 c.in-Ok.ensures.bytes.0 more)
+    let long : length c.loop.into.items + length (take c.in-Ok.count c.read.new.buf) ≡ c.len-then-count-room.result + c.in-Ok.count = omega (arith, c.len-then-count-room.ensures, c.in-Ok.ensures.bound.1) in
+    (seen, passed _ _ _ _ _ _ c.loop.invariant.0 c.in-Ok.ensures.bytes.0 long)
 
 pub loop-preserved : goal.loop-preserved
 loop-preserved g c =

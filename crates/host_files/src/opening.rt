@@ -1,0 +1,134 @@
+//! Opening files of the machine. Each call counts itself.
+
+ghost use Rattle.std.specs.Prelude.{◌≡◌, ◌≤◌, Err, IfErr, IfOk, IfSome, None, OnOk};
+ghost use Rattle.outside.specs.Counts.{IsLater};
+ghost use Rattle.outside.specs.Host.{Reads};
+ghost use Rattle.outside.specs.Lending.{Opens};
+ghost use Rattle.host_files.specs.Opening.{FindsNone};
+
+use crate::folder_reading::FolderReading;
+use crate::reading::{Reading, read_within};
+use crate::standing::{Standing, standing_at_site};
+use crate::target::SitePath;
+use outside::{Blob, Counts, HostFault, ReadPart};
+use std::alloc::Global;
+use std::fs;
+use std::fs::OpenFile;
+use std::io::ErrorKind;
+use std::rt::Files;
+
+/// An open file, and its length, if it has one: a folder or a pipe has none.
+#[derive(Drop)]
+struct Opened<F> {
+    file: F,
+    length: Option<u64>,
+}
+
+/// Opens a file of the machine, if it isn't longer than a limit. A refusal counts itself.
+fn open_within<R: Files>(
+    rt: &R,
+    counts: &mut Counts,
+    path: &str,
+    limit: u64,
+) -> Result<Opened<R::File>, HostFault>
+    ensures ok { OnOk result (counts.new ≡ counts.old) }
+    ensures within { IfOk result (λ o. IfSome o.length (λ n. n ≤ limit)) }
+    ensures err { IfErr result (λ e. Reads None limit counts.old counts.new (Err e)) }
+    ensures later { IsLater counts.old counts.new }
+{
+    let file = match fs::open(rt, path) {
+        Ok(file) => file,
+        Err(e) if e.kind() == ErrorKind::NotFound => {
+            counts.add_miss();
+            return Err(HostFault::Absent);
+        }
+        Err(_) => {
+            counts.add_fault();
+            return Err(HostFault::Failed);
+        }
+    };
+    let Ok(found) = file.metadata() else {
+        counts.add_fault();
+        return Err(HostFault::Failed);
+    };
+    let length = found.is_file().then_some(found.len());
+    match length {
+        Some(length) if length > limit => {
+            counts.add_miss();
+            Err(HostFault::Over(limit, length))
+        }
+        _ => Ok(Opened { file, length }),
+    }
+}
+
+/// Reads a file of the machine, and counts the call.
+pub fn read_file<R: Files>(
+    alloc: Global,
+    rt: &R,
+    counts: &mut Counts,
+    path: &str,
+    limit: u64,
+) -> Result<Blob, HostFault>
+    ensures answer { Reads None limit counts.old counts.new result }
+    ensures later { IsLater counts.old counts.new }
+{
+    let mut opened = open_within(rt, counts, path, limit)?;
+    let mut bytes = Vec::new(alloc);
+    match read_within(&mut opened.file, limit, &mut bytes) {
+        Reading::Whole => {
+            counts.add_done();
+            Ok(Blob::new(bytes))
+        }
+        Reading::Longer(length) => {
+            counts.add_miss();
+            Err(HostFault::Over(limit, length))
+        }
+        Reading::Failed => {
+            counts.add_fault();
+            Err(HostFault::Failed)
+        }
+        Reading::Memory => Err(HostFault::Memory),
+    }
+}
+
+/// Opens a file of the machine to be read in pieces, and counts the call. What has no length fails.
+pub fn open_file<R: Files>(
+    rt: &R,
+    counts: &mut Counts,
+    path: &str,
+    limit: u64,
+) -> Result<FolderReading<R::File>, HostFault>
+    ensures answer { Opens ⟦<FolderReading<R::File> as ReadPart>⟧.state None limit counts.old counts.new result }
+    ensures later { IsLater counts.old counts.new }
+{
+    let opened = open_within(rt, counts, path, limit)?;
+    match opened.length {
+        Some(length) => {
+            counts.add_done();
+            Ok(FolderReading::new(opened.file, length))
+        }
+        None => {
+            counts.add_fault();
+            Err(HostFault::Failed)
+        }
+    }
+}
+
+/// Whether a file stands in a site's folder. A refusal counts itself.
+pub fn find_at_site<R: Files>(rt: &R, counts: &mut Counts, at: &SitePath) -> Result<(), HostFault>
+    ensures ok { OnOk result (counts.new ≡ counts.old) }
+    ensures err { IfErr result (FindsNone counts.old counts.new) }
+    ensures later { IsLater counts.old counts.new }
+{
+    match standing_at_site(rt, at.folder.as_str(), at.path.as_str()) {
+        Ok(Standing::File) => Ok(()),
+        Ok(Standing::Nothing) => {
+            counts.add_miss();
+            Err(HostFault::Absent)
+        }
+        _ => {
+            counts.add_fault();
+            Err(HostFault::Failed)
+        }
+    }
+}
