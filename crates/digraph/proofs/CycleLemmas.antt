@@ -94,16 +94,6 @@ named e s js none cycle = record {
     by a back true h = absurd (none a (let l : a < s = grind arith in l) back)
     by a back false h = grind arith
 
--- a placed node doesn't return
-pub placed_stays : (predecessors successors : List (List ℕ)) (ordered : List ℕ) (counts : List ℕ) → AreLinked predecessors successors → IsPlacement predecessors ordered counts → (a : ℕ) → waits_for counts a ≡ 0 → Returns (leads successors) a → ⊥
-placed_stays predecessors successors ordered counts linked placement a none back =
-    let one : free counts a ≡ 1 = ap (λ (x : ℕ). cond {A = ℕ} (nat_eq x 0) 1 0) none in
-    never_returns (comes predecessors) ordered placement.in_order a (by (has a ordered) refl one) (let k : times a ordered ≡ 1 = placement.placed a ∙ one in omega (arith, k)) (subst (λ (e : ℕ → ℕ → Bool). Returns e a) (sym (same_edges predecessors successors linked)) back)
-  where
-    by : (t : Bool) → has a ordered ≡ t → free counts a ≡ 1 → has a ordered ≡ true
-    by true h one = h
-    by false h one = absurd (let z : times a ordered ≡ 0 = present a ordered h in omega (arith, z, one, placement.placed a))
-
 -- what was said of a table and a list that are these
 pub looked : {t u : List (Option ℕ)} {r q : List ℕ} (P : List (Option ℕ) → List ℕ → Type 0) → t ≡ u → r ≡ q → P t r → P u q
 looked {t} {u} {r} {q} P e f h = subst (λ (x : List ℕ). P u x) f (subst (λ (x : List (Option ℕ)). P x r) e h)
@@ -112,21 +102,6 @@ looked {t} {u} {r} {q} P e f h = subst (λ (x : List ℕ). P u x) f (subst (λ (
 pub no_answer : {A : Type 0} (o : Option A) (P : Type 0) (Q : A → Type 0) → ((x : A) → o ≡ Some x → ⊥) → MatchOption o P Q → P
 no_answer None P Q none h = h
 no_answer (Some x) P Q none h = absurd (none x refl)
-
--- one edge more at the end
-walk_more : (e : ℕ → ℕ → Bool) (n a b c : ℕ) → Walk e n a b → e b c ≡ true → Walk e (suc n) a c
-walk_more e zero a b c walk edge = (c, ap (λ (x : ℕ). e x c) walk ∙ edge, refl)
-walk_more e (suc n) a b c walk edge = (walk.0, walk.1, walk_more e n walk.0 b c walk.2 edge)
-
-walk_back : (e : ℕ → ℕ → Bool) (n a b : ℕ) → Walk e n a b → Walk (λ x y. e y x) n b a
-walk_back e zero a b walk = sym walk
-walk_back e (suc n) a b walk = walk_more (λ x y. e y x) n b walk.0 a (walk_back e n walk.0 b walk.2) walk.1
-
--- a node that is placed from the successors' side doesn't return
-pub placed_back : (predecessors successors : List (List ℕ)) (ordered : List ℕ) (counts : List ℕ) → AreLinked predecessors successors → IsPlacement successors ordered counts → (a : ℕ) → waits_for counts a ≡ 0 → Returns (leads successors) a → ⊥
-placed_back predecessors successors ordered counts linked placement a none back =
-    placed_stays successors predecessors ordered counts (swapped predecessors successors linked) placement a none
-    (subst (λ (e : ℕ → ℕ → Bool). Returns e a) (same_edges successors predecessors (swapped predecessors successors linked)) (back.0, walk_back (leads successors) (suc back.0) a a back.1))
 
 -- the named cycle is one
 same_next : (e : ℕ → ℕ → Bool) (s a d c b : ℕ) → IsNext e s a d c → IsNext e s a d b → c ≡ b

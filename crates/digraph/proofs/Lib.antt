@@ -6,4 +6,5 @@ pub mod OrderLemmas
 pub mod SearchLemmas
 pub mod DistancesLemmas
 pub mod NearestLemmas
+pub mod RanksLemmas
 pub mod CycleLemmas

@@ -173,7 +173,7 @@ searched_first predecessors s old table frontier is h long marked = record {
     last_by true = refl
     last_by false = refl
 
-kept_distance : (old new : List (Option ℕ)) (r : ℕ → Bool) (d : ℕ) → ((p : ℕ) → distance_at new p ≡ later (distance_at old p) (r p) d) → (c x : ℕ) → distance_at old c ≡ Some x → distance_at new c ≡ Some x
+pub kept_distance : (old new : List (Option ℕ)) (r : ℕ → Bool) (d : ℕ) → ((p : ℕ) → distance_at new p ≡ later (distance_at old p) (r p) d) → (c x : ℕ) → distance_at old c ≡ Some x → distance_at new c ≡ Some x
 kept_distance old new r d says c x e = says c ∙ ap (λ (o : Option ℕ). later o (r c) d) e
 
 is_at_some : (k : ℕ) (o : Option ℕ) → is_at k o ≡ true → o ≡ Some k
@@ -189,7 +189,7 @@ reached_from predecessors (j ∷ js) p h = by (has p (neighbours predecessors j)
     by true e f rest = (j, ap (λ (b : Bool). b || has j js) (eq-eqb j j refl), e)
     by false e f rest = let found = rest f in (found.0, ap (λ (b : Bool). nat_eq j found.0 || b) found.1 ∙ or-true (nat_eq j found.0), found.2)
 
-reached_at : (predecessors : List (List ℕ)) (js : List ℕ) (p j : ℕ) → has j js ≡ true → has p (neighbours predecessors j) ≡ true → reached predecessors js p ≡ true
+pub reached_at : (predecessors : List (List ℕ)) (js : List ℕ) (p j : ℕ) → has j js ≡ true → has p (neighbours predecessors j) ≡ true → reached predecessors js p ≡ true
 reached_at predecessors [] p j h e = absurd cc
 reached_at predecessors (i ∷ js) p j h e = by (nat_eq i j) refl h (λ f. reached_at predecessors js p j f e)
   where

@@ -30,7 +30,8 @@ pub IsRising-prop : (ns : List ℕ) → IsProp (IsRising ns)
 IsRising-prop [] = Unit-prop
 IsRising-prop (n ∷ ns) = ×_prop (Prim.hlevel props) (IsRising-prop ns)
 
--- An edge leads from a to b where b stands in the list of a; the other way, where a stands in the list of b.
+-- An edge leads from a to b where b stands in the list of a; the other way, where a stands in the
+-- list of b.
 abbrev pub leads : List (List ℕ) → ℕ → ℕ → Bool
 leads successors a b = has b (neighbours successors a)
 
@@ -44,7 +45,8 @@ pub record IsTransposed (old new : List (List ℕ)) : Type 0 where
   pub in_range : (k : ℕ) → All (λ n. n < length old) (neighbours new k)
   pub same : (a b : ℕ) → has a (neighbours new b) ≡ has b (neighbours old a)
 
--- The predecessors and the successors of each node: both ways the same edges, each once, in rising order.
+-- The predecessors and the successors of each node: both ways the same edges, each once, in rising
+-- order.
 pub record AreLinked (predecessors successors : List (List ℕ)) : Type 0 where
   pub long : length successors ≡ length predecessors
   pub predecessors_rising : (k : ℕ) → IsRising (neighbours predecessors k)
@@ -53,10 +55,12 @@ pub record AreLinked (predecessors successors : List (List ℕ)) : Type 0 where
   pub successors_in : (k : ℕ) → All (λ n. n < length predecessors) (neighbours successors k)
   pub same : (a b : ℕ) → has a (neighbours predecessors b) ≡ has b (neighbours successors a)
 
-pub AreLinked-prop : (predecessors successors : List (List ℕ)) → IsProp (AreLinked predecessors successors)
+pub AreLinked-prop : (predecessors successors : List (List ℕ))
+    → IsProp (AreLinked predecessors successors)
 AreLinked-prop predecessors successors = Prim.hlevel (props, IsRising-prop)
 
--- The lists have a list for each node, and it has, in rising order, exactly those to which an edge leads.
+-- The lists have a list for each node, and it has, in rising order, exactly those to which an edge
+-- leads.
 pub record AreNeighbours (e : ℕ → ℕ → Bool) (count : ℕ) (ls : List (List ℕ)) : Type 0 where
   pub long : length ls ≡ count
   pub rising : (k : ℕ) → IsRising (neighbours ls k)

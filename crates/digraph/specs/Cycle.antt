@@ -12,7 +12,8 @@ pub record IsNext (e : ℕ → ℕ → Bool) (s a d c : ℕ) : Type 0 where
   pub distance : IsDistance e s c d
   pub least : (b : ℕ) → e a b ≡ true → IsDistance e s b d → c ≤ b
 
--- From a, at distance d from s: a, then the least successor whose distance is one less, and so on; s itself doesn't come.
+-- From a, at distance d from s: a, then the least successor whose distance is one less, and so on;
+-- s itself doesn't come.
 abbrev pub Descends : (ℕ → ℕ → Bool) → ℕ → ℕ → ℕ → List ℕ → Type 0
 Descends e s zero a js = js ≡ []
 Descends e s (suc d) a [] = ⊥

@@ -32,9 +32,11 @@ pub record IsReleased (counts new : List ℕ) (ordered longer successors : List 
   pub done : All (λ n. waits_for new n ≡ 0) more
 
 -- The order holds each node that waits for none, once; each other node waits for a node that waits.
-pub record IsPlacement (predecessors : List (List ℕ)) (ordered : List ℕ) (counts : List ℕ) : Type 0 where
+pub record IsPlacement (predecessors : List (List ℕ)) (ordered counts : List ℕ) : Type 0 where
   pub long : length counts ≡ length predecessors
   pub placed : (b : ℕ) → times b ordered ≡ free counts b
   pub in_order : IsInOrder (comes predecessors) ordered
   pub kept : waiting counts + length ordered ≡ length predecessors
-  pub stuck : (b : ℕ) → b < length predecessors → waits_for counts b ≢ 0 → (a : ℕ) × (comes predecessors a b ≡ true) × (a < length predecessors) × (waits_for counts a ≢ 0)
+  pub stuck : (b : ℕ) → b < length predecessors → waits_for counts b ≢ 0
+      → (a : ℕ) × (comes predecessors a b ≡ true)
+      × (a < length predecessors) × (waits_for counts a ≢ 0)

@@ -9,3 +9,4 @@ pub mod Scatter
 pub mod Kahn
 pub mod Search
 pub mod Nearest
+pub mod Ranks

@@ -12,9 +12,13 @@ lesser (Some x) (Some y) = Some (min x y)
 -- the least distance of these nodes
 abbrev pub IsNearest : List (Option ℕ) → List ℕ → Option ℕ → Type 0
 IsNearest table js None = (b : ℕ) → has b js ≡ true → distance_at table b ≡ None
-IsNearest table js (Some d) = ((c : ℕ) × (has c js ≡ true) × (distance_at table c ≡ Some d)) × ((b x : ℕ) → has b js ≡ true → distance_at table b ≡ Some x → d ≤ x)
+IsNearest table js (Some d) =
+    ((c : ℕ) × (has c js ≡ true) × (distance_at table c ≡ Some d))
+    × ((b x : ℕ) → has b js ≡ true → distance_at table b ≡ Some x → d ≤ x)
 
 -- the least of these nodes with a distance
 abbrev pub IsLeastAt : List (Option ℕ) → List ℕ → ℕ → Option ℕ → Type 0
 IsLeastAt table js d None = (b : ℕ) → has b js ≡ true → distance_at table b ≡ Some d → ⊥
-IsLeastAt table js d (Some c) = (has c js ≡ true) × (distance_at table c ≡ Some d) × ((b : ℕ) → has b js ≡ true → distance_at table b ≡ Some d → c ≤ b)
+IsLeastAt table js d (Some c) =
+    (has c js ≡ true) × (distance_at table c ≡ Some d)
+    × ((b : ℕ) → has b js ≡ true → distance_at table b ≡ Some d → c ≤ b)

@@ -5,7 +5,9 @@ use Rattle.digraph.specs.Adjacency.{has, times}
 
 -- where an edge leads from a to a node of the list, a comes before that node
 abbrev pub IsInOrder : (ℕ → ℕ → Bool) → List ℕ → Type 0
-IsInOrder e ns = (i n : ℕ) → i < length ns → slice_index_or ns i n ≡ n → (a : ℕ) → e a n ≡ true → has a (take i ns) ≡ true
+IsInOrder e ns =
+    (i n : ℕ) → i < length ns → slice_index_or ns i n ≡ n
+    → (a : ℕ) → e a n ≡ true → has a (take i ns) ≡ true
 
 -- each node below the count once, after all from which an edge leads to it
 pub record IsTopologicalOrder (e : ℕ → ℕ → Bool) (count : ℕ) (ns : List ℕ) : Type 0 where

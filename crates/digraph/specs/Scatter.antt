@@ -10,4 +10,6 @@ ends_with a (n ∷ m ∷ ns) = ends_with a (m ∷ ns)
 
 -- what the lists are after a node was added to those of some places
 abbrev pub IsScattered : List (List ℕ) → List (List ℕ) → ℕ → List ℕ → Type 0
-IsScattered old new node places = (k : ℕ) → neighbours new k ≡ cond (has k places) (neighbours old k ++ node ∷ []) (neighbours old k)
+IsScattered old new node places =
+    (k : ℕ) → neighbours new k
+    ≡ cond (has k places) (neighbours old k ++ node ∷ []) (neighbours old k)

@@ -14,10 +14,12 @@ abbrev pub unknown : List (Option ℕ) → ℕ
 unknown [] = 0
 unknown (o ∷ os) = (if is_some o then 0 else 1) + unknown os
 
--- Those of the nodes of which nothing was said have this distance now, and stand in the longer list.
+-- Those of the nodes of which nothing was said have this distance now, and stand in the longer
+-- list.
 pub record IsMarked (old new : List (Option ℕ)) (next longer nodes : List ℕ) (d : ℕ) : Type 0 where
   pub says : (p : ℕ) → distance_at new p ≡ later (distance_at old p) (has p nodes) d
-  pub found : (p : ℕ) → has p longer ≡ (has p next || (not (is_some (distance_at old p)) && has p nodes))
+  pub found : (p : ℕ) → has p longer
+      ≡ (has p next || (not (is_some (distance_at old p)) && has p nodes))
   pub kept : unknown new + length longer ≡ unknown old + length next
 
 -- an edge leads from the node to one of these
@@ -25,14 +27,21 @@ abbrev pub reached : List (List ℕ) → List ℕ → ℕ → Bool
 reached predecessors js p = list_any (λ j. has p (neighbours predecessors j)) js
 
 -- The same of the predecessors of some nodes.
-pub record IsSpread (predecessors : List (List ℕ)) (old new : List (Option ℕ)) (frontier next : List ℕ) (d : ℕ) : Type 0 where
-  pub says : (p : ℕ) → distance_at new p ≡ later (distance_at old p) (reached predecessors frontier p) d
-  pub found : (p : ℕ) → has p next ≡ (not (is_some (distance_at old p)) && reached predecessors frontier p)
+pub record IsSpread
+    (predecessors : List (List ℕ)) (old new : List (Option ℕ)) (frontier next : List ℕ) (d : ℕ)
+    : Type 0 where
+  pub says : (p : ℕ) → distance_at new p
+      ≡ later (distance_at old p) (reached predecessors frontier p) d
+  pub found : (p : ℕ) → has p next
+      ≡ (not (is_some (distance_at old p)) && reached predecessors frontier p)
   pub kept : unknown new + length next ≡ unknown old
 
--- s alone is at 0, from any other node an edge leads one nearer, and no edge leads from further away.
+-- s alone is at 0, from any other node an edge leads one nearer, and no edge leads from further
+-- away.
 pub record IsDistanceTable (e : ℕ → ℕ → Bool) (s : ℕ) (table : List (Option ℕ)) : Type 0 where
   pub start : distance_at table s ≡ Some 0
   pub only : (c : ℕ) → distance_at table c ≡ Some 0 → c ≡ s
-  pub down : (c d : ℕ) → distance_at table c ≡ Some (suc d) → (b : ℕ) × (e c b ≡ true) × (distance_at table b ≡ Some d)
-  pub near : (c b d : ℕ) → e c b ≡ true → distance_at table b ≡ Some d → (x : ℕ) × (distance_at table c ≡ Some x) × (x ≤ suc d)
+  pub down : (c d : ℕ) → distance_at table c ≡ Some (suc d)
+      → (b : ℕ) × (e c b ≡ true) × (distance_at table b ≡ Some d)
+  pub near : (c b d : ℕ) → e c b ≡ true → distance_at table b ≡ Some d
+      → (x : ℕ) × (distance_at table c ≡ Some x) × (x ≤ suc d)

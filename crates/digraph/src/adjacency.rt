@@ -5,8 +5,8 @@ ghost use Rattle.std.specs.List.{list_any};
 ghost use Rattle.digraph.specs.Adjacency.{lists_of, neighbours, has, IsTransposed};
 ghost use Rattle.digraph.specs.Scatter.{ends_with, IsScattered};
 
-use values::Memory;
 use std::alloc::Global;
+use values::Memory;
 
 /// So many empty lists.
 pub fn empty_lists(alloc: Global, count: usize) -> Result<Vec<Vec<u32>>, Memory>
@@ -24,7 +24,10 @@ pub fn empty_lists(alloc: Global, count: usize) -> Result<Vec<Vec<u32>>, Memory>
 fn add(lists: &mut Vec<Vec<u32>>, at: u32, node: u32) -> Result<(), Memory>
     requires { at < length lists.old.items }
     ensures long { length lists.new.items ≡ length lists.old.items }
-    ensures added { OnOk result ((k : ℕ) → neighbours (lists_of lists.new.items) k ≡ (cond (at == k) (neighbours (lists_of lists.old.items) k ++ node ∷ []) (neighbours (lists_of lists.old.items) k))) }
+    ensures added { OnOk result ((k : ℕ) → neighbours (lists_of lists.new.items) k
+        ≡ (cond (at == k)
+        (neighbours (lists_of lists.old.items) k ++ node ∷ [])
+        (neighbours (lists_of lists.old.items) k))) }
 {
     lists[at as usize].push(node)?;
     Ok(())
@@ -33,10 +36,14 @@ fn add(lists: &mut Vec<Vec<u32>>, at: u32, node: u32) -> Result<(), Memory>
 /// Adds the first node of each pair to the list of the second one.
 pub fn add_pairs(lists: &mut Vec<Vec<u32>>, pairs: &[(u32, u32)]) -> Result<(), Memory>
     requires in_range { All (λ p. (p.0 < length lists.old.items) × (p.1 < length lists.old.items)) pairs.now }
-    requires below { (k : ℕ) → All (λ n. n < length lists.old.items) (neighbours (lists_of lists.old.items) k) }
+    requires below { (k : ℕ)
+        → All (λ n. n < length lists.old.items) (neighbours (lists_of lists.old.items) k) }
     ensures long { length lists.new.items ≡ length lists.old.items }
-    ensures below { OnOk result ((k : ℕ) → All (λ n. n < length lists.old.items) (neighbours (lists_of lists.new.items) k)) }
-    ensures added { OnOk result ((a b : ℕ) → has a (neighbours (lists_of lists.new.items) b) ≡ (has a (neighbours (lists_of lists.old.items) b) || list_any (λ (p : ℕ × ℕ). p.0 == a && p.1 == b) pairs.now)) }
+    ensures below { OnOk result ((k : ℕ)
+        → All (λ n. n < length lists.old.items) (neighbours (lists_of lists.new.items) k)) }
+    ensures added { OnOk result ((a b : ℕ) → has a (neighbours (lists_of lists.new.items) b)
+        ≡ (has a (neighbours (lists_of lists.old.items) b)
+        || list_any (λ (p : ℕ × ℕ). p.0 == a && p.1 == b) pairs.now)) }
 {
     for pair in pairs {
         add(lists, pair.1, pair.0)?;
@@ -58,7 +65,8 @@ fn scatter(lists: &mut Vec<Vec<u32>>, places: &[u32], node: u32) -> Result<(), M
     requires in_range { All (λ p. p < length lists.old.items) places.now }
     requires below { (k : ℕ) → All (λ n. n < node) (neighbours (lists_of lists.old.items) k) }
     ensures long { length lists.new.items ≡ length lists.old.items }
-    ensures added { OnOk result (IsScattered (lists_of lists.old.items) (lists_of lists.new.items) node places.now) }
+    ensures added { OnOk result
+        (IsScattered (lists_of lists.old.items) (lists_of lists.new.items) node places.now) }
 {
     for place in places {
         if !ends_with(&lists[*place as usize], node) {
@@ -71,7 +79,8 @@ fn scatter(lists: &mut Vec<Vec<u32>>, places: &[u32], node: u32) -> Result<(), M
 /// For each node those in whose lists it stands, in rising order, each once.
 pub fn transposed(alloc: Global, lists: &[Vec<u32>]) -> Result<Vec<Vec<u32>>, Memory>
     requires few { length lists.now < 2 ^ 32 }
-    requires in_range { (k : ℕ) → All (λ n. n < length lists.now) (neighbours (lists_of lists.now) k) }
+    requires in_range { (k : ℕ)
+        → All (λ n. n < length lists.now) (neighbours (lists_of lists.now) k) }
     ensures { IfOk result (λ t. IsTransposed (lists_of lists.now) (lists_of t.items)) }
 {
     let mut turned = empty_lists(alloc, lists.len())?;

@@ -1,16 +1,17 @@
 //! The cycle that a fault names.
 
-ghost use Rattle.std.specs.Prelude.{◌≡◌, ◌<◌, ◌≤◌, ◌∷◌, ◌^◌, ℕ, Some, length, IfOk, MatchOption, All};
+ghost use Rattle.std.specs.Prelude.{◌≡◌, ◌<◌, ◌≤◌, ◌∷◌, ◌^◌, ℕ, Some, true, length, IfOk, MatchOption, All};
 ghost use Rattle.digraph.specs.Adjacency.{lists_of, neighbours, leads, IsRising, AreLinked};
 ghost use Rattle.digraph.specs.Cycle.{Returns, Descends, IsCycleFrom, IsNamedCycle};
 ghost use Rattle.digraph.specs.Distances.{distance_at};
+ghost use Rattle.digraph.specs.Ranks.{AreRanks};
 ghost use Rattle.digraph.specs.Search.{IsDistanceTable};
 
-use crate::kahn::place;
-use crate::nearest::{least_at, nearest};
+use crate::nearest::{distance_at, least_at, nearest};
+use crate::ranks::ranks;
 use crate::search::search;
-use values::Memory;
 use std::alloc::Global;
+use values::Memory;
 
 /// From a node to the one that the table is about, without the latter.
 fn descend(
@@ -25,7 +26,8 @@ fn descend(
     requires long { length table.now ≡ length successors.now }
     requires table { IsDistanceTable (leads (lists_of successors.now)) start table.now }
     requires first { distance_at table.now first ≡ Some distance }
-    ensures descends { IfOk result (λ v. Descends (leads (lists_of successors.now)) start distance first v.items) }
+    ensures descends { IfOk result
+        (λ v. Descends (leads (lists_of successors.now)) start distance first v.items) }
     ensures in_range { IfOk result (λ v. All (λ n. n < length successors.now) v.items) }
 {
     let mut nodes = Vec::new(alloc);
@@ -62,8 +64,11 @@ fn cycle_from(
     requires few { length predecessors.now < 2 ^ 32 }
     requires linked { AreLinked (lists_of predecessors.now) (lists_of successors.now) }
     requires start { start < length predecessors.now }
-    ensures cycle { IfOk result (λ o. MatchOption o (Returns (leads (lists_of successors.now)) start → ⊥) (λ ns. IsCycleFrom (leads (lists_of successors.now)) start ns.items)) }
-    ensures in_range { IfOk result (λ o. MatchOption o (Unit {0}) (λ ns. All (λ n. n < length successors.now) ns.items)) }
+    ensures cycle { IfOk result
+        (λ o. MatchOption o (Returns (leads (lists_of successors.now)) start → ⊥)
+        (λ ns. IsCycleFrom (leads (lists_of successors.now)) start ns.items)) }
+    ensures in_range { IfOk result
+        (λ o. MatchOption o (Unit {0}) (λ ns. All (λ n. n < length successors.now) ns.items)) }
 {
     let table = search(alloc, predecessors, start)?;
     let next = &successors[start as usize];
@@ -79,8 +84,22 @@ fn cycle_from(
     Ok(Some(with_first(alloc, start, &rest)?))
 }
 
-/// The cycle from the least node that returns to itself: the shortest way back, and among these the one with
-/// the least numbers, the first first.
+/// Whether the ranks show that a node doesn't return to itself: no edge leads to one of its own
+/// rank.
+fn stays_away(ranks: &[Option<u32>], successors: &[Vec<u32>], node: u32) -> bool
+    requires rising { (k : ℕ) → IsRising (neighbours (lists_of successors.now) k) }
+    requires ranks { AreRanks (leads (lists_of successors.now)) ranks.now }
+    requires node { node < length successors.now }
+    ensures { result ≡ true → Returns (leads (lists_of successors.now)) node → ⊥ }
+{
+    match distance_at(ranks, node) {
+        Some(rank) => least_at(ranks, &successors[node as usize], rank).is_none(),
+        None => false,
+    }
+}
+
+/// The cycle from the least node that returns to itself: the shortest way back, and among these the
+/// one with the least numbers, the first first.
 pub fn named_cycle(
     alloc: Global,
     predecessors: &[Vec<u32>],
@@ -88,19 +107,18 @@ pub fn named_cycle(
 ) -> Result<Option<Vec<u32>>, Memory>
     requires few { length predecessors.now < 2 ^ 32 }
     requires linked { AreLinked (lists_of predecessors.now) (lists_of successors.now) }
-    ensures cycle { IfOk result (λ o. MatchOption o ((a : ℕ) → Returns (leads (lists_of successors.now)) a → ⊥) (λ ns. IsNamedCycle (leads (lists_of successors.now)) ns.items)) }
-    ensures in_range { IfOk result (λ o. MatchOption o (Unit {0}) (λ ns. All (λ n. n < length successors.now) ns.items)) }
+    ensures cycle { IfOk result
+        (λ o. MatchOption o ((a : ℕ) → Returns (leads (lists_of successors.now)) a → ⊥)
+        (λ ns. IsNamedCycle (leads (lists_of successors.now)) ns.items)) }
+    ensures in_range { IfOk result
+        (λ o. MatchOption o (Unit {0}) (λ ns. All (λ n. n < length successors.now) ns.items)) }
 {
-    let placement = place(alloc, predecessors, successors)?;
-    let back = place(alloc, successors, predecessors)?;
-    for (i, count) in placement.counts.iter().enumerate() {
-        if *count == 0 {
+    let ranks = ranks(alloc, predecessors, successors)?;
+    for node in 0..successors.len() as u32 {
+        if stays_away(&ranks, successors, node) {
             continue;
         }
-        if back.counts[i] == 0 {
-            continue;
-        }
-        if let Some(cycle) = cycle_from(alloc, predecessors, successors, i as u32)? {
+        if let Some(cycle) = cycle_from(alloc, predecessors, successors, node)? {
             return Ok(Some(cycle));
         }
     }

@@ -5,8 +5,8 @@ ghost use Rattle.digraph.specs.Adjacency.{lists_of, neighbours, comes};
 ghost use Rattle.digraph.specs.Distances.{AreDistances};
 
 use crate::search::search;
-use values::Memory;
 use std::alloc::Global;
+use values::Memory;
 
 /// The least number of edges from each node to one of them, where there is a walk.
 pub fn distances_to(
@@ -16,9 +16,11 @@ pub fn distances_to(
 ) -> Result<Vec<Option<u32>>, Memory>
     requires few { length predecessors.now < 2 ^ 32 }
     requires end { end < length predecessors.now }
-    requires in_range { (k : ℕ) → All (λ n. n < length predecessors.now) (neighbours (lists_of predecessors.now) k) }
+    requires in_range { (k : ℕ)
+        → All (λ n. n < length predecessors.now) (neighbours (lists_of predecessors.now) k) }
     ensures long { IfOk result (λ table. length table.items ≡ length predecessors.now) }
-    ensures distances { IfOk result (λ table. AreDistances (comes (lists_of predecessors.now)) end table.items) }
+    ensures distances { IfOk result
+        (λ table. AreDistances (comes (lists_of predecessors.now)) end table.items) }
 {
     let table = search(alloc, predecessors, end)?;
     Ok(table)

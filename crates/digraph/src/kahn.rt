@@ -5,8 +5,8 @@ ghost use Rattle.std.specs.declared.alloc.Global.{Global};
 ghost use Rattle.digraph.specs.Adjacency.{lists_of, times, AreLinked};
 ghost use Rattle.digraph.specs.Kahn.{waits_for, free, waiting, IsReleased, IsPlacement};
 
-use values::Memory;
 use std::alloc::Global;
+use values::Memory;
 
 /// Nodes in order, and for each node how many of its predecessors aren't among them.
 #[derive(Drop)]
@@ -17,7 +17,8 @@ pub struct Placement {
 
 /// How many predecessors each node has.
 fn in_degrees(alloc: Global, predecessors: &[Vec<u32>]) -> Result<Vec<usize>, Memory>
-    ensures { IfOk result (λ v. v.items ≡ map (λ (p : Vec ℕ Global). length p.items) predecessors.now) }
+    ensures { IfOk result
+        (λ v. v.items ≡ map (λ (p : Vec ℕ Global). length p.items) predecessors.now) }
 {
     Ok(predecessors.iter().map(|list| list.len()).collect(alloc)?)
 }
@@ -47,7 +48,8 @@ fn release(
     requires in_range { All (λ n. n < length counts.old.items) successors.now }
     requires enough { (b : ℕ) → times b successors.now ≤ waits_for counts.old.items b }
     ensures long { length counts.new.items ≡ length counts.old.items }
-    ensures released { OnOk result (IsReleased counts.old.items counts.new.items ordered.old.items ordered.new.items successors.now) }
+    ensures released { OnOk result (IsReleased
+        counts.old.items counts.new.items ordered.old.items ordered.new.items successors.now) }
 {
     for successor in successors {
         let at = *successor as usize;
@@ -68,7 +70,8 @@ pub fn place(
 ) -> Result<Placement, Memory>
     requires few { length predecessors.now < 2 ^ 32 }
     requires linked { AreLinked (lists_of predecessors.now) (lists_of successors.now) }
-    ensures { IfOk result (λ p. IsPlacement (lists_of predecessors.now) p.ordered.items p.counts.items) }
+    ensures { IfOk result
+        (λ p. IsPlacement (lists_of predecessors.now) p.ordered.items p.counts.items) }
 {
     let mut counts = in_degrees(alloc, predecessors)?;
     let mut ordered = roots(alloc, &counts)?;

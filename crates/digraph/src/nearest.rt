@@ -5,7 +5,8 @@ ghost use Rattle.digraph.specs.Adjacency.{IsRising};
 ghost use Rattle.digraph.specs.Distances.{distance_at};
 ghost use Rattle.digraph.specs.Nearest.{lesser, IsNearest, IsLeastAt};
 
-fn distance_at(table: &[Option<u32>], node: u32) -> Option<u32>
+/// What a table says of a node.
+pub fn distance_at(table: &[Option<u32>], node: u32) -> Option<u32>
     ensures { result ≡ distance_at table.now node }
 {
     match table.get(node as usize) {

@@ -4,11 +4,11 @@ ghost use Rattle.std.specs.Prelude.{◌≡◌, ◌<◌, ◌≤◌, ◌^◌, ℕ,
 ghost use Rattle.digraph.specs.Adjacency.{lists_of, neighbours, comes};
 ghost use Rattle.digraph.specs.Search.{IsMarked, IsSpread, IsDistanceTable};
 
-use values::Memory;
 use std::alloc::Global;
+use values::Memory;
 
 /// Gives nodes without a distance this one, and lists them.
-fn mark(
+pub fn mark(
     table: &mut Vec<Option<u32>>,
     next: &mut Vec<u32>,
     nodes: &[u32],
@@ -16,7 +16,8 @@ fn mark(
 ) -> Result<(), Memory>
     requires { All (λ n. n < length table.old.items) nodes.now }
     ensures long { length table.new.items ≡ length table.old.items }
-    ensures marked { OnOk result (IsMarked table.old.items table.new.items next.old.items next.new.items nodes.now distance) }
+    ensures marked { OnOk result
+        (IsMarked table.old.items table.new.items next.old.items next.new.items nodes.now distance) }
 {
     for node in nodes {
         let at = *node as usize;
@@ -29,7 +30,7 @@ fn mark(
 }
 
 /// Gives the predecessors of some nodes their distance.
-fn spread(
+pub fn spread(
     alloc: Global,
     predecessors: &[Vec<u32>],
     table: &mut Vec<Option<u32>>,
@@ -37,10 +38,12 @@ fn spread(
     distance: u32,
 ) -> Result<Vec<u32>, Memory>
     requires long { length table.old.items ≡ length predecessors.now }
-    requires in_range { (k : ℕ) → All (λ n. n < length predecessors.now) (neighbours (lists_of predecessors.now) k) }
+    requires in_range { (k : ℕ)
+        → All (λ n. n < length predecessors.now) (neighbours (lists_of predecessors.now) k) }
     requires frontier { All (λ n. n < length predecessors.now) frontier.now }
     ensures long { length table.new.items ≡ length table.old.items }
-    ensures spread { IfOk result (λ next. IsSpread (lists_of predecessors.now) table.old.items table.new.items frontier.now next.items distance) }
+    ensures spread { IfOk result (λ next. IsSpread (lists_of predecessors.now)
+        table.old.items table.new.items frontier.now next.items distance) }
 {
     let mut next = Vec::new(alloc);
     for node in frontier {
@@ -50,7 +53,7 @@ fn spread(
 }
 
 /// A table without a distance.
-fn blank(alloc: Global, count: usize) -> Result<Vec<Option<u32>>, Memory>
+pub fn blank(alloc: Global, count: usize) -> Result<Vec<Option<u32>>, Memory>
     ensures { IfOk result (λ table. table.items ≡ replicate count None) }
 {
     let mut table = Vec::new(alloc);
@@ -68,9 +71,11 @@ pub fn search(
 ) -> Result<Vec<Option<u32>>, Memory>
     requires few { length predecessors.now < 2 ^ 32 }
     requires start { start < length predecessors.now }
-    requires in_range { (k : ℕ) → All (λ n. n < length predecessors.now) (neighbours (lists_of predecessors.now) k) }
+    requires in_range { (k : ℕ)
+        → All (λ n. n < length predecessors.now) (neighbours (lists_of predecessors.now) k) }
     ensures long { IfOk result (λ table. length table.items ≡ length predecessors.now) }
-    ensures table { IfOk result (λ table. IsDistanceTable (comes (lists_of predecessors.now)) start table.items) }
+    ensures table { IfOk result
+        (λ table. IsDistanceTable (comes (lists_of predecessors.now)) start table.items) }
 {
     let mut table = blank(alloc, predecessors.len())?;
     let mut frontier = Vec::new(alloc);

@@ -3,5 +3,5 @@ use Rattle.digraph.specs.Adjacency.{leads, lists_of}
 use Rattle.digraph.specs.Cycle.{Returns}
 use Rattle.digraph.proofs.cycle.named_cycle.Given as goal
 
-abbrev pub invariant-loop-i : goal.invariant-loop-i
-invariant-loop-i l = (a : ℕ) → a < l.i → Returns (leads (lists_of l.successors)) a → ⊥
+abbrev pub invariant-loop-node : goal.invariant-loop-node
+invariant-loop-node l = (a : ℕ) → a < l.node → Returns (leads (lists_of l.successors)) a → ⊥
