@@ -4,8 +4,8 @@ ghost use Rattle.std.specs.Prelude.{◌<◌};
 
 use crate::fault::FileFault;
 use crate::piece::Piece;
-use values::Memory;
 use std::alloc::Global;
+use values::Memory;
 
 /// A command line, as it is written and as the program is given it.
 #[derive(Drop)]

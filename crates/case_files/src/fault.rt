@@ -1,8 +1,8 @@
 //! Why a file of cases can't be read.
 
-use values::Memory;
 use std::alloc::{AllocError, AllocFailed};
 use thiserror::Error;
+use values::Memory;
 
 /// What is wrong with a line.
 #[derive(Clone, Copy, Debug, Error)]

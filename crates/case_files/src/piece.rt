@@ -1,8 +1,8 @@
 //! The pieces that a document is made of.
 
-use values::Memory;
 use percent_encoding::percent_decode;
 use std::alloc::Global;
+use values::Memory;
 
 /// How the bytes of a piece come from its text.
 #[derive(Clone, Copy)]

@@ -6,9 +6,9 @@ use crate::fault::{Complaint, FileFault, at_line};
 use crate::header::{Header, Section, words_between};
 use crate::piece::Piece;
 use crate::setting::{add_setting, add_words};
-use values::Memory;
 use std::alloc::Global;
 use std::collections::BTreeSet;
+use values::Memory;
 
 /// A file of cases as far as it is read.
 #[derive(Drop)]

@@ -10,10 +10,10 @@ ghost use Rattle.cleanup_refiner.specs.Cleans.{cleaned, cleans_of, task, touches
 
 use crate::touching::touching;
 use digraph::Digraph;
-use values::{Items, Memory, PairId, TaskId};
 use plan_core::{Plan, Task, TaskKind, rising_lists_are_one};
 use plan_request::Cleanup;
 use std::alloc::Global;
+use values::{Items, Memory, PairId, TaskId};
 
 /// Want of memory; the plan comes back as it was.
 #[derive(Debug, Drop)]

@@ -8,9 +8,9 @@ ghost use Rattle.plan_core.specs.Words.{count_pairs, count_tasks, pair_numbers};
 ghost use Rattle.cleanup_refiner.specs.Cleans.{touched, touches};
 
 use digraph::Digraph;
-use values::{Memory, PairId, TaskId};
 use plan_core::{Plan, files_are_listed_by_pair};
 use std::alloc::Global;
+use values::{Memory, PairId, TaskId};
 
 fn push_pairs(numbers: &mut Vec<u32>, pairs: &[PairId]) -> Result<(), Memory>
     ensures { OnOk result (numbers.new.items ≡ numbers.old.items ++ pair_numbers pairs.now) }

@@ -7,10 +7,10 @@ ghost use Rattle.clustering.specs.Labels.{label_at, label_key};
 ghost use Rattle.clustering.specs.Numbers.{entry_of};
 
 use crate::numbers::{Numbers, bad_key, numbers_of};
-use values::{JobId, Memory, SiteId, Text};
 use std::alloc::Global;
 use std::marker::Model;
 use transformation_catalog::{Entries, Key, TransformationCatalog, TransformationEntry};
+use values::{JobId, Memory, SiteId, Text};
 use workflow_core::{Job, Workflow};
 
 /// The jobs of a workflow with their levels and sites, and the entries of their transformations.

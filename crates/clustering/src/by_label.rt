@@ -15,8 +15,8 @@ use crate::horizontal::{clusters_of, id_of};
 use crate::labels::{first_of, holder_in, holder_table, labels_of};
 use dependency_graph::Graph;
 use digraph::Digraph;
-use values::{JobId, Memory, Text};
 use std::alloc::Global;
+use values::{JobId, Memory, Text};
 use workflow_core::{Clusters, Workflow};
 
 /// A job's label and the first job with it, where that one is at another site.

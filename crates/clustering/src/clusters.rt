@@ -11,10 +11,10 @@ use crate::fault::ClusterFault;
 use crate::horizontal::clusters_in_runs;
 use crate::singles::{ids, single_jobs};
 use dependency_graph::{Graph, ranked};
-use values::SiteId;
 use plan_request::ClusterMode;
 use std::alloc::Global;
 use transformation_catalog::TransformationCatalog;
+use values::SiteId;
 use workflow_core::{Clusters, Workflow};
 
 /// The clusters of the kept jobs. There is one value of `kept`, `levels` and `sites` for each job.

@@ -8,8 +8,8 @@ ghost use Rattle.clustering.specs.Cycles.{first_id, id_in, other_parts, part_sou
 use crate::horizontal::id_of;
 use crate::labels::{first_of, holder_in};
 use dependency_graph::Graph;
-use values::{Items, JobId, Memory, Text};
 use std::alloc::Global;
+use values::{Items, JobId, Memory, Text};
 use workflow_core::Workflow;
 
 /// Adds the parts that hold some jobs, this one excepted.

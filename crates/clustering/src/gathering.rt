@@ -8,9 +8,9 @@ ghost use Rattle.dependency_graph.specs.Graph.{job_lists};
 ghost use Rattle.clustering.specs.Gathering.{gathered, with_at};
 
 use indexmap::IndexSet;
-use values::{JobId, Memory};
 use std::alloc::Global;
 use std::hash::Hash;
+use values::{JobId, Memory};
 
 /// Adds a job to the part of its key, or to a new one at the end.
 fn add_job<K: Eq + Hash + Drop>(

@@ -10,8 +10,8 @@ ghost use Rattle.clustering.specs.Singles.{job_numbers};
 use crate::basis::Basis;
 use crate::fault::ClusterFault;
 use crate::runs::runs_of;
-use values::{Items, JobId, Memory, Text};
 use std::alloc::Global;
+use values::{Items, JobId, Memory, Text};
 use workflow_core::{Clusters, Workflow};
 
 /// The id of a job.

@@ -9,8 +9,8 @@ ghost use Rattle.clustering.specs.Runs.{IsGroup, is_job};
 
 use crate::basis::Basis;
 use crate::gathering::gather;
-use values::{JobId, Memory};
 use std::alloc::Global;
+use values::{JobId, Memory};
 
 /// The jobs of each label, and each job without one, in lists.
 #[tactic(auto, unfolding(crate::specs::Labels::labels_of))]

@@ -4,8 +4,8 @@ ghost use Rattle.std.specs.Prelude.{◌≡◌, ◌<◌, ◌≤◌, length, IfSom
 ghost use Rattle.std.specs.Option.{option_or};
 ghost use Rattle.clustering.specs.Numbers.{bad_key_by, is_bad, number_in, num_in, numbers_by, size_in, value_from};
 
-use values::Text;
 use transformation_catalog::TransformationEntry;
+use values::Text;
 use workflow_core::Job;
 
 /// Numbers of at least 1, where they are stated.

@@ -11,8 +11,8 @@ ghost use Rattle.clustering.specs.Runs.{IsGroup, is_job, run_among, run_from, ru
 use crate::basis::Basis;
 use crate::gathering::gather;
 use crate::numbers::Numbers;
-use values::{JobId, Memory};
 use std::alloc::Global;
+use values::{JobId, Memory};
 
 /// The jobs of one level, site and transformation, in lists.
 fn groups(alloc: Global, basis: &Basis<'_>, jobs: &[JobId]) -> Result<Vec<Vec<JobId>>, Memory>

@@ -3,8 +3,8 @@
 ghost use Rattle.std.specs.Prelude.{◌≡◌, IfOk};
 ghost use Rattle.clustering.specs.Singles.{job_numbers, singles};
 
-use values::{Items, JobId, Memory};
 use std::alloc::Global;
+use values::{Items, JobId, Memory};
 use workflow_core::Clusters;
 
 /// Jobs by number.

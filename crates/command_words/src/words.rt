@@ -7,10 +7,10 @@ ghost use Rattle.command_words.specs.Words.{AreFew, HasImages, HasImagesBy, IsFo
 use crate::commands::{Quick, Threaded, find_quick, find_threaded};
 use crate::line::read_by_clap;
 use crate::said::{Said, is_said, keeps_the_rule, read_words};
-use values::Memory;
 use std::alloc::Global;
 use std::env::Args;
 use std::io;
+use values::Memory;
 
 /// No word is empty, and none but the option for workers begins with a dash.
 fn keep_the_rule(words: &[String]) -> bool

@@ -5,9 +5,9 @@ ghost use Rattle.std.specs.List.{list_any};
 ghost use Rattle.std.specs.Str.{bytes_eq};
 ghost use Rattle.data_reuse.specs.Registered.{is_registered, is_absent};
 
-use values::{Memory, Text};
 use replica_catalog::Replica;
 use std::alloc::Global;
+use values::{Memory, Text};
 use workflow_core::Names;
 
 /// The names of the files that have a pfn.

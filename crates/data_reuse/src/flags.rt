@@ -5,8 +5,8 @@ ghost use Rattle.workflow_core.specs.WellFormed.{IsWellFormed, IsJobOver};
 ghost use Rattle.workflow_core.specs.Requested.{requests, is_requested};
 ghost use Rattle.data_reuse.specs.Flags.{is_set, reads};
 
-use values::{FileId, Memory};
 use std::alloc::Global;
+use values::{FileId, Memory};
 use workflow_core::{Job, Workflow};
 
 pub fn is_set(flags: &[bool], file: FileId) -> bool

@@ -10,9 +10,9 @@ ghost use Rattle.data_reuse.specs.Kept.{AreKept};
 use crate::absent::absent_files;
 use crate::flags::{is_set, requested_files, set_inputs};
 use dependency_graph::Graph;
-use values::Memory;
 use replica_catalog::ReplicaCatalog;
 use std::alloc::Global;
+use values::Memory;
 use workflow_core::{Job, Workflow};
 
 /// Whether an output of a job is absent and needed.

@@ -12,8 +12,8 @@ use crate::fault::GraphFault;
 use crate::graph::{Graph, graph_of};
 use crate::makers::{contested, first_makers, makers_of};
 use digraph::Digraph;
-use values::{FileId, Items, JobId, Memory, Text};
 use std::alloc::Global;
+use values::{FileId, Items, JobId, Memory, Text};
 use workflow_core::Workflow;
 
 fn id_of(alloc: Global, workflow: &Workflow, job: u32) -> Result<Text, Memory>

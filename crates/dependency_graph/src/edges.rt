@@ -10,8 +10,8 @@ ghost use Rattle.dependency_graph.specs.Built.{AreProducers};
 
 use crate::sources::{numbered, sources};
 use digraph::add_pairs;
-use values::{JobId, Memory};
 use std::alloc::Global;
+use values::{JobId, Memory};
 use workflow_core::Workflow;
 
 /// The jobs from which an edge leads to each job, in any order.

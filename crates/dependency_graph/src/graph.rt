@@ -8,9 +8,9 @@ ghost use Rattle.dependency_graph.specs.Edges.{producer};
 ghost use Rattle.dependency_graph.specs.Graph.{numbers, job_lists, jobs_at, made_at, IsGraphOf};
 
 use digraph::Digraph;
-use values::{FileId, JobId, Memory};
 use std::alloc::Global;
 use std::marker::Model;
+use values::{FileId, JobId, Memory};
 
 /// The jobs before and after each job, the job that makes each file, and an order of all jobs.
 #[derive(Drop)]

@@ -8,8 +8,8 @@ ghost use Rattle.dependency_graph.specs.Graph.{Links, IsGraphOf, jobs_at};
 ghost use Rattle.dependency_graph.specs.Levels.{level, above, above_all, level_by, AreLevels};
 
 use crate::graph::Graph;
-use values::{JobId, Memory};
 use std::alloc::Global;
+use values::{JobId, Memory};
 
 /// One more than the level of a kept job, 0 for a dropped one.
 fn above(kept: &[bool], levels: &[u32], job: JobId) -> u32

@@ -7,8 +7,8 @@ ghost use Rattle.values.specs.declared.numbers.JobId.{JobId};
 ghost use Rattle.dependency_graph.specs.Edges.{makers_from};
 ghost use Rattle.dependency_graph.specs.Makers.{known, noted, first_two, are_two, AreNoted};
 
-use values::{FileId, JobId, Memory};
 use std::alloc::Global;
+use values::{FileId, JobId, Memory};
 use workflow_core::{Job, Output};
 
 /// The first two jobs that make a file.

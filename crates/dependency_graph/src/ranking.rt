@@ -4,8 +4,8 @@ ghost use Rattle.std.specs.Prelude.{◌≡◌, ◌≤◌, ℕ, length, IfOk};
 ghost use Rattle.dependency_graph.specs.Levels.{is_kept, level};
 ghost use Rattle.dependency_graph.specs.Ranking.{leveled, numbers_in, IsRanked};
 
-use values::Memory;
 use std::alloc::Global;
+use values::Memory;
 
 fn is_kept(kept: &[bool], job: u32) -> bool
     ensures { result ≡ is_kept kept.now job }

@@ -7,8 +7,8 @@ ghost use Rattle.values.specs.declared.numbers.JobId.{JobId};
 ghost use Rattle.digraph.specs.Adjacency.{lists_of};
 ghost use Rattle.dependency_graph.specs.Sources.{found};
 
-use values::{FileId, JobId, Memory};
 use std::alloc::Global;
+use values::{FileId, JobId, Memory};
 use workflow_core::Job;
 
 /// The jobs that make some files.

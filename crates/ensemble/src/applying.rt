@@ -9,9 +9,9 @@ ghost use Rattle.ensemble.specs.Limits.{IsFit};
 
 use crate::copying::{executions_copied, policy_copied};
 use crate::document::Ensemble;
-use values::{Items, Memory, Text};
 use plan_request::{PlanRequest, Selector};
 use std::alloc::Global;
+use values::{Items, Memory, Text};
 
 /// A member's request, with the ensemble's keys in place of its own.
 pub fn member_request(

@@ -9,11 +9,11 @@ ghost use Rattle.ensemble.specs.Member.{AreMembers};
 use crate::entries::{add_entries, add_replicas};
 use crate::member::Member;
 use crate::site_copies::catalog_copied;
-use values::{Items, Memory};
 use replica_catalog::{Replica, ReplicaCatalog};
 use site_catalog::SiteCatalog;
 use std::alloc::Global;
 use transformation_catalog::{TransformationCatalog, TransformationEntry};
+use values::{Items, Memory};
 use workflow_core::names_are_numbered;
 
 /// The sites of the first member.

@@ -2,9 +2,9 @@
 
 ghost use Rattle.std.specs.Prelude.{◌≡◌, IfOk};
 
-use values::{Items, Memory, Policy, Text};
 use plan_request::Execution;
 use std::alloc::Global;
+use values::{Items, Memory, Policy, Text};
 
 pub fn executions_copied(alloc: Global, execute: &[Execution]) -> Result<Items<Execution>, Memory>
     ensures { IfOk result (λ copy. copy ≡ execute.now) }

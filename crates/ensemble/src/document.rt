@@ -1,7 +1,7 @@
 //! What an ensemble's document says.
 
-use values::{Items, Policy, Text};
 use plan_request::{Cleanup, ClusterMode, Execution};
+use values::{Items, Policy, Text};
 
 /// A whole ensemble: its members, and the keys that are the same for all of them.
 #[derive(Debug, Drop)]

@@ -5,10 +5,10 @@ ghost use Rattle.ensemble.specs.Entries.{entry_of, replica_of};
 
 use crate::copying::option_copied;
 use crate::prefix::{prefixed, transformation_of};
-use values::{Items, Memory, Text};
 use replica_catalog::{Pfn, Replica};
 use std::alloc::Global;
 use transformation_catalog::{TransformationEntry, TransformationSite};
+use values::{Items, Memory, Text};
 
 fn pfns_copied(alloc: Global, pfns: &[Pfn]) -> Result<Items<Pfn>, Memory>
     ensures { IfOk result (λ copy. copy ≡ pfns.now) }

@@ -5,8 +5,8 @@ ghost use Rattle.peg_json.specs.declared.fault.TreeFault.TheVariants as faults;
 ghost use Rattle.peg_json.specs.declared.read_fault.ReadFault.TheVariants as reads;
 ghost use Rattle.ensemble.specs.declared.fault.EnsembleFault.TheVariants.{Read};
 
-use values::{Memory, Text};
 use peg_json::{ReadFault, TreeFault};
+use values::{Memory, Text};
 
 /// Why bytes are no ensemble.
 #[derive(Debug, Drop)]

@@ -8,9 +8,9 @@ ghost use Rattle.ensemble.specs.Jobs.{FitsAfter, PairFitsAfter, file_after, job_
 
 use crate::copying::option_copied;
 use crate::prefix::{prefixed, transformation_of};
-use values::{FileId, Items, JobId, Memory, Text};
 use plan_core::texts_copied;
 use std::alloc::Global;
+use values::{FileId, Items, JobId, Memory, Text};
 use workflow_core::{Job, Output};
 
 fn files_after(alloc: Global, first: u32, files: &[FileId]) -> Result<Items<FileId>, Memory>

@@ -3,8 +3,8 @@
 ghost use Rattle.std.specs.Prelude.{◌≡◌};
 ghost use Rattle.ensemble.specs.declared.join_fault.JoinFault.TheVariants as faults;
 
-use values::Memory;
 use peg_json::Counted;
+use values::Memory;
 
 #[derive(Debug, Drop)]
 pub enum JoinFault {

@@ -17,10 +17,10 @@ use crate::member::Member;
 use crate::requests::joint_request;
 use crate::workflows::joint_workflow;
 use dependency_graph::{GraphFault, build};
-use values::Memory;
 use plan_request::PlanRequest;
 use planner::{Survey, Surveyed, plans_mean_the_workflow};
 use std::alloc::Global;
+use values::Memory;
 
 /// What the members' documents say together. Its workflow has a graph, as each member's has.
 #[tactic(auto, using(crate::proofs::SoundLemmas::never_refused))]

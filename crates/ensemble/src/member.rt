@@ -1,8 +1,8 @@
 //! The members of an ensemble.
 
-use values::Text;
 use plan_request::PlanRequest;
 use planner::Survey;
+use values::Text;
 
 /// A member: its name, its request with the ensemble's keys, and what the documents of that say.
 #[derive(Drop)]

@@ -8,11 +8,11 @@ ghost use Rattle.peg_json.specs.Tree.{Gives};
 ghost use Rattle.ensemble.specs.MemberEntry.{has_slash, member_rows, plain_name_at};
 
 use crate::document::MemberEntry;
-use values::Text;
 use peg_json::{FromTree, KeyRow, KeyTable, Kind, TreeFault, at_key, checked, row};
 use plan_request::only_known;
 use serde_json::Value;
 use std::alloc::Global;
+use values::Text;
 
 const MEMBER: [KeyRow; 2] = [
     KeyRow {

@@ -4,8 +4,8 @@ ghost use Rattle.std.specs.Prelude.{◌≡◌, ◌++◌, map, IfOk, OnOk};
 ghost use Rattle.ensemble.specs.Prefix.{prefixed, transformation_of};
 
 use crate::copying::option_copied;
-use values::{Memory, Text};
 use std::alloc::Global;
+use values::{Memory, Text};
 use workflow_core::Transformation;
 
 /// The member's name, `/` and the name.

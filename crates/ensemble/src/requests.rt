@@ -9,9 +9,9 @@ ghost use Rattle.ensemble.specs.Requests.{joint_request, joint_sizes, joint_tool
 use crate::copying::{executions_copied, policy_copied};
 use crate::member::Member;
 use crate::stated::{add_sizes, add_tools};
-use values::{Items, Memory, Text};
 use plan_request::{PlanRequest, Selector, SizeOf, ToolOf};
 use std::alloc::Global;
+use values::{Items, Memory, Text};
 
 #[tactic(auto, using(crate::proofs::FitLemmas::one_size_each))]
 fn joint_sizes(alloc: Global, members: &[Member]) -> Result<Items<SizeOf>, Memory>

@@ -5,11 +5,11 @@ ghost use Rattle.peg_json.specs.Table.{rows_of};
 ghost use Rattle.ensemble.specs.Root.{ensemble_rows};
 
 use crate::document::{Ensemble, MemberEntry};
-use values::{Items, Policy, Text};
 use peg_json::{FromTree, KeyRow, KeyTable, Kind, TreeFault, checked, row};
 use plan_request::{Execution, cleanup, cluster, only_known};
 use serde_json::Value;
 use std::alloc::Global;
+use values::{Items, Policy, Text};
 
 const ENSEMBLE: [KeyRow; 5] = [
     KeyRow {

@@ -3,10 +3,10 @@
 ghost use Rattle.std.specs.Prelude.{◌≡◌, IfOk};
 
 use crate::copying::option_copied;
-use values::{Items, Memory};
 use plan_core::texts_copied;
 use site_catalog::{Directory, FileServer, SiteCatalog, SiteEntry};
 use std::alloc::Global;
+use values::{Items, Memory};
 
 fn servers_copied(alloc: Global, servers: &[FileServer]) -> Result<Items<FileServer>, Memory>
     ensures { IfOk result (λ copy. copy ≡ servers.now) }

@@ -5,9 +5,9 @@ ghost use Rattle.plan_request.specs.FileSizes.{declared_sizes};
 ghost use Rattle.ensemble.specs.Stated.{stated_size, stated_sizes, stated_tool, stated_tools};
 
 use crate::prefix::prefixed;
-use values::{Memory, Text};
 use plan_request::{PlanRequest, SizeOf, ToolOf, Tools, declared_sizes};
 use std::alloc::Global;
+use values::{Memory, Text};
 use workflow_core::Job;
 
 fn add_size(

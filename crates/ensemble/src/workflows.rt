@@ -9,8 +9,8 @@ ghost use Rattle.ensemble.specs.Workflows.{IsJointWorkflow, joint_files, joint_j
 use crate::jobs::{add_jobs, add_pairs};
 use crate::member::Member;
 use crate::prefix::add_names;
-use values::{Items, JobId, Memory, Text};
 use std::alloc::Global;
+use values::{Items, JobId, Memory, Text};
 use workflow_core::{Inlined, Job, Workflow};
 
 fn joint_jobs(alloc: Global, members: &[Member]) -> Result<Items<Job>, Memory>

@@ -4,11 +4,11 @@ ghost use Rattle.std.specs.Prelude.{◌≡◌, ◌<◌, ◌≤◌, ◌++◌, [],
 ghost use Rattle.plan_request.specs.Reader.{execute_checked};
 ghost use Rattle.heft_selector.specs.Candidates.{offering, FindsAll, FindsOne};
 
-use values::{Memory, SelectFault};
 use plan_request::Execution;
 use site_selector::{Offers, candidates_of};
 use std::alloc::Global;
 use transformation_catalog::TransformationCatalog;
+use values::{Memory, SelectFault};
 use workflow_core::Job;
 
 fn push(lists: &mut Vec<Vec<u32>>, list: Vec<u32>) -> Result<(), Memory>

@@ -9,8 +9,8 @@ ghost use Rattle.heft_selector.specs.Costs.{size_at, seconds_for};
 ghost use Rattle.heft_selector.specs.Carried.{bytes_at, made_for, carried, moves_by, AreMade, AreLists, AreMoves};
 
 use dependency_graph::Graph;
-use values::{FileId, JobId, Memory};
 use std::alloc::Global;
+use values::{FileId, JobId, Memory};
 use workflow_core::Job;
 
 fn size_at(sizes: &[Option<u64>], file: FileId) -> u64

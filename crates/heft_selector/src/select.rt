@@ -21,10 +21,10 @@ use crate::moves::all_moves;
 use crate::times::all_times;
 use dependency_graph::Graph;
 use list_schedule::{Heft, schedule_by};
-use values::{Memory, SelectFault};
 use plan_request::{PlanRequest, declared_sizes};
 use std::alloc::Global;
 use transformation_catalog::TransformationCatalog;
+use values::{Memory, SelectFault};
 use workflow_core::Workflow;
 
 fn sizes_of(

@@ -10,9 +10,9 @@ ghost use Rattle.plan_request.specs.Limits.{IsRuntimeInRange};
 ghost use Rattle.heft_selector.specs.Costs.{name_of};
 ghost use Rattle.heft_selector.specs.Stated.{cell, noted, said, said_at, IsTable, IsClock, AreTimes, site_name, site_name_at};
 
-use values::{Memory, Text};
 use plan_request::{Execution, Runtime};
 use std::alloc::Global;
+use values::{Memory, Text};
 use workflow_core::{Job, Names};
 
 fn transformations_of(alloc: Global, jobs: &[Job]) -> Result<Names, Memory>

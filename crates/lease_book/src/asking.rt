@@ -9,8 +9,8 @@ ghost use Rattle.lease_book.specs.Legal.{IsOpen, Legal};
 
 use crate::book::Book;
 use crate::sums;
-use values::{SiteId, TaskId};
 use run_record::Record;
+use values::{SiteId, TaskId};
 
 impl Book {
     /// Whether a task is open for a worker.

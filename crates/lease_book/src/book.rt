@@ -13,11 +13,11 @@ use crate::goods::all_made;
 use crate::law::storage_laws;
 use crate::state::RunState;
 use crate::trial::Trial;
-use values::{Memory, TaskId};
 use plan_core::Plan;
 use run_record::Record;
 use std::alloc::Global;
 use storage_simulation::{Bench, Ordered};
+use values::{Memory, TaskId};
 
 /// A plan's order, the record of its run, and room for all that may still come.
 #[derive(Drop)]

@@ -17,9 +17,9 @@ ghost use Rattle.lease_book.specs.Trial.{HasPlace, IsTrialWithin};
 use crate::rest::{count_left, task_at};
 use crate::state::RunState;
 use crate::trial::{Trial, is_within};
-use values::TaskId;
 use plan_core::Plan;
 use storage_simulation::{Phase, Standing};
+use values::TaskId;
 
 /// Whether a task has ended.
 fn has_ended(standing: &Standing, task: TaskId) -> bool

@@ -9,9 +9,9 @@ ghost use Rattle.lease_book.specs.RunState.{state_of};
 
 use crate::book::Book;
 use crate::state::RunState;
-use values::TaskId;
 use plan_core::Plan;
 use run_record::{Cause, Entry};
+use values::TaskId;
 
 /// Whether a failure is tried again.
 fn is_tried_again(plan: &Plan, state: &RunState, task: u32, cause: &Cause) -> bool

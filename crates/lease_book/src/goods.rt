@@ -6,9 +6,9 @@ ghost use Rattle.storage_simulation.specs.Goods.{IsWithinLimits, makes};
 ghost use Rattle.storage_simulation.specs.Usage.{total};
 ghost use Rattle.lease_book.specs.Law.{HasStorageLaws};
 
-use values::TaskId;
 use plan_core::Plan;
 use storage_simulation::is_delivery;
+use values::TaskId;
 
 /// How many goods a task makes.
 #[tactic(auto, using(crate::proofs::NumbersLemmas::count_pairs_in), unfolding(storage_simulation::specs::Goods::makes))]

@@ -13,10 +13,10 @@ ghost use Rattle.lease_book.specs.State.{put, reserved_for, stored_among};
 
 use crate::goods::{count_made, made_at};
 use crate::items;
-use values::TaskId;
 use plan_core::Plan;
 use std::alloc::Global;
 use storage_simulation::{Held, Phase, Standing, cleaned_by, good_size};
+use values::TaskId;
 
 /// Sets how far a task is.
 #[tactic(auto, using(crate::proofs::ArrayLemmas::at_set))]

@@ -2,9 +2,9 @@
 
 ghost use Rattle.std.specs.Prelude.{◌≡◌, ◌<◌, length, set};
 
-use values::Items;
 use std::alloc::Global;
 use std::mem;
+use values::Items;
 
 /// Changes one element.
 pub(crate) fn put<T: Copy + Drop>(alloc: Global, items: &mut Items<T>, place: usize, value: T)

@@ -13,8 +13,8 @@ ghost use Rattle.lease_book.specs.State.{order_with};
 use crate::book::Book;
 use crate::choice::choose;
 use crate::fresh::fresh_task;
-use values::TaskId;
 use run_record::Entry;
+use values::TaskId;
 
 /// What a worker may do next.
 #[derive(Debug, Clone, Copy)]

@@ -7,9 +7,9 @@ ghost use Rattle.storage_simulation.specs.Goods.{IsWithinLimits, good_size, make
 ghost use Rattle.lease_book.specs.Legal.{AreDeclared, AreOfFirst, ArePublished};
 
 use crate::goods::{count_made, made_at};
-use values::TaskId;
 use plan_core::Plan;
 use storage_simulation::good_size;
+use values::TaskId;
 
 /// Whether one size is within that of each good that a task makes.
 pub(crate) fn is_declared(plan: &Plan, task: TaskId, size: u64) -> bool

@@ -13,11 +13,11 @@ ghost use Rattle.lease_book.specs.State.{after, opened, order_with, put, runs, w
 
 use crate::holding;
 use crate::rest::{overwrite, put_front, take_out};
-use values::{Memory, TaskId};
 use plan_core::Plan;
 use run_record::Cause;
 use std::alloc::Global;
 use storage_simulation::{Phase, Standing};
+use values::{Memory, TaskId};
 
 /// A state; the allocator makes empty lists, which take no memory.
 #[derive(Debug, Drop)]

@@ -16,10 +16,10 @@ ghost use Rattle.lease_book.specs.Trial.{HasPlace, IsTrial};
 
 use crate::state::RunState;
 use crate::{holding, items, rest};
-use values::{Memory, SiteId, TaskId};
 use plan_core::Plan;
 use std::alloc::Global;
 use storage_simulation::{Standing, fits, place_bound, places, usage_after};
+use values::{Memory, SiteId, TaskId};
 
 /// A standing and the tasks that are left in it.
 #[derive(Debug, Drop)]

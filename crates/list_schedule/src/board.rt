@@ -4,8 +4,8 @@ ghost use Rattle.std.specs.Prelude.{◌≡◌, ◌<◌, vec_len, IfOk};
 ghost use Rattle.list_schedule.specs.Board.{IsEmpty, IsPut};
 
 use crate::choice::Slot;
-use values::{JobId, Memory, SiteId};
 use std::alloc::Global;
+use values::{JobId, Memory, SiteId};
 
 /// The site of each job, when it begins and ends, and when each site is free, in seconds.
 #[derive(Drop)]

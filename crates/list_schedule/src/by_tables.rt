@@ -15,8 +15,8 @@ use crate::order::by_rank;
 use crate::placing::placed;
 use crate::ranks::upward_ranks;
 use dependency_graph::Graph;
-use values::Memory;
 use std::alloc::Global;
+use values::Memory;
 
 /// The schedule over so many sites, by tables: of each job the sites where it can run, beside them
 /// its times there, and beside its parents the moves from them, in seconds.

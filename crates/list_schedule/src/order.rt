@@ -7,8 +7,8 @@ ghost use Rattle.dependency_graph.specs.Ranking.{leveled, numbers_in};
 ghost use Rattle.list_schedule.specs.Ranks.{rank, IsRankOrder};
 ghost use Rattle.list_schedule.specs.Tables.{depths};
 
-use values::{JobId, Memory};
 use std::alloc::Global;
+use values::{JobId, Memory};
 
 /// No rank is greater.
 const GREATEST: u128 = 1 << 80;

@@ -20,8 +20,8 @@ use crate::board::{Board, empty};
 use crate::choice::{Slot, earliest};
 use crate::heft::Heft;
 use dependency_graph::Graph;
-use values::{JobId, Memory, SiteId};
 use std::alloc::Global;
+use values::{JobId, Memory, SiteId};
 
 fn slot_for(
     kept: &[bool],

@@ -12,8 +12,8 @@ ghost use Rattle.list_schedule.specs.Ranks.{rank, AreRanks};
 ghost use Rattle.list_schedule.specs.Tables.{AreFull, AreCosts, reach, rank_by};
 
 use dependency_graph::Graph;
-use values::{JobId, Memory};
 use std::alloc::Global;
+use values::{JobId, Memory};
 
 /// The mean of some times, rounded down.
 fn mean(times: &[u64]) -> u128

@@ -6,9 +6,9 @@ ghost use Rattle.peak_tree.specs.Node.{width, depth, nodes, numbers, IsShaped, I
 
 use crate::node::{Gaps, Node, Parts, greater, visit};
 use crate::steps::Steps;
-use values::Memory;
 use std::alloc::Global;
 use std::sync::ledger::{Blank, Ledger};
+use values::Memory;
 
 /// So many positions, of which none is live.
 pub fn shape(alloc: Global, count: usize) -> Result<Node, Memory>

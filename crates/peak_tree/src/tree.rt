@@ -9,10 +9,10 @@ use crate::change::{Change, apply};
 use crate::node::{Node, greatest_up_to, number};
 use crate::shape::{fill, fill_uncounted, shape};
 use crate::steps::Steps;
-use values::Memory;
 use std::alloc::Global;
 use std::marker::{Brand, Model};
 use std::sync::ledger::{Blank, Ledger};
+use values::Memory;
 
 /// A list with a live number, or none, at each position.
 #[derive(Debug, Drop)]

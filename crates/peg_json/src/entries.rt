@@ -8,9 +8,9 @@ ghost use Rattle.peg_json.specs.Entries.{entry_of, entries_from, entries_in, see
 use crate::fault::TreeFault;
 use crate::path::at_key;
 use crate::tree::FromTree;
-use values::Text;
 use serde_json::{Map, Value};
 use std::alloc::Global;
+use values::Text;
 
 #[tactic(auto, unfolding(crate::specs::Entries::entry_of))]
 fn read_entry<T: FromTree>(

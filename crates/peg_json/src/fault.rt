@@ -3,8 +3,8 @@
 ghost use Rattle.std.specs.Prelude.{◌≡◌};
 ghost use Rattle.peg_json.specs.declared.fault.TreeFault.TheVariants as faults;
 
-use values::{Memory, Text};
 use std::alloc::{AllocError, AllocFailed};
+use values::{Memory, Text};
 
 /// The first fault of a tree.
 #[derive(Debug, Drop)]

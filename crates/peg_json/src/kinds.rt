@@ -8,9 +8,9 @@ ghost use Rattle.peg_json.specs.Typed.{text_of, name_of, number_of, flag_of, dig
 
 use crate::fault::TreeFault;
 use crate::path::at_key;
-use values::Text;
 use serde_json::Value;
 use std::alloc::Global;
+use values::Text;
 
 pub fn as_text(alloc: Global, found: &Value, path: &Text, key: &str) -> Result<Text, TreeFault>
     ensures { Gives (λ t. t) result (text_of (key_path path.now key.now) (tree_view found.now)) }

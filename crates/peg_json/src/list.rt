@@ -7,9 +7,9 @@ ghost use Rattle.peg_json.specs.Tree.{Gives, each_from, list_in};
 use crate::fault::TreeFault;
 use crate::path;
 use crate::tree::FromTree;
-use values::Text;
 use serde_json::Value;
 use std::alloc::Global;
+use values::Text;
 
 /// Each element in turn.
 fn elements<T: FromTree>(alloc: Global, items: &[Value], path: &Text) -> Result<Vec<T>, TreeFault>

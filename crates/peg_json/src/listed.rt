@@ -10,9 +10,9 @@ ghost use Rattle.serde_json.specs.View.{view as tree_view};
 
 use crate::member::present;
 use crate::path;
-use values::{Memory, Text};
 use serde_json::Value;
 use std::alloc::Global;
+use values::{Memory, Text};
 
 /// A tree whose unknown keys are listed.
 pub trait Listed {

@@ -8,9 +8,9 @@ ghost use Rattle.peg_json.specs.Lists.{list_or_none};
 use crate::fault::TreeFault;
 use crate::tree::FromTree;
 use crate::typed;
-use values::{Items, Text};
 use serde_json::Value;
 use std::alloc::Global;
+use values::{Items, Text};
 
 /// The elements of the list at a key, or none where it is absent.
 pub fn list_or_none<T: FromTree>(

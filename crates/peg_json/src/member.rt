@@ -13,9 +13,9 @@ use crate::fault::TreeFault;
 use crate::path;
 use crate::row::{KeyRow, Kind};
 use crate::table::KeyTable;
-use values::{Memory, Text};
 use serde_json::{Map, Value};
 use std::alloc::Global;
+use values::{Memory, Text};
 
 /// The object's member of a key. A null counts as absent.
 pub fn present<'a>(value: &'a Value, key: &str) -> Option<&'a Value>

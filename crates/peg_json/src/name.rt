@@ -7,9 +7,9 @@ ghost use Rattle.peg_json.specs.Typed.{number_of};
 
 use crate::fault::TreeFault;
 use crate::tree::FromTree;
-use values::Text;
 use serde_json::Value;
 use std::alloc::Global;
+use values::Text;
 
 /// A text that is not empty.
 #[derive(Debug, Drop)]

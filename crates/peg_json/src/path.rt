@@ -4,8 +4,8 @@ ghost use Rattle.std.specs.Prelude.{◌≡◌, [], IfOk, string_bytes};
 ghost use Rattle.serde_json.specs.Find.{unescape};
 ghost use Rattle.peg_json.specs.Path.{key_path, index_path, escaped};
 
-use values::{Memory, Text};
 use std::alloc::Global;
+use values::{Memory, Text};
 
 /// The key, with `~0` for `~` and `~1` for `/`.
 fn escape(alloc: Global, key: &str) -> Result<String, Memory>

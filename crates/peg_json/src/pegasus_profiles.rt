@@ -11,9 +11,9 @@ use crate::row::{KeyRow, Kind};
 use crate::table::KeyTable;
 use crate::tree::FromTree;
 use crate::typed;
-use values::{Memory, Text};
 use serde_json::Value;
 use std::alloc::Global;
+use values::{Memory, Text};
 
 /// How a job is to be clustered.
 #[derive(Drop)]

@@ -15,9 +15,9 @@ use crate::selector_profiles::SelectorProfiles;
 use crate::table::KeyTable;
 use crate::tree::FromTree;
 use crate::typed;
-use values::{Memory, Text};
 use serde_json::Value;
 use std::alloc::Global;
+use values::{Memory, Text};
 
 #[derive(Drop)]
 pub struct Profiles {

@@ -5,8 +5,8 @@ ghost use Rattle.peg_json.specs.declared.fault.TreeFault.TheVariants as faults;
 ghost use Rattle.peg_json.specs.declared.read_fault.ReadFault.TheVariants.{Tree};
 
 use crate::fault::TreeFault;
-use values::{Memory, Text};
 use std::alloc::{AllocError, AllocFailed};
+use values::{Memory, Text};
 
 /// What there are too many of.
 #[derive(Clone, Copy, Debug, PartialEq, Eq)]

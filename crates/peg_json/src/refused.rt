@@ -9,9 +9,9 @@ use crate::fault::TreeFault;
 use crate::member::present;
 use crate::path::at_key;
 use crate::typed;
-use values::Text;
 use serde_json::Value;
 use std::alloc::Global;
+use values::Text;
 
 fn unsupported(alloc: Global, path: &Text, key: &str) -> Result<(), TreeFault>
     ensures { Gives (λ u. u) result (unsupported path.now key.now) }

@@ -8,8 +8,8 @@ ghost use Rattle.peg_json.specs.Sites.{sites_checked};
 
 use crate::count::at_most;
 use crate::read_fault::{Counted, ReadFault};
-use values::Text;
 use std::alloc::Global;
+use values::Text;
 
 const MAX_SITES: u64 = 64;
 

@@ -7,9 +7,9 @@ ghost use Rattle.peg_json.specs.Tree.{Gives, tree_of};
 ghost use Rattle.peg_json.specs.declared.fault.TreeFault as declared;
 
 use crate::fault::TreeFault;
-use values::Text;
 use serde_json::Value;
 use std::alloc::Global;
+use values::Text;
 
 /// The tree that the bytes are.
 #[tactic(auto, using(crate::proofs::TreeLemmas::is_tree, crate::proofs::TreeLemmas::no_tree))]

@@ -11,9 +11,9 @@ use crate::list::list_at;
 use crate::member::present;
 use crate::path::at_key;
 use crate::tree::FromTree;
-use values::Text;
 use serde_json::Value;
 use std::alloc::Global;
+use values::Text;
 
 pub fn text(alloc: Global, value: &Value, path: &Text, key: &str) -> Result<Text, TreeFault>
     ensures { Gives (λ x. x) result (required text_of path.now (tree_view value.now) key.now) }

@@ -7,9 +7,9 @@ ghost use Rattle.peg_json.specs.Versions.{are_digits as digits, is_version, vers
 
 use crate::fault::TreeFault;
 use crate::typed;
-use values::Text;
 use serde_json::Value;
 use std::alloc::Global;
+use values::Text;
 
 fn are_digits(bytes: &[u8]) -> bool
     ensures { result ≡ digits bytes.now }

@@ -6,7 +6,6 @@ ghost use Rattle.std.specs.Prelude.{◌≡◌, IfOk, length};
 
 use craft::{Crew, OpenGate};
 use host_files::{FolderDocs, FolderHost, Progress, ShownTool, StreamSink, WipingSink};
-use values::Memory;
 use pegasus_cli::{Outcome, pegasus, user_words};
 use std::alloc::Global;
 use std::io::IsTerminal;
@@ -14,6 +13,7 @@ use std::process::ExitCode;
 use std::sync::Arc;
 use std::{env, io};
 use toolbox::Shipped;
+use values::Memory;
 
 /// A member with the shipped tools, whose runs the terminal shows.
 type Member = Crew<ShownTool<Shipped, HostRuntime>, OpenGate>;

@@ -7,8 +7,8 @@ use crate::flow::has_flow;
 use crate::plan::Plan;
 use crate::tables::has_tables;
 use crate::tasks::are_tasks;
-use values::Memory;
 use std::alloc::Global;
+use values::Memory;
 
 /// Whether a plan is proper, in n log n of its size.
 pub fn check(alloc: Global, plan: &Plan) -> Result<bool, Memory>

@@ -3,8 +3,8 @@
 ghost use Rattle.std.specs.Prelude.{◌≡◌, IfOk};
 
 use crate::plan::{Plan, PlanFile, PlanJob, PlanSite, Source, Task, TaskKind};
-use values::{Items, Memory, Policy, Text};
 use std::alloc::Global;
+use values::{Items, Memory, Policy, Text};
 
 /// A copy of a list of numbers.
 pub fn copied<T: Copy + Drop>(alloc: Global, items: &[T]) -> Result<Items<T>, Memory>

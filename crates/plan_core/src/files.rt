@@ -8,8 +8,8 @@ ghost use Rattle.plan_core.specs.Words.{file_numbers, inputs, outputs, pair_at, 
 
 use crate::plan::{Pair, PlanJob, Source, Target, TaskKind};
 use crate::rising::{difference, sorted};
-use values::{FileId, Items, JobId, Memory, PairId, SiteId};
 use std::alloc::Global;
+use values::{FileId, Items, JobId, Memory, PairId, SiteId};
 
 /// Numbers of files at a site, in rising order.
 #[derive(Drop)]

@@ -18,8 +18,8 @@ use crate::listing::{Listing, awaited_lists, graph, neighbours, tasks_listed};
 use crate::plan::Plan;
 use crate::rising::{is_among, is_rising};
 use digraph::Digraph;
-use values::{Memory, TaskId};
 use std::alloc::Global;
+use values::{Memory, TaskId};
 
 fn have_one(lists: &[Vec<u32>], count: usize) -> bool
     requires { count ≤ length lists.now }

@@ -10,8 +10,8 @@ ghost use Rattle.plan_core.specs.Words.{kind, pair_numbers, task_numbers};
 
 use crate::plan::{Plan, Target, Task, TaskKind};
 use digraph::Digraph;
-use values::{Memory, PairId, TaskId};
 use std::alloc::Global;
+use values::{Memory, PairId, TaskId};
 
 /// What is listed of a task.
 #[derive(Clone, Copy)]

@@ -8,8 +8,8 @@ ghost use Rattle.plan_core.specs.Printing.{file_line, file_number, flag, is_plai
 ghost use Rattle.plan_core.specs.Words.{job_numbers, task_numbers};
 
 use crate::plan::{Pair, Plan, PlanFile, PlanJob, PlanSite, Source, Target, Task, TaskKind};
-use values::{Blob, FileId, JobId, Memory, PairId, Policy, SiteId, TaskId, Text, Word, push_line};
 use std::alloc::Global;
+use values::{Blob, FileId, JobId, Memory, PairId, Policy, SiteId, TaskId, Text, Word, push_line};
 
 /// Adds numbers, a space before each.
 fn push_numbers(alloc: Global, text: &mut String, numbers: &[u32]) -> Result<(), Memory>

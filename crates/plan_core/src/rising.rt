@@ -4,8 +4,8 @@ ghost use Rattle.std.specs.Prelude.{◌≡◌, ◌&&◌, ◌++◌, ◌∷◌, []
 ghost use Rattle.plan_core.specs.Numbers.{RisesFrom, has};
 ghost use Rattle.plan_core.specs.Rising.{is_rising, rises_after, without};
 
-use values::Memory;
 use std::alloc::Global;
+use values::Memory;
 
 /// Whether each number is above the one before it.
 fn rises_after(first: u32, rest: &[u32]) -> bool

@@ -11,8 +11,8 @@ ghost use Rattle.plan_core.specs.declared.plan.Task.{Task};
 
 use crate::plan::{Pair, Plan, PlanFile, PlanJob, PlanSite, Source, Target, TaskKind};
 use indexmap::IndexSet;
-use values::{FileId, JobId, Memory, SiteId, Text};
 use std::alloc::Global;
+use values::{FileId, JobId, Memory, SiteId, Text};
 
 fn is_few(count: usize) -> bool
     ensures { result ≡ nat_lt count (2 ^ 32) }

@@ -10,8 +10,8 @@ ghost use Rattle.plan_core.specs.Words.{file_numbers, reads_in, writes_in};
 use crate::files::{SiteFiles, are_pairs, files_read, files_written, inputs, outputs};
 use crate::plan::{Plan, PlanJob, Task, TaskKind};
 use indexmap::IndexSet;
-use values::{FileId, JobId, Memory};
 use std::alloc::Global;
+use values::{FileId, JobId, Memory};
 
 /// Adds files to those that are known.
 fn note(known: &mut IndexSet<u32>, files: &[FileId]) -> Result<(), Memory>

@@ -6,10 +6,10 @@ ghost use Rattle.plan_request.specs.Execution.{execution_rows};
 
 use crate::known::only_known;
 use crate::request::Execution;
-use values::Text;
 use peg_json::{FromTree, KeyRow, KeyTable, Kind, SiteNamed, TreeFault, checked, row};
 use serde_json::Value;
 use std::alloc::Global;
+use values::Text;
 
 const EXECUTION: [KeyRow; 2] = [
     KeyRow {

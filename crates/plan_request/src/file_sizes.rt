@@ -7,8 +7,8 @@ ghost use Rattle.plan_request.specs.FileSizes.{named_size, size_by, declared_siz
 
 use crate::index::Index;
 use crate::request::{PlanRequest, SizeOf};
-use values::{Memory, Text};
 use std::alloc::Global;
+use values::{Memory, Text};
 
 fn sizes_by_name(alloc: Global, sizes: &[SizeOf]) -> Result<Index<u64>, Memory>
     ensures { IfOk result (λ index. index ≡ with_entries [] (map named_size sizes.now)) }

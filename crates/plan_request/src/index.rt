@@ -6,9 +6,9 @@ ghost use Rattle.std.specs.Str.{bytes_eq};
 ghost use Rattle.plan_request.specs.Index.{with_entry};
 
 use indexmap::IndexMap;
-use values::{Memory, Text};
 use std::alloc::Global;
 use std::marker::Model;
+use values::{Memory, Text};
 
 /// For each name the first value that it was given, seen as the list of names with their values.
 #[derive(Drop)]

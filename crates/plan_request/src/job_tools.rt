@@ -7,9 +7,9 @@ ghost use Rattle.plan_request.specs.JobTools.{named_tool, tool_of};
 
 use crate::index::Index;
 use crate::request::{PlanRequest, ToolOf};
-use values::{Memory, Text};
 use std::alloc::Global;
 use std::marker::Model;
+use values::{Memory, Text};
 
 /// The tools of a request, seen as their list, with an index of them.
 #[derive(Drop)]

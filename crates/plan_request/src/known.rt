@@ -7,11 +7,11 @@ ghost use Rattle.peg_json.specs.Table.{rows_of, is_key};
 ghost use Rattle.peg_json.specs.Tree.{Gives};
 ghost use Rattle.plan_request.specs.Known.{earlier, first_unknown, unknown_refused, only_known};
 
-use values::{Memory, Text};
 use peg_json::{KeyRow, KeyTable, TreeFault, at_key};
 use serde_json::{Map, Value};
 use std::alloc::Global;
 use std::cmp::Ordering;
+use values::{Memory, Text};
 
 /// Whether a row has the key.
 fn has_key(rows: &[KeyRow], key: &str) -> bool

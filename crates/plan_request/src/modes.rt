@@ -6,10 +6,10 @@ ghost use Rattle.peg_json.specs.Tree.{Gives};
 ghost use Rattle.plan_request.specs.Modes.{cluster_at, cleanup_at};
 
 use crate::request::{Cleanup, ClusterMode};
-use values::Text;
 use peg_json::{TreeFault, at_key, row};
 use serde_json::Value;
 use std::alloc::Global;
+use values::Text;
 
 /// The clustering at a key, or none where it is absent.
 pub fn cluster(

@@ -7,9 +7,9 @@ ghost use Rattle.plan_request.specs.Limits.{IsWithinLimits};
 ghost use Rattle.plan_request.specs.Reader.{execute_checked, sites_distinct, read_of};
 
 use crate::request::{Execution, PlanRequest};
-use values::Text;
 use peg_json::{FromTree, ReadFault, check_sites, parse, root};
 use std::alloc::Global;
+use values::Text;
 
 /// Refuses too many execution sites, and one that is there before.
 #[tactic(auto, unfolding(crate::specs::Reader::execute_checked))]

@@ -10,10 +10,10 @@ use crate::request::{Execution, PlanRequest};
 use crate::selection::{rate, runtimes_or_none, selector};
 use crate::size_entries::sizes_or_none;
 use crate::tool_entries::tools_or_none;
-use values::{Items, Policy, Text};
 use peg_json::{FromTree, KeyRow, KeyTable, Kind, TreeFault, checked, row};
 use serde_json::Value;
 use std::alloc::Global;
+use values::{Items, Policy, Text};
 
 const REQUEST: [KeyRow; 14] = [
     KeyRow {

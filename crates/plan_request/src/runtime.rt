@@ -7,10 +7,10 @@ ghost use Rattle.plan_request.specs.Runtime.{runtime_rows};
 use crate::known::only_known;
 use crate::request::Runtime;
 use crate::selection::positive;
-use values::Text;
 use peg_json::{FromTree, KeyRow, KeyTable, Kind, TreeFault, at_key, checked, row};
 use serde_json::Value;
 use std::alloc::Global;
+use values::Text;
 
 const RUNTIME: [KeyRow; 3] = [
     KeyRow {

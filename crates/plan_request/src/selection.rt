@@ -7,10 +7,10 @@ ghost use Rattle.plan_request.specs.Positive.{positive};
 ghost use Rattle.plan_request.specs.Selection.{selector_at, rate_at, runtimes_or_none};
 
 use crate::request::{Runtime, Selector};
-use values::{Items, Text};
 use peg_json::{TreeFault, at_key, row};
 use serde_json::Value;
 use std::alloc::Global;
+use values::{Items, Text};
 
 /// Refuses 0.
 pub fn positive(alloc: Global, path: &Text, number: u64) -> Result<u64, TreeFault>

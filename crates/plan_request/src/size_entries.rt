@@ -6,10 +6,10 @@ ghost use Rattle.peg_json.specs.Tree.{Gives};
 ghost use Rattle.plan_request.specs.SizeEntries.{size_entry, sizes_or_none};
 
 use crate::request::SizeOf;
-use values::{Items, Memory, Text};
 use peg_json::{FromTree, TreeFault, entries_at, number_at, row};
 use serde_json::Value;
 use std::alloc::Global;
+use values::{Items, Memory, Text};
 
 /// The size of a file.
 #[derive(Drop)]

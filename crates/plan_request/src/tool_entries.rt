@@ -6,10 +6,10 @@ ghost use Rattle.peg_json.specs.Tree.{Gives};
 ghost use Rattle.plan_request.specs.ToolEntries.{tool_entry, tools_or_none};
 
 use crate::request::ToolOf;
-use values::{Items, Memory, Text};
 use peg_json::{FromTree, Name, TreeFault, entries_at, row};
 use serde_json::Value;
 use std::alloc::Global;
+use values::{Items, Memory, Text};
 
 /// Tools by the names of their transformations.
 #[derive(Drop)]

@@ -10,13 +10,13 @@ ghost use Rattle.planner.specs.PlanFault.{GivesPlan};
 
 use crate::document::Document;
 use crate::plan_fault::{PlanFault, of_read_fault};
-use values::{Blob, Text};
 use peg_json::{ReadFault, at_key, root};
 use replica_catalog::ReplicaCatalog;
 use serde_json::Value;
 use site_catalog::SiteCatalog;
 use std::alloc::Global;
 use transformation_catalog::TransformationCatalog;
+use values::{Blob, Text};
 
 /// What may stand in a document of its own, or within the workflow's.
 pub(crate) trait Catalogue: Drop + Sized {

@@ -20,12 +20,12 @@ use crate::document::Document;
 use crate::inputs::Survey;
 use crate::plan_fault::{PlanFault, of_read_fault};
 use dependency_graph::build;
-use values::{Blob, Documents, Text};
 use plan_request::{Execution, PlanRequest};
 use replica_catalog::ReplicaCatalog;
 use site_catalog::{SiteCatalog, SiteEntry};
 use std::alloc::Global;
 use transformation_catalog::TransformationCatalog;
+use values::{Blob, Documents, Text};
 use workflow_core::Workflow;
 
 fn workflow_in(alloc: Global, document: &Blob) -> Result<Workflow, PlanFault>

@@ -9,10 +9,10 @@ ghost use Rattle.planner.specs.Ordering.{CannotOrder};
 ghost use Rattle.planner.specs.PlanFault.{exceeds_fault, place_name};
 
 use crate::plan_fault::PlanFault;
-use values::{Memory, SiteId, Text};
 use plan_core::Plan;
 use std::alloc::Global;
 use storage_simulation::{Exceeds, OrderFault, Ordered, order};
+use values::{Memory, SiteId, Text};
 
 fn place_name(alloc: Global, plan: &Plan, place: SiteId) -> Result<Text, Memory>
     ensures { IfOk result (λ name. name ≡ place_name plan.now place.0) }

@@ -6,9 +6,9 @@ ghost use Rattle.planner.specs.PlanFault.{cluster_fault, graph_fault, read_fault
 use crate::document::Document;
 use clustering::ClusterFault;
 use dependency_graph::GraphFault;
-use values::{Items, Memory, TaskId, Text};
 use peg_json::{Counted, ReadFault, TreeFault};
 use transfer_refiner::RefineFault;
+use values::{Items, Memory, TaskId, Text};
 
 /// The first fault in the course of planning.
 #[derive(Debug, Drop)]

@@ -24,12 +24,12 @@ use crate::surveyed::Surveyed;
 use cleanup_refiner::add_cleans;
 use clustering::cluster;
 use data_reuse::kept;
-use values::{Documents, SiteId};
 use plan_core::Plan;
 use plan_request::{Cleanup, PlanRequest};
 use std::alloc::Global;
 use storage_simulation::Ordered;
 use transfer_refiner::refine;
+use values::{Documents, SiteId};
 use workflow_core::Clusters;
 
 /// The sites of a survey's kept jobs, and their clusters.

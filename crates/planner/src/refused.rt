@@ -5,9 +5,9 @@ ghost use Rattle.planner.specs.Refused.{counted_word as word_of_counted, cycle_l
 
 use crate::document::Document;
 use crate::plan_fault::PlanFault;
-use values::{Memory, Text, Word, push_line};
 use peg_json::{Counted, TreeFault};
 use std::alloc::Global;
+use values::{Memory, Text, Word, push_line};
 
 fn counted_word(counted: Counted) -> &'static str
     ensures { result.now ≡ word_of_counted counted }

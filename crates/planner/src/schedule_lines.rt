@@ -10,8 +10,8 @@ ghost use Rattle.planner.specs.Scheduling.{job_row, schedule_line, schedule_line
 
 use crate::sites::id_of;
 use heft_selector::Heft;
-use values::{JobId, Memory, Text, Word, push_line};
 use std::alloc::Global;
+use values::{JobId, Memory, Text, Word, push_line};
 use workflow_core::Workflow;
 
 /// The number of a job's site.

@@ -14,10 +14,10 @@ ghost use Rattle.planner.specs.Sites.{AreLeveled, AreSelected, Chooses};
 use crate::inputs::Survey;
 use crate::plan_fault::PlanFault;
 use heft_selector::{Heft, select_heft};
-use values::{JobId, Memory, SelectFault, SiteId, Text};
 use plan_request::{PlanRequest, Selector};
 use site_selector::select;
 use std::alloc::Global;
+use values::{JobId, Memory, SelectFault, SiteId, Text};
 use workflow_core::Workflow;
 
 /// The id of a job, empty where there is no such job.

@@ -6,9 +6,9 @@ ghost use Rattle.planner.specs.SurveyText.{all_ignored_lines, check_lines, count
 
 use crate::document::Document;
 use crate::inputs::Survey;
-use values::{Memory, Text, Word, push_line};
 use site_catalog::{Directory, FileServer, SiteEntry};
 use std::alloc::Global;
+use values::{Memory, Text, Word, push_line};
 use workflow_core::Workflow;
 
 #[tactic(auto, unfolding(crate::specs::SurveyText::workflow_line))]

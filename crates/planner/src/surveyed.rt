@@ -13,9 +13,9 @@ use crate::course::survey;
 use crate::inputs::Survey;
 use crate::meaning::plans_mean_the_workflow;
 use crate::plan_fault::PlanFault;
-use values::Documents;
 use plan_request::PlanRequest;
 use std::alloc::Global;
+use values::Documents;
 
 /// A request and what its documents say, with all that planning asks of them.
 #[derive(Drop)]

@@ -11,9 +11,9 @@ ghost use Rattle.lease_book.specs.Legal.{CauseFits, checksum, differs_from, has_
 ghost use Rattle.record_audit.specs.Causes.{is_oversize};
 
 use lease_book::Book;
-use values::{FileId, JobId, TaskId};
 use plan_core::{Plan, Source, TaskKind};
 use run_record::Cause;
+use values::{FileId, JobId, TaskId};
 
 /// Whether a task is a Transfer from a pfn.
 fn is_from_pfn(plan: &Plan, task: TaskId) -> bool

@@ -10,10 +10,10 @@ use crate::holdings::Holdings;
 use crate::law::{allowed_entries_are_sized, legal_records_are_short};
 use crate::sums::Statistics;
 use lease_book::ordered_plans_fit;
-use values::Memory;
 use run_record::Record;
 use std::alloc::Global;
 use storage_simulation::Ordered;
+use values::Memory;
 
 /// Raises each site's peak to what is held there.
 fn raise(holdings: &Holdings, peaks: &mut Vec<u64>)

@@ -11,11 +11,11 @@ ghost use Rattle.run_record.specs.Events.{Arrive, Clean, End, Event, Grant, even
 ghost use Rattle.lease_book.specs.State.{held_after, put};
 ghost use Rattle.record_audit.specs.Holdings.{AddsUp, IsSized, Shows, is_this, size_among};
 
-use values::{Memory, PairId, TaskId};
 use plan_core::{Plan, files_are_listed_by_pair};
 use run_record::Entry;
 use std::alloc::Global;
 use storage_simulation::{cleaned_by, good_size, is_delivery, proper_plans_keep_goods};
+use values::{Memory, PairId, TaskId};
 
 /// The size of what is held of each pair, and the sum of these sizes at each site.
 #[derive(Debug, Drop)]

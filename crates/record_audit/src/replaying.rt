@@ -12,9 +12,9 @@ ghost use Rattle.record_audit.specs.Replaying.{EndsSo, Grew, failing, granting};
 use crate::causes::cause_fits;
 use crate::law::legal_records_are_consistent;
 use lease_book::{Book, Next, choice_is_one};
-use values::TaskId;
 use plan_core::Plan;
 use run_record::{Cause, Entry, Record};
+use values::TaskId;
 
 /// Workers have numbers below this one.
 const MOST_WORKERS: u32 = 16;

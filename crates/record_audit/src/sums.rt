@@ -4,9 +4,9 @@ ghost use Rattle.std.specs.Prelude.{◌≡◌, ◌<◌, ◌+◌, ◌^◌, ℕ, I
 ghost use Rattle.run_record.specs.Events.{event};
 ghost use Rattle.record_audit.specs.Sums.{AreSmall, HasNone, IsCounted, arrived};
 
-use values::Memory;
 use run_record::Entry;
 use std::alloc::Global;
+use values::Memory;
 
 /// How many entries of each kind a record has (a grant by a fresh order counts as a grant), the
 /// bytes that its Transfers moved, and of each site the most bytes that were stored and reserved

@@ -5,8 +5,8 @@ ghost use Rattle.record_audit.specs.Text.{count_lines, line_if_some, number_line
 
 use crate::sums::Statistics;
 use crate::verdict::Verdict;
-use values::{Memory, Word, push_line};
 use std::alloc::Global;
+use values::{Memory, Word, push_line};
 
 /// Adds the line of a verdict.
 #[tactic(auto, unfolding(crate::specs::Text::verdict_line))]

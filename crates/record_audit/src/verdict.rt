@@ -11,10 +11,10 @@ ghost use Rattle.record_audit.specs.Verdict.{IsJudged};
 use crate::law::legal_records_are_consistent;
 use crate::replaying::replay;
 use lease_book::{Book, Next, ordered_plans_fit};
-use values::Memory;
 use run_record::Record;
 use std::alloc::Global;
 use storage_simulation::Ordered;
+use values::Memory;
 
 /// What an audit finds: every task has ended and none failed; no more than that each entry was
 /// allowed; or the number, from 1, of the first entry that wasn't.

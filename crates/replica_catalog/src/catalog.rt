@@ -3,8 +3,8 @@
 ghost use Rattle.std.specs.Prelude.{◌≡◌, [], IfOk};
 ghost use Rattle.replica_catalog.specs.Reader.{view, no_replicas};
 
-use values::{Items, Text};
 use std::alloc::Global;
+use values::{Items, Text};
 
 /// A whole catalogue.
 #[derive(Debug, Drop)]

@@ -7,10 +7,10 @@ ghost use Rattle.peg_json.specs.Tree.{Gives};
 ghost use Rattle.replica_catalog.specs.Checksum.{checksum_rows, digest_of, digest_if_there};
 
 use hex::FromHex;
-use values::{Memory, Text};
 use peg_json::{FromTree, KeyRow, KeyTable, Kind, Listed, TreeFault, at_key, checked, gather, row};
 use serde_json::Value;
 use std::alloc::Global;
+use values::{Memory, Text};
 
 /// The SHA-256 that a checksum states, if it states one.
 #[derive(Drop)]

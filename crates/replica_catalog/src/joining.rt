@@ -7,8 +7,8 @@ ghost use Rattle.replica_catalog.specs.Merged.{with_entry, with_entries};
 use crate::catalog::Replica;
 use crate::merged::Merged;
 use indexmap::IndexSet;
-use values::{Items, Memory, Text};
 use std::alloc::Global;
+use values::{Items, Memory, Text};
 
 /// Adds an entry to the one of its lfn, or at the end.
 fn add_entry(

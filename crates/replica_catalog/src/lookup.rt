@@ -7,9 +7,9 @@ ghost use Rattle.replica_catalog.specs.Lookup.{is_of};
 
 use crate::catalog::{Replica, ReplicaCatalog};
 use indexmap::IndexMap;
-use values::{Memory, Text};
 use std::alloc::Global;
 use std::marker::Model;
+use values::{Memory, Text};
 
 /// The entries of a catalogue, found by their files' names.
 #[derive(Drop)]

@@ -4,8 +4,8 @@ ghost use Rattle.std.specs.Prelude.{◌≡◌, OnOk};
 ghost use Rattle.replica_catalog.specs.Merged.{absorbed};
 
 use crate::catalog::{Pfn, Replica};
-use values::{Items, Memory, Text};
 use std::marker::Model;
+use values::{Items, Memory, Text};
 
 /// An entry, seen as the one that it is so far.
 #[derive(Drop)]

@@ -5,10 +5,10 @@ ghost use Rattle.peg_json.specs.Table.{rows_of};
 ghost use Rattle.replica_catalog.specs.Pfn.{pfn_rows};
 
 use crate::catalog::Pfn;
-use values::{Memory, Text};
 use peg_json::{FromTree, KeyRow, KeyTable, Kind, Listed, TreeFault, checked, gather, row};
 use serde_json::Value;
 use std::alloc::Global;
+use values::{Memory, Text};
 
 const PFN: [KeyRow; 2] = [
     KeyRow {

@@ -12,10 +12,10 @@ ghost use Rattle.replica_catalog.specs.Root.{unknown_of};
 use crate::catalog::ReplicaCatalog;
 use crate::joining::joined;
 use crate::root::Document;
-use values::{Items, Text};
 use peg_json::{FromTree, ReadFault, ignored_below, parse, root};
 use serde_json::Value;
 use std::alloc::Global;
+use values::{Items, Text};
 
 /// Reads the tree of a replica catalogue, which stands under a path: that of the document's root, or of the key at
 /// which a workflow has it.

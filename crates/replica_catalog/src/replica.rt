@@ -8,13 +8,13 @@ ghost use Rattle.replica_catalog.specs.Replica.{replica_rows, checksum_or_none};
 
 use crate::catalog::{Pfn, Replica};
 use crate::checksum::Checksum;
-use values::{Items, Memory, Text};
 use peg_json::{
     FromTree, KeyRow, KeyTable, Kind, Listed, TreeFault, checked, gather, gather_list,
     gather_object, refuse_flag, row,
 };
 use serde_json::Value;
 use std::alloc::Global;
+use values::{Items, Memory, Text};
 
 const REPLICA: [KeyRow; 4] = [
     KeyRow {

@@ -5,13 +5,13 @@ ghost use Rattle.peg_json.specs.Table.{rows_of};
 ghost use Rattle.replica_catalog.specs.Root.{root_rows};
 
 use crate::catalog::Replica;
-use values::{Memory, Text};
 use peg_json::{
     FromTree, KeyRow, KeyTable, Kind, Listed, TreeFault, checked, gather, gather_list,
     optional_version, row,
 };
 use serde_json::Value;
 use std::alloc::Global;
+use values::{Memory, Text};
 
 /// The entries that a document lists.
 #[derive(Drop)]

@@ -6,9 +6,9 @@ ghost use Rattle.replica_writer.specs.Document.{checksum_tree, document_tree, en
 
 use crate::pfn::pfn_of;
 use hex::encode;
-use values::{Memory, Text};
 use serde_json::{Value, json};
 use std::alloc::Global;
+use values::{Memory, Text};
 
 fn checksum(alloc: Global, digest: &[u8; 32]) -> Result<Value, Memory>
     ensures { IfOk result (λ v. view v ≡ checksum_tree digest.now) }

@@ -4,8 +4,8 @@ ghost use Rattle.std.specs.Prelude.{◌≡◌, IfOk};
 ghost use Rattle.replica_writer.specs.Pfn.{pfn_of};
 
 use host_files::path_in;
-use values::{Memory, Text};
 use std::alloc::Global;
+use values::{Memory, Text};
 
 /// The path at which a host of files delivers a file.
 pub fn pfn_of(alloc: Global, lfn: &Text) -> Result<Text, Memory>

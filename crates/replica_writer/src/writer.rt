@@ -7,11 +7,11 @@ ghost use Rattle.replica_writer.specs.Writer.{AreApart, AreDigests, AreInRange, 
 ghost use Rattle.replica_writer.specs.Law.{AreReadAs};
 
 use crate::document::{document, entry};
-use values::{Blob, Memory};
 use plan_core::Plan;
 use serde_json::Value;
 use site_yard::Delivered;
 use std::alloc::Global;
+use values::{Blob, Memory};
 
 fn bytes_fit(bytes: &[u8])
     ensures { IsBytes bytes.now }

@@ -6,8 +6,8 @@ ghost use Rattle.run_record.specs.FailedLine.{failed_line};
 
 use crate::run_fault::RunFault;
 use hex::encode;
-use values::{Memory, Text, Word, push_line};
 use std::alloc::Global;
+use values::{Memory, Text, Word, push_line};
 
 fn push_differs(
     alloc: Global,

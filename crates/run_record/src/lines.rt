@@ -10,9 +10,9 @@ use crate::entry::Entry;
 use crate::history::Record;
 use crate::printer::push_entry;
 use crate::reading;
-use values::Memory;
 use std::alloc::Global;
 use std::str;
+use values::Memory;
 
 /// Memory that is used again for each line.
 #[derive(Drop)]

@@ -12,8 +12,8 @@ use crate::fault::RecordFault;
 use crate::history::Record;
 use crate::lines::{Scratch, cut_line, read_line};
 use crate::printer::is_version_two;
-use values::Memory;
 use std::alloc::Global;
+use values::Memory;
 
 /// Whether a line is that of version 2, if it is a version's.
 fn version(line: &[u8]) -> Option<bool>

@@ -8,8 +8,8 @@ ghost use Rattle.run_record.specs.RecordText.{Digest, Number, Plain, Size, cause
 use crate::entry::{Cause, Entry};
 use crate::history::Record;
 use hex::encode;
-use values::{Blob, Memory, TaskId};
 use std::alloc::Global;
+use values::{Blob, Memory, TaskId};
 
 fn push_plain(text: &mut Vec<u8>, word: &str) -> Result<(), Memory>
     ensures { OnOk result (text.new.items ≡ text.old.items ++ spaced (Plain word.now ∷ [])) }

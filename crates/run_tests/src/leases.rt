@@ -8,12 +8,12 @@ ghost use Rattle.storage_simulation.specs.Goods.{IsWithinLimits};
 use crate::sketches::{CHAIN_BEFORE_SINGLE, DIAMOND_CLEANED, Does, Sketch, plan_of};
 use crate::storage::is_limited;
 use lease_book::{Book, Next};
-use values::{Memory, Policy, SiteId, TaskId};
 use plan_core::{Plan, check};
 use run_record::{Cause, print};
 use std::alloc::Global;
 use std::test::Fail;
 use storage_simulation::order;
+use values::{Memory, Policy, SiteId, TaskId};
 
 /// One call, by worker, task and sizes.
 #[derive(Clone, Copy)]

@@ -2,11 +2,11 @@
 
 use crate::sketches::{CHAIN_BEFORE_SINGLE, DIAMOND_CLEANED, Sketch, plan_of};
 use crate::storage::{ORDER, is_limited};
-use values::{Memory, Policy, SiteId, TaskId};
 use plan_core::check;
 use std::alloc::Global;
 use std::test::Fail;
 use storage_simulation::{Exceeds, OrderFault, OrderRefused, Ordered, order};
+use values::{Memory, Policy, SiteId, TaskId};
 
 /// The order and the peak of each site, or the place, task, need and bound of what doesn't fit.
 #[derive(Clone, Copy)]

@@ -1,9 +1,9 @@
 //! Which texts are records, and which line of another is malformed.
 
-use values::{Memory, TaskId};
 use run_record::{Entry, Record, RecordFault, parse, print};
 use std::alloc::Global;
 use std::test::Fail;
+use values::{Memory, TaskId};
 
 /// A run of four jobs on one site.
 const DIAMOND: &str =

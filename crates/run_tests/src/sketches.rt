@@ -1,8 +1,8 @@
 //! Plans by their names and numbers, for the tests to build.
 
-use values::{FileId, Items, JobId, Memory, PairId, Policy, SiteId, TaskId, Text};
 use plan_core::{Pair, Plan, PlanFile, PlanJob, PlanSite, Source, Target, Task, TaskKind};
 use std::alloc::Global;
+use values::{FileId, Items, JobId, Memory, PairId, Policy, SiteId, TaskId, Text};
 
 /// What a task does, by the numbers of sites, files, jobs and pairs.
 #[derive(Clone, Copy)]

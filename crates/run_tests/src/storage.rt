@@ -8,11 +8,11 @@ ghost use Rattle.storage_simulation.specs.declared.standing.Held.TheVariants.{No
 ghost use Rattle.storage_simulation.specs.Usage.{IsWithin};
 
 use crate::sketches::{DIAMOND_CLEANED, plan_of, task_ids};
-use values::{Items, Memory, Policy, SiteId, TaskId};
 use plan_core::{Plan, check};
 use std::alloc::Global;
 use std::test::Fail;
 use storage_simulation::{Held, Phase, Standing, fits, follows, usage_after};
+use values::{Items, Memory, Policy, SiteId, TaskId};
 
 /// What is held of each pair, how far each task is, and what is held of each task's delivery.
 type Lists = (&'static [Held], &'static [Phase], &'static [Held]);

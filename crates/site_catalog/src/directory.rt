@@ -5,13 +5,13 @@ ghost use Rattle.peg_json.specs.Table.{rows_of};
 ghost use Rattle.site_catalog.specs.Directory.{directory_rows};
 
 use crate::catalog::{Directory, FileServer};
-use values::{Memory, Text};
 use peg_json::{
     FromTree, KeyRow, KeyTable, Kind, Listed, TreeFault, checked, gather, gather_list,
     list_or_none, row,
 };
 use serde_json::Value;
 use std::alloc::Global;
+use values::{Memory, Text};
 
 const DIRECTORY: [KeyRow; 3] = [
     KeyRow {

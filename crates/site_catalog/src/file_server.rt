@@ -5,10 +5,10 @@ ghost use Rattle.peg_json.specs.Table.{rows_of};
 ghost use Rattle.site_catalog.specs.FileServer.{server_rows};
 
 use crate::catalog::FileServer;
-use values::{Memory, Text};
 use peg_json::{FromTree, KeyRow, KeyTable, Kind, Listed, TreeFault, checked, gather, row};
 use serde_json::Value;
 use std::alloc::Global;
+use values::{Memory, Text};
 
 const SERVER: [KeyRow; 2] = [
     KeyRow {

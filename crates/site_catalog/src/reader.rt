@@ -12,10 +12,10 @@ ghost use Rattle.site_catalog.specs.Root.{unknown_of};
 
 use crate::catalog::{SiteCatalog, SiteEntry};
 use crate::root::Document;
-use values::{Items, Text};
 use peg_json::{FromTree, ReadFault, check_sites, ignored_below, parse, root};
 use serde_json::Value;
 use std::alloc::Global;
+use values::{Items, Text};
 
 /// The catalogue of some sites, if they are few and none is there twice.
 fn catalog_of(

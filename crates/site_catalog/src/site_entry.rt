@@ -5,13 +5,13 @@ ghost use Rattle.peg_json.specs.Table.{rows_of};
 ghost use Rattle.site_catalog.specs.SiteEntry.{site_rows};
 
 use crate::catalog::{Directory, SiteEntry};
-use values::{Memory, Text};
 use peg_json::{
     FromTree, KeyRow, KeyTable, Kind, Listed, SiteNamed, TreeFault, checked, gather, gather_list,
     list_or_none, row,
 };
 use serde_json::Value;
 use std::alloc::Global;
+use values::{Memory, Text};
 
 const SITE: [KeyRow; 2] = [
     KeyRow {

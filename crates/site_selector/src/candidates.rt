@@ -6,9 +6,9 @@ ghost use Rattle.site_selector.specs.Offers.{sites_of};
 ghost use Rattle.site_selector.specs.Candidates.{is_allowed, is_named, listed_from, candidates, unknown_site, chosen, site_of, IsAnswer, candidates_of, offered, AreFound};
 
 use crate::offers::Offers;
-use values::{JobId, Memory, SelectFault, SiteId, Text};
 use plan_request::Execution;
 use std::alloc::Global;
+use values::{JobId, Memory, SelectFault, SiteId, Text};
 use workflow_core::Job;
 
 fn is_allowed(pinned: &Option<Text>, name: &Text) -> bool

@@ -6,13 +6,13 @@ ghost use Rattle.workflow_core.specs.Names.{with_names};
 ghost use Rattle.plan_request.specs.Reader.{execute_checked};
 ghost use Rattle.site_selector.specs.Offers.{is_stageable, names_of, installed_flags, offer_flags, marked, flags_in, offer_table, AreDistinct, Offered, IsFound};
 
-use values::Memory;
 use plan_request::Execution;
 use std::alloc::Global;
 use std::marker::Model;
 use transformation_catalog::{
     Entries, TransformationCatalog, TransformationEntry, TransformationSite,
 };
+use values::Memory;
 use workflow_core::{Names, Transformation};
 
 /// The execution sites and the entries of a catalogue, with a flag for each entry and site.

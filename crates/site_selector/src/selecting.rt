@@ -8,10 +8,10 @@ ghost use Rattle.site_selector.specs.Selecting.{selection, Selects};
 use crate::candidates::site_of;
 use crate::offers::Offers;
 use dependency_graph::ranked;
-use values::{Memory, SelectFault, SiteId};
 use plan_request::PlanRequest;
 use std::alloc::Global;
 use transformation_catalog::TransformationCatalog;
+use values::{Memory, SelectFault, SiteId};
 use workflow_core::Workflow;
 
 fn no_sites(alloc: Global, count: usize) -> Result<Vec<Option<SiteId>>, Memory>

@@ -44,22 +44,28 @@ pub aim_of : (p : Plan) → IsProper p → HasPlanLaws p → (t : ℕ) (k : Opti
 aim_of p proper laws t None e h = absurd cc
 aim_of p proper laws t (Some (Run a js)) e h = absurd cc
 aim_of p proper laws t (Some (CleanTask q)) e h = absurd cc
-aim_of p proper laws t (Some (Transfer f from Delivery)) e h = (delivery_target p f.0, record {
-  are = ap (λ z. targets_in p z (writes p t)) e;
-  operation_is = λ n. refl;
-  change_is = λ bytes. refl;
-  moved_is = λ v. refl;
-  limit_is = refl;
-})
+aim_of p proper laws t (Some (Transfer f from Delivery)) e h = (
+  delivery_target p f.0,
+  record {
+    are = ap (λ z. targets_in p z (writes p t)) e;
+    operation_is = λ n. refl;
+    change_is = λ bytes. refl;
+    moved_is = λ v. refl;
+    limit_is = refl;
+  },
+)
 aim_of p proper laws t (Some (Transfer f from (Into a))) e h =
     let found = transfer_writes p proper laws t f from a e in
-    let g : ℕ = found.0 in (pair_target p g, record {
-      are = ap (λ z. targets_in p z (writes p t)) e ∙ ap (map (pair_target p)) found.3;
-      operation_is = λ n. ap (λ x. Publish (site_name p x) (file_name p (pair_file p g)) n ∷ []) found.1 ∙ ap (λ y. Publish (site_name p a.0) (file_name p y) n ∷ []) found.2;
-      change_is = λ bytes. ap (λ x. Publishes (site_name p x) (file_name p (pair_file p g)) bytes ∷ []) found.1 ∙ ap (λ y. Publishes (site_name p a.0) (file_name p y) bytes ∷ []) found.2;
-      moved_is = λ v. ap v (sym found.2);
-      limit_is = ap (λ y. or_zero (declared p y)) (sym found.2);
-    })
+    let g : ℕ = found.0 in (
+      pair_target p g,
+      record {
+        are = ap (λ z. targets_in p z (writes p t)) e ∙ ap (map (pair_target p)) found.3;
+        operation_is = λ n. ap (λ x. Publish (site_name p x) (file_name p (pair_file p g)) n ∷ []) found.1 ∙ ap (λ y. Publish (site_name p a.0) (file_name p y) n ∷ []) found.2;
+        change_is = λ bytes. ap (λ x. Publishes (site_name p x) (file_name p (pair_file p g)) bytes ∷ []) found.1 ∙ ap (λ y. Publishes (site_name p a.0) (file_name p y) bytes ∷ []) found.2;
+        moved_is = λ v. ap v (sym found.2);
+        limit_is = ap (λ y. or_zero (declared p y)) (sym found.2);
+      },
+    )
 
 pub length_take : (xs : List ℕ) (k : ℕ) → k ≤ length xs → length (take k xs) ≡ k
 length_take xs zero l = refl

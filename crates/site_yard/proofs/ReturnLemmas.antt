@@ -58,6 +58,7 @@ take_next xs ys k x h = subst (λ n. (take n xs ≡ take k xs ++ x ∷ []) × (d
   where
     one : suc k ≡ k + 1
     one = omega arith
+
     by : (xs : _) (k : ℕ) → drop k xs ≡ x ∷ ys → (take (suc k) xs ≡ take k xs ++ x ∷ []) × (drop (suc k) xs ≡ ys)
     by [] zero h = absurd (let e = ap length h in omega (arith, e))
     by [] (suc k) h = absurd (let e = ap length h in omega (arith, e))

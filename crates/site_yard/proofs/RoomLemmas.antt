@@ -113,4 +113,4 @@ arrive_lists apply p q h k w t size o n m list rs ds sizes digest same begun tel
     (subst (λ l. ∥ AreDelivered apply p l (drop k (h ++ Arrive w t size ∷ [])) n m (list ++ kept_at size digest f) ∥₁) (sym (take_same h (Arrive w t size ∷ []) k begun))
     (subst (λ l. ∥ AreDelivered apply p (take k h) l n m (list ++ kept_at size digest f) ∥₁) (sym (drop_more h (Arrive w t size ∷ []) k begun))
     (∥∥₁_map old (list_more apply p (take k h) (drop k h) (Arrive w t size) o n m list (kept_at size digest f) tells (kept_files t size digest f some) (kept_lengths t size digest f some)
-        (λ opening told. kept_digests (carries apply p m) t size digest f some (λ g e. carried_digests apply p (take k h) m o t rs ds sizes digest g can opening told e)) (kept_long size digest f can.long)))))
+    (λ opening told. kept_digests (carries apply p m) t size digest f some (λ g e. carried_digests apply p (take k h) m o t rs ds sizes digest g can opening told e)) (kept_long size digest f can.long)))))

@@ -190,7 +190,7 @@ module _ (b : Book) (apply : Apply) (k : ℕ) (o mid n : Option Store) (m : Stor
       let bytes : map draft_bytes ds ≡ cs t x.file ∷ [] = carried.bytes ∙ ap (map (λ (y : Aim). cs t y.file)) aim.are in
       let single : length ds ≡ 1 = drafts_many (Some s) (x ∷ []) ds drafts in (
         placed_changes s cs t (x ∷ []) ds (length ds) drafts bytes ∙ ap (λ j. map (placed_as cs t) (take j (x ∷ []))) single
-        ∙ aim.change_is (or_nil (cs t x.file)) ∙ ap (λ v. arrival b.plan (kind b.plan t) (or_nil v)) (sym (aim.moved_is (cs t))),
+            ∙ aim.change_is (or_nil (cs t x.file)) ∙ ap (λ v. arrival b.plan (kind b.plan t) (or_nil v)) (sym (aim.moved_is (cs t))),
         (ap (option_map length) (aim.moved_is (cs t)) ∙ one_long s cs t x ds size drafts bytes (c.sizes_are ∙ one), carried.sum),
       )
 

@@ -80,11 +80,13 @@ pub(crate) fn open_readings<H: Host>(
     ensures later { IsLater (H.counts host.old) (H.counts host.new) }
 {
     match plan.kind(task) {
-        Some(TaskKind::Transfer {
-            file,
-            from: Source::Pfn(pfn),
-            ..
-        }) => match host.open_replica(alloc, pfn.as_str(), declared_size(plan, *file)) {
+        Some(
+            TaskKind::Transfer {
+                file,
+                from: Source::Pfn(pfn),
+                ..
+            },
+        ) => match host.open_replica(alloc, pfn.as_str(), declared_size(plan, *file)) {
             Ok(reading) => {
                 readings.push_reserved(reading);
                 Ok(())
@@ -184,11 +186,13 @@ pub(crate) fn make_drafts<H: Host>(
     ensures later { IsLater (H.counts host.old) (H.counts host.new) }
 {
     match plan.kind(task) {
-        Some(TaskKind::Transfer {
-            file,
-            to: Target::Delivery,
-            ..
-        }) => match draft_delivery(plan, host, alloc, *file) {
+        Some(
+            TaskKind::Transfer {
+                file,
+                to: Target::Delivery,
+                ..
+            },
+        ) => match draft_delivery(plan, host, alloc, *file) {
             Ok(draft) => {
                 drafts.push_reserved(draft);
                 Ok(())

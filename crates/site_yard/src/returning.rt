@@ -41,7 +41,11 @@ pub(crate) fn discard_all<H: Host>(host: &mut H, drafts: Vec<H::Draft>)
 }
 
 /// Publishes drafts in order. After a refusal the others are discarded.
-pub(crate) fn publish_all<H: Host>(host: &mut H, alloc: Global, drafts: Vec<H::Draft>) -> Publication
+pub(crate) fn publish_all<H: Host>(
+    host: &mut H,
+    alloc: Global,
+    drafts: Vec<H::Draft>,
+) -> Publication
     ensures answer { Publishes (map H.Draft.state drafts.items) (H.told host.old) (H.told host.new) (H.counts host.old) (H.counts host.new) result.count result.refused }
     ensures marked { H.marked host.new ≡ H.marked host.old }
     ensures later { IsLater (H.counts host.old) (H.counts host.new) }

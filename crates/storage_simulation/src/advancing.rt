@@ -18,8 +18,8 @@ use crate::placing::place;
 use crate::refreshing::{rebest, rekey};
 use crate::standing::Standing;
 use crate::upkeep::{keep_goes, reset_goes};
-use values::TaskId;
 use plan_core::Plan;
+use values::TaskId;
 
 /// Makes the key of each task.
 fn key_all(plan: &Plan, standing: &Standing, front: &Front, index: &mut Index)

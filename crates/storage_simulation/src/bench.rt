@@ -7,9 +7,9 @@ ghost use Rattle.storage_simulation.specs.Goods.{IsWithinLimits};
 
 use crate::front::Front;
 use crate::index::Index;
-use values::{Memory, TaskId};
 use plan_core::Plan;
 use std::alloc::Global;
+use values::{Memory, TaskId};
 
 /// The front of an order, and an index of the tasks that may be placed next. Each list is as long as the plan asks for
 /// from the start.

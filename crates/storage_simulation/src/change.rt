@@ -13,8 +13,8 @@ ghost use Rattle.storage_simulation.specs.Standings.{held_of, phase_of, sizes, w
 
 use crate::goods::{finds_made, good_size, is_delivery, lies_at};
 use crate::standing::Standing;
-use values::{PairId, TaskId};
 use plan_core::Plan;
+use values::{PairId, TaskId};
 
 /// What is held of a good at a place.
 fn held_at(plan: &Plan, standing: &Standing, place: u32, good: u32) -> u64

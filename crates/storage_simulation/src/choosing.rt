@@ -11,8 +11,8 @@ use crate::front::Front;
 use crate::goods::{place_bound, place_of};
 use crate::room::used_after;
 use crate::standing::Standing;
-use values::{SiteId, TaskId};
 use plan_core::Plan;
+use values::{SiteId, TaskId};
 
 /// What comes next: a task, the end, or no task that fits.
 #[derive(Debug, Clone, Copy)]

@@ -17,8 +17,8 @@ use crate::goods::{cleaned_by, place_bound, places};
 use crate::law::proper_plans_keep_goods;
 use crate::standing::Standing;
 use crate::usage::usage_after;
-use values::{SiteId, TaskId};
 use plan_core::Plan;
+use values::{SiteId, TaskId};
 
 /// The first task of an order after which a site holds more than its bound, in bytes. The output has the number that
 /// follows the last site's.

@@ -8,9 +8,9 @@ ghost use Rattle.storage_simulation.specs.Following.{AreMarked, Follows, is_mark
 ghost use Rattle.storage_simulation.specs.Standings.{phase_of, waits};
 
 use crate::standing::Standing;
-use values::{Memory, TaskId};
 use plan_core::Plan;
 use std::alloc::Global;
+use values::{Memory, TaskId};
 
 /// Whether a task has a mark.
 fn is_marked(marks: &[bool], task: TaskId) -> bool

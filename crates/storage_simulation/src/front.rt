@@ -11,9 +11,9 @@ ghost use Rattle.storage_simulation.specs.Goods.{IsWithinLimits, places};
 
 use crate::goods::places;
 use digraph::Digraph;
-use values::{Memory, TaskId};
 use plan_core::{Plan, parents_come_before};
 use std::alloc::Global;
+use values::{Memory, TaskId};
 
 /// The tasks that are placed, which tasks wait for which, and what follows for each task and place.
 #[derive(Drop)]

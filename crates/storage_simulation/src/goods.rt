@@ -7,8 +7,8 @@ ghost use Rattle.values.specs.declared.numbers.PairId.{PairId};
 ghost use Rattle.plan_core.specs.Words.{cleans, declared, output_bound, pair, pair_numbers};
 ghost use Rattle.storage_simulation.specs.Goods.{IsWithinLimits, count_sites, delivered_size, good_size, goods, is_delivery, lies_at, makes, or_zero, pair_site, pair_size, place, place_bound, places};
 
-use values::{FileId, PairId, SiteId, TaskId};
 use plan_core::{Plan, Target, TaskKind};
+use values::{FileId, PairId, SiteId, TaskId};
 
 /// Whether a task is a delivery.
 #[tactic(auto, unfolding(crate::specs::Goods::is_delivery))]

@@ -5,10 +5,10 @@ ghost use Rattle.storage_simulation.specs.Goods.{IsWithinLimits};
 ghost use Rattle.storage_simulation.specs.Index.{IsIndexFor};
 
 use crate::goods::places;
-use values::Memory;
 use plan_core::Plan;
 use std::alloc::Global;
 use tournament_tree::Tree;
+use values::Memory;
 
 /// The home of a task, what it needs of its place, and its number.
 pub type Spot = (u32, u64, u32);

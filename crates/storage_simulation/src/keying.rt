@@ -14,9 +14,9 @@ use crate::front::Front;
 use crate::goods::{place_bound, places};
 use crate::index::{Index, Spot};
 use crate::standing::Standing;
-use values::TaskId;
 use plan_core::Plan;
 use tournament_tree::Key;
+use values::TaskId;
 
 fn number_at(numbers: &[u64], at: u32) -> u64
     ensures { result ≡ get_or numbers.now at 0 }

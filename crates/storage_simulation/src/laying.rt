@@ -17,8 +17,8 @@ use crate::goods::{place_of, places};
 use crate::index::{Index, Spot};
 use crate::scoring::comes_of;
 use crate::standing::Standing;
-use values::TaskId;
 use plan_core::Plan;
+use values::TaskId;
 
 /// The home of a task.
 pub(crate) fn home_of(plan: &Plan, task: TaskId) -> u32

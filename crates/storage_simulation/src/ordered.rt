@@ -16,9 +16,9 @@ use crate::law::proper_plans_keep_goods;
 use crate::order_law::order_fits;
 use crate::ordering::order_from;
 use crate::standing::Standing;
-use values::{Memory, SiteId, TaskId};
 use plan_core::Plan;
 use std::alloc::Global;
+use values::{Memory, SiteId, TaskId};
 
 /// A proper plan within the limits, with the order of all its tasks from the start, and the peak of each place.
 #[derive(Debug, Drop)]

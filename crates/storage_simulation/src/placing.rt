@@ -10,8 +10,8 @@ use crate::front::{Front, children_of};
 use crate::goods::place_of;
 use crate::room::used_after;
 use crate::standing::Standing;
-use values::TaskId;
 use plan_core::Plan;
+use values::TaskId;
 
 /// What a place holds once a task is placed.
 #[derive(Debug, Clone, Copy)]

@@ -17,8 +17,8 @@ use crate::laying::{home_of, lay};
 use crate::placing::place;
 use crate::standing::Standing;
 use crate::upkeep::{keep_goes, last_parent, reset_goes};
-use values::TaskId;
 use plan_core::Plan;
+use values::TaskId;
 
 /// Makes anew what a task's placed parent changes: its own key where it is ready, or that of its last parent.
 #[tactic(auto, using(crate::proofs::RefreshingLemmas::touched_ready, crate::proofs::RefreshingLemmas::touched_none))]

@@ -12,8 +12,8 @@ use crate::front::Front;
 use crate::goods::places;
 use crate::standing::Standing;
 use crate::usage::usage_after;
-use values::{SiteId, TaskId};
 use plan_core::Plan;
+use values::{SiteId, TaskId};
 
 /// Whether a task runs or has ended.
 #[tactic(auto, using(crate::proofs::ResettingLemmas::done_first))]

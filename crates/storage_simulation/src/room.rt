@@ -10,8 +10,8 @@ use crate::change::{after_making, cleaned_at};
 use crate::front::Front;
 use crate::goods::cleaned_by;
 use crate::standing::Standing;
-use values::TaskId;
 use plan_core::Plan;
+use values::TaskId;
 
 /// What a place holds once a task more is placed.
 pub(crate) fn used_after(

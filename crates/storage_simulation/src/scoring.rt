@@ -10,8 +10,8 @@ ghost use Rattle.storage_simulation.specs.Usage.{sum_of};
 
 use crate::goods::pair_size;
 use crate::standing::{Held, Standing};
-use values::{PairId, TaskId};
 use plan_core::{Plan, TaskKind};
+use values::{PairId, TaskId};
 
 /// What a pair adds to the score of its writer.
 fn coming(plan: &Plan, standing: &Standing, number: PairId) -> u64

@@ -5,9 +5,9 @@ ghost use Rattle.storage_simulation.specs.Standings.{IsStanding, held_of, phase_
 ghost use Rattle.storage_simulation.specs.declared.standing.Held.TheVariants.{Nothing};
 ghost use Rattle.storage_simulation.specs.declared.standing.Phase.TheVariants.{Waits};
 
-use values::{Items, Memory, TaskId};
 use plan_core::Plan;
 use std::alloc::Global;
+use values::{Items, Memory, TaskId};
 
 /// What is held of a good, in bytes.
 #[derive(Debug, Clone, Copy)]

@@ -11,8 +11,8 @@ ghost use Rattle.storage_simulation.specs.Usage.{sum_of};
 use crate::front::Front;
 use crate::scoring::frees;
 use crate::standing::Standing;
-use values::TaskId;
 use plan_core::Plan;
+use values::TaskId;
 
 /// The one parent of a task that isn't done.
 pub(crate) fn last_parent(plan: &Plan, standing: &Standing, front: &Front, task: u32) -> u32

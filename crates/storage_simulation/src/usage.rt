@@ -11,8 +11,8 @@ ghost use Rattle.storage_simulation.specs.Usage.{cleaned, made, part, usage, wei
 
 use crate::goods::{good_size, goods, lies_at, makes};
 use crate::standing::Standing;
-use values::{PairId, SiteId, TaskId};
 use plan_core::Plan;
+use values::{PairId, SiteId, TaskId};
 
 fn any_makes(plan: &Plan, front: &[TaskId], good: u32) -> bool
     requires { IsWithinLimits plan.now }

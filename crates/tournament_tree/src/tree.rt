@@ -4,8 +4,8 @@ ghost use Rattle.std.specs.Prelude.{◌≡◌, ◌≤◌, ◌<◌, ◌==◌, ◌
 ghost use Rattle.std.specs.declared.alloc.Global.{Global};
 ghost use Rattle.tournament_tree.specs.Tree.{IsBare, IsEmpty, IsLeast, IsTree, better, entry, is_less, row, with_first, with_last};
 
-use values::Memory;
 use std::alloc::Global;
+use values::Memory;
 
 /// What is least first: the score, then the number.
 #[derive(Debug, Clone, Copy)]

@@ -11,10 +11,10 @@ ghost use Rattle.transfer_refiner.specs.View.{draft_of};
 use crate::marked::registered_files;
 use crate::tables::{Tables, declared_of, entry_of, name_of};
 use crate::view::View;
-use values::{FileId, Items, Memory, Policy, SiteId, Text};
 use plan_core::{PlanFile, PlanJob, PlanSite, copied, is_among, texts_copied};
 use plan_request::{Execution, Tools};
 use std::alloc::Global;
+use values::{FileId, Items, Memory, Policy, SiteId, Text};
 use workflow_core::{Job, Output};
 
 pub fn policy_copied(policy: &Policy) -> Policy

@@ -17,8 +17,8 @@ use crate::jobs::{inputs, outputs, part, site_of};
 use crate::rows::{before, larger};
 use crate::view::View;
 use digraph::Digraph;
-use values::{FileId, JobId, Memory};
 use std::alloc::Global;
+use values::{FileId, JobId, Memory};
 use workflow_core::{Output, Workflow};
 
 fn push_jobs(edges: &mut Vec<(u32, u32)>, from: u32, jobs: &[JobId]) -> Result<(), Memory>

@@ -17,9 +17,9 @@ use crate::rows::before;
 use crate::sources::pfns_of;
 use crate::tables::{Tables, declared_of, home, name_of};
 use crate::view::View;
-use values::{FileId, Memory};
 use plan_core::is_among;
 use std::alloc::Global;
+use values::{FileId, Memory};
 
 fn is_empty<T>(list: &[T]) -> bool
     ensures { result ≡ is_empty list.now }

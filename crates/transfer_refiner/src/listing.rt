@@ -17,9 +17,9 @@ use crate::rows::{after, before};
 use crate::sources::{delivery, transfer};
 use crate::tables::{Tables, home};
 use crate::view::View;
-use values::{FileId, Items, Memory, SiteId};
 use plan_core::{Pair, TaskKind, copied};
 use std::alloc::Global;
+use values::{FileId, Items, Memory, SiteId};
 
 fn push_pairs(pairs: &mut Vec<Pair>, site: SiteId, files: &[u32]) -> Result<(), Memory>
     ensures { OnOk result (pairs.new.items ≡ pairs.old.items ++ map (λ (f : ℕ). pair_of (site.0, f)) files.now) }

@@ -7,9 +7,9 @@ ghost use Rattle.plan_core.specs.Numbers.{RisesFrom, below, has};
 ghost use Rattle.transfer_refiner.specs.Marked.{requested_by, registered_by, all_requested, all_registered};
 ghost use Rattle.transfer_refiner.specs.Tasks.{is_registered};
 
-use values::Memory;
 use plan_core::sorted;
 use std::alloc::Global;
+use values::Memory;
 use workflow_core::{Output, Workflow};
 
 fn push_requested(files: &mut Vec<u32>, outputs: &[Output]) -> Result<(), Memory>

@@ -9,10 +9,10 @@ ghost use Rattle.plan_core.specs.Files.{AreFilesOf};
 ghost use Rattle.transfer_refiner.specs.Places.{is_place, is_pair_of, place_of, places_at, AreOnce};
 
 use indexmap::IndexMap;
-use values::{Items, Memory, PairId};
 use plan_core::{Pair, SiteFiles, sorted};
 use std::alloc::Global;
 use std::marker::Model;
+use values::{Items, Memory, PairId};
 
 /// The pairs of a plan, found by site and file.
 #[derive(Drop)]

@@ -22,11 +22,11 @@ use crate::tasks::tasks_of;
 use crate::view::View;
 use crate::waiting::{with_parents, writers};
 use dependency_graph::Graph;
-use values::{Items, Memory, SiteId};
 use plan_core::{Pair, Plan, PlanJob, Task, TaskKind};
 use plan_request::{Cleanup, PlanRequest};
 use replica_catalog::{ReplicaCatalog, Replicas};
 use std::alloc::Global;
+use values::{Items, Memory, SiteId};
 use workflow_core::{Clusters, Workflow};
 
 /// The tasks, with their parents.

@@ -13,10 +13,10 @@ ghost use Rattle.transfer_refiner.specs.View.{draft_of};
 
 use crate::tables::{Tables, entry_of, home};
 use crate::view::View;
-use values::{FileId, Memory, SiteId, Text};
 use plan_core::{Source, Target, TaskKind};
 use replica_catalog::Pfn;
 use std::alloc::Global;
+use values::{FileId, Memory, SiteId, Text};
 
 /// The registered pfns of a file.
 pub fn pfns_of<'b>(view: &'b View<'_>, file: FileId) -> &'b [Pfn]

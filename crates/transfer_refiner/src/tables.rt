@@ -16,10 +16,10 @@ use crate::marked::requested_files;
 use crate::rows::before;
 use crate::view::View;
 use digraph::Digraph;
-use values::{FileId, Memory, SiteId, Text};
 use plan_request::declared_sizes;
 use replica_catalog::Replica;
 use std::alloc::Global;
+use values::{FileId, Memory, SiteId, Text};
 
 #[derive(Drop)]
 pub struct Tables {

@@ -6,9 +6,9 @@ ghost use Rattle.transfer_refiner.specs.Places.{AreOnce};
 ghost use Rattle.transfer_refiner.specs.Steps.{IsListed};
 
 use crate::places::{Places, pairs_at};
-use values::{Items, Memory};
 use plan_core::{PlanJob, Task, TaskKind, files_read, files_written, kind_copied};
 use std::alloc::Global;
+use values::{Items, Memory};
 
 /// A task of a kind, without parents.
 fn task_of(

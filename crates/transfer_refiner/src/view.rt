@@ -1,9 +1,9 @@
 //! What is planned, by reference.
 
 use dependency_graph::Graph;
-use values::{Items, JobId, SiteId};
 use plan_request::PlanRequest;
 use replica_catalog::Replicas;
+use values::{Items, JobId, SiteId};
 use workflow_core::Workflow;
 
 #[derive(Drop)]

@@ -12,9 +12,9 @@ ghost use Rattle.transfer_refiner.specs.Steps.{AreParented, IsSame, writer_edges
 
 use crate::rows::{before, larger};
 use digraph::Digraph;
-use values::{Items, Memory, PairId, TaskId};
 use plan_core::{Task, copied, kind_copied, sorted};
 use std::alloc::Global;
+use values::{Items, Memory, PairId, TaskId};
 
 /// The pairs that a task reads.
 fn reads_at(tasks: &[Task], t: usize) -> &[PairId]

@@ -9,9 +9,9 @@ ghost use Rattle.transformation_catalog.specs.Lookup.{place_of};
 use crate::catalog::{TransformationCatalog, TransformationEntry};
 use crate::key::Key;
 use indexmap::IndexMap;
-use values::Memory;
 use std::alloc::Global;
 use std::marker::Model;
+use values::Memory;
 use workflow_core::Transformation;
 
 /// The entries of a catalogue, found by their transformations.

@@ -13,10 +13,10 @@ ghost use Rattle.transformation_catalog.specs.Root.{unknown_of};
 use crate::catalog::{TransformationCatalog, TransformationEntry};
 use crate::duplicates::check_listed_once;
 use crate::root::Document;
-use values::{Items, Text};
 use peg_json::{FromTree, ReadFault, ignored_below, parse, root};
 use serde_json::Value;
 use std::alloc::Global;
+use values::{Items, Text};
 
 /// The catalogue of these entries, none of which may come twice.
 #[tactic(auto, unfolding(crate::specs::Duplicates::catalog_of))]

@@ -5,13 +5,13 @@ ghost use Rattle.peg_json.specs.Table.{rows_of};
 ghost use Rattle.transformation_catalog.specs.Root.{root_rows};
 
 use crate::catalog::TransformationEntry;
-use values::{Memory, Text};
 use peg_json::{
     FromTree, KeyRow, KeyTable, Kind, Listed, TreeFault, checked, gather, gather_list,
     optional_version, refuse_elements, row,
 };
 use serde_json::Value;
 use std::alloc::Global;
+use values::{Memory, Text};
 
 const ROOT: [KeyRow; 3] = [
     KeyRow {

@@ -5,13 +5,13 @@ ghost use Rattle.peg_json.specs.Table.{rows_of};
 ghost use Rattle.transformation_catalog.specs.TransformationEntry.{transformation_rows};
 
 use crate::catalog::{TransformationEntry, TransformationSite};
-use values::{Memory, Text};
 use peg_json::{
     FromTree, KeyRow, KeyTable, Kind, Listed, Profiles, TreeFault, checked, gather, gather_list,
     gather_object, list_or_none, profiles_or_none, refuse_elements, row,
 };
 use serde_json::Value;
 use std::alloc::Global;
+use values::{Memory, Text};
 use workflow_core::Transformation;
 
 const TRANSFORMATION: [KeyRow; 6] = [

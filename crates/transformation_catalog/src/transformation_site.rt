@@ -7,12 +7,12 @@ ghost use Rattle.peg_json.specs.Table.{rows_of};
 ghost use Rattle.transformation_catalog.specs.TransformationSite.{site_rows, installed_at};
 
 use crate::catalog::TransformationSite;
-use values::{Memory, Text};
 use peg_json::{
     FromTree, KeyRow, KeyTable, Kind, Listed, TreeFault, at_key, checked, gather, refuse_value, row,
 };
 use serde_json::Value;
 use std::alloc::Global;
+use values::{Memory, Text};
 
 const SITE: [KeyRow; 4] = [
     KeyRow {

@@ -68,10 +68,12 @@ filled_there laws apply law g (Ok p) t rs0 rs1 ds0 ds1 x y filled of held fills 
 filled_there laws apply law g (Err refused) t rs0 rs1 ds0 ds1 x y filled of held fills =
     let c = held.charter in
     let q : Plan = plan_of c in
-    subst (λ f. CanFinish apply q c.opened c.marked (told_of c) t rs1 ds1 f × IsFilledOf apply q t f) (sym fills.3)
-    (subst (λ rs. CanFinish apply q c.opened c.marked (told_of c) t rs ds1 (Err why.Memory)) (sym fills.0)
-    (subst (λ ds. CanFinish apply q c.opened c.marked (told_of c) t rs0 ds (Err why.Memory)) (sym fills.1)
-    (memory_finishes apply q held.proper (laws q held.proper) c.opened c.marked t (told_of c) rs0 ds0 held.held)), tt)
+    subst (λ f. CanFinish apply q c.opened c.marked (told_of c) t rs1 ds1 f × IsFilledOf apply q t f) (sym fills.3) (
+      subst (λ rs. CanFinish apply q c.opened c.marked (told_of c) t rs ds1 (Err why.Memory)) (sym fills.0)
+          (subst (λ ds. CanFinish apply q c.opened c.marked (told_of c) t rs0 ds (Err why.Memory)) (sym fills.1)
+          (memory_finishes apply q held.proper (laws q held.proper) c.opened c.marked t (told_of c) rs0 ds0 held.held)),
+      tt,
+    )
 
 pub finish_of : (laws : PlanLaw) (apply : Apply) → CarryLaw apply → (g h : Option Charter) (plan : Result Plan Memory) (t : ℕ) (rs0 rs1 : List ReadState) (ds0 ds1 : List DraftState) (x y : ℕ) (filled : Result Filled Cause) → h ≡ g → IsPlanOf g plan → IsHeldFor apply g t rs0 ds0 → FillsWith apply plan t rs0 rs1 ds0 ds1 x y filled
     → IfSome h (λ c. CanFinish apply (plan_of c) c.opened c.marked (told_of c) t rs1 ds1 filled)

@@ -11,8 +11,8 @@ ghost use Rattle.workflow_core.specs.Checking.{are_files, is_job_over, is_pair_o
 use crate::names::Names;
 use crate::workflow::{Job, Workflow};
 use indexmap::IndexSet;
-use values::{JobId, Memory, Text};
 use std::alloc::Global;
+use values::{JobId, Memory, Text};
 
 fn are_distinct(alloc: Global, numbers: &[u32]) -> Result<bool, Memory>
     ensures { IfOk result (λ b. b ≡ are_distinct nat_eq numbers.now) }

@@ -6,9 +6,9 @@ ghost use Rattle.std.specs.Str.{bytes_eq};
 ghost use Rattle.workflow_core.specs.Names.{number, with_name};
 
 use indexmap::IndexSet;
-use values::{Items, Memory, Text};
 use std::alloc::Global;
 use std::marker::Model;
+use values::{Items, Memory, Text};
 
 /// Distinct names, in order of first appearance.
 #[derive(Drop)]

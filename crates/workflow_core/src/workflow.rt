@@ -1,7 +1,7 @@
 //! A workflow after its document.
 
-use values::{FileId, Items, JobId, Text};
 use serde_json::Value;
+use values::{FileId, Items, JobId, Text};
 
 /// A list of jobs, the pairs of a job and one that comes after it, and the files in order of first
 /// appearance with the first size that a use gives each, in bytes.

@@ -6,10 +6,10 @@ ghost use Rattle.peg_json.specs.Tree.{Gives};
 ghost use Rattle.workflow_reader.specs.Argument.{argument_of};
 ghost use Rattle.peg_json.specs.Lists.{list_or_none};
 
-use values::{Items, Text};
 use peg_json::{FromTree, TreeFault, list_or_none};
 use serde_json::Value;
 use std::alloc::Global;
+use values::{Items, Text};
 
 /// A text, or a whole number as its decimal text.
 #[derive(Drop)]

@@ -5,10 +5,10 @@ ghost use Rattle.serde_json.specs.View.{view as tree_view};
 ghost use Rattle.peg_json.specs.Tree.{Gives};
 ghost use Rattle.workflow_reader.specs.ConstantText.{constant_at};
 
-use values::Text;
 use peg_json::{TreeFault, at_key, row};
 use serde_json::Value;
 use std::alloc::Global;
+use values::Text;
 
 /// Checks that the text at a key is the constant.
 pub fn checked_constant(

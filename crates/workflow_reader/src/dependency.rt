@@ -5,10 +5,10 @@ ghost use Rattle.peg_json.specs.Table.{rows_of};
 ghost use Rattle.workflow_reader.specs.Dependency.{dependency_rows};
 
 use crate::document::Dependency;
-use values::{Items, Memory, Text};
 use peg_json::{FromTree, KeyRow, KeyTable, Kind, Listed, Name, TreeFault, checked, gather, row};
 use serde_json::Value;
 use std::alloc::Global;
+use values::{Items, Memory, Text};
 
 const DEPENDENCY: [KeyRow; 2] = [
     KeyRow {

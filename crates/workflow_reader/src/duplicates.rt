@@ -11,9 +11,9 @@ ghost use Rattle.workflow_reader.specs.Known.{is_named, inputs_with, outputs_wit
 ghost use Rattle.workflow_reader.specs.Linking.{ids_of, used_once, all_used_once};
 
 use crate::document::{Direction, JobEntry, Use};
-use values::{Memory, Text};
 use peg_json::ReadFault;
 use std::alloc::Global;
+use values::{Memory, Text};
 use workflow_core::Names;
 
 /// The ids of jobs, each once.

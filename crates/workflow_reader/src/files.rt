@@ -6,8 +6,8 @@ ghost use Rattle.workflow_reader.specs.Files.{lfns_in, files_of, sizes_of};
 ghost use Rattle.workflow_reader.specs.Known.{with_size, with_sizes};
 
 use crate::document::{JobEntry, Use};
-use values::{Items, Memory};
 use std::alloc::Global;
+use values::{Items, Memory};
 use workflow_core::{Names, names_are_numbered};
 
 fn add_files(alloc: Global, files: &mut Names, job: &JobEntry) -> Result<(), Memory>

@@ -7,13 +7,13 @@ ghost use Rattle.workflow_reader.specs.JobEntry.{job_rows};
 use crate::argument::arguments;
 use crate::constant_text::checked_constant;
 use crate::document::{JobEntry, Use};
-use values::{Memory, Text};
 use peg_json::{
     FromTree, KeyRow, KeyTable, Kind, Listed, Profiles, TreeFault, checked, gather, gather_list,
     gather_object, list_or_none, profiles_or_none, row,
 };
 use serde_json::Value;
 use std::alloc::Global;
+use values::{Memory, Text};
 use workflow_core::Transformation;
 
 const JOB: [KeyRow; 8] = [

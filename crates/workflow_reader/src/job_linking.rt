@@ -6,8 +6,8 @@ ghost use Rattle.workflow_reader.specs.Files.{uses_as, file_of, output_of};
 ghost use Rattle.workflow_reader.specs.Linking.{linked_job};
 
 use crate::document::{Direction, JobEntry, Use};
-use values::{FileId, Items, Memory};
 use std::alloc::Global;
+use values::{FileId, Items, Memory};
 use workflow_core::{Job, Names, Output};
 
 fn file_of(files: &Names, used: &Use) -> FileId

@@ -14,9 +14,9 @@ use crate::duplicates::{all_used_once, ids_of};
 use crate::files::{files_of, sizes_of};
 use crate::job_linking::linked_jobs;
 use crate::pairs::{all_known, pairs_of};
-use values::{Items, Memory, Text};
 use peg_json::{Counted, ReadFault, at_most};
 use std::alloc::Global;
+use values::{Items, Memory, Text};
 use workflow_core::{Names, Workflow, names_are_numbered};
 
 const MAX_JOBS: u64 = 10_000;

@@ -7,9 +7,9 @@ ghost use Rattle.peg_json.specs.Duplicates.{refused, first_unknown};
 ghost use Rattle.workflow_reader.specs.Linking.{ids_in, job_of, pairs_from, pairs_of};
 
 use crate::document::Dependency;
-use values::{Items, JobId, Memory, Text};
 use peg_json::ReadFault;
 use std::alloc::Global;
+use values::{Items, JobId, Memory, Text};
 use workflow_core::Names;
 
 /// The first id of a dependency that no job has.

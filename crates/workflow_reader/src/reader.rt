@@ -13,10 +13,10 @@ ghost use Rattle.workflow_reader.specs.Root.{unknown_of};
 
 use crate::document::Document;
 use crate::linking::workflow_of;
-use values::Text;
 use peg_json::{FromTree, ReadFault, ignored_below, parse, root};
 use serde_json::Value;
 use std::alloc::Global;
+use values::Text;
 use workflow_core::Workflow;
 
 /// Reads the tree of a workflow's document, which stands under a path.

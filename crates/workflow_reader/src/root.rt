@@ -5,13 +5,13 @@ ghost use Rattle.peg_json.specs.Table.{rows_of};
 ghost use Rattle.workflow_reader.specs.Root.{root_rows};
 
 use crate::document::{Dependency, Document, JobEntry};
-use values::{Items, Memory, Text};
 use peg_json::{
     FromTree, KeyRow, KeyTable, Kind, Listed, TreeFault, checked, gather, gather_list,
     list_or_none, row, version,
 };
 use serde_json::Value;
 use std::alloc::Global;
+use values::{Items, Memory, Text};
 use workflow_core::Inlined;
 
 const ROOT: [KeyRow; 7] = [

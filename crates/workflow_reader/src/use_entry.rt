@@ -7,10 +7,10 @@ ghost use Rattle.peg_json.specs.Table.{rows_of};
 ghost use Rattle.workflow_reader.specs.UseEntry.{use_rows, direction_at};
 
 use crate::document::{Direction, Use};
-use values::{Memory, Text};
 use peg_json::{FromTree, KeyRow, KeyTable, Kind, Listed, TreeFault, at_key, checked, gather, row};
 use serde_json::Value;
 use std::alloc::Global;
+use values::{Memory, Text};
 
 const USE: [KeyRow; 5] = [
     KeyRow {

@@ -5,8 +5,8 @@ ghost use Rattle.workload_maker.specs.Catalogues.{others_text, request_text, sit
 
 use crate::jobs::push_number;
 use crate::pieces::{Piece, push_piece};
-use values::{Blob, Memory};
 use std::alloc::Global;
+use values::{Blob, Memory};
 
 /// The text of the request.
 pub(crate) fn request(alloc: Global, images: u32) -> Result<Blob, Memory>

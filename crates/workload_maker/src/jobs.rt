@@ -8,8 +8,8 @@ ghost use Rattle.workload_maker.specs.Jobs.{job};
 
 use crate::names::{File, push_digits, push_name};
 use crate::pieces::{Piece, push_piece};
-use values::Memory;
 use std::alloc::Global;
+use values::Memory;
 
 /// Adds a number in decimal digits.
 pub(crate) fn push_number(alloc: Global, text: &mut Vec<u8>, number: u64) -> Result<(), Memory>

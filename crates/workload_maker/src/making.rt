@@ -6,8 +6,8 @@ ghost use Rattle.workload_maker.specs.Making.{IsMontage};
 use crate::catalogues::{request, site_catalog, transformation_catalog};
 use crate::replicas::{image_replicas, replica_catalog};
 use crate::workflow::workflow;
-use values::{Blob, Documents, Memory, Text};
 use std::alloc::Global;
+use values::{Blob, Documents, Memory, Text};
 
 /// What a rehearsal runs: a request, the documents that it names, and the bytes of each replica by
 /// its pfn.

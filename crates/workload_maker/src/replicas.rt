@@ -7,8 +7,8 @@ ghost use Rattle.workload_maker.specs.Replicas.{image_of, image_text, pfn_text, 
 
 use crate::names::{FileName, push_digits, push_name};
 use crate::pieces::{Piece, push_piece};
-use values::{Blob, Memory, Text};
 use std::alloc::Global;
+use values::{Blob, Memory, Text};
 
 /// Adds the entry of an image.
 #[tactic(auto, unfolding(crate::specs::Replicas::replica_text))]

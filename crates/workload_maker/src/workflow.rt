@@ -8,8 +8,8 @@ ghost use Rattle.workload_maker.specs.Workflow.{add, background, bg, bg_model, c
 use crate::jobs::{Named, push_job};
 use crate::names::{File, FileName};
 use crate::pieces::{Piece, push_piece};
-use values::{Blob, Memory};
 use std::alloc::Global;
+use values::{Blob, Memory};
 
 /// An image as it was taken.
 fn raw(number: u32) -> File

@@ -16,4 +16,3 @@ invariant_of-self-clause-listed g c =
     let y = c.args.self.now in
     rw c.make_loan.ensures.marked
     (list_told g.T.Tool.apply y.book.plan (take y.opened y.book.history.events) (drop y.opened y.book.history.events) (g.H.Host.told y.host) (g.H.Host.told c.make_loan.new.host) (g.H.Host.marked y.host) y.delivered.items (ap is_some c.make_loan.ensures.told) y.listed)
-

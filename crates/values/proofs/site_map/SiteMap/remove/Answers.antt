@@ -15,8 +15,8 @@ pub returns-then-contains-clause-stood : goal.returns-then-contains-clause-stood
 returns-then-contains-clause-stood c = λ e none.
     let m = c.self.inside.sites in
     some_is _ (sym c.contains.ensures ∙ c.if-contains.true)
-      (sym (pair_there m c.args.site.now c.args.name.now c.in-Some.files.now c.in-Some.ensures.value)
-      ∙ ap (λ z. pair_at z c.args.site.now c.args.name.now) c.self.view_is ∙ none)
+    (sym (pair_there m c.args.site.now c.args.name.now c.in-Some.files.now c.in-Some.ensures.value)
+    ∙ ap (λ z. pair_at z c.args.site.now c.args.name.now) c.self.view_is ∙ none)
 
 pub returns-in-Some-clause-absent : goal.returns-in-Some-clause-absent
 returns-in-Some-clause-absent c = λ e.
