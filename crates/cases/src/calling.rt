@@ -34,6 +34,9 @@ fn status_of<
     host: H,
     crew: Vec<Crew<T, G>>,
 ) -> (u8, H)
+where
+    H::Reading: Send,
+    H::Draft: Send,
     requires { length crew.items ≡ 16 }
 {
     let (outcome, host, _) = pegasus(rt, alloc, words, docs, sink, host, crew);

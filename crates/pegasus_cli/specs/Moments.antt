@@ -72,7 +72,7 @@ abbrev pub tool_counts : {T G : Type 0} → tool.Ghosts T → List (Crew T G) �
 tool_counts g crew = map (λ c. g.faults c.tool) crew
 
 -- A call by its words, and by what its objects show before and after it. Callers see a word and not its parts.
-unfoldable pub call_of : {D K H T G : Type 0} → docs.Ghosts D → sink.Ghosts K → host.Ghosts H → tool.Ghosts T → List (List ℕ) → Objects D K H T G → Objects D K H T G → Call
+unfoldable pub call_of : {D K H Reading Draft T G : Type 0} → docs.Ghosts D → sink.Ghosts K → host.Ghosts H Reading Draft → tool.Ghosts T → List (List ℕ) → Objects D K H T G → Objects D K H T G → Call
 call_of d k h t words old new =
     call (asking words (docs_moment d old.docs) (docs_moment d new.docs))
     (working t.apply t.known (work_moment h old.host (first_count (tool_counts t old.crew))) (work_moment h new.host (first_count (tool_counts t new.crew))))

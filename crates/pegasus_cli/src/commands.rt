@@ -132,6 +132,9 @@ pub(crate) fn work_in_threads<
     host: H,
     crew: &mut Vec<Crew<T, G>>,
 ) -> Worked<H>
+where
+    H::Reading: Send,
+    H::Draft: Send,
     requires few { AreFew (threaded_members (threaded_of command)) }
     requires images { HasImagesBy (threaded_of command) }
     requires crew { length crew.old.items ≡ 16 }

@@ -37,6 +37,9 @@ fn in_threads<
     host: H,
     crew: Vec<Crew<T, G>>,
 ) -> (Outcome, H, Vec<Crew<T, G>>)
+where
+    H::Reading: Send,
+    H::Draft: Send,
     requires crew { length crew.items ≡ 16 }
     requires words { is_threaded (list_map string_bytes words.now) ≡ true }
     ensures answered { IsAnswered (call_of D.Docs K.Sink H.Host T.Tool (list_map string_bytes words.now)
@@ -80,6 +83,9 @@ pub fn pegasus<
     host: H,
     crew: Vec<Crew<T, G>>,
 ) -> (Outcome, H, Vec<Crew<T, G>>)
+where
+    H::Reading: Send,
+    H::Draft: Send,
     requires { length crew.items ≡ 16 }
     ensures answered { IsAnswered (call_of D.Docs K.Sink H.Host T.Tool (list_map string_bytes words.now)
         (objects docs.old out.old host crew.items)

@@ -23,7 +23,7 @@ pub record Tools : Type 0 where
   pub before : List ℕ
   pub after : List ℕ
 
-abbrev pub work_moment : {H : Type 0} → host.Ghosts H → H → ℕ → WorkMoment
+abbrev pub work_moment : {H Reading Draft : Type 0} → host.Ghosts H Reading Draft → H → ℕ → WorkMoment
 work_moment g h n = record { told = g.told h; counts = g.counts h; tool = n }
 
 -- the count of a member of a crew, and of its first

@@ -48,6 +48,9 @@ fn run_members<R: Threads + Wait + Sync, H: Host + Send, T: Tool + Send, G: Gate
     host: H,
     members: Vec<Crew<T, G>>,
 ) -> RanBy<H, T, G>
+where
+    H::Reading: Send,
+    H::Draft: Send,
     requires retries { retries ordered.plan ≤ 10 }
     requires members { (0 < length members.items) × (length members.items ≤ 16) }
     ensures ran { let before = list_map (λ (c : Crew T G). T.faults c.tool) members.items in
@@ -90,6 +93,9 @@ pub fn run_plan_by<R: Threads + Wait + Sync, H: Host + Send, T: Tool + Send, G: 
     host: H,
     crew: &mut Vec<Crew<T, G>>,
 ) -> Ran<H>
+where
+    H::Reading: Send,
+    H::Draft: Send,
     requires retries { retries ordered.plan ≤ 10 }
     requires workers { (0 < workers) × (workers ≤ 16) }
     requires crew { length crew.old.items ≡ 16 }

@@ -1,7 +1,7 @@
 -- What the filling of a loan comes to: it can be settled, or abandoned.
-use Rattle.std.proofs.Common.{◌≡◌, ℕ, ◌+◌, ◌≤◌, true, List, [], ◌∷◌, ◌++◌, map, length, take, drop, refl, sym, ap, ◌∙◌, subst, arith}
+use Rattle.std.proofs.Common.{◌≡◌, ℕ, List, [], ◌∷◌, ◌++◌, map, length, take, drop, refl, sym, ap, ◌∙◌, subst, arith}
 use Rattle.std.proofs.lemmas.List.{length-map}
-use Rattle.std.specs.Prelude.{Option, Some, None, IfSome, Result, Ok, Err}
+use Rattle.std.specs.Prelude.{Option, Some, None, Result, Ok, Err}
 use Rattle.std.specs.FinMap as files
 use Rattle.values.specs.Apply.{Apply}
 use Rattle.outside.specs.Counts.{Rose}
@@ -15,15 +15,14 @@ use Rattle.run_record.specs.declared.entry.Cause.TheVariants as why
 use Rattle.run_record.specs.Events.{Event}
 use Rattle.lease_book.specs.Legal.{CauseFits}
 use Rattle.site_yard.specs.Changes.{carries}
-use Rattle.site_yard.specs.Failures.{RoseBy, tool_fault_in}
+use Rattle.site_yard.specs.Failures.{RoseBy}
 use Rattle.site_yard.specs.Kept.{IsOpening}
 use Rattle.site_yard.specs.Law.{HasPlanLaws}
-use Rattle.site_yard.specs.Returning.{draft_faults, reading_faults}
 use Rattle.site_yard.specs.Truthful.{IsCause}
 use Rattle.site_yard.specs.Yard.{IsBehind, IsTold, IsWorkers}
-use Rattle.task_work.specs.Filling.{HasFilled, IsWhy}
+use Rattle.task_work.specs.Filling.{IsWhy}
 use Rattle.task_work.specs.Making.{Each, IsShown, part_faults}
-use Rattle.task_work.specs.Pieces.{IsSteadyDraft, IsSteadyReading}
+use Rattle.task_work.specs.Pieces.{IsSteadyDraft}
 use Rattle.task_work.specs.declared.filling.Filled.{Filled}
 use Rattle.task_work.specs.declared.filling.Filled.TheVariants.{Moved, Made}
 use Rattle.worker_gate.specs.Inputs.{IsFilledOf}

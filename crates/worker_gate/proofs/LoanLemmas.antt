@@ -1,6 +1,6 @@
 -- A loan that is out: its parts are the task's, whatever was done with them.
 use Rattle.std.proofs.Common.{◌≡◌, ℕ, ◌+◌, ◌≤◌, true, List, [], ◌∷◌, ◌++◌, map, length, refl, sym, ap, ◌∙◌, subst, arith}
-use Rattle.std.specs.Prelude.{Option, Some, None, option_map, is_some, IfSome, Err}
+use Rattle.std.specs.Prelude.{Option, Some, None, option_map, is_some, Err}
 use Rattle.std.specs.FinMap as files
 use Rattle.std.proofs.lemmas.List.{length-append, length-map}
 use Rattle.values.specs.Apply.{Apply}

@@ -1,12 +1,10 @@
 -- What a Run's loan holds once it was filled, and why it wasn't.
-use Rattle.std.proofs.Common.{◌≡◌, ℕ, ◌≤◌, ◌<◌, ◌⊎◌, inl, inr, Bool, true, false, cond, List, [], ◌∷◌, map, length, nat_lt, refl, sym, ap, ◌∙◌, subst, arith}
-use Rattle.std.specs.Prelude.{Option, Some, None, option_map, is_some, IfSome}
+use Rattle.std.proofs.Common.{◌≡◌, ℕ, ◌≤◌, ◌<◌, inl, inr, Bool, true, false, cond, List, [], ◌∷◌, map, length, nat_lt, refl, sym, ap, ◌∙◌, subst, arith}
+use Rattle.std.specs.Prelude.{Option, Some, None, option_map, IfSome}
 use Rattle.std.specs.FinMap as files
 use Rattle.values.specs.Apply.{Apply}
 use Rattle.outside.specs.Parts.{DraftState, ReadState}
 use Rattle.outside.specs.declared.store.Store.{Store}
-use Rattle.values.specs.declared.numbers.FileId.{FileId}
-use Rattle.values.specs.declared.numbers.JobId.{JobId}
 use Rattle.plan_core.specs.declared.plan.Plan.{Plan}
 use Rattle.plan_core.specs.declared.plan.TaskKind.{TaskKind}
 use Rattle.plan_core.specs.declared.plan.TaskKind.TheVariants.{Transfer, Run, Clean as CleanTask}
@@ -21,7 +19,7 @@ use Rattle.site_yard.specs.Changes.{carries}
 use Rattle.site_yard.specs.Kept.{IsOpening}
 use Rattle.site_yard.specs.Law.{HasPlanLaws}
 use Rattle.site_yard.specs.Loading.{pair_limit}
-use Rattle.site_yard.specs.Loan.{Aim, AreCarried, AreSmall, CanSettle, draft_bytes, draft_size, fresh_at, inputs, pair_target, read_told, targets, targets_in}
+use Rattle.site_yard.specs.Loan.{Aim, AreCarried, AreSmall, CanSettle, draft_size, fresh_at, inputs, pair_target, targets, targets_in}
 use Rattle.site_yard.specs.Names.{pair_file}
 use Rattle.site_yard.specs.Storing.{AreWithin, IsFirstPast, IsOverlong}
 use Rattle.site_yard.specs.Truthful.{HasChecksum, IsLongAs, declined, is_over, oversize_among}

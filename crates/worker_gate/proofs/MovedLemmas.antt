@@ -1,5 +1,5 @@
 -- What a Transfer's loan holds once its bytes were moved, and what a digest that differs says.
-use Rattle.std.proofs.Common.{◌≡◌, ℕ, ◌≤◌, Bool, true, false, cond, List, [], ◌∷◌, map, length, refl, sym, ap, ◌∙◌, subst, arith}
+use Rattle.std.proofs.Common.{◌≡◌, ℕ, ◌≤◌, Bool, true, false, List, [], ◌∷◌, map, length, refl, sym, ap, ◌∙◌, subst, arith}
 use Rattle.std.specs.Prelude.{Option, Some, None, option_map, is_some, IfSome}
 use Rattle.std.specs.FinMap as files
 use Rattle.sha2.specs.Sha256.{sha256}
@@ -12,14 +12,14 @@ use Rattle.plan_core.specs.declared.plan.TaskKind.{TaskKind}
 use Rattle.plan_core.specs.declared.plan.TaskKind.TheVariants.{Transfer, Run, Clean as CleanTask}
 use Rattle.plan_core.specs.Carried.{carried_by, read}
 use Rattle.plan_core.specs.Proper.{IsProper}
-use Rattle.plan_core.specs.Words.{declared, is_transfer, is_transfer_kind, kind, reads}
-use Rattle.storage_simulation.specs.Goods.{is_delivery, or_zero}
+use Rattle.plan_core.specs.Words.{is_transfer, is_transfer_kind, kind, reads}
+use Rattle.storage_simulation.specs.Goods.{is_delivery}
 use Rattle.run_record.specs.Events.{Event}
 use Rattle.lease_book.specs.Legal.{checksum, is_from_pfn}
 use Rattle.site_yard.specs.Changes.{carries, moved}
 use Rattle.site_yard.specs.Kept.{IsOpening}
 use Rattle.site_yard.specs.Law.{HasPlanLaws}
-use Rattle.site_yard.specs.Loan.{Aim, AreCarried, AreSmall, CanSettle, draft_bytes, draft_size, fresh_at, inputs, read_told, targets}
+use Rattle.site_yard.specs.Loan.{Aim, AreCarried, AreSmall, CanSettle, draft_bytes, draft_size, fresh_at, inputs, read_told}
 use Rattle.site_yard.specs.Truthful.{HasChecksum, HasSum, IsAtPfn, IsDigest}
 use Rattle.site_yard.proofs.AimLemmas.{IsAimOf, aim_of, moved_limit}
 use Rattle.task_work.specs.Filling.{AreMoved, IsTransferred}
@@ -27,7 +27,7 @@ use Rattle.task_work.specs.Making.{Each}
 use Rattle.task_work.specs.Moving.{IsAgreeing, digest_of}
 use Rattle.task_work.specs.Pieces.{HasMoved, IsSteadyDraft, IsSteadyReading}
 use Rattle.worker_gate.specs.Inputs.{IsDigestOfBytes}
-use Rattle.worker_gate.specs.Tending.{AreUnread, IsHeld, IsUnread, limits_in}
+use Rattle.worker_gate.specs.Tending.{AreUnread, IsHeld, IsUnread}
 use Rattle.worker_gate.proofs.LoanLemmas.{one_limit, steady_loan}
 
 -- the one reading, and the one draft before and after

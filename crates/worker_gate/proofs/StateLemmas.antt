@@ -5,7 +5,7 @@ use Rattle.plan_core.specs.declared.plan.Plan.{Plan}
 use Rattle.plan_core.specs.declared.plan.Task.{Task}
 use Rattle.plan_core.specs.declared.plan.TaskKind.{TaskKind}
 use Rattle.plan_core.specs.declared.plan.TaskKind.TheVariants.{Transfer, Run, Clean as CleanTask}
-use Rattle.plan_core.specs.Words.{count_tasks, is_clean_kind, is_run, is_run_kind, is_transfer, is_transfer_kind, kind, kind_in}
+use Rattle.plan_core.specs.Words.{count_tasks, is_clean_kind, kind, kind_in}
 use Rattle.plan_core.proofs.TestLemmas.{by_bool}
 use Rattle.storage_simulation.specs.declared.standing.Phase.{Phase}
 use Rattle.storage_simulation.specs.declared.standing.Phase.TheVariants.{Ended, Runs, Waits}

@@ -1,6 +1,6 @@
 -- What a yard's calls come to for a task.
-use Rattle.std.proofs.Common.{◌≡◌, ℕ, ◌+◌, ◌≤◌, List, [], ◌∷◌, ◌++◌, refl, sym, ap, subst, ◌∙◌}
-use Rattle.std.specs.Prelude.{IfNone, IfSome, Option, Some, None}
+use Rattle.std.proofs.Common.{◌≡◌, ℕ, List, [], ◌∷◌, ◌++◌, refl, sym, subst}
+use Rattle.std.specs.Prelude.{Option}
 use Rattle.outside.specs.declared.counts.Counts.{Counts}
 use Rattle.outside.specs.declared.store.Store.{Store}
 use Rattle.plan_core.specs.declared.plan.Plan.{Plan}

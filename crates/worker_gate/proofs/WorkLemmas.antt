@@ -7,20 +7,20 @@ use Rattle.outside.specs.declared.counts.Counts.{Counts}
 use Rattle.values.specs.declared.numbers.TaskId.{TaskId}
 use Rattle.outside.specs.declared.store.Store.{Store}
 use Rattle.plan_core.specs.declared.plan.Plan.{Plan}
-use Rattle.plan_core.specs.Words.{task_numbers, writes}
+use Rattle.plan_core.specs.Words.{task_numbers}
 use Rattle.run_record.specs.declared.entry.Cause.{Cause}
 use Rattle.run_record.specs.declared.entry.Cause.TheVariants as why
 use Rattle.run_record.specs.Events.{Event, Grant, Arrive, End, Clean, Fail, Again, Regrant}
 use Rattle.storage_simulation.specs.declared.ordered.Ordered.{Ordered}
 use Rattle.lease_book.specs.declared.book.Book.{Book}
-use Rattle.lease_book.specs.Book.{failure, is_tried_again, state_at}
+use Rattle.lease_book.specs.Book.{state_at}
 use Rattle.lease_book.specs.Choice.{IsChoice}
 use Rattle.lease_book.specs.Law.{IsConsistent, IsSafeState}
 use Rattle.lease_book.specs.Legal.{IsOpen}
 use Rattle.lease_book.specs.State.{State, after, now, opened}
 use Rattle.lease_book.specs.RunState.{IsSame, state_of}
 use Rattle.site_yard.specs.Failures.{RoseBy, tool_fault_in, tool_faults, tool_faults_of}
-use Rattle.site_yard.specs.Yard.{Adds, IsAgain, IsFail, IsFailure, IsLending, IsSettled, IsStop, Leases}
+use Rattle.site_yard.specs.Yard.{IsAgain, IsFail, IsFailure, IsLending, IsSettled, IsStop, Leases}
 use Rattle.site_yard.specs.declared.leased.Leased.TheVariants as leased
 use Rattle.lease_book.specs.Owning.{worker}
 use Rattle.worker_gate.specs.Alone.{NoneOpen, begun_by, is_afresh}

@@ -1,5 +1,5 @@
 -- What a worker's turns at a shared yard leave its pass with.
-use Rattle.std.specs.Prelude.{◌≡◌, ℕ, ◌⊎◌, true, false, cond, List, [], ◌∷◌, ◌++◌, Option, Some, None, IfSome, Result, Ok, Err}
+use Rattle.std.specs.Prelude.{◌≡◌, ℕ, ◌⊎◌, false, cond, List, [], ◌∷◌, ◌++◌, Option, Some, None, IfSome, Result, Ok, Err}
 use Rattle.values.specs.Apply.{Apply}
 use Rattle.values.specs.declared.memory.Memory.{Memory}
 use Rattle.outside.specs.Parts.{DraftState, ReadState}

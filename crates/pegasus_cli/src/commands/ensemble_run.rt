@@ -51,6 +51,9 @@ pub(crate) fn work_by<
     host: H,
     crew: &mut Vec<Crew<T, G>>,
 ) -> Worked<H>
+where
+    H::Reading: Send,
+    H::Draft: Send,
     requires workers { AreFew workers }
     requires crew { length crew.old.items ≡ 16 }
     ensures does { let before = list_map (λ (c : Crew T G). T.faults c.tool) crew.old.items in

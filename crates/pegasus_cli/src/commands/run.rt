@@ -30,6 +30,9 @@ pub(crate) fn run_survey<R: Threads + Wait + Sync, H: Host + Send, T: Tool + Sen
     host: H,
     crew: &mut Vec<Crew<T, G>>,
 ) -> Worked<H>
+where
+    H::Reading: Send,
+    H::Draft: Send,
     requires workers { AreFew workers }
     requires crew { length crew.old.items ≡ 16 }
     ensures works { let before = list_map (λ (c : Crew T G). T.faults c.tool) crew.old.items in
@@ -64,6 +67,9 @@ pub(crate) fn work<
     host: H,
     crew: &mut Vec<Crew<T, G>>,
 ) -> Worked<H>
+where
+    H::Reading: Send,
+    H::Draft: Send,
     requires workers { AreFew workers }
     requires crew { length crew.old.items ≡ 16 }
     ensures does { let before = list_map (λ (c : Crew T G). T.faults c.tool) crew.old.items in

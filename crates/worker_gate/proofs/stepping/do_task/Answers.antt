@@ -1,11 +1,11 @@
-use Rattle.std.proofs.Common.{◌≡◌, ◌∙◌, List, ap, map, refl, subst, sym, take}
+use Rattle.std.proofs.Common.{◌∙◌, ap, map, subst, sym, take}
 use Rattle.plan_core.specs.declared.plan.Plan.{Plan}
 use Rattle.plan_core.specs.Proper.{IsProper}
 use Rattle.plan_core.specs.Words.{kind}
 use Rattle.lease_book.specs.Book.{state_at}
 use Rattle.task_work.specs.Filling.{AreParts}
-use Rattle.worker_gate.specs.Inputs.{AddsOfInputs, IsFilledOf}
-use Rattle.worker_gate.specs.Tending.{Fills, failures_in}
+use Rattle.worker_gate.specs.Inputs.{IsFilledOf}
+use Rattle.worker_gate.specs.Tending.{Fills}
 use Rattle.worker_gate.proofs.FillingLemmas.{fills_finish, fills_of, finish_then}
 use Rattle.worker_gate.proofs.LoanLemmas.{held_begun, held_empty, lent_held, parts_are}
 use Rattle.worker_gate.proofs.StateLemmas.{open_loan}

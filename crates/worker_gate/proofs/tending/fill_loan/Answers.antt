@@ -1,4 +1,3 @@
-use Rattle.std.proofs.Common.{◌∙◌, length, ap}
 use Rattle.worker_gate.proofs.FillingLemmas.{fills_lent}
 use Rattle.worker_gate.proofs.tending.fill_loan.Goals as goal
 
