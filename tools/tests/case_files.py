@@ -26,6 +26,11 @@ class Case:
         """The numbers of the calls of a kind that fail."""
         return {int(line.rsplit(" ", 1)[1]) for line in self.settings if line.startswith(f"failing {kind} ")}
 
+    def failing_parts(self):
+        """The pairs of a call of the host and of a read or an append, of what it opened or made, that fail."""
+        found = [line.split(" ")[2:] for line in self.settings if line.startswith("failing part ")]
+        return {(int(made), int(nth)) for made, nth in found}
+
     def number(self, setting, absent):
         """What the last line of a setting says."""
         found = [int(line[len(setting):]) for line in self.settings if line.startswith(setting + " ")]

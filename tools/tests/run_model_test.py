@@ -57,7 +57,7 @@ def run(case):
     """What the model says of a case: the store, the status, and the text as far as the output takes it."""
     name = next(word for word in case.words[0].split(" ") if word.endswith(".json"))
     request, documents = read(case, name)
-    store = model.Store(case.replicas, scratch=dict(case.scratch), failing=case.failing("host"))
+    store = model.Store(case.replicas, scratch=dict(case.scratch), failing=case.failing("host"), failing_parts=case.failing_parts())
     status, lines = model.run(request, documents, store, case.failing("run"))
     if status == 0 and case.words[0].startswith("words produce "):
         lines = [model.catalogue(documents["workflow"], store)]
