@@ -48,8 +48,8 @@ impl MemoryHost {
         MemoryHost::with_parts(alloc, failing, Vec::new(alloc))
     }
 
-    /// The same, with calls of its parts that are to fail: a pair (k, j) lets the j-th read or append of the part fail that
-    /// the k-th call made.
+    /// The same, and of the file that its call number k opened or drafted, read or append number j fails, for each pair
+    /// (k, j); both are counted from 1.
     pub fn with_parts(alloc: Global, failing: Vec<u64>, parts: Vec<(u64, u64)>) -> MemoryHost
         ensures store { host_store result ≡ blank }
         ensures marked { host_marked result ≡ blank }
