@@ -18,7 +18,7 @@ use Rattle.lease_book.specs.Law.{IsSafeState, reserved_at, stored_at}
 use Rattle.lease_book.specs.Legal.{IsComplete, Legal}
 use Rattle.lease_book.specs.State.{State, now, opened}
 use Rattle.site_yard.specs.Changes.{carries}
-use Rattle.site_yard.specs.Delivered.{AreDigests, AreFiles, AreLengths, AreLong, arrivals}
+use Rattle.site_yard.specs.Delivered.{AreDigests, AreFiles, AreLengths, AreOfBytes, arrivals}
 use Rattle.site_yard.specs.Ending.{Ends}
 use Rattle.site_yard.specs.Failures.{AreCounted, RoseBy, host_faults, host_misses, tool_faults}
 use Rattle.site_yard.specs.Faults.{AllBelow}
@@ -79,7 +79,7 @@ counted_so p r (Some x) None faults misses f m now_ tells e g counted = absurd c
 counted_so p r (Some x) (Some s) faults misses f m now_ tells e g counted = rw e at counted
 
 deliveries_so : (apply : Apply) (p : Plan) (r : List Event) (old new : Option Store) (m : Store) (ds : _) → is_some new ≡ is_some old → IfSome old (λ s. m ≡ s) → AreDeliveries apply p r (marked_if new m) ds → AreDeliveries apply p r old ds
-deliveries_so apply p r old new m ds tells marked are = record { files = are.files; lengths = are.lengths; long = are.long; digests = by old new tells marked are.digests }
+deliveries_so apply p r old new m ds tells marked are = record { files = are.files; lengths = are.lengths; of_bytes = are.of_bytes; digests = by old new tells marked are.digests }
   where
     by : (old new : Option Store) → is_some new ≡ is_some old → IfSome old (λ s. m ≡ s) → IfSome (marked_if new m) (λ x. AreDigests (carries apply p x) ds (arrivals p r)) → IfSome old (λ x. AreDigests (carries apply p x) ds (arrivals p r))
     by None new tells marked digests = tt
@@ -104,9 +104,9 @@ ends_by p order r faults.Memory h = tt
 ends_by p order r fault h = h
 
 -- its text
-abbrev pub text_is : (apply : Apply) (p : Plan) (r : List Event) (told : Option Store) (m : Store) (ds : List Delivered) (text : List ℕ) → AreFiles ds (arrivals p r) → AreLengths ds (arrivals p r) → AreLong ds → IfSome told (λ s. AreDigests (carries apply p m) ds (arrivals p r)) → text ≡ run_text p r ds
+abbrev pub text_is : (apply : Apply) (p : Plan) (r : List Event) (told : Option Store) (m : Store) (ds : List Delivered) (text : List ℕ) → AreFiles ds (arrivals p r) → AreLengths ds (arrivals p r) → AreOfBytes ds → IfSome told (λ s. AreDigests (carries apply p m) ds (arrivals p r)) → text ≡ run_text p r ds
     → IsRunText apply p r (marked_if told m) text
-text_is apply p r told m ds text are_files are_lengths are_long digests is = record { delivered = ds; are = record { files = are_files; lengths = are_lengths; long = are_long; digests = by told digests }; text_is = is }
+text_is apply p r told m ds text are_files are_lengths are_of_bytes digests is = record { delivered = ds; are = record { files = are_files; lengths = are_lengths; of_bytes = are_of_bytes; digests = by told digests }; text_is = is }
   where
     by : (o : Option Store) → IfSome o (λ s. AreDigests (carries apply p m) ds (arrivals p r)) → IfSome (marked_if o m) (λ x. AreDigests (carries apply p x) ds (arrivals p r))
     by None h = tt

@@ -11,7 +11,7 @@ use Rattle.lease_book.specs.State.{now}
 use Rattle.run_record.specs.Events.{Event, Log}
 use Rattle.run_record.specs.RecordText.{AreEntries}
 use Rattle.site_yard.specs.Changes.{carries}
-use Rattle.site_yard.specs.Delivered.{AreDigests, AreFiles, AreLengths, AreLong, arrivals}
+use Rattle.site_yard.specs.Delivered.{AreDigests, AreFiles, AreLengths, AreOfBytes, arrivals}
 use Rattle.site_yard.specs.Ending.{first_fault}
 use Rattle.site_yard.specs.Failures.{AreCounted, RoseBy, tool_faults}
 use Rattle.site_yard.specs.Faults.{AllBelow}
@@ -84,7 +84,7 @@ Tells w p order r (Err fault) = Fails w p r fault
 pub record AreDeliveries (apply : Apply) (p : Plan) (r : List Event) (told : Option Store) (ds : List Delivered) : Type 0 where
   pub files : AreFiles ds (arrivals p r)
   pub lengths : AreLengths ds (arrivals p r)
-  pub long : AreLong ds
+  pub of_bytes : AreOfBytes ds
   pub digests : IfSome told (λ m. AreDigests (carries apply p m) ds (arrivals p r))
 
 -- the text of a record with its deliveries

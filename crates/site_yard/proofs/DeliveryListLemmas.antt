@@ -8,7 +8,7 @@ use Rattle.outside.specs.declared.store.Store.{Store}
 use Rattle.plan_core.specs.declared.plan.Plan.{Plan}
 use Rattle.run_record.specs.Events.{Event}
 use Rattle.site_yard.specs.Changes.{carries}
-use Rattle.site_yard.specs.Delivered.{AreAllDelivered, AreDelivered, AreDigests, AreFiles, AreLengths, AreLong, arrivals}
+use Rattle.site_yard.specs.Delivered.{AreAllDelivered, AreDelivered, AreDigests, AreFiles, AreLengths, AreOfBytes, arrivals}
 use Rattle.site_yard.specs.Kept.{IsOpening}
 use Rattle.site_yard.specs.declared.delivered.Delivered.{Delivered}
 use Rattle.site_yard.proofs.AgreesLemmas.{all_since, opening_of_none}
@@ -20,8 +20,8 @@ module _ (apply : Apply) (p : Plan) (first r : List Event) (o : Option Store) (m
   pub lengths_are : AreLengths ds (arrivals p r)
   lengths_are = ∥∥₁_elim listed (Prim.hlevel props) (λ l. l.lengths)
 
-  pub are_long : AreLong ds
-  are_long = ∥∥₁_elim listed (Prim.hlevel props) (λ l. l.long)
+  pub are_of_bytes : AreOfBytes ds
+  are_of_bytes = ∥∥₁_elim listed (Prim.hlevel props) (λ l. l.of_bytes)
 
   digests_are : IsOpening apply p first m → is_some o ≡ true → AreDigests (carries apply p m) ds (arrivals p r)
   digests_are opening told = ∥∥₁_elim listed (Prim.hlevel props) (λ l. l.digests opening told)
@@ -38,7 +38,7 @@ all_delivered apply p first r h o m ds listed none all =
       files = files_are apply p [] h o m ds mine;
       lengths = lengths_are apply p [] h o m ds mine;
       digests = digests_told apply p [] h o m ds mine (opening_of_none apply p m);
-      long = are_long apply p [] h o m ds mine;
+      of_bytes = are_of_bytes apply p [] h o m ds mine;
     }
 
 pub fresh_delivered : (apply : Apply) (p : Plan) (k : ℕ) (h : List Event) (o : Option Store) (m : Store) (ds : List Delivered) → ∥ AreDelivered apply p (take k h) (drop k h) o m ds ∥₁ → take k h ≡ [] → AreAllDelivered apply p h o m ds

@@ -20,10 +20,11 @@ use Rattle.run_record.specs.declared.entry.Cause.{Cause}
 use Rattle.run_record.specs.Events.{Event, Grant, Regrant, Fail, Again}
 use Rattle.lease_book.specs.State.{State, after, now, now_from, opened, reserved_for}
 use Rattle.site_yard.specs.Changes.{carries, changes, changes_of}
-use Rattle.site_yard.specs.Failures.{AreCounted, IsCounted, faults_of, host_faults, host_misses, misses_of}
+use Rattle.site_yard.specs.Failures.{AreCounted, AreMore, IsCounted, faults_of, host_faults, host_misses, misses_of}
 use Rattle.site_yard.specs.Kept.{HasBecome, HoldsSizes, IsKept, IsOpening}
 use Rattle.site_yard.specs.Trace.{operations_of, trace_of}
 use Rattle.site_yard.specs.Truthful.{IsTrue, Truthful}
+use Rattle.site_yard.proofs.CountingLemmas.{is_more_then}
 
 nil_after : {A : Type 0} (r : List A) → r ++ [] ≡ r
 nil_after [] = refl
@@ -72,12 +73,10 @@ counted_more None n g f0 m0 before now_ r e is counted one =
     let new = one.1 a b in
     omega (arith, old, new, fs, ms))
 counted_more (Some s) n g f0 m0 before now_ r e is counted one =
-    let fs = faults_more r e in
-    let lf : before.faults ≤ now_.faults = one.0.faults in
-    subst (λ v. AreCounted v f0 m0 now_ (r ++ e ∷ [])) (sym is) (λ a.
-    let old = counted (omega (arith, a, lf)) in
-    let new = one.1 a in
-    omega (arith, old, new, fs))
+    subst (λ v. AreCounted v f0 m0 now_ (r ++ e ∷ [])) (sym is) (
+      is_more_then (host_faults r) (faults_of e) (host_faults (r ++ e ∷ [])) f0 before.faults now_.faults (faults_more r e) counted.0 one.1 one.0.faults,
+      is_more_then (host_misses r) (misses_of e) (host_misses (r ++ e ∷ [])) m0 before.misses now_.misses (misses_more r e) counted.1 one.2 one.0.misses,
+    )
 
 state_more : (p : Plan) (s : State) (r : List Event) (e : Event) → now_from p s (r ++ e ∷ []) ≡ after p (now_from p s r) e
 state_more p s [] e = refl
@@ -160,22 +159,24 @@ keeps apply p order h m e o n marked f0 m0 before now_ cs begun kept is ops made
     (subst (λ l. ∥ IsKept apply p order (take m h) l n marked f0 m0 now_ ∥₁) (sym (drop_more h (e ∷ []) m begun))
     (∥∥₁_map kept (λ k. kept_more apply p order (take m h) (drop m h) e o n marked f0 m0 before now_ cs k is ops made (subst (λ l. IfSome o (λ s. KeepsSizes p (now p order l) e cs)) (sym (parts h m)) sizes) counted)))
 
--- a record that stays, whatever its host was asked
-counted_still : (o : Option Store) (f0 m0 : ℕ) (before now_ : Counts) (r : List Event) → AreCounted o f0 m0 before r → IsLater before now_ → AreCounted o f0 m0 now_ r
-counted_still None f0 m0 before now_ r counted later = λ a b.
+-- a record that stays, while its host does what it is asked
+counted_still : (o : Option Store) (n f0 m0 : ℕ) (before now_ : Counts) (r : List Event) → AreCounted o f0 m0 before r → AreMore n 0 0 before now_ → IsLater before now_ → AreCounted o f0 m0 now_ r
+counted_still None n f0 m0 before now_ r counted more later = λ a b.
     let lf : before.faults ≤ now_.faults = later.faults in
     let lm : before.misses ≤ now_.misses = later.misses in
     let old = counted (omega (arith, a, lf)) (omega (arith, b, lm)) in
-    omega (arith, old, lf, lm)
-counted_still (Some s) f0 m0 before now_ r counted later = λ a.
-    let lf : before.faults ≤ now_.faults = later.faults in
-    let old = counted (omega (arith, a, lf)) in
-    omega (arith, old, lf)
+    let fs = more.faults_is a in
+    let ms = more.misses_is b in
+    omega (arith, old, fs, ms)
+counted_still (Some s) n f0 m0 before now_ r counted more later = (
+  is_more_then (host_faults r) 0 (host_faults r) f0 before.faults now_.faults (omega arith) counted.0 more.faults_is later.faults,
+  is_more_then (host_misses r) 0 (host_misses r) m0 before.misses now_.misses (omega arith) counted.1 more.misses_is later.misses,
+)
 
-pub still_keeps : (apply : Apply) (p : Plan) (order : List ℕ) (first r : List Event) (o n : Option Store) (m : Store) (f0 m0 : ℕ) (before now_ : Counts) → ∥ IsKept apply p order first r o m f0 m0 before ∥₁ → n ≡ o → IsLater before now_ → ∥ IsKept apply p order first r n m f0 m0 now_ ∥₁
-still_keeps apply p order first r o n m f0 m0 before now_ kept same later =
+pub still_keeps : (apply : Apply) (p : Plan) (order : List ℕ) (first r : List Event) (o n : Option Store) (m : Store) (f0 m0 calls : ℕ) (before now_ : Counts) → ∥ IsKept apply p order first r o m f0 m0 before ∥₁ → n ≡ o → AreMore calls 0 0 before now_ → IsLater before now_ → ∥ IsKept apply p order first r n m f0 m0 now_ ∥₁
+still_keeps apply p order first r o n m f0 m0 calls before now_ kept same more later =
     subst (λ z. ∥ IsKept apply p order first r z m f0 m0 now_ ∥₁) (sym same)
-    (∥∥₁_map kept (λ k. record { become = k.become; truthful = k.truthful; sized = k.sized; counted = counted_still o f0 m0 before now_ r k.counted later }))
+    (∥∥₁_map kept (λ k. record { become = k.become; truthful = k.truthful; sized = k.sized; counted = counted_still o calls f0 m0 before now_ r k.counted more later }))
 
 -- sizes that stay where nothing is stored anew and nothing changes
 reserved_stored : (b : Bool) (h : Held) (k n : ℕ) → cond b (Reserved k) h ≡ Stored n → h ≡ Stored n

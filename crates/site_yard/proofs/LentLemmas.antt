@@ -33,8 +33,7 @@ use Rattle.lease_book.specs.State.{now}
 use Rattle.site_yard.specs.Changes.{carries}
 use Rattle.site_yard.specs.Kept.{IsKept, IsOpening}
 use Rattle.site_yard.specs.Law.{HasPlanLaws, HasRecordLaws}
-use Rattle.site_yard.specs.Loading.{at_pair}
-use Rattle.site_yard.specs.Loan.{AreOpened, AreReadings, IsLent, IsReplica, fresh_at, inputs, read_told, targets}
+use Rattle.site_yard.specs.Loan.{AreOpened, AreReadings, IsLent, IsReplica, at_pair, fresh_at, inputs, read_told, targets}
 use Rattle.site_yard.specs.Names.{pair_file, pair_file_name, pair_site, pair_site_name}
 use Rattle.site_yard.specs.Places.{is_swept}
 use Rattle.site_yard.specs.Yard.{content}

@@ -1,3 +1,4 @@
+mod CountingLemmas
 mod KeptLemmas
 mod PlaceLemmas
 pub mod PlanLemmas

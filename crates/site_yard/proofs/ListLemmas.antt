@@ -15,7 +15,7 @@ use Rattle.lease_book.specs.declared.leasing.Next.{Next}
 use Rattle.lease_book.specs.declared.leasing.Next.TheVariants as next
 use Rattle.lease_book.specs.Book.{IsNext}
 use Rattle.site_yard.specs.Changes.{carries}
-use Rattle.site_yard.specs.Delivered.{AreDelivered, AreDigests, AreFiles, AreLengths, AreLong, Arrival, arrivals, arrivals_of, carried_digest}
+use Rattle.site_yard.specs.Delivered.{AreDelivered, AreDigests, AreFiles, AreLengths, AreOfBytes, Arrival, IsDigestOf, arrivals, arrivals_of, carried_digest}
 use Rattle.site_yard.specs.Kept.{IsOpening}
 use Rattle.site_yard.specs.declared.delivered.Delivered.{Delivered}
 use Rattle.site_yard.proofs.KeptLemmas.{drop_more, failed, take_same}
@@ -37,7 +37,7 @@ list_same apply p first r new o n m ds same tells old = record {
   files = old.files ∙ sym (ap (map (λ (a : Arrival). a.file)) same);
   lengths = old.lengths ∙ sym (ap (map (λ (a : Arrival). a.size)) same);
   digests = λ opening told. old.digests opening (sym tells ∙ told) ∙ sym (ap (map (carried_digest (carries apply p m))) same);
-  long = old.long;
+  of_bytes = old.of_bytes;
 }
 
 pub list_told : (apply : Apply) (p : Plan) (first r : List Event) (o n : Option Store) (m : Store) (ds : List Delivered) → is_some n ≡ is_some o → ∥ AreDelivered apply p first r o m ds ∥₁ → ∥ AreDelivered apply p first r n m ds ∥₁
@@ -60,7 +60,7 @@ none_fails p false w t cause ns = refl
 pub list_empty : (apply : Apply) (p : Plan) (r : List Event) (o : Option Store) (m : Store) (ds : List Delivered) → r ≡ [] → ds ≡ [] → ∥ AreDelivered apply p (take 0 r) (drop 0 r) o m ds ∥₁
 list_empty apply p r o m ds none empty =
     subst (λ l. ∥ AreDelivered apply p (take 0 l) (drop 0 l) o m ds ∥₁) (sym none)
-    (subst (λ l. ∥ AreDelivered apply p [] [] o m l ∥₁) (sym empty) (∣ (record { files = refl; lengths = refl; digests = λ opening told. refl; long = All-nil (λ (d : Delivered). length d.digest ≡ 32) }) ∣₁))
+    (subst (λ l. ∥ AreDelivered apply p [] [] o m l ∥₁) (sym empty) (∣ (record { files = refl; lengths = refl; digests = λ opening told. refl; of_bytes = All-nil (λ (d : Delivered). IsDigestOf d.length d.digest) }) ∣₁))
 
 -- what `next` adds
 next_one : (apply : Apply) (p : Plan) (h new : List Event) (k : ℕ) (b : Bool) (e : Event) (o : Option Store) (m : Store) (ds : List Delivered) → k ≤ length h → arrivals_of p e ≡ [] → new ≡ cond b h (h ++ e ∷ []) → ∥ AreDelivered apply p (take k h) (drop k h) o m ds ∥₁ → ∥ AreDelivered apply p (take k new) (drop k new) o m ds ∥₁

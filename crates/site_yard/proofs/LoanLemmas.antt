@@ -4,13 +4,13 @@ use Rattle.std.specs.Prelude.{Option, Some, None, option_map, is_some, IfSome, O
 use Rattle.std.specs.FinMap as files
 use Rattle.std.proofs.Math.Logic.{∥∥₁_elim, ∥∥₁_map}
 use Rattle.std.specs.Coded.{le_prop}
-use Rattle.outside.specs.Counts.{IsLater, Rose}
+use Rattle.outside.specs.Counts.{IsLater}
 use Rattle.values.specs.Apply.{Apply}
 use Rattle.outside.specs.declared.counts.Counts.{Counts}
 use Rattle.outside.specs.declared.store.Store.{Store}
 use Rattle.outside.specs.Store.{Change, changed_by, operation}
 use Rattle.outside.specs.Parts.{DraftState, ReadState}
-use Rattle.site_yard.specs.Returning.{TakesOver, draft_faults, reading_faults}
+use Rattle.site_yard.specs.Returning.{draft_faults, part_faults, reading_faults}
 use Rattle.plan_core.specs.declared.plan.Plan.{Plan}
 use Rattle.plan_core.specs.declared.plan.TaskKind.{TaskKind}
 use Rattle.plan_core.specs.declared.plan.TaskKind.TheVariants.{Transfer, Run, Clean as CleanTask}
@@ -26,17 +26,15 @@ use Rattle.lease_book.specs.Law.{FitsFromStart}
 use Rattle.lease_book.specs.Legal.{Allowed, ArePublished, CauseFits, IsOpen, Legal, LegalFrom, is_from_pfn, is_too_long, is_too_long_for}
 use Rattle.lease_book.specs.State.{State, after, holder_after, now, now_from, opened}
 use Rattle.site_yard.specs.Changes.{carries, changes_of}
-use Rattle.site_yard.specs.Failures.{IsCounted}
+use Rattle.site_yard.specs.Failures.{AreMore, IsCounted}
 use Rattle.site_yard.specs.Kept.{IsKept, IsOpening}
 use Rattle.site_yard.specs.Law.{HasPlanLaws, HasRecordLaws}
-use Rattle.site_yard.specs.Lending.{IsHostCause, IsReplicaCause, RefusesLoan, RefusesReadings}
-use Rattle.site_yard.specs.Loading.{ReadPairs, SomeUnfit}
-use Rattle.site_yard.specs.Moving.{HaveFaultsRisen, HaveMissesRisen}
+use Rattle.site_yard.specs.Lending.{IsHostCause, IsLoanCause, IsPairsCause, IsReplicaCause, RefusesLoan, RefusesReadings}
 use Rattle.site_yard.specs.Trace.{operations_of, published_at}
 use Rattle.site_yard.specs.Truthful.{IsCause, IsTrue}
 use Rattle.site_yard.specs.Yard.{Adds, IsBehind, IsFailure, IsLending, IsTold, IsWorkers}
 use Rattle.site_yard.proofs.KeptLemmas.{KeepsSizes, Makes, failed, keeps, sized_failed, told_all}
-use Rattle.site_yard.proofs.NextLemmas.{rose_none}
+use Rattle.site_yard.proofs.CountingLemmas.{more_then, shows}
 
 -- the laws of a book's plan and of its records
 pub record HasBookLaws (b : Book) : Type 0 where
@@ -82,28 +80,22 @@ failed_counted None before now_ true w t cause ns h = h
 failed_counted (Some s) before now_ true w t cause ns h = h
 failed_counted o before now_ false w t cause ns h = h
 
-pub rose_fault : (o : Option Store) (before now_ : Counts) (w t : ℕ) (ns : List ℕ) → IsLater before now_ → HaveFaultsRisen before now_ → IsCounted o before now_ (Fail w t HostFailed ns)
-rose_fault None before now_ w t ns later rose =
-    let lm : before.misses ≤ now_.misses = later.misses in
-    (later, λ x y. omega (arith, lm, x, rose))
-rose_fault (Some s) before now_ w t ns later rose = (later, λ x. omega (arith, x, rose))
-
 -- a cause that a worker tells
-taken_over : (rs : List ReadState) (ds : List DraftState) (before mid now_ : Counts) → 1 ≤ reading_faults rs + draft_faults ds → TakesOver (reading_faults rs) before mid → TakesOver (draft_faults ds) mid now_ → HaveFaultsRisen before now_
-taken_over rs ds before mid now_ some a b = omega (arith, some, a, b)
+pub abandoned : (rs : List ReadState) (ds : List DraftState) (before mid now_ : Counts) → AreMore 0 (reading_faults rs) 0 before mid → AreMore 0 (draft_faults ds) 0 mid now_ → IsLater mid now_ → AreMore 0 (part_faults rs ds) 0 before now_
+abandoned rs ds before mid now_ first second later = more_then 0 0 0 (reading_faults rs) (draft_faults ds) (part_faults rs ds) 0 0 0 before mid now_ (omega arith) (omega arith) (omega arith) first second later
 
-pub abandon_counted : (o : Option Store) (rs : List ReadState) (ds : List DraftState) (before mid now_ : Counts) (b : Bool) (w t : ℕ) (cause : Cause) → IsWorkers cause → IsBehind rs ds cause → IsLater before now_ → TakesOver (reading_faults rs) before mid → TakesOver (draft_faults ds) mid now_ → IsCounted o before now_ (failed b w t cause [])
-abandon_counted o rs ds before mid now_ b w t cause own behind later first second = failed_counted o before now_ b w t cause [] (by cause own behind)
+pub abandon_counted : (o : Option Store) (rs : List ReadState) (ds : List DraftState) (before now_ : Counts) (b : Bool) (w t : ℕ) (cause : Cause) → IsWorkers cause → IsBehind rs ds cause → AreMore 0 (part_faults rs ds) 0 before now_ → IsLater before now_ → IsCounted o before now_ (failed b w t cause [])
+abandon_counted o rs ds before now_ b w t cause own behind more later = failed_counted o before now_ b w t cause [] (by cause own behind)
   where
     by : (cause : Cause) → IsWorkers cause → IsBehind rs ds cause → IsCounted o before now_ (Fail w t cause [])
     by Absent own behind = absurd own
     by (TooLong n) own behind = absurd own
-    by (Checksum d) own behind = rose_none o before now_ (Fail w t (Checksum d) []) refl refl later
-    by (Oversize j f n) own behind = rose_none o before now_ (Fail w t (Oversize j f n) []) refl refl later
-    by (Declined j) own behind = rose_none o before now_ (Fail w t (Declined j) []) refl refl later
-    by (ToolFailed j) own behind = rose_none o before now_ (Fail w t (ToolFailed j) []) refl refl later
-    by HostFailed own behind = rose_fault o before now_ w t [] later (taken_over rs ds before mid now_ behind first second)
-    by Memory own behind = rose_none o before now_ (Fail w t Memory []) refl refl later
+    by (Checksum d) own behind = shows o 0 (part_faults rs ds) 0 before now_ (Fail w t (Checksum d) []) behind refl more later
+    by (Oversize j f n) own behind = shows o 0 (part_faults rs ds) 0 before now_ (Fail w t (Oversize j f n) []) behind refl more later
+    by (Declined j) own behind = shows o 0 (part_faults rs ds) 0 before now_ (Fail w t (Declined j) []) behind refl more later
+    by (ToolFailed j) own behind = shows o 0 (part_faults rs ds) 0 before now_ (Fail w t (ToolFailed j) []) behind refl more later
+    by HostFailed own behind = shows o 0 (part_faults rs ds) 0 before now_ (Fail w t HostFailed []) behind refl more later
+    by Memory own behind = shows o 0 (part_faults rs ds) 0 before now_ (Fail w t Memory []) behind refl more later
 
 failed_changes : (p : Plan) (c : ℕ → ℕ → Option (List ℕ)) (b : Bool) (w t : ℕ) (cause : Cause) → [] ≡ changes_of p c (failed b w t cause [])
 failed_changes p c true w t cause = refl
@@ -146,30 +138,33 @@ plain_keeps apply b k o n m f0 m0 before now_ w t cause begun kept same told cou
 pub none_published : (p : Plan) (t : ℕ) → ArePublished p t []
 none_published p t = (λ h. refl, tt)
 
-replica_fits : (p : Plan) (t f : ℕ) (x : List ℕ) (g : _) (to : _) (found : Option (Option (List ℕ))) (before now_ : Counts) (cause : Cause) → kind p t ≡ Some (Transfer g (Pfn x) to) → g.0 ≡ f → IsReplicaCause p f found before now_ cause → CauseFits p t cause []
-replica_fits p t f x g to found before now_ Absent e same h = (ap is_from_pfn e, refl)
-replica_fits p t f x g to found before now_ (TooLong n) e same h = (ap is_from_pfn e, ap (λ k. is_too_long_for p k n) e ∙ ap (λ z. is_too_long p z n) same ∙ h.1, refl)
-replica_fits p t f x g to found before now_ HostFailed e same h = none_published p t
-replica_fits p t f x g to found before now_ Memory e same h = none_published p t
-replica_fits p t f x g to found before now_ cause e same h = absurd h
+replica_fits : (p : Plan) (t f : ℕ) (x : List ℕ) (g : _) (to : _) (found : Option (Option (List ℕ))) (C : ℕ → ℕ → Type 0) (cause : Cause) → kind p t ≡ Some (Transfer g (Pfn x) to) → g.0 ≡ f → IsReplicaCause p f found C cause → CauseFits p t cause []
+replica_fits p t f x g to found C Absent e same h = (ap is_from_pfn e, refl)
+replica_fits p t f x g to found C (TooLong n) e same h = (ap is_from_pfn e, ap (λ k. is_too_long_for p k n) e ∙ ap (λ z. is_too_long p z n) same ∙ h.1, refl)
+replica_fits p t f x g to found C HostFailed e same h = none_published p t
+replica_fits p t f x g to found C Memory e same h = none_published p t
+replica_fits p t f x g to found C cause e same h = absurd h
 
-host_fits : (p : Plan) (t : ℕ) (before now_ : Counts) (cause : Cause) → IsHostCause before now_ cause → CauseFits p t cause []
-host_fits p t before now_ HostFailed h = none_published p t
-host_fits p t before now_ Memory h = none_published p t
-host_fits p t before now_ cause h = absurd h
+host_fits : (p : Plan) (t : ℕ) (C : ℕ → ℕ → Type 0) (cause : Cause) → IsHostCause C cause → CauseFits p t cause []
+host_fits p t C HostFailed h = none_published p t
+host_fits p t C Memory h = none_published p t
+host_fits p t C cause h = absurd h
 
-pairs_fit : (p : Plan) (t : ℕ) (qs : List ℕ) (o : Option Store) (before now_ : Counts) (cause : Cause) → ReadPairs p qs o before now_ (Err cause) → CauseFits p t cause []
-pairs_fit p t qs o before now_ HostFailed h = none_published p t
-pairs_fit p t qs o before now_ Memory h = none_published p t
-pairs_fit p t qs o before now_ cause h = absurd h
+pairs_fit : (p : Plan) (t : ℕ) (qs : List ℕ) (o : Option Store) (C : ℕ → ℕ → Type 0) (cause : Cause) → IsPairsCause p qs o C cause → CauseFits p t cause []
+pairs_fit p t qs o C HostFailed h = none_published p t
+pairs_fit p t qs o C Memory h = none_published p t
+pairs_fit p t qs o C cause h = absurd h
 
-readings_fit : (p : Plan) (t : ℕ) (k : Option TaskKind) (o : Option Store) (before now_ : Counts) (cause : Cause) → kind p t ≡ k → RefusesReadings p k (reads p t) o before now_ cause → CauseFits p t cause []
-readings_fit p t None o before now_ cause e h = pairs_fit p t (reads p t) o before now_ cause h
-readings_fit p t (Some (Run a js)) o before now_ cause e h = pairs_fit p t (reads p t) o before now_ cause h
-readings_fit p t (Some (CleanTask q)) o before now_ cause e h = pairs_fit p t (reads p t) o before now_ cause h
-readings_fit p t (Some (Transfer g (Site a) to)) o before now_ cause e h = pairs_fit p t (reads p t) o before now_ cause h
-readings_fit p t (Some (Transfer g (Pfn x) to)) o before now_ cause e h = replica_fits p t g.0 x g to _ before now_ cause e refl h
+readings_fit : (p : Plan) (t : ℕ) (k : Option TaskKind) (o : Option Store) (C : ℕ → ℕ → Type 0) (cause : Cause) → kind p t ≡ k → RefusesReadings p k (reads p t) o C cause → CauseFits p t cause []
+readings_fit p t None o C cause e h = pairs_fit p t (reads p t) o C cause h
+readings_fit p t (Some (Run a js)) o C cause e h = pairs_fit p t (reads p t) o C cause h
+readings_fit p t (Some (CleanTask q)) o C cause e h = pairs_fit p t (reads p t) o C cause h
+readings_fit p t (Some (Transfer g (Site a) to)) o C cause e h = pairs_fit p t (reads p t) o C cause h
+readings_fit p t (Some (Transfer g (Pfn x) to)) o C cause e h = replica_fits p t g.0 x g to _ C cause e refl h
 
-pub lend_fits : (p q : Plan) (t : ℕ) (o : Option Store) (before now_ : Counts) (cause : Cause) → q ≡ p → RefusesLoan q (kind q t) (reads q t) o before now_ cause → CauseFits p t cause []
-lend_fits p q t o before now_ cause same (inl h) = subst (λ z. CauseFits z t cause []) same (readings_fit q t (kind q t) o before now_ cause refl h)
-lend_fits p q t o before now_ cause same (inr h) = host_fits p t before now_ cause h
+cause_fits : (p : Plan) (t : ℕ) (o : Option Store) (C : ℕ → ℕ → Type 0) (cause : Cause) → IsLoanCause p (kind p t) (reads p t) o cause C → CauseFits p t cause []
+cause_fits p t o C cause (inl h) = readings_fit p t (kind p t) o C cause refl h
+cause_fits p t o C cause (inr h) = host_fits p t C cause h
+
+pub lend_fits : (p q : Plan) (t : ℕ) (o : Option Store) (before now_ : Counts) (cause : Cause) → q ≡ p → RefusesLoan q t o before now_ cause → CauseFits p t cause []
+lend_fits p q t o before now_ cause same refused = subst (λ z. CauseFits z t cause []) same (cause_fits q t o (λ f m. AreMore refused.calls f m before now_) cause refused.why)

@@ -18,24 +18,19 @@ use Rattle.lease_book.specs.declared.leasing.Next.{Next}
 use Rattle.lease_book.specs.declared.leasing.Next.TheVariants as next
 use Rattle.lease_book.specs.Choice.{IsChoice, IsFresh, IsFreshAmong}
 use Rattle.lease_book.specs.State.{State, now}
-use Rattle.site_yard.specs.Failures.{IsCounted, faults_of, misses_of}
+use Rattle.site_yard.specs.Failures.{AreMore, IsCounted, faults_of, misses_of}
 use Rattle.site_yard.specs.Kept.{IsKept, IsOpening}
 use Rattle.site_yard.specs.Yard.{Leases}
 use Rattle.site_yard.specs.declared.leased.Leased.{Leased}
+use Rattle.site_yard.proofs.CountingLemmas.{same_more, shows}
 use Rattle.site_yard.proofs.KeptLemmas.{KeepsSizes, Makes, keeps, sized_granted, sized_regranted, told_all}
 
 later_self : (c : Counts) → IsLater c c
 later_self c = record { done = omega arith; faults = omega arith; misses = omega arith }
 
 -- an entry that tells of no failure
-pub rose_none : (o : Option Store) (before now_ : Counts) (e : Event) → faults_of e ≡ 0 → misses_of e ≡ 0 → IsLater before now_ → IsCounted o before now_ e
-rose_none None before now_ e f m later =
-    let lf : before.faults ≤ now_.faults = later.faults in
-    let lm : before.misses ≤ now_.misses = later.misses in
-    (later, λ x y. omega (arith, f, m, lf, lm))
-rose_none (Some s) before now_ e f m later =
-    let lf : before.faults ≤ now_.faults = later.faults in
-    (later, λ x. omega (arith, f, lf))
+pub rose_none : (o : Option Store) (n : ℕ) (before now_ : Counts) (e : Event) → faults_of e ≡ 0 → misses_of e ≡ 0 → AreMore n 0 0 before now_ → IsLater before now_ → IsCounted o before now_ e
+rose_none o n before now_ e f m more later = shows o n 0 0 before now_ e (sym f) (sym m) more later
 
 pub unchanged : (o : Option Store) → o ≡ option_map (λ s. changed_by s []) o
 unchanged None = refl
@@ -50,10 +45,10 @@ nothing_remade apply p first m None w t = λ opening. tt
 nothing_remade apply p first m (Some s) w t = λ opening. (refl, tt)
 
 granted : (apply : Apply) (p : Plan) (order : List ℕ) (h : List Event) (k w t : ℕ) (o : Option Store) (m : Store) (f0 m0 : ℕ) (c : Counts) → k ≤ length h → ∥ IsKept apply p order (take k h) (drop k h) o m f0 m0 c ∥₁ → ∥ IsKept apply p order (take k (h ++ Grant w t ∷ [])) (drop k (h ++ Grant w t ∷ [])) o m f0 m0 c ∥₁
-granted apply p order h k w t o m f0 m0 c begun kept = keeps apply p order h k (Grant w t) o o m f0 m0 c c [] begun kept (unchanged o) (told_all (map operation [] ≡ []) o refl) (nothing_made apply p (take k h) m o w t) (told_all (KeepsSizes p (now p order h) (Grant w t) []) o (sized_granted p (now p order h) w t)) (rose_none o c c (Grant w t) refl refl (later_self c))
+granted apply p order h k w t o m f0 m0 c begun kept = keeps apply p order h k (Grant w t) o o m f0 m0 c c [] begun kept (unchanged o) (told_all (map operation [] ≡ []) o refl) (nothing_made apply p (take k h) m o w t) (told_all (KeepsSizes p (now p order h) (Grant w t) []) o (sized_granted p (now p order h) w t)) (rose_none o 0 c c (Grant w t) refl refl (same_more c c refl) (later_self c))
 
 regranted : (apply : Apply) (p : Plan) (order : List ℕ) (h : List Event) (k w t : ℕ) (o : Option Store) (m : Store) (f0 m0 : ℕ) (c : Counts) → k ≤ length h → ∥ IsKept apply p order (take k h) (drop k h) o m f0 m0 c ∥₁ → ∥ IsKept apply p order (take k (h ++ Regrant w t ∷ [])) (drop k (h ++ Regrant w t ∷ [])) o m f0 m0 c ∥₁
-regranted apply p order h k w t o m f0 m0 c begun kept = keeps apply p order h k (Regrant w t) o o m f0 m0 c c [] begun kept (unchanged o) (told_all (map operation [] ≡ []) o refl) (nothing_remade apply p (take k h) m o w t) (told_all (KeepsSizes p (now p order h) (Regrant w t) []) o (sized_regranted p (now p order h) w t)) (rose_none o c c (Regrant w t) refl refl (later_self c))
+regranted apply p order h k w t o m f0 m0 c begun kept = keeps apply p order h k (Regrant w t) o o m f0 m0 c c [] begun kept (unchanged o) (told_all (map operation [] ≡ []) o refl) (nothing_remade apply p (take k h) m o w t) (told_all (KeepsSizes p (now p order h) (Regrant w t) []) o (sized_regranted p (now p order h) w t)) (rose_none o 0 c c (Regrant w t) refl refl (same_more c c refl) (later_self c))
 
 same_kept : (apply : Apply) (p : Plan) (order : List ℕ) (h new : List Event) (k : ℕ) (o : Option Store) (m : Store) (f0 m0 : ℕ) (c : Counts) → new ≡ h → ∥ IsKept apply p order (take k h) (drop k h) o m f0 m0 c ∥₁ → ∥ IsKept apply p order (take k new) (drop k new) o m f0 m0 c ∥₁
 same_kept apply p order h new k o m f0 m0 c is kept = subst (λ l. ∥ IsKept apply p order (take k l) (drop k l) o m f0 m0 c ∥₁) (sym is) kept

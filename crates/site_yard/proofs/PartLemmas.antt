@@ -1,8 +1,8 @@
 -- Readings and drafts, one more.
 use Rattle.std.proofs.Common.{◌≡◌, ℕ, zero, suc, ◌+◌, ◌≤◌, ◌<◌, ◌⊎◌, inl, inr, true, false, List, [], ◌∷◌, ◌++◌, map, length, get_or, take, refl, sym, ap, ◌∙◌, subst, nat_eq, arith}
-use Rattle.std.specs.Prelude.{Option, Some, None, option_map, IfSome, Ok, Err}
+use Rattle.std.specs.Prelude.{Option, Some, None, option_map, IfSome}
 use Rattle.std.proofs.lemmas.List.{map-append}
-use Rattle.outside.specs.Counts.{IsLater, Rose}
+use Rattle.outside.specs.Counts.{IsLater}
 use Rattle.outside.specs.declared.counts.Counts.{Counts}
 use Rattle.values.specs.declared.numbers.PairId.{PairId}
 use Rattle.outside.specs.declared.store.Store.{Store}
@@ -10,17 +10,19 @@ use Rattle.outside.specs.Lending.{IsOpened}
 use Rattle.outside.specs.Parts.{DraftState, ReadState}
 use Rattle.plan_core.specs.declared.plan.Plan.{Plan}
 use Rattle.plan_core.specs.Numbers.{has}
-use Rattle.plan_core.specs.Words.{pair_numbers}
+use Rattle.plan_core.specs.Words.{kind, pair_numbers, reads}
 use Rattle.plan_core.proofs.TestLemmas.{is_itself, or_left, or_right}
 use Rattle.run_record.specs.declared.entry.Cause.{Cause}
 use Rattle.run_record.specs.declared.entry.Cause.TheVariants.{Absent, HostFailed, Memory, TooLong}
 use Rattle.plan_core.specs.declared.plan.TaskKind.{TaskKind}
 use Rattle.plan_core.specs.declared.plan.TaskKind.TheVariants.{Transfer, Run, Clean as CleanTask}
 use Rattle.plan_core.specs.declared.plan.Source.TheVariants.{Pfn, Site}
-use Rattle.site_yard.specs.Lending.{IsHostCause, IsReplicaCause, RefusesReadings}
-use Rattle.site_yard.specs.Loading.{ReadPair, ReadPairs, SomeUnfit, at_pair, pair_limit}
-use Rattle.site_yard.specs.Loan.{Aim, AreOpened, fresh_at, pair_target}
-use Rattle.site_yard.specs.Moving.{IsUnfit}
+use Rattle.site_yard.specs.Failures.{AreMore}
+use Rattle.site_yard.specs.Lending.{IsHostCause, IsPairCause, IsPairsCause, IsRefusedAfter, IsReplicaCause, IsUnfit, RefusesLoan, RefusesReadings, SomeUnfit}
+use Rattle.site_yard.specs.Loan.{Aim, AreOpened, at_pair, count_readings, fresh_at, pair_target, targets}
+use Rattle.site_yard.specs.Names.{pair_limit}
+use Rattle.site_yard.specs.Returning.{draft_faults, reading_faults}
+use Rattle.site_yard.proofs.CountingLemmas.{after_done, done_before, more_then, none_after, same_more}
 
 one_more : (k : ℕ) → suc k ≡ k + 1
 one_more k = omega arith
@@ -48,17 +50,63 @@ some_unfit : (p : Plan) (qs : List ℕ) (q : ℕ) (o : Option Store) → has qs 
 some_unfit p qs q None h f = tt
 some_unfit p qs q (Some s) h f = (q, h, f)
 
-rose_from : (a b c : ℕ) → a ≤ b → Rose b c → Rose a c
-rose_from a b c h r = omega (arith, h, r)
+-- a cause, when the counts are looked at over a longer time
+pub host_cause_map : (C D : ℕ → ℕ → Type 0) (cause : Cause) → ((f m : ℕ) → C f m → D f m) → IsHostCause C cause → IsHostCause D cause
+host_cause_map C D HostFailed over why = over 1 0 why
+host_cause_map C D Memory over why = over 0 0 why
+host_cause_map C D cause over why = absurd why
 
-stops_at : (p : Plan) (qs : List ℕ) (q : ℕ) (o : Option Store) (first before now_ : Counts) (cause : Cause) → has qs q ≡ true → IsLater first before → ReadPair p q o before now_ (Err cause) → ReadPairs p qs o first now_ (Err cause)
-stops_at p qs q o first before now_ HostFailed h later (inl rose) = inl (rose_from first.faults before.faults now_.faults later.faults rose)
-stops_at p qs q o first before now_ HostFailed h later (inr missed) = inr (rose_from first.misses before.misses now_.misses later.misses missed.0, some_unfit p qs q o h missed.1)
-stops_at p qs q o first before now_ Memory h later read = tt
-stops_at p qs q o first before now_ cause h later read = absurd read
+pairs_cause_map : (p : Plan) (qs : List ℕ) (o : Option Store) (C D : ℕ → ℕ → Type 0) (cause : Cause) → ((f m : ℕ) → C f m → D f m) → IsPairsCause p qs o C cause → IsPairsCause p qs o D cause
+pairs_cause_map p qs o C D HostFailed over (inl why) = inl (over 1 0 why)
+pairs_cause_map p qs o C D HostFailed over (inr why) = inr (over 0 1 why.0, why.1)
+pairs_cause_map p qs o C D Memory over why = over 0 0 why
+pairs_cause_map p qs o C D cause over why = absurd why
 
-pub open_stops : (p : Plan) (qs : List ℕ) (q : ℕ) (o n : Option Store) (first before now_ : Counts) (cause : Cause) → n ≡ o → has qs q ≡ true → IsLater first before → ReadPair p q n before now_ (Err cause) → ReadPairs p qs o first now_ (Err cause)
-open_stops p qs q o n first before now_ cause same h later read = stops_at p qs q o first before now_ cause h later (subst (λ z. ReadPair p q z before now_ (Err cause)) same read)
+replica_cause_map : (p : Plan) (f : ℕ) (found : Option (Option (List ℕ))) (C D : ℕ → ℕ → Type 0) (cause : Cause) → ((f m : ℕ) → C f m → D f m) → IsReplicaCause p f found C cause → IsReplicaCause p f found D cause
+replica_cause_map p f found C D Absent over why = (over 0 1 why.0, why.1)
+replica_cause_map p f found C D (TooLong n) over why = (over 0 1 why.0, why.1, why.2)
+replica_cause_map p f found C D HostFailed over why = over 1 0 why
+replica_cause_map p f found C D Memory over why = over 0 0 why
+replica_cause_map p f found C D cause over why = absurd why
+
+readings_cause_map : (p : Plan) (k : Option TaskKind) (qs : List ℕ) (o : Option Store) (C D : ℕ → ℕ → Type 0) (cause : Cause) → ((f m : ℕ) → C f m → D f m) → RefusesReadings p k qs o C cause → RefusesReadings p k qs o D cause
+readings_cause_map p None qs o C D cause over why = pairs_cause_map p qs o C D cause over why
+readings_cause_map p (Some (Run a js)) qs o C D cause over why = pairs_cause_map p qs o C D cause over why
+readings_cause_map p (Some (CleanTask q)) qs o C D cause over why = pairs_cause_map p qs o C D cause over why
+readings_cause_map p (Some (Transfer g (Site a) to)) qs o C D cause over why = pairs_cause_map p qs o C D cause over why
+readings_cause_map p (Some (Transfer g (Pfn x) to)) qs o C D cause over why = replica_cause_map p g.0 _ C D cause over why
+
+pair_to_pairs : (p : Plan) (qs : List ℕ) (q : ℕ) (o : Option Store) (C D : ℕ → ℕ → Type 0) (cause : Cause) → has qs q ≡ true → ((f m : ℕ) → C f m → D f m) → IsPairCause p q o C cause → IsPairsCause p qs o D cause
+pair_to_pairs p qs q o C D HostFailed h over (inl why) = inl (over 1 0 why)
+pair_to_pairs p qs q o C D HostFailed h over (inr why) = inr (over 0 1 why.0, some_unfit p qs q o h why.1)
+pair_to_pairs p qs q o C D Memory h over why = over 0 0 why
+pair_to_pairs p qs q o C D cause h over why = absurd why
+
+pub open_stops : (p : Plan) (qs : List ℕ) (q : ℕ) (o n : Option Store) (k : ℕ) (first before now_ : Counts) (cause : Cause) → n ≡ o → has qs q ≡ true → k ≤ length qs → AreMore k 0 0 first before → IsLater before now_ → IsPairCause p q n (λ f m. AreMore 0 f m before now_) cause → IsRefusedAfter (length qs) first now_ (λ C. IsPairsCause p qs o C cause)
+open_stops p qs q o n k first before now_ cause same h less done later why =
+    record { calls = k; within = less; why = pair_to_pairs p qs q o (λ f m. AreMore 0 f m before now_) (λ f m. AreMore k f m first now_) cause h (λ f m x. after_done k f m first before now_ done x later) (subst (λ z. IsPairCause p q z (λ f m. AreMore 0 f m before now_) cause) same why) }
+
+-- all parts have no fault
+pub readings_whole : (p : Plan) (qs : List ℕ) (o : Option Store) (ss : List ReadState) → AreOpened p qs o ss → reading_faults ss ≡ 0
+readings_whole p [] o [] h = refl
+readings_whole p [] o (s ∷ ss) h = absurd h
+readings_whole p (q ∷ qs) o [] h = absurd h
+readings_whole p (q ∷ qs) o (s ∷ ss) h = let f : s.faults ≡ 0 = h.0.faults in let r = readings_whole p qs o ss h.1 in omega (arith, f, r)
+
+pub replica_whole : (found : Option (Option (List ℕ))) (limit : ℕ) (s : ReadState) → IsOpened found limit s → reading_faults (s ∷ []) ≡ 0
+replica_whole found limit s h = let f : s.faults ≡ 0 = h.faults in omega (arith, f)
+
+pub drafts_whole : (o : Option Store) (xs : List Aim) → draft_faults (map (fresh_at o) xs) ≡ 0
+drafts_whole o [] = refl
+drafts_whole o (x ∷ xs) = drafts_whole o xs
+
+pub targets_long : (p : Plan) (qs : List PairId) → length (map (pair_target p) (pair_numbers qs)) ≡ length qs
+targets_long p [] = refl
+targets_long p (q ∷ qs) = ap suc (targets_long p qs)
+
+pub numbers_long : (qs : List PairId) → length (pair_numbers qs) ≡ length qs
+numbers_long [] = refl
+numbers_long (q ∷ qs) = ap suc (numbers_long qs)
 
 -- drafts
 drafted_and : (p : Plan) (told : Option Store) (qs : List PairId) (k : ℕ) (x : PairId) → k < length qs → map (fresh_at told) (map (pair_target p) (pair_numbers (take (suc k) qs))) ≡ map (fresh_at told) (map (pair_target p) (pair_numbers (take k qs))) ++ fresh_at told (pair_target p (get_or qs k x).0) ∷ []
@@ -73,10 +121,9 @@ drafted_more f p o n qs ds new k x d less told is all here =
     ∙ sym (drafted_and p o qs k x less)
     ∙ ap (λ m. map (fresh_at o) (map (pair_target p) (pair_numbers (take m qs)))) (one_more k)
 
-pub host_from : (first before now_ : Counts) (cause : Cause) → IsLater first before → IsHostCause before now_ cause → IsHostCause first now_ cause
-host_from first before now_ HostFailed later why = rose_from first.faults before.faults now_.faults later.faults why
-host_from first before now_ Memory later why = tt
-host_from first before now_ cause later why = absurd why
+pub draft_stops : (most k : ℕ) (first before now_ : Counts) (cause : Cause) → k ≤ most → AreMore k 0 0 first before → IsLater before now_ → IsHostCause (λ f m. AreMore 0 f m before now_) cause → IsRefusedAfter most first now_ (λ C. IsHostCause C cause)
+draft_stops most k first before now_ cause less done later why =
+    record { calls = k; within = less; why = host_cause_map (λ f m. AreMore 0 f m before now_) (λ f m. AreMore k f m first now_) cause (λ f m x. after_done k f m first before now_ done x later) why }
 
 pub later_both : (a b c : Counts) → IsLater a b → IsLater b c → IsLater a c
 later_both a b c x y =
@@ -88,31 +135,30 @@ later_both a b c x y =
     let ym : b.misses ≤ c.misses = y.misses in
     record { done = omega (arith, xd, yd); faults = omega (arith, xf, yf); misses = omega (arith, xm, ym) }
 
--- a refusal, until a later time
-rose_until : (a b c : ℕ) → Rose a b → b ≤ c → Rose a c
-rose_until a b c r h = omega (arith, h, r)
+-- why a loan wasn't made: its readings, or its drafts; what was opened is given back
+pub readings_refused : (p : Plan) (t : ℕ) (o : Option Store) (first mid now_ : Counts) (cause : Cause) → IsRefusedAfter (count_readings (kind p t) (reads p t)) first mid (λ C. RefusesReadings p (kind p t) (reads p t) o C cause) → AreMore 0 0 0 mid now_ → IsLater mid now_ → RefusesLoan p t o first now_ cause
+readings_refused p t o first mid now_ cause why still later =
+    let less : why.calls ≤ count_readings (kind p t) (reads p t) = why.within in
+    record {
+      calls = why.calls;
+      within = omega (arith, less);
+      why = inl (readings_cause_map p (kind p t) (reads p t) o (λ f m. AreMore why.calls f m first mid) (λ f m. AreMore why.calls f m first now_) cause (λ f m x. none_after why.calls f m first mid now_ x still later) why.why);
+    }
 
-pub host_until : (first mid now_ : Counts) (cause : Cause) → IsHostCause first mid cause → IsLater mid now_ → IsHostCause first now_ cause
-host_until first mid now_ HostFailed why later = rose_until first.faults mid.faults now_.faults why later.faults
-host_until first mid now_ Memory why later = tt
-host_until first mid now_ cause why later = absurd why
+pub drafts_refused : (p : Plan) (t : ℕ) (o : Option Store) (first mid made now_ : Counts) (cause : Cause) → AreMore (count_readings (kind p t) (reads p t)) 0 0 first mid → IsLater mid made → IsRefusedAfter (length (targets p t)) mid made (λ C. IsHostCause C cause) → AreMore 0 0 0 made now_ → IsLater made now_ → RefusesLoan p t o first now_ cause
+drafts_refused p t o first mid made now_ cause opened_ late why still later =
+    let n : ℕ = count_readings (kind p t) (reads p t) in
+    let less : why.calls ≤ length (targets p t) = why.within in
+    record {
+      calls = n + why.calls;
+      within = omega (arith, less);
+      why = inr (host_cause_map (λ f m. AreMore why.calls f m mid made) (λ f m. AreMore (n + why.calls) f m first now_) cause (λ f m x. none_after (n + why.calls) f m first made now_ (done_before n why.calls f m first mid made opened_ x late) still later) why.why);
+    }
 
-pairs_until : (p : Plan) (qs : List ℕ) (o : Option Store) (first mid now_ : Counts) (cause : Cause) → ReadPairs p qs o first mid (Err cause) → IsLater mid now_ → ReadPairs p qs o first now_ (Err cause)
-pairs_until p qs o first mid now_ HostFailed (inl why) later = inl (rose_until first.faults mid.faults now_.faults why later.faults)
-pairs_until p qs o first mid now_ HostFailed (inr why) later = inr (rose_until first.misses mid.misses now_.misses why.0 later.misses, why.1)
-pairs_until p qs o first mid now_ Memory why later = tt
-pairs_until p qs o first mid now_ cause why later = absurd why
+-- want of memory before the first call
+pub wants_loan : (p : Plan) (t : ℕ) (o : Option Store) (c : Counts) → RefusesLoan p t o c c Memory
+wants_loan p t o c = record { calls = 0; within = omega arith; why = inr (same_more c c refl) }
 
-replica_until : (p : Plan) (f : ℕ) (found : Option (Option (List ℕ))) (first mid now_ : Counts) (cause : Cause) → IsReplicaCause p f found first mid cause → IsLater mid now_ → IsReplicaCause p f found first now_ cause
-replica_until p f found first mid now_ Absent why later = (rose_until first.misses mid.misses now_.misses why.0 later.misses, why.1)
-replica_until p f found first mid now_ (TooLong n) why later = (rose_until first.misses mid.misses now_.misses why.0 later.misses, why.1, why.2)
-replica_until p f found first mid now_ HostFailed why later = rose_until first.faults mid.faults now_.faults why later.faults
-replica_until p f found first mid now_ Memory why later = tt
-replica_until p f found first mid now_ cause why later = absurd why
-
-pub readings_until : (p : Plan) (k : Option TaskKind) (qs : List ℕ) (o : Option Store) (first mid now_ : Counts) (cause : Cause) → RefusesReadings p k qs o first mid cause → IsLater mid now_ → RefusesReadings p k qs o first now_ cause
-readings_until p None qs o first mid now_ cause why later = pairs_until p qs o first mid now_ cause why later
-readings_until p (Some (Run a js)) qs o first mid now_ cause why later = pairs_until p qs o first mid now_ cause why later
-readings_until p (Some (CleanTask q)) qs o first mid now_ cause why later = pairs_until p qs o first mid now_ cause why later
-readings_until p (Some (Transfer g (Site a) to)) qs o first mid now_ cause why later = pairs_until p qs o first mid now_ cause why later
-readings_until p (Some (Transfer g (Pfn x) to)) qs o first mid now_ cause why later = replica_until p g.0 _ first mid now_ cause why later
+-- two steps that give back parts without a fault
+pub both_whole : (r d : ℕ) (a b c : Counts) → r ≡ 0 → d ≡ 0 → AreMore 0 r 0 a b → AreMore 0 d 0 b c → IsLater b c → AreMore 0 0 0 a c
+both_whole r d a b c rz dz first second later = more_then 0 0 0 r d 0 0 0 0 a b c (omega arith) (omega (arith, rz, dz)) (omega arith) first second later

@@ -2,7 +2,7 @@
 use Rattle.std.proofs.Common.{◌≡◌, ℕ, zero, suc, ◌+◌, ◌-◌, ◌^◌, ◌≤◌, ◌<◌, min, List, [], ◌∷◌, ◌++◌, length, map, get_or, take, drop, refl, sym, ap, ◌∙◌, subst, append_assoc, arith}
 use Rattle.std.specs.Prelude.{Option, Some, None, option_map, Err}
 use Rattle.std.proofs.lemmas.List.{length-map, map-append}
-use Rattle.outside.specs.Counts.{IsLater, Rose, one_done, one_fault}
+use Rattle.outside.specs.Counts.{IsLater, one_done, one_fault}
 use Rattle.outside.specs.Store.{Change, changed, changed_by}
 use Rattle.outside.specs.declared.counts.Counts.{Counts}
 use Rattle.outside.specs.declared.store.Store.{Store}
@@ -10,11 +10,21 @@ use Rattle.outside.specs.declared.host.HostFault.{HostFault}
 use Rattle.outside.specs.declared.host.HostFault.TheVariants.{Failed, Memory}
 use Rattle.outside.specs.Lending.{Publishing, published, with_faults}
 use Rattle.outside.specs.Parts.{DraftState, Drafted, ReadState}
-use Rattle.site_yard.specs.Returning.{IsRefused, TakesOver, draft_faults, placing_of, placings, reading_faults}
+use Rattle.site_yard.specs.Failures.{AreMore, IsMore}
+use Rattle.site_yard.specs.Returning.{IsRefused, draft_faults, placing_of, placings, reading_faults, refusal_faults}
 
--- of so many faults in all, those of the parts that are left aren't counted yet
-abbrev pub Counting : ℕ → ℕ → Counts → Counts → Type 0
-Counting all left before now_ = min (before.faults + all) (2 ^ 64 - 1) ≤ now_.faults + left
+-- While parts are given back: so many calls did what was asked, and of all faults of the parts those of the parts that are
+-- left aren't counted yet.
+pub record IsGivingBack (done all left : ℕ) (before now_ : Counts) : Type 0 where
+  pub done_is : IsMore done before.done now_.done
+  pub faults_is : now_.faults < 2 ^ 64 - 1 → now_.faults + left ≡ before.faults + all
+  pub misses_is : IsMore 0 before.misses now_.misses
+
+pub begun : (all : ℕ) (c : Counts) → IsGivingBack 0 all all c c
+begun all c = record { done_is = λ x. omega arith; faults_is = λ x. omega arith; misses_is = λ x. omega arith }
+
+pub given_back : (done all left : ℕ) (a b : Counts) → left ≡ 0 → IsGivingBack done all left a b → AreMore done all 0 a b
+given_back done all left a b none g = record { done_is = g.done_is; faults_is = λ x. let f = g.faults_is x in omega (arith, f, none); misses_is = g.misses_is }
 
 pub reading_last : (xs : List ReadState) (x : ReadState) → reading_faults (xs ++ x ∷ []) ≡ reading_faults xs + x.faults
 reading_last [] x = omega arith
@@ -24,10 +34,49 @@ pub draft_last : (xs : List DraftState) (x : DraftState) → draft_faults (xs ++
 draft_last [] x = omega arith
 draft_last (y ∷ xs) x = let more = draft_last xs x in omega (arith, more)
 
-pub count_more : (all left rest one : ℕ) (before c n : Counts) → left ≡ rest + one → n ≡ with_faults c one → Counting all left before c → Counting all rest before n
-count_more all left rest one before c n split is h =
+-- one part more
+pub count_more : (done all left rest one : ℕ) (before c n : Counts) → left ≡ rest + one → n ≡ with_faults c one → IsGivingBack done all left before c → IsGivingBack done all rest before n
+count_more done all left rest one before c n split is h =
+    let d : n.done ≡ c.done = ap (λ (z : Counts). z.done) is in
     let f : n.faults ≡ min (c.faults + one) (2 ^ 64 - 1) = ap (λ (z : Counts). z.faults) is in
-    omega (arith, split, f, h)
+    let m : n.misses ≡ c.misses = ap (λ (z : Counts). z.misses) is in
+    record {
+      done_is = λ x. let k = h.done_is (omega (arith, d, x)) in omega (arith, d, k);
+      faults_is = λ x. let k = h.faults_is (omega (arith, f, x)) in omega (arith, f, k, split, x);
+      misses_is = λ x. let k = h.misses_is (omega (arith, m, x)) in omega (arith, m, k);
+    }
+
+-- one draft more was published
+pub publish_more : (done all left rest one : ℕ) (before c n : Counts) → left ≡ rest + one → n ≡ one_done (with_faults c one) → IsGivingBack done all left before c → IsGivingBack (done + 1) all rest before n
+publish_more done all left rest one before c n split is h =
+    let d : n.done ≡ min (c.done + 1) (2 ^ 64 - 1) = ap (λ (z : Counts). z.done) is in
+    let f : n.faults ≡ min (c.faults + one) (2 ^ 64 - 1) = ap (λ (z : Counts). z.faults) is in
+    let m : n.misses ≡ c.misses = ap (λ (z : Counts). z.misses) is in
+    record {
+      done_is = λ x. let k = h.done_is (omega (arith, d, x)) in omega (arith, d, k, x);
+      faults_is = λ x. let k = h.faults_is (omega (arith, f, x)) in omega (arith, f, k, split, x);
+      misses_is = λ x. let k = h.misses_is (omega (arith, m, x)) in omega (arith, m, k);
+    }
+
+-- the next one was refused, and the rest was discarded
+refused_counts : (e : HostFault) (d : DraftState) (o m : Option Store) (c n : Counts) → Publishing d o m c n (Err e) → (n.done ≡ c.done) × (n.misses ≡ c.misses) × (n.faults ≡ min (min (c.faults + d.faults) (2 ^ 64 - 1) + refusal_faults (Some e)) (2 ^ 64 - 1))
+refused_counts Failed d o m c n h = (ap (λ (z : Counts). z.done) h.0, ap (λ (z : Counts). z.misses) h.0, ap (λ (z : Counts). z.faults) h.0)
+refused_counts Memory d o m c n h =
+    let f : n.faults ≡ min (c.faults + d.faults) (2 ^ 64 - 1) = ap (λ (z : Counts). z.faults) h.0 in
+    (ap (λ (z : Counts). z.done) h.0, ap (λ (z : Counts). z.misses) h.0, omega (arith, f))
+refused_counts e d o m c n h = absurd h
+
+pub refuse_more : (e : HostFault) (d : DraftState) (o m : Option Store) (done all left rest : ℕ) (before c n after : Counts) → left ≡ rest + d.faults → Publishing d o m c n (Err e) → IsGivingBack done all left before c → AreMore 0 rest 0 n after → IsLater n after → AreMore done (all + refusal_faults (Some e)) 0 before after
+refuse_more e d o m done all left rest before c n after split answer h gone later =
+    let r = refused_counts e d o m c n answer in
+    let ld : n.done ≤ after.done = later.done in
+    let lf : n.faults ≤ after.faults = later.faults in
+    let lm : n.misses ≤ after.misses = later.misses in
+    record {
+      done_is = λ x. let g = gone.done_is x in let k = h.done_is (omega (arith, r.0, ld, x)) in omega (arith, g, k, r.0);
+      faults_is = λ x. let g = gone.faults_is x in let k = h.faults_is (omega (arith, r.2, lf, x)) in omega (arith, g, k, r.2, split, lf, x);
+      misses_is = λ x. let g = gone.misses_is x in let k = h.misses_is (omega (arith, r.1, lm, x)) in omega (arith, g, k, r.1);
+    }
 
 changed_append : (s : Store) (xs ys : List Change) → changed_by s (xs ++ ys) ≡ changed_by (changed_by s xs) ys
 changed_append s [] ys = refl
@@ -99,14 +148,10 @@ unpublished Failed d o m before mid h = h.1
 unpublished Memory d o m before mid h = h.1
 unpublished e d o m before mid h = absurd h
 
-pub refuses : (e : HostFault) (ds : List DraftState) (d : DraftState) (rest : List DraftState) (k : ℕ) (o m : Option Store) (first before mid after : Counts) → drop k ds ≡ d ∷ rest → IsLater first before → Publishing d o m before mid (Err e) → IsLater mid after → IsRefused k (length ds) first after (Some e)
-refuses Failed ds d rest k o m first before mid after left early h late =
-    let f : mid.faults ≡ min (min (before.faults + d.faults) (2 ^ 64 - 1) + 1) (2 ^ 64 - 1) = ap (λ (z : Counts). z.faults) h.0 in
-    let a : first.faults ≤ before.faults = early.faults in
-    let b : mid.faults ≤ after.faults = late.faults in
-    (drop_some ds rest k d left, omega (arith, f, a, b))
-refuses Memory ds d rest k o m first before mid after left early h late = drop_some ds rest k d left
-refuses e ds d rest k o m first before mid after left early h late = absurd h
+pub refuses : (e : HostFault) (ds : List DraftState) (d : DraftState) (rest : List DraftState) (k : ℕ) (o m : Option Store) (before mid : Counts) → drop k ds ≡ d ∷ rest → Publishing d o m before mid (Err e) → IsRefused k (length ds) (Some e)
+refuses Failed ds d rest k o m before mid left h = drop_some ds rest k d left
+refuses Memory ds d rest k o m before mid left h = drop_some ds rest k d left
+refuses e ds d rest k o m before mid left h = absurd h
 
 pub later_both : (a b c : Counts) → IsLater a b → IsLater b c → IsLater a c
 later_both a b c x y =
@@ -123,3 +168,6 @@ readings_left f old new x e = ap (λ l. reading_faults (map f l)) e ∙ ap readi
 
 pub drafts_left : {X : Type 0} (f : X → DraftState) (old new : List X) (x : X) → old ≡ new ++ x ∷ [] → draft_faults (map f old) ≡ draft_faults (map f new) + (f x).faults
 drafts_left f old new x e = ap (λ l. draft_faults (map f l)) e ∙ ap draft_faults (map-append f new (x ∷ [])) ∙ draft_last (map f new) (f x)
+
+pub first_faults : {X : Type 0} (f : X → DraftState) (left rest : List X) (x : X) → left ≡ x ∷ rest → draft_faults (map f left) ≡ draft_faults (map f rest) + (f x).faults
+first_faults f left rest x e = let is = ap (λ l. draft_faults (map f l)) e in omega (arith, is)

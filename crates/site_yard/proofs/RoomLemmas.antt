@@ -20,7 +20,7 @@ use Rattle.lease_book.specs.declared.book.Book.{Book}
 use Rattle.lease_book.specs.Book.{state_at}
 use Rattle.lease_book.specs.Legal.{IsOpen}
 use Rattle.site_yard.specs.Changes.{carries, moved}
-use Rattle.site_yard.specs.Delivered.{AreDelivered, AreDigests, AreFiles, AreLengths, AreLong, Arrival, arrival_at, arrivals, arrivals_of, carried_digest, count_deliveries, delivered_file, delivery_of, kept_at}
+use Rattle.site_yard.specs.Delivered.{AreDelivered, AreDigests, AreFiles, AreLengths, AreOfBytes, Arrival, IsDigestOf, arrival_at, arrivals, arrivals_of, carried_digest, count_deliveries, delivered_file, delivery_of, kept_at}
 use Rattle.site_yard.specs.Kept.{IsOpening}
 use Rattle.site_yard.specs.Loan.{CanSettle}
 use Rattle.site_yard.specs.declared.delivered.Delivered.{Delivered}
@@ -52,13 +52,13 @@ along_more p r e f g ds more h k =
     map-append f ds more ∙ ap (λ l. l ++ map f more) h ∙ ap (λ l. map g (arrivals p r) ++ l) k ∙ sym (map-append g (arrivals p r) (arrivals_of p e)) ∙ ap (map g) (sym (arrivals_more p r e))
 
 list_more : (apply : Apply) (p : Plan) (first r : List Event) (e : Event) (o n : Option Store) (m : Store) (ds more : List Delivered) → is_some n ≡ is_some o
-    → AreFiles more (arrivals_of p e) → AreLengths more (arrivals_of p e) → (IsOpening apply p first m → is_some o ≡ true → AreDigests (carries apply p m) more (arrivals_of p e)) → AreLong more
+    → AreFiles more (arrivals_of p e) → AreLengths more (arrivals_of p e) → (IsOpening apply p first m → is_some o ≡ true → AreDigests (carries apply p m) more (arrivals_of p e)) → AreOfBytes more
     → AreDelivered apply p first r o m ds → AreDelivered apply p first (r ++ e ∷ []) n m (ds ++ more)
-list_more apply p first r e o n m ds more tells files lengths digests long old = record {
+list_more apply p first r e o n m ds more tells files lengths digests of_bytes old = record {
   files = along_more p r e (λ (d : Delivered). d.file.0) (λ (a : Arrival). a.file) ds more old.files files;
   lengths = along_more p r e (λ (d : Delivered). d.length) (λ (a : Arrival). a.size) ds more old.lengths lengths;
   digests = λ opening told. along_more p r e (λ (d : Delivered). Some d.digest) (carried_digest (carries apply p m)) ds more (old.digests opening (sym tells ∙ told)) (digests opening (sym tells ∙ told));
-  long = All-append (λ (d : Delivered). length d.digest ≡ 32) ds more old.long long;
+  of_bytes = All-append (λ (d : Delivered). IsDigestOf d.length d.digest) ds more old.of_bytes of_bytes;
 }
 
 kept_files : (t size : ℕ) (digest : Option (List ℕ)) (f : Option FileId) → (is_some f ≡ true → is_some digest ≡ true) → AreFiles (kept_at size digest f) (arrival_at t size f)
@@ -79,10 +79,13 @@ kept_digests c t size (Some d) None h is = refl
 kept_digests c t size None (Some f) h is = absurd (let x = h refl in cc)
 kept_digests c t size (Some d) (Some f) h is = ap (λ x. x ∷ []) (sym (is f refl))
 
-kept_long : (size : ℕ) (digest : Option (List ℕ)) (f : Option FileId) → IfSome digest (λ d. length d ≡ 32) → AreLong (kept_at size digest f)
-kept_long size None f h = All-nil (λ (d : Delivered). length d.digest ≡ 32)
-kept_long size (Some d) None h = All-nil (λ (d : Delivered). length d.digest ≡ 32)
-kept_long size (Some d) (Some f) h = All-cons (λ (d : Delivered). length d.digest ≡ 32) _ [] h (All-nil (λ (d : Delivered). length d.digest ≡ 32))
+one_number : (n k : ℕ) → n ∷ [] ≡ k ∷ [] → n ≡ k
+one_number n k e = cc
+
+kept_of_bytes : (size : ℕ) (sizes : List ℕ) (digest : Option (List ℕ)) (f : Option FileId) → sizes ≡ size ∷ [] → IfSome digest (λ d. (n : ℕ) × (sizes ≡ n ∷ []) × IsDigestOf n d) → AreOfBytes (kept_at size digest f)
+kept_of_bytes size sizes None f one h = All-nil (λ (d : Delivered). IsDigestOf d.length d.digest)
+kept_of_bytes size sizes (Some d) None one h = All-nil (λ (d : Delivered). IsDigestOf d.length d.digest)
+kept_of_bytes size sizes (Some d) (Some f) one h = All-cons (λ (d : Delivered). IsDigestOf d.length d.digest) _ [] (subst (λ n. IsDigestOf n d) (one_number h.0 size (sym h.1 ∙ one)) h.2) (All-nil (λ (d : Delivered). IsDigestOf d.length d.digest))
 
 -- what a delivery carries is what it moves
 delivers_moved : (v : ℕ → Option (List ℕ)) (k : Option TaskKind) (g : FileId) → delivered_file k ≡ Some g → moved v k ≡ v g.0
@@ -104,13 +107,13 @@ carried_digests : (apply : Apply) (p : Plan) (first : List Event) (m : Store) (o
 carried_digests apply p first m None t rs ds sizes digest g can opening told e = absurd cc
 carried_digests apply p first m (Some s) t rs ds sizes digest g can opening told e = digest_of (carries apply p m t) (kind p t) digest g e (can.carried opening).digest_is
 
-pub arrive_lists : (apply : Apply) (p q : Plan) (h : List Event) (k w t size : ℕ) (o n : Option Store) (m : Store) (list : List Delivered) (rs : List ReadState) (ds : List DraftState) (sizes : List ℕ) (digest : Option (List ℕ)) → q ≡ p → k ≤ length h → is_some n ≡ is_some o → CanSettle apply p (take k h) m o t rs ds sizes digest → ∥ AreDelivered apply p (take k h) (drop k h) o m list ∥₁
+pub arrive_lists : (apply : Apply) (p q : Plan) (h : List Event) (k w t size : ℕ) (o n : Option Store) (m : Store) (list : List Delivered) (rs : List ReadState) (ds : List DraftState) (sizes : List ℕ) (digest : Option (List ℕ)) → q ≡ p → k ≤ length h → is_some n ≡ is_some o → sizes ≡ size ∷ [] → CanSettle apply p (take k h) m o t rs ds sizes digest → ∥ AreDelivered apply p (take k h) (drop k h) o m list ∥₁
     → ∥ AreDelivered apply p (take k (h ++ Arrive w t size ∷ [])) (drop k (h ++ Arrive w t size ∷ [])) n m (list ++ delivery_of (kind q t) size digest) ∥₁
-arrive_lists apply p q h k w t size o n m list rs ds sizes digest same begun tells can old =
+arrive_lists apply p q h k w t size o n m list rs ds sizes digest same begun tells one can old =
     let f : Option FileId = delivered_file (kind p t) in
     let some : is_some f ≡ true → is_some digest ≡ true = λ is. can.delivery ∙ is_delivered p t is in
     subst (λ z. ∥ AreDelivered apply p (take k (h ++ Arrive w t size ∷ [])) (drop k (h ++ Arrive w t size ∷ [])) n m (list ++ delivery_of (kind z t) size digest) ∥₁) (sym same)
     (subst (λ l. ∥ AreDelivered apply p l (drop k (h ++ Arrive w t size ∷ [])) n m (list ++ kept_at size digest f) ∥₁) (sym (take_same h (Arrive w t size ∷ []) k begun))
     (subst (λ l. ∥ AreDelivered apply p (take k h) l n m (list ++ kept_at size digest f) ∥₁) (sym (drop_more h (Arrive w t size ∷ []) k begun))
     (∥∥₁_map old (list_more apply p (take k h) (drop k h) (Arrive w t size) o n m list (kept_at size digest f) tells (kept_files t size digest f some) (kept_lengths t size digest f some)
-    (λ opening told. kept_digests (carries apply p m) t size digest f some (λ g e. carried_digests apply p (take k h) m o t rs ds sizes digest g can opening told e)) (kept_long size digest f can.long)))))
+    (λ opening told. kept_digests (carries apply p m) t size digest f some (λ g e. carried_digests apply p (take k h) m o t rs ds sizes digest g can opening told e)) (kept_of_bytes size sizes digest f one can.of_bytes)))))

@@ -4,13 +4,13 @@ use Rattle.std.specs.Prelude.{Option, Some, None, is_some, IfSome, Ok, Err, slic
 use Rattle.std.proofs.Math.Logic.{∥∥₁_elim}
 use Rattle.std.proofs.Props.{props}
 use Rattle.std.proofs.lemmas.List.{length-map}
-use Rattle.outside.specs.Counts.{IsLater, Rose}
+use Rattle.outside.specs.Counts.{IsLater}
 use Rattle.outside.specs.declared.counts.Counts.{Counts}
 use Rattle.outside.specs.declared.host.HostFault.{HostFault}
 use Rattle.outside.specs.declared.host.HostFault.TheVariants as fault
 use Rattle.outside.specs.declared.store.Store.{Store}
 use Rattle.outside.specs.Parts.{DraftState, ReadState}
-use Rattle.site_yard.specs.Returning.{IsRefused}
+use Rattle.site_yard.specs.Returning.{IsRefused, draft_faults, part_faults, reading_faults, refusal_faults}
 use Rattle.plan_core.specs.declared.plan.Plan.{Plan}
 use Rattle.plan_core.specs.declared.plan.Task.{Task}
 use Rattle.plan_core.specs.declared.plan.TaskKind.{TaskKind}
@@ -28,17 +28,18 @@ use Rattle.lease_book.specs.declared.book.Book.{Book}
 use Rattle.lease_book.specs.Book.{failure, is_tried_again, state_at}
 use Rattle.lease_book.specs.Legal.{Allowed, AreDeclared, AreOfFirst, ArePublished, CauseFits, IsOpen, Legal}
 use Rattle.lease_book.specs.State.{now}
-use Rattle.site_yard.specs.Failures.{IsCounted, faults_of, misses_of}
+use Rattle.site_yard.specs.Failures.{AreMore, IsCounted, IsMore}
 use Rattle.site_yard.specs.Law.{HasPlanLaws, HasRecordLaws}
 use Rattle.site_yard.specs.Lending.{IsHostCause}
-use Rattle.site_yard.specs.Loading.{pair_limit}
 use Rattle.values.specs.Apply.{Apply}
+use Rattle.site_yard.specs.Names.{pair_limit}
 use Rattle.site_yard.specs.Loan.{Aim, AreDrafts, AreSmall, CanSettle, draft_size, pair_target, targets, targets_in}
 use Rattle.site_yard.specs.Moving.{scratch_cause}
-use Rattle.site_yard.specs.Yard.{Adds, IsSettled, IsStop}
+use Rattle.site_yard.specs.Yard.{Adds, IsSettled, IsStop, TakesPublished}
+use Rattle.site_yard.proofs.CountingLemmas.{more_then, shows}
+use Rattle.site_yard.proofs.AimLemmas.{length_take}
 use Rattle.site_yard.proofs.KeptLemmas.{failed}
-use Rattle.site_yard.proofs.LoanLemmas.{HasBookLaws, failed_counted, rose_fault, worker_low}
-use Rattle.site_yard.proofs.NextLemmas.{rose_none}
+use Rattle.site_yard.proofs.LoanLemmas.{HasBookLaws, failed_counted, worker_low}
 use Rattle.site_yard.proofs.PlanLemmas.{not_none, transfer_writes, written_below}
 use Rattle.site_yard.proofs.SuitsLemmas.{good_of, run_makes}
 
@@ -67,11 +68,16 @@ one_size [] n e h = absurd (omega (arith, e))
 one_size (x ∷ []) n e h = ap (λ z. z ∷ []) (sym h)
 one_size (x ∷ y ∷ sizes) n e h = absurd (omega (arith, e))
 
+-- what a settling asked of the host, whose loan had no fault
+pub settled_counts : (rs : List ReadState) (ds : List DraftState) (count : ℕ) (refused : Option HostFault) (start mid now_ : Counts) → part_faults rs ds ≡ 0 → AreMore 0 (reading_faults rs) 0 start mid → AreMore count (draft_faults ds + refusal_faults refused) 0 mid now_ → IsLater mid now_ → AreMore count (refusal_faults refused) 0 start now_
+settled_counts rs ds count refused start mid now_ whole first second later =
+    more_then 0 count count (reading_faults rs) (draft_faults ds + refusal_faults refused) (refusal_faults refused) 0 0 0 start mid now_ (omega arith) (omega (arith, whole)) (omega arith) first second later
+
 -- a refused publishing
-pub stop_cause : (count all : ℕ) (first before now_ : Counts) (e : HostFault) → first.faults ≤ before.faults → IsRefused count all before now_ (Some e) → (count < all) × IsHostCause first now_ (scratch_cause e) × IsStop (scratch_cause e)
-stop_cause count all first before now_ fault.Failed early why = (why.0, (let r = why.1 in omega (arith, early, r)), tt)
-stop_cause count all first before now_ fault.Memory early why = (why, tt, tt)
-stop_cause count all first before now_ e early why = absurd why
+pub stop_cause : (count all : ℕ) (before now_ : Counts) (e : HostFault) → IsRefused count all (Some e) → AreMore count (refusal_faults (Some e)) 0 before now_ → (count < all) × IsHostCause (λ f m. AreMore count f m before now_) (scratch_cause e) × IsStop (scratch_cause e)
+stop_cause count all before now_ fault.Failed why more = (why, more, tt)
+stop_cause count all before now_ fault.Memory why more = (why, more, tt)
+stop_cause count all before now_ e why more = absurd why
 
 take_again : (xs : List ℕ) (k : ℕ) → take k xs ≡ take (length (take k xs)) xs
 take_again [] zero = refl
@@ -83,17 +89,29 @@ settled : (p : Plan) (b : Bool) (w t : ℕ) (sizes : List ℕ) (k : ℕ) (cause 
 settled p true w t sizes k cause h = (refl, refl, h, take_again sizes k)
 settled p false w t sizes k cause h = (refl, refl, h, take_again sizes k)
 
-pub stop_shows : (o : Option Store) (before now_ : Counts) (w t : ℕ) (cause : Cause) (ns : List ℕ) → IsLater before now_ → IsHostCause before now_ cause → IsCounted o before now_ (Fail w t cause ns)
-stop_shows o before now_ w t HostFailed ns later why = rose_fault o before now_ w t ns later why
-stop_shows o before now_ w t Memory ns later why = rose_none o before now_ (Fail w t Memory ns) refl refl later
-stop_shows o before now_ w t cause ns later why = absurd why
+pub stop_shows : (o : Option Store) (count : ℕ) (before now_ : Counts) (w t : ℕ) (cause : Cause) (ns : List ℕ) → IsLater before now_ → IsHostCause (λ f m. AreMore count f m before now_) cause → IsCounted o before now_ (Fail w t cause ns)
+stop_shows o count before now_ w t HostFailed ns later why = shows o count 1 0 before now_ (Fail w t HostFailed ns) refl refl why later
+stop_shows o count before now_ w t Memory ns later why = shows o count 0 0 before now_ (Fail w t Memory ns) refl refl why later
+stop_shows o count before now_ w t cause ns later why = absurd why
 
-pub stop_adds : (b : Book) (o : Option Store) (before now_ : Counts) (w t : ℕ) (sizes : List ℕ) (k : ℕ) (cause : Cause) (new : List Event) → IsLater before now_ → IsHostCause before now_ cause → IsStop cause → new ≡ b.history.events ++ failure b.plan (state_at b) w t cause (take k sizes) ∷ [] → Adds b.history.events new (IsSettled b.plan w t sizes) o before now_
-stop_adds b o before now_ w t sizes k cause new later why stop is = record {
+stop_done : (count : ℕ) (before now_ : Counts) (cause : Cause) → IsHostCause (λ f m. AreMore count f m before now_) cause → IsMore count before.done now_.done
+stop_done count before now_ HostFailed why = why.done_is
+stop_done count before now_ Memory why = why.done_is
+stop_done count before now_ cause why = absurd why
+
+failed_takes : (all count : ℕ) (b : Bool) (w t : ℕ) (cause : Cause) (sizes : List ℕ) → count ≤ length sizes → TakesPublished all (failed b w t cause (take count sizes)) count
+failed_takes all count true w t cause sizes l = sym (length_take sizes count l)
+failed_takes all count false w t cause sizes l = sym (length_take sizes count l)
+
+pub stop_adds : (b : Book) (o : Option Store) (before now_ : Counts) (w t all : ℕ) (sizes : List ℕ) (k : ℕ) (cause : Cause) (new : List Event) → IsLater before now_ → IsHostCause (λ f m. AreMore k f m before now_) cause → IsStop cause → k ≤ length sizes → new ≡ b.history.events ++ failure b.plan (state_at b) w t cause (take k sizes) ∷ [] → Adds b.history.events new (IsSettled b.plan w t sizes) (TakesPublished all) o before now_
+stop_adds b o before now_ w t all sizes k cause new later why stop less is = record {
   entry = failure b.plan (state_at b) w t cause (take k sizes);
   is = is;
   kind = settled b.plan (is_tried_again b.plan (state_at b) t cause) w t sizes k cause stop;
-  counted = failed_counted o before now_ (is_tried_again b.plan (state_at b) t cause) w t cause (take k sizes) (stop_shows o before now_ w t cause (take k sizes) later why);
+  counted = failed_counted o before now_ (is_tried_again b.plan (state_at b) t cause) w t cause (take k sizes) (stop_shows o k before now_ w t cause (take k sizes) later why);
+  calls = k;
+  takes = failed_takes all k (is_tried_again b.plan (state_at b) t cause) w t cause sizes less;
+  asked = stop_done k before now_ cause why;
 }
 
 -- sizes within the declared ones
@@ -145,10 +163,10 @@ published_transfer p proper laws t sizes k moves less =
     let none : k ≡ 0 = omega (arith, l, less) in
     subst (λ n. ArePublished p t (take n sizes)) (sym none) (λ h. refl, none_first p (makes p t))
 
-stop_fits : (p : Plan) (t : ℕ) (first now_ : Counts) (cause : Cause) (ns : List ℕ) → ArePublished p t ns → IsHostCause first now_ cause → CauseFits p t cause ns
-stop_fits p t first now_ HostFailed ns h why = h
-stop_fits p t first now_ Memory ns h why = h
-stop_fits p t first now_ cause ns h why = absurd why
+stop_fits : (p : Plan) (t : ℕ) (C : ℕ → ℕ → Type 0) (cause : Cause) (ns : List ℕ) → ArePublished p t ns → IsHostCause C cause → CauseFits p t cause ns
+stop_fits p t C HostFailed ns h why = h
+stop_fits p t C Memory ns h why = h
+stop_fits p t C cause ns h why = absurd why
 
 -- an open task is a Transfer or a Run
 run_or_moves : (k : Option TaskKind) → is_clean_kind k ≡ false → (k ≡ None → ⊥) → (is_run_kind k ≡ true) ⊎ (is_transfer_kind k ≡ true)
@@ -157,9 +175,9 @@ run_or_moves (Some (Transfer g from to)) n some = inr refl
 run_or_moves (Some (Run a js)) n some = inl refl
 run_or_moves (Some (CleanTask q)) n some = absurd cc
 
-pub settle_fits : (p : Plan) → IsProper p → HasPlanLaws p → (t : ℕ) (sizes : List ℕ) (k : ℕ) (first now_ : Counts) (cause : Cause) → (is_run p t ≡ true) ⊎ (is_transfer p t ≡ true) → length sizes ≡ length (targets p t) → AreSmall (targets p t) sizes → k < length (targets p t) → IsHostCause first now_ cause → CauseFits p t cause (take k sizes)
-settle_fits p proper laws t sizes k first now_ cause (inl run) many small less why = stop_fits p t first now_ cause (take k sizes) (published_run p laws t sizes k run many small) why
-settle_fits p proper laws t sizes k first now_ cause (inr moves) many small less why = stop_fits p t first now_ cause (take k sizes) (published_transfer p proper laws t sizes k moves less) why
+pub settle_fits : (p : Plan) → IsProper p → HasPlanLaws p → (t : ℕ) (sizes : List ℕ) (k : ℕ) (C : ℕ → ℕ → Type 0) (cause : Cause) → (is_run p t ≡ true) ⊎ (is_transfer p t ≡ true) → length sizes ≡ length (targets p t) → AreSmall (targets p t) sizes → k < length (targets p t) → IsHostCause C cause → CauseFits p t cause (take k sizes)
+settle_fits p proper laws t sizes k C cause (inl run) many small less why = stop_fits p t C cause (take k sizes) (published_run p laws t sizes k run many small) why
+settle_fits p proper laws t sizes k C cause (inr moves) many small less why = stop_fits p t C cause (take k sizes) (published_transfer p proper laws t sizes k moves less) why
 
 has_kind : (p : Plan) (t : ℕ) → t < count_tasks p → kind p t ≡ None → ⊥
 unfolding kind
@@ -200,11 +218,11 @@ end_allowed b w t sizes laws opened_ off many small =
     let long : length sizes ≡ length (writes b.plan t) = many ∙ ap length same ∙ length-map (writes b.plan t) (pair_target b.plan) in
     (worker_low b w t opened_, run, opened_, subst (λ l. AreDeclared b.plan l sizes) (sym (run_makes b.plan t run)) (small_all b.plan (writes b.plan t) sizes (λ q h. written_below b.plan laws.plans t q h) long (subst (λ l. AreSmall l sizes) same small)))
 
-pub end_adds : (b : Book) (o : Option Store) (before now_ : Counts) (w t : ℕ) (sizes : List ℕ) (new : List Event) → is_transfer b.plan t ≡ false → IsLater before now_ → new ≡ b.history.events ++ End w t sizes ∷ [] → Adds b.history.events new (IsSettled b.plan w t sizes) o before now_
-end_adds b o before now_ w t sizes new off later is = record { entry = End w t sizes; is = is; kind = (refl, refl, off, refl); counted = rose_none o before now_ (End w t sizes) refl refl later }
+pub end_adds : (b : Book) (o : Option Store) (all count : ℕ) (before now_ : Counts) (w t : ℕ) (sizes : List ℕ) (new : List Event) → is_transfer b.plan t ≡ false → count ≡ all → AreMore count 0 0 before now_ → IsLater before now_ → new ≡ b.history.events ++ End w t sizes ∷ [] → Adds b.history.events new (IsSettled b.plan w t sizes) (TakesPublished all) o before now_
+end_adds b o all count before now_ w t sizes new off whole more later is = record { entry = End w t sizes; is = is; kind = (refl, refl, off, refl); counted = shows o count 0 0 before now_ (End w t sizes) refl refl more later; calls = count; takes = whole; asked = more.done_is }
 
-pub arrive_adds : (b : Book) (o : Option Store) (before now_ : Counts) (w t n : ℕ) (sizes : List ℕ) (new : List Event) → is_transfer b.plan t ≡ true → sizes ≡ n ∷ [] → IsLater before now_ → new ≡ b.history.events ++ Arrive w t n ∷ [] → Adds b.history.events new (IsSettled b.plan w t sizes) o before now_
-arrive_adds b o before now_ w t n sizes new moves one later is = record { entry = Arrive w t n; is = is; kind = (refl, refl, moves, one); counted = rose_none o before now_ (Arrive w t n) refl refl later }
+pub arrive_adds : (b : Book) (o : Option Store) (all count : ℕ) (before now_ : Counts) (w t n : ℕ) (sizes : List ℕ) (new : List Event) → is_transfer b.plan t ≡ true → sizes ≡ n ∷ [] → count ≡ all → AreMore count 0 0 before now_ → IsLater before now_ → new ≡ b.history.events ++ Arrive w t n ∷ [] → Adds b.history.events new (IsSettled b.plan w t sizes) (TakesPublished all) o before now_
+arrive_adds b o all count before now_ w t n sizes new moves one whole more later is = record { entry = Arrive w t n; is = is; kind = (refl, refl, moves, one); counted = shows o count 0 0 before now_ (Arrive w t n) refl refl more later; calls = count; takes = whole; asked = more.done_is }
 
 -- over the conditions of a settling
 module _ (b : Book) (q : Plan) (apply : Apply) (first : List Event) (m : Store) (o : Option Store) (w t : ℕ) (rs : List ReadState) (ds : List DraftState) (sizes : List ℕ) (digest : Option (List ℕ)) (same : b.plan ≡ q) (laws : HasBookLaws b) (opened_ : IsOpen (state_at b) w t) (can : CanSettle apply q first m o t rs ds sizes digest) where
@@ -214,16 +232,20 @@ module _ (b : Book) (q : Plan) (apply : Apply) (first : List Event) (m : Store) 
   many : length sizes ≡ length (targets b.plan t)
   many = sizes_many b.plan t o ds sizes here.loan.drafts here.sizes_are
 
-  pub refused_fits : (k : ℕ) (start before now_ : Counts) (e : HostFault) (cause : Cause) → cause ≡ scratch_cause e → start.faults ≤ before.faults → IsRefused k (length ds) before now_ (Some e) → CauseFits b.plan t cause (take k sizes)
-  refused_fits k start before now_ e cause is early why =
-      let stop = stop_cause k (length ds) start before now_ e early why in
-      subst (λ z. CauseFits b.plan t z (take k sizes)) (sym is)
-      (settle_fits b.plan b.proper laws.plans t sizes k start now_ (scratch_cause e) (open_either b w t laws.records opened_) many here.small (subst (λ n. k < n) (drafts_many o (targets b.plan t) ds here.loan.drafts) stop.0) stop.1)
+  pub drafts_are : length ds ≡ length (targets b.plan t)
+  drafts_are = drafts_many o (targets b.plan t) ds here.loan.drafts
 
-  pub refused_adds : (k : ℕ) (start before now_ : Counts) (e : HostFault) (cause : Cause) (new : List Event) → cause ≡ scratch_cause e → start.faults ≤ before.faults → IsLater start now_ → IsRefused k (length ds) before now_ (Some e) → new ≡ b.history.events ++ failure b.plan (state_at b) w t cause (take k sizes) ∷ [] → Adds b.history.events new (IsSettled b.plan w t sizes) o start now_
-  refused_adds k start before now_ e cause new is early later why added =
-      let stop = stop_cause k (length ds) start before now_ e early why in
-      stop_adds b o start now_ w t sizes k cause new later (subst (IsHostCause start now_) (sym is) stop.1) (subst IsStop (sym is) stop.2) added
+  pub refused_fits : (k : ℕ) (start now_ : Counts) (e : HostFault) (cause : Cause) → cause ≡ scratch_cause e → IsRefused k (length ds) (Some e) → AreMore k (refusal_faults (Some e)) 0 start now_ → CauseFits b.plan t cause (take k sizes)
+  refused_fits k start now_ e cause is why more =
+      let stop = stop_cause k (length ds) start now_ e why more in
+      subst (λ z. CauseFits b.plan t z (take k sizes)) (sym is)
+      (settle_fits b.plan b.proper laws.plans t sizes k (λ f n. AreMore k f n start now_) (scratch_cause e) (open_either b w t laws.records opened_) many here.small (subst (λ n. k < n) drafts_are stop.0) stop.1)
+
+  pub refused_adds : (k : ℕ) (start now_ : Counts) (e : HostFault) (cause : Cause) (new : List Event) → cause ≡ scratch_cause e → IsLater start now_ → IsRefused k (length ds) (Some e) → AreMore k (refusal_faults (Some e)) 0 start now_ → new ≡ b.history.events ++ failure b.plan (state_at b) w t cause (take k sizes) ∷ [] → Adds b.history.events new (IsSettled b.plan w t sizes) (TakesPublished (length (targets b.plan t))) o start now_
+  refused_adds k start now_ e cause new is later why more added =
+      let stop = stop_cause k (length ds) start now_ e why more in
+      let less : k < length ds = stop.0 in
+      stop_adds b o start now_ w t (length (targets b.plan t)) sizes k cause new later (subst (IsHostCause (λ f n. AreMore k f n start now_)) (sym is) stop.1) (subst IsStop (sym is) stop.2) (omega (arith, less, drafts_are, many)) added
 
   pub end_is_allowed : is_transfer b.plan t ≡ false → Allowed b.plan (state_at b) (End w t sizes)
   end_is_allowed off = end_allowed b w t sizes laws opened_ off many here.small

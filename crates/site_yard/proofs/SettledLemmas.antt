@@ -35,8 +35,8 @@ use Rattle.site_yard.proofs.NextLemmas.{rose_none}
 use Rattle.site_yard.proofs.PlacedLemmas.{operations_at, pairs_changes, pairs_operations, placed_as, placed_changes, placed_operations, placed_sizes}
 use Rattle.site_yard.proofs.SettleLemmas.{drafts_many, one_target, open_either, run_targets, stop_cause, stop_shows}
 use Rattle.outside.specs.declared.host.HostFault.{HostFault}
-use Rattle.site_yard.specs.Returning.{IsRefused}
-use Rattle.site_yard.specs.Failures.{IsCounted}
+use Rattle.site_yard.specs.Returning.{IsRefused, refusal_faults}
+use Rattle.site_yard.specs.Failures.{AreMore, IsCounted}
 use Rattle.site_yard.specs.Lending.{IsHostCause}
 use Rattle.site_yard.specs.Moving.{scratch_cause}
 use Rattle.site_yard.specs.Changes.{arrival, moved, or_nil}
@@ -117,12 +117,12 @@ module _ (b : Book) (apply : Apply) (k : ℕ) (o mid n : Option Store) (m : Stor
   end_sized laws None c run = tt
   end_sized laws (Some s) c run = sized_end b.plan b.proper laws.plans (state_at b) w t s ds sizes c.loan.drafts c.sizes_are run
 
-  pub end_keeps : (count : ℕ) → count ≡ length ds → is_run b.plan t ≡ true → n ≡ option_map (λ s. changed_by s (placings (take count ds))) mid → HasBookLaws b
+  pub end_keeps : (count : ℕ) → AreMore count 0 0 before now_ → count ≡ length ds → is_run b.plan t ≡ true → n ≡ option_map (λ s. changed_by s (placings (take count ds))) mid → HasBookLaws b
       → ∥ IsKept apply b.plan (task_numbers b.order.items) (take k (b.history.events ++ End w t sizes ∷ [])) (drop k (b.history.events ++ End w t sizes ∷ [])) n m f0 m0 now_ ∥₁
-  end_keeps count all run is laws =
+  end_keeps count more all run is laws =
       keeps apply b.plan (task_numbers b.order.items) b.history.events k (End w t sizes) o n m f0 m0 before now_ (placings (take (length ds) ds)) begun kept
       (subst (λ j. n ≡ option_map (λ s. changed_by s (placings (take j ds))) o) all (changed count is))
-      (end_operations o can run) (end_made o can run) (end_sized laws o can run) (rose_none o before now_ (End w t sizes) refl refl later)
+      (end_operations o can run) (end_made o can run) (end_sized laws o can run) (rose_none o count before now_ (End w t sizes) refl refl more later)
 
   -- a settling that was stopped
   stop_operations : (z : Option Store) → CanSettle apply b.plan (take k b.history.events) m z t rs ds sizes digest → (again : Bool) (cause : Cause) (count : ℕ) → is_run b.plan t ≡ true → IfSome z (λ s. map operation (placings (take count ds)) ≡ operations_of b.plan (failed again w t cause (take count sizes)))
@@ -162,13 +162,13 @@ module _ (b : Book) (apply : Apply) (k : ℕ) (o mid n : Option Store) (m : Stor
       subst (λ j. ∥ IsKept apply b.plan (task_numbers b.order.items) (take k (b.history.events ++ failed again w t cause (take j sizes) ∷ [])) (drop k (b.history.events ++ failed again w t cause (take j sizes) ∷ [])) n m f0 m0 now_ ∥₁) (sym none)
       (stop_none again cause (subst (λ j. n ≡ option_map (λ s. changed_by s (placings (take j ds))) mid) none is) stop (subst (λ j. IsCounted o before now_ (failed again w t cause (take j sizes))) none counted))
 
-  pub refused_keeps : HasBookLaws b → IsOpen (state_at b) w t → (count : ℕ) (first : Counts) (e : HostFault) (cause : Cause) → cause ≡ scratch_cause e → before.faults ≤ first.faults → IsRefused count (length ds) first now_ (Some e) → n ≡ option_map (λ s. changed_by s (placings (take count ds))) mid
+  pub refused_keeps : HasBookLaws b → IsOpen (state_at b) w t → (count : ℕ) (e : HostFault) (cause : Cause) → cause ≡ scratch_cause e → IsRefused count (length ds) (Some e) → AreMore count (refusal_faults (Some e)) 0 before now_ → n ≡ option_map (λ s. changed_by s (placings (take count ds))) mid
       → ∥ IsKept apply b.plan (task_numbers b.order.items) (take k (b.history.events ++ failure b.plan (state_at b) w t cause (take count sizes) ∷ [])) (drop k (b.history.events ++ failure b.plan (state_at b) w t cause (take count sizes) ∷ [])) n m f0 m0 now_ ∥₁
-  refused_keeps laws opened_ count first e cause is early why placed =
-      let stop = stop_cause count (length ds) before first now_ e early why in
+  refused_keeps laws opened_ count e cause is why more placed =
+      let stop = stop_cause count (length ds) before now_ e why more in
       let again : Bool = is_tried_again b.plan (state_at b) t cause in
       stop_by laws opened_ again cause count placed (subst IsStop (sym is) stop.2) stop.0
-      (failed_counted o before now_ again w t cause (take count sizes) (stop_shows o before now_ w t cause (take count sizes) later (subst (IsHostCause before now_) (sym is) stop.1)))
+      (failed_counted o before now_ again w t cause (take count sizes) (stop_shows o count before now_ w t cause (take count sizes) later (subst (IsHostCause (λ f n. AreMore count f n before now_)) (sym is) stop.1)))
       (open_either b w t laws.records opened_)
 
   -- a Transfer that arrives
@@ -198,13 +198,13 @@ module _ (b : Book) (apply : Apply) (k : ℕ) (o mid n : Option Store) (m : Stor
   arrive_sized laws None c moves size one = tt
   arrive_sized laws (Some s) c moves size one = sized_arrive b.plan b.proper laws.plans (state_at b) w t s ds sizes c.loan.drafts c.sizes_are size (kind b.plan t) refl moves one
 
-  pub arrive_keeps : HasBookLaws b → IsOpen (state_at b) w t → is_transfer b.plan t ≡ true → (size : ℕ) → sizes ≡ size ∷ [] → (count : ℕ) → count ≡ length ds → n ≡ option_map (λ s. changed_by s (placings (take count ds))) mid
+  pub arrive_keeps : HasBookLaws b → IsOpen (state_at b) w t → is_transfer b.plan t ≡ true → (size : ℕ) → sizes ≡ size ∷ [] → (count : ℕ) → AreMore count 0 0 before now_ → count ≡ length ds → n ≡ option_map (λ s. changed_by s (placings (take count ds))) mid
       → ∥ IsKept apply b.plan (task_numbers b.order.items) (take k (b.history.events ++ Arrive w t size ∷ [])) (drop k (b.history.events ++ Arrive w t size ∷ [])) n m f0 m0 now_ ∥₁
-  arrive_keeps laws opened_ moves size one count all is =
+  arrive_keeps laws opened_ moves size one count more all is =
       let aim = aim_of b.plan b.proper laws.plans t (kind b.plan t) refl moves in
       keeps apply b.plan (task_numbers b.order.items) b.history.events k (Arrive w t size) o n m f0 m0 before now_ (placings (take (length ds) ds)) begun kept
       (subst (λ j. n ≡ option_map (λ s. changed_by s (placings (take j ds))) o) all (changed count is))
-      (arrive_operations o can size aim.0 aim.1 one) (arrive_made o can size aim.0 aim.1 one) (arrive_sized laws o can moves size one) (rose_none o before now_ (Arrive w t size) refl refl later)
+      (arrive_operations o can size aim.0 aim.1 one) (arrive_made o can size aim.0 aim.1 one) (arrive_sized laws o can moves size one) (rose_none o count before now_ (Arrive w t size) refl refl more later)
 
 -- the host goes on telling
 pub tells_by : (o n : Option Store) (g : Store → Store) → n ≡ option_map g o → is_some n ≡ is_some o

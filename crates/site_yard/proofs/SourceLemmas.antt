@@ -28,7 +28,6 @@ use Rattle.lease_book.specs.State.{now, opened}
 use Rattle.site_yard.specs.Changes.{carries, changes, or_nil}
 use Rattle.site_yard.specs.Kept.{IsTruthful}
 use Rattle.site_yard.specs.Law.{HasPlanLaws, HasRecordLaws}
-use Rattle.site_yard.specs.Moving.{at_source}
 use Rattle.site_yard.specs.Names.{file_name, pair_file, pair_file_name, pair_site_name, site_name}
 use Rattle.site_yard.specs.Places.{is_published, is_swept}
 use Rattle.site_yard.proofs.FollowLemmas.{not_swept, open_after}

@@ -23,7 +23,7 @@ use Rattle.lease_book.specs.State.{opened}
 use Rattle.site_yard.specs.Changes.{carries, changes, or_nil}
 use Rattle.site_yard.specs.Kept.{IsKept, IsOpening}
 use Rattle.site_yard.specs.Law.{HasPlanLaws, HasRecordLaws}
-use Rattle.site_yard.specs.Loading.{at_pair}
+use Rattle.site_yard.specs.Loan.{at_pair}
 use Rattle.site_yard.specs.Names.{pair_file, pair_file_name, pair_site_name}
 use Rattle.site_yard.specs.Places.{is_published, is_swept, publishes_pair}
 use Rattle.site_yard.proofs.HoldsLemmas.{or_both, record_sets, record_sized, swept_below}

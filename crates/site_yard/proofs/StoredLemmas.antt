@@ -26,9 +26,9 @@ use Rattle.lease_book.specs.Reading.{ends, frees, held_by, held_in, reserves, si
 use Rattle.lease_book.specs.State.{now, opened}
 use Rattle.site_yard.specs.Kept.{HoldsSizes, IsKept}
 use Rattle.site_yard.specs.Law.{HasPlanLaws, HasRecordLaws}
-use Rattle.site_yard.specs.Loading.{SomeUnfit, at_pair, pair_limit}
-use Rattle.site_yard.specs.Moving.{IsUnfit}
-use Rattle.site_yard.specs.Names.{pair_file, pair_site}
+use Rattle.site_yard.specs.Lending.{IsUnfit, SomeUnfit}
+use Rattle.site_yard.specs.Loan.{at_pair}
+use Rattle.site_yard.specs.Names.{pair_file, pair_limit, pair_site}
 use Rattle.site_yard.specs.Places.{is_swept}
 use Rattle.site_yard.proofs.FollowLemmas.{is_read, not_swept, open_after, sound_here}
 use Rattle.site_yard.proofs.LoanLemmas.{HasBookLaws}

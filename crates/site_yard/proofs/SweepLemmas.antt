@@ -4,7 +4,7 @@ use Rattle.std.specs.Prelude.{Option, Some, None, option_map, is_some, IfSome, E
 use Rattle.std.specs.List.{list_any}
 use Rattle.std.specs.FinMap as files
 use Rattle.std.proofs.Math.Logic.{∥∥₁_elim}
-use Rattle.outside.specs.Counts.{IsLater, Rose}
+use Rattle.outside.specs.Counts.{IsLater}
 use Rattle.values.specs.SiteMap.{pair_at}
 use Rattle.outside.specs.Store.{Change, Removes, changed_by, operation}
 use Rattle.values.specs.Apply.{Apply}
@@ -35,7 +35,7 @@ use Rattle.lease_book.specs.Legal.{CauseFits, Legal}
 use Rattle.lease_book.specs.Reading.{ends, frees, reserves, stored}
 use Rattle.lease_book.specs.State.{State, ended, now, opened}
 use Rattle.site_yard.specs.Changes.{carries, removal}
-use Rattle.site_yard.specs.Failures.{IsCounted}
+use Rattle.site_yard.specs.Failures.{AreMore, IsCounted, IsMore}
 use Rattle.site_yard.specs.Kept.{HoldsSizes, IsKept, IsOpening}
 use Rattle.site_yard.specs.Law.{HasPlanLaws, HasRecordLaws}
 use Rattle.site_yard.specs.Leased.{failed_as}
@@ -48,7 +48,8 @@ use Rattle.site_yard.specs.declared.leased.Leased.{Leased}
 use Rattle.site_yard.proofs.AimLemmas.{stop_told}
 use Rattle.site_yard.proofs.FollowLemmas.{choice_after, is_read, not_true, sound_here}
 use Rattle.site_yard.proofs.KeptLemmas.{KeepsSizes, Makes, failed, keeps, parts, told_all}
-use Rattle.site_yard.proofs.LoanLemmas.{HasBookLaws, failed_counted, none_published, plain_keeps, rose_fault}
+use Rattle.site_yard.proofs.CountingLemmas.{shows, shows_missing}
+use Rattle.site_yard.proofs.LoanLemmas.{HasBookLaws, failed_counted, none_published, plain_keeps}
 use Rattle.site_yard.proofs.NextLemmas.{clean_is, rose_none}
 use Rattle.site_yard.proofs.PlaceLemmas.{pair_changed, same, same_is}
 use Rattle.site_yard.proofs.PlanLemmas.{has_writer, names_apart}
@@ -90,14 +91,17 @@ clean_made : (apply : Apply) (p : Plan) (first : List Event) (m : Store) (o : Op
 clean_made apply p first m None w t q e = λ opening. tt
 clean_made apply p first m (Some s) w t q e = λ opening. (sym (ap (removal p) e), tt)
 
+removed_once : (p : Plan) (x : ℕ) (o n : Option Store) (before now_ : Counts) → SweptAway (pair_site_name p x) (pair_file_name p x) o n before now_ (Ok tt) → AreMore 1 0 0 before now_
+removed_once p x o n before now_ by = by.1
+
 pub sweep_keeps : (b : Book) (q : Plan) (apply : Apply) (k : ℕ) (o n : Option Store) (m : Store) (f0 m0 : ℕ) (before now_ : Counts) (w t : ℕ) (x : PairId) → q ≡ b.plan → HasBookLaws b → k ≤ length b.history.events → ∥ IsKept apply b.plan (task_numbers b.order.items) (take k b.history.events) (drop k b.history.events) o m f0 m0 before ∥₁ → kind b.plan t ≡ Some (CleanTask x) → IsLater before now_ → SweptAway (pair_site_name q x.0) (pair_file_name q x.0) o n before now_ (Ok tt)
     → ∥ IsKept apply b.plan (task_numbers b.order.items) (take k (b.history.events ++ Clean w t ∷ [])) (drop k (b.history.events ++ Clean w t ∷ [])) n m f0 m0 now_ ∥₁
 sweep_keeps b q apply k o n m f0 m0 before now_ w t x same_ laws begun kept e later by =
     let cs : List Change = Removes (pair_site_name b.plan x.0) (pair_file_name b.plan x.0) ∷ [] in
     keeps apply b.plan (task_numbers b.order.items) b.history.events k (Clean w t) o n m f0 m0 before now_ cs begun kept
-    (subst (λ p. SweptAway (pair_site_name p x.0) (pair_file_name p x.0) o n before now_ (Ok tt)) same_ by)
+    (subst (λ p. SweptAway (pair_site_name p x.0) (pair_file_name p x.0) o n before now_ (Ok tt)) same_ by).0
     (told_all (map operation cs ≡ operations_of b.plan (Clean w t)) o (sym (ap (removed b.plan) e)))
-    (clean_made apply b.plan (take k b.history.events) m o w t x e) (told_all (KeepsSizes b.plan (state_at b) (Clean w t) cs) o (sized_clean b.plan b.proper laws.plans (state_at b) w t x e)) (rose_none o before now_ (Clean w t) refl refl later)
+    (clean_made apply b.plan (take k b.history.events) m o w t x e) (told_all (KeepsSizes b.plan (state_at b) (Clean w t) cs) o (sized_clean b.plan b.proper laws.plans (state_at b) w t x e)) (rose_none o 1 before now_ (Clean w t) refl refl (removed_once b.plan x.0 o n before now_ (subst (λ p. SweptAway (pair_site_name p x.0) (pair_file_name p x.0) o n before now_ (Ok tt)) same_ by)) later)
 
 -- the pair of a Clean that is the Choice stands in the store
 has_split : (before later : List ℕ) (t : ℕ) → has (before ++ t ∷ later) t ≡ true
@@ -158,21 +162,25 @@ never_absent b apply k o m f0 m0 c t q laws kept choice e s is none =
     cleaned_there b.plan b.proper laws.plans (task_numbers b.order.items) laws.records b.history.events s l (sized_told b.plan (task_numbers b.order.items) b.history.events k apply o m s f0 m0 c is x) t q choice e none))
 
 -- what a removal that was refused says
-missed_none : (o : Option Store) (before now_ : Counts) (w t : ℕ) (site name : List ℕ) → IsLater before now_ → ((s : Store) → o ≡ Some s → pair_at s.scratch site name ≡ None → ⊥) → Rose before.misses now_.misses → IfSome o (λ s. pair_at s.scratch site name ≡ None) → IsCounted o before now_ (Fail w t HostFailed [])
-missed_none None before now_ w t site name later never rose gone =
-    let lf : before.faults ≤ now_.faults = later.faults in
-    (later, λ x y. omega (arith, y, lf, rose))
-missed_none (Some s) before now_ w t site name later never rose gone = absurd (never s refl gone)
+missed_none : (o : Option Store) (before now_ : Counts) (w t : ℕ) (site name : List ℕ) → IsLater before now_ → ((s : Store) → o ≡ Some s → pair_at s.scratch site name ≡ None → ⊥) → AreMore 0 0 1 before now_ → IfSome o (λ s. pair_at s.scratch site name ≡ None) → IsCounted o before now_ (Fail w t HostFailed [])
+missed_none None before now_ w t site name later never missed gone = shows_missing 0 before now_ (Fail w t HostFailed []) refl refl missed later
+missed_none (Some s) before now_ w t site name later never missed gone = absurd (never s refl gone)
 
 swept_counted : (o n : Option Store) (before now_ : Counts) (w t : ℕ) (site name : List ℕ) (cause : Cause) → IsLater before now_ → ((s : Store) → o ≡ Some s → pair_at s.scratch site name ≡ None → ⊥) → SweptAway site name o n before now_ (Err cause) → IsCounted o before now_ (Fail w t cause [])
-swept_counted o n before now_ w t site name HostFailed later never (inl rose, is) = rose_fault o before now_ w t [] later rose
+swept_counted o n before now_ w t site name HostFailed later never (inl failed_, is) = shows o 0 1 0 before now_ (Fail w t HostFailed []) refl refl failed_ later
 swept_counted o n before now_ w t site name HostFailed later never (inr missed, is) = missed_none o before now_ w t site name later never missed.0 missed.1
-swept_counted o n before now_ w t site name Memory later never why = rose_none o before now_ (Fail w t Memory []) refl refl later
+swept_counted o n before now_ w t site name Memory later never why = shows o 0 0 0 before now_ (Fail w t Memory []) refl refl why.0 later
 swept_counted o n before now_ w t site name cause later never why = absurd why
+
+swept_none : (site name : List ℕ) (o n : Option Store) (before now_ : Counts) (cause : Cause) → SweptAway site name o n before now_ (Err cause) → IsMore 0 before.done now_.done
+swept_none site name o n before now_ HostFailed (inl failed_, is) = failed_.done_is
+swept_none site name o n before now_ HostFailed (inr missed, is) = missed.0.done_is
+swept_none site name o n before now_ Memory why = why.0.done_is
+swept_none site name o n before now_ cause why = absurd why
 
 swept_same : (site name : List ℕ) (o n : Option Store) (before now_ : Counts) (cause : Cause) → SweptAway site name o n before now_ (Err cause) → n ≡ o
 swept_same site name o n before now_ HostFailed why = why.1
-swept_same site name o n before now_ Memory why = why
+swept_same site name o n before now_ Memory why = why.1
 swept_same site name o n before now_ cause why = absurd why
 
 pub swept_tells : (site name : List ℕ) (o n : Option Store) (before now_ : Counts) (cause : Cause) → SweptAway site name o n before now_ (Err cause) → is_some n ≡ is_some o
@@ -192,17 +200,20 @@ module _ (b : Book) (q : Plan) (apply : Apply) (k : ℕ) (o n : Option Store) (m
   here : SweptAway (pair_site_name b.plan x.0) (pair_file_name b.plan x.0) o n before now_ (Err cause)
   here = subst (λ p. SweptAway (pair_site_name p x.0) (pair_file_name p x.0) o n before now_ (Err cause)) same_ by
 
-  shows : IsCounted o before now_ (Fail w t.0 cause [])
-  shows = swept_counted o n before now_ w t.0 (pair_site_name b.plan x.0) (pair_file_name b.plan x.0) cause later (never_absent b apply k o m f0 m0 before t.0 x laws kept choice e) here
+  none_done : IsMore 0 before.done now_.done
+  none_done = swept_none (pair_site_name q x.0) (pair_file_name q x.0) o n before now_ cause by
+
+  shown : IsCounted o before now_ (Fail w t.0 cause [])
+  shown = swept_counted o n before now_ w t.0 (pair_site_name b.plan x.0) (pair_file_name b.plan x.0) cause later (never_absent b apply k o m f0 m0 before t.0 x laws kept choice e) here
 
   pub sweep_stops : k ≤ length b.history.events → ∥ IsKept apply b.plan (task_numbers b.order.items) (take k (b.history.events ++ failure b.plan (state_at b) w t.0 cause [] ∷ [])) (drop k (b.history.events ++ failure b.plan (state_at b) w t.0 cause [] ∷ [])) n m f0 m0 now_ ∥₁
   sweep_stops begun = plain_keeps apply b k o n m f0 m0 before now_ w t.0 cause begun kept (swept_same (pair_site_name q x.0) (pair_file_name q x.0) o n before now_ cause by)
       (λ opening. stop_told apply b.plan m o t.0 cause (swept_stop (pair_site_name q x.0) (pair_file_name q x.0) o n before now_ cause by))
-      (failed_counted o before now_ (is_tried_again b.plan (state_at b) t.0 cause) w t.0 cause [] shows)
+      (failed_counted o before now_ (is_tried_again b.plan (state_at b) t.0 cause) w t.0 cause [] shown)
 
   answers : (again : Bool) (new : List Event) → new ≡ b.history.events ++ failed again w t.0 cause [] ∷ [] → Leases b.plan (state_at b) w b.history.events new o before now_ (failed_as t (Some (failed again w t.0 cause [])))
-  answers true new is = (choice, clean_is b.plan t.0 x e, record { entry = Again w t.0 cause []; is = is; kind = (refl, refl, swept_stop (pair_site_name q x.0) (pair_file_name q x.0) o n before now_ cause by); counted = failed_counted o before now_ true w t.0 cause [] shows })
-  answers false new is = (choice, clean_is b.plan t.0 x e, record { entry = Fail w t.0 cause []; is = is; kind = (refl, refl, swept_stop (pair_site_name q x.0) (pair_file_name q x.0) o n before now_ cause by); counted = shows })
+  answers true new is = (choice, clean_is b.plan t.0 x e, record { entry = Again w t.0 cause []; is = is; kind = (refl, refl, swept_stop (pair_site_name q x.0) (pair_file_name q x.0) o n before now_ cause by); counted = failed_counted o before now_ true w t.0 cause [] shown; calls = 0; takes = refl; asked = none_done })
+  answers false new is = (choice, clean_is b.plan t.0 x e, record { entry = Fail w t.0 cause []; is = is; kind = (refl, refl, swept_stop (pair_site_name q x.0) (pair_file_name q x.0) o n before now_ cause by); counted = shown; calls = 0; takes = refl; asked = none_done })
 
   pub sweep_answers : (new : List Event) (answer : Leased) → new ≡ b.history.events ++ failure b.plan (state_at b) w t.0 cause [] ∷ [] → answer ≡ failed_as t (slice_get new (length new - 1)) → Leases b.plan (state_at b) w b.history.events new o before now_ answer
   sweep_answers new answer is said =

@@ -53,8 +53,13 @@ carried_digest c a = option_map sha256 (c a.task a.file)
 abbrev pub AreDigests : (ℕ → ℕ → Option (List ℕ)) → List Delivered → List Arrival → Type 0
 AreDigests c ds arrived = map (λ (d : Delivered). Some d.digest) ds ≡ map (carried_digest c) arrived
 
-abbrev pub AreLong : List Delivered → Type 0
-AreLong ds = All (λ (d : Delivered). length d.digest ≡ 32) ds
+-- some bytes have this length and this digest
+abbrev pub IsDigestOf : ℕ → List ℕ → Type 0
+IsDigestOf n digest = ∥ (bytes : List ℕ) × (length bytes ≡ n) × (sha256 bytes ≡ digest) ∥₁
+
+-- told or not, each delivery has the length and the digest of some bytes
+abbrev pub AreOfBytes : List Delivered → Type 0
+AreOfBytes ds = All (λ (d : Delivered). IsDigestOf d.length d.digest) ds
 
 -- What a yard's list says of the entries since its opening; the digests where the host tells, under the premise on the
 -- opening.
@@ -62,14 +67,14 @@ pub record AreDelivered (apply : Apply) (p : Plan) (first r : List Event) (told 
   pub files : AreFiles ds (arrivals p r)
   pub lengths : AreLengths ds (arrivals p r)
   pub digests : IsOpening apply p first marked → is_some told ≡ true → AreDigests (carries apply p marked) ds (arrivals p r)
-  pub long : AreLong ds
+  pub of_bytes : AreOfBytes ds
 
 -- The same of a yard that was opened with no entry.
 pub record AreAllDelivered (apply : Apply) (p : Plan) (r : List Event) (told : Option Store) (marked : Store) (ds : List Delivered) : Type 0 where
   pub files : AreFiles ds (arrivals p r)
   pub lengths : AreLengths ds (arrivals p r)
   pub digests : IfSome told (λ s. AreDigests (carries apply p marked) ds (arrivals p r))
-  pub long : AreLong ds
+  pub of_bytes : AreOfBytes ds
 
 -- the tasks of a plan that deliver a file; what is kept of a delivery of these bytes
 unfoldable pub count_deliveries : Plan → ℕ

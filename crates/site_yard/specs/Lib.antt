@@ -12,7 +12,6 @@ pub mod Law
 -- What the calls answer.
 pub mod Returning
 pub mod Moving
-pub mod Loading
 pub mod Storing
 pub mod Loan
 pub mod Lending

@@ -1,6 +1,7 @@
 -- What a task has outside the lock: a reading of each file that it reads, and a draft of each that it writes.
 use Rattle.std.specs.Prelude.{◌≡◌, ℕ, ◌≤◌, List, [], ◌∷◌, map, length, Option, Some, None, option_map, is_some, IfSome}
 use Rattle.std.specs.FinMap as files
+use Rattle.values.specs.SiteMap.{pair_at}
 use Rattle.outside.specs.declared.counts.Counts.{Counts}
 use Rattle.outside.specs.declared.store.Store.{Store}
 use Rattle.values.specs.Apply.{Apply}
@@ -17,10 +18,11 @@ use Rattle.plan_core.specs.declared.plan.TaskKind.TheVariants.{Transfer}
 use Rattle.plan_core.specs.Words.{declared, kind, reads, writes}
 use Rattle.storage_simulation.specs.Goods.{is_delivery, or_zero}
 use Rattle.run_record.specs.Events.{Event}
-use Rattle.site_yard.specs.Loading.{at_pair, pair_limit}
+use Rattle.site_yard.specs.Delivered.{IsDigestOf}
 use Rattle.site_yard.specs.Kept.{IsOpening}
 use Rattle.site_yard.specs.Changes.{carries, moved}
-use Rattle.site_yard.specs.Names.{file_name, pair_file, pair_file_name, pair_site_name}
+use Rattle.site_yard.specs.Names.{file_name, pair_file, pair_file_name, pair_limit, pair_site_name}
+use Rattle.site_yard.specs.Returning.{part_faults}
 use Rattle.site_yard.specs.Truthful.{HasChecksum}
 use Rattle.site_yard.specs.Yard.{content}
 
@@ -43,6 +45,10 @@ targets_in p _ qs = map (pair_target p) qs
 
 abbrev pub targets : Plan → ℕ → List Aim
 targets p t = targets_in p (kind p t) (writes p t)
+
+-- what stands at a pair's name
+abbrev pub at_pair : Plan → Store → ℕ → Option (List ℕ)
+at_pair p s q = pair_at s.scratch (pair_site_name p q) (pair_file_name p q)
 
 -- readings that were just opened: of a Transfer from a pfn the one of the replica, else one of each pair that is read
 abbrev pub AreOpened : Plan → List ℕ → Option Store → List ReadState → Type 0
@@ -114,11 +120,12 @@ pub record AreCarried (p : Plan) (c : ℕ → ℕ → Option (List ℕ)) (t : �
   pub digest_is : IfSome digest (λ d. option_map sha256 (moved (c t) (kind p t)) ≡ Some d)
   pub sum : HasChecksum p (c t) (kind p t)
 
--- What may be settled. The clause on what is carried stands under the premise on the opening.
+-- What may be settled: no call of a part has failed. The clause on what is carried stands under the premise on the opening.
 pub record CanSettle (apply : Apply) (p : Plan) (first : List Event) (marked : Store) (told : Option Store) (t : ℕ) (rs : List ReadState) (ds : List DraftState) (sizes : List ℕ) (digest : Option (List ℕ)) : Type 0 where
   pub loan : IsLoan p told t rs ds
+  pub whole : part_faults rs ds ≡ 0
   pub sizes_are : map draft_size ds ≡ sizes
   pub small : AreSmall (targets p t) sizes
   pub delivery : is_some digest ≡ is_delivery p t
-  pub long : IfSome digest (λ d. length d ≡ 32)
+  pub of_bytes : IfSome digest (λ d. (n : ℕ) × (sizes ≡ n ∷ []) × IsDigestOf n d)
   pub carried : IsOpening apply p first marked → IfSome told (λ s. AreCarried p (carries apply p marked) t ds digest)

@@ -1,6 +1,5 @@
 -- Parts, given back to their host.
-use Rattle.std.specs.Prelude.{◌≡◌, ℕ, ◌+◌, ◌-◌, ◌^◌, ◌≤◌, ◌<◌, min, List, [], ◌∷◌, ◌++◌, length, take, Option, Some, None, option_map}
-use Rattle.outside.specs.Counts.{Rose}
+use Rattle.std.specs.Prelude.{◌≡◌, ℕ, ◌+◌, ◌<◌, List, [], ◌∷◌, ◌++◌, length, take, Option, Some, None, option_map}
 use Rattle.outside.specs.Store.{Change, changed_by}
 use Rattle.outside.specs.declared.counts.Counts.{Counts}
 use Rattle.outside.specs.declared.host.HostFault.{HostFault}
@@ -8,6 +7,7 @@ use Rattle.outside.specs.declared.host.HostFault.TheVariants.{Failed, Memory}
 use Rattle.outside.specs.declared.store.Store.{Store}
 use Rattle.outside.specs.Lending.{placing}
 use Rattle.outside.specs.Parts.{DraftState, Drafted, ReadState}
+use Rattle.site_yard.specs.Failures.{AreMore}
 
 -- how often calls of some parts failed
 abbrev pub reading_faults : List ReadState → ℕ
@@ -18,9 +18,8 @@ abbrev pub draft_faults : List DraftState → ℕ
 draft_faults [] = 0
 draft_faults (s ∷ ss) = s.faults + draft_faults ss
 
--- the host's count has these besides; at its type's end it stands still
-abbrev pub TakesOver : ℕ → Counts → Counts → Type 0
-TakesOver n before after = min (before.faults + n) (2 ^ 64 - 1) ≤ after.faults
+abbrev pub part_faults : List ReadState → List DraftState → ℕ
+part_faults rs ds = reading_faults rs + draft_faults ds
 
 -- the changes by which drafts come to their places; one that tells nothing changes nothing that is told
 abbrev pub placing_of : Option Drafted → List Change
@@ -31,14 +30,19 @@ abbrev pub placings : List DraftState → List Change
 placings [] = []
 placings (d ∷ ds) = placing_of d.told ++ placings ds
 
--- why the next draft was refused, if one was
-abbrev pub IsRefused : ℕ → ℕ → Counts → Counts → Option HostFault → Type 0
-IsRefused count all before after None = count ≡ all
-IsRefused count all before after (Some Failed) = (count < all) × Rose before.faults after.faults
-IsRefused count all before after (Some Memory) = count < all
-IsRefused count all before after (Some _) = ⊥
+-- why the next draft was refused, if one was; what this adds to the host's count
+abbrev pub IsRefused : ℕ → ℕ → Option HostFault → Type 0
+IsRefused count all None = count ≡ all
+IsRefused count all (Some Failed) = count < all
+IsRefused count all (Some Memory) = count < all
+IsRefused count all (Some _) = ⊥
 
--- the first of these drafts were published, so many
+abbrev pub refusal_faults : Option HostFault → ℕ
+refusal_faults (Some Failed) = 1
+refusal_faults _ = 0
+
+-- The first of these drafts were published, so many. The counts that all of them had are the host's then.
 pub record Publishes (ds : List DraftState) (old new : Option Store) (before after : Counts) (count : ℕ) (refused : Option HostFault) : Type 0 where
   pub told : new ≡ option_map (λ s. changed_by s (placings (take count ds))) old
-  pub refused_is : IsRefused count (length ds) before after refused
+  pub refused_is : IsRefused count (length ds) refused
+  pub asked : AreMore count (draft_faults ds + refusal_faults refused) 0 before after

@@ -9,9 +9,7 @@ use Rattle.plan_core.specs.Words.{kind, outputs, writes}
 use Rattle.run_record.specs.declared.entry.Cause.{Cause}
 use Rattle.run_record.specs.declared.entry.Cause.TheVariants.{HostFailed, Memory}
 use Rattle.lease_book.specs.Legal.{has_job}
-use Rattle.site_yard.specs.Loading.{pair_limit}
-use Rattle.site_yard.specs.Moving.{HaveFaultsRisen}
-use Rattle.site_yard.specs.Names.{pair_file, pair_file_name, pair_site_name}
+use Rattle.site_yard.specs.Names.{pair_file, pair_limit}
 
 -- no output is longer than the declared size of its pair's file
 abbrev pub AreWithin : Plan → List ℕ → List (List ℕ) → Type 0

@@ -16,10 +16,10 @@ use Rattle.lease_book.specs.Choice.{HasNoChoice, IsChoice, IsFresh}
 use Rattle.lease_book.specs.Legal.{IsComplete}
 use Rattle.lease_book.specs.State.{State}
 use Rattle.outside.specs.Parts.{DraftState, ReadState}
-use Rattle.site_yard.specs.Returning.{draft_faults, reading_faults}
 use Rattle.site_yard.specs.Changes.{carries}
-use Rattle.site_yard.specs.Failures.{IsCounted}
+use Rattle.site_yard.specs.Failures.{AreMore, IsCounted, IsMore}
 use Rattle.site_yard.specs.Names.{pair_file, pair_site}
+use Rattle.site_yard.specs.Returning.{part_faults}
 use Rattle.site_yard.specs.Truthful.{IsCause}
 use Rattle.site_yard.specs.declared.leased.Leased.{Leased}
 use Rattle.site_yard.specs.declared.leased.Leased.TheVariants as leased
@@ -30,12 +30,31 @@ IsStop HostFailed = Unit {0}
 IsStop Memory = Unit {0}
 IsStop _ = ⊥
 
--- one entry more, whose failure the host's counts show
-pub record Adds (r after : List Event) (IsKind : Event → Type 0) (told : Option Store) (before now : Counts) : Type 0 where
+-- One entry more. The host's counts show its failure, and how many calls did what was asked for it.
+pub record Adds (r after : List Event) (IsKind : Event → Type 0) (Takes : Event → ℕ → Type 0) (told : Option Store) (before now : Counts) : Type 0 where
   pub entry : Event
   pub is : after ≡ r ++ entry ∷ []
   pub kind : IsKind entry
   pub counted : IsCounted told before now entry
+  pub calls : ℕ
+  pub takes : Takes entry calls
+  pub asked : IsMore calls before.done now.done
+
+-- no call did what was asked; no more of them did than make the parts of a task
+abbrev pub TakesNone : Event → ℕ → Type 0
+TakesNone e n = n ≡ 0
+
+abbrev pub TakesWithin : ℕ → Event → ℕ → Type 0
+TakesWithin most e n = n ≤ most
+
+-- how many drafts of a task an entry has published
+abbrev pub published_by : ℕ → Event → ℕ
+published_by all (Fail w t cause ns) = length ns
+published_by all (Again w t cause ns) = length ns
+published_by all _ = all
+
+abbrev pub TakesPublished : ℕ → Event → ℕ → Type 0
+TakesPublished all e n = n ≡ published_by all e
 
 -- a failure at a Clean
 abbrev pub IsFail : ℕ → ℕ → Event → Type 0
@@ -46,15 +65,15 @@ abbrev pub IsAgain : ℕ → ℕ → Event → Type 0
 IsAgain w t (Again v u c ns) = (v ≡ w) × (u ≡ t) × IsStop c
 IsAgain w t _ = ⊥
 
--- what a lease answers
+-- what a lease answers; the host is asked for a removal alone
 abbrev pub Leases : Plan → State → ℕ → List Event → List Event → Option Store → Counts → Counts → Leased → Type 0
-Leases p s w r after told before now (leased.Granted t) = (is_clean p t.0 ≡ false) × ((IsChoice p s t.0 × (after ≡ r ++ Grant w t.0 ∷ [])) ⊎ (IsFresh p s t.0 × (after ≡ r ++ Regrant w t.0 ∷ [])))
-Leases p s w r after told before now (leased.Swept t) = IsChoice p s t.0 × (is_clean p t.0 ≡ true) × (after ≡ r ++ Clean w t.0 ∷ [])
-Leases p s w r after told before now (leased.Failed t) = IsChoice p s t.0 × (is_clean p t.0 ≡ true) × Adds r after (IsFail w t.0) told before now
-Leases p s w r after told before now (leased.Again t) = IsChoice p s t.0 × (is_clean p t.0 ≡ true) × Adds r after (IsAgain w t.0) told before now
-Leases p s w r after told before now leased.Done = IsComplete p s × (after ≡ r)
-Leases p s w r after told before now leased.Stopped = (s.failing ≡ true) × (after ≡ r)
-Leases p s w r after told before now leased.NotYet = (s.failing ≡ false) × HasNoChoice p s × ((t : ℕ) → IsFresh p s t → ⊥) × ((u : ℕ) × (s.phase u ≡ Runs)) × (after ≡ r)
+Leases p s w r after told before now (leased.Granted t) = (is_clean p t.0 ≡ false) × ((IsChoice p s t.0 × (after ≡ r ++ Grant w t.0 ∷ [])) ⊎ (IsFresh p s t.0 × (after ≡ r ++ Regrant w t.0 ∷ []))) × (now ≡ before)
+Leases p s w r after told before now (leased.Swept t) = IsChoice p s t.0 × (is_clean p t.0 ≡ true) × (after ≡ r ++ Clean w t.0 ∷ []) × AreMore 1 0 0 before now
+Leases p s w r after told before now (leased.Failed t) = IsChoice p s t.0 × (is_clean p t.0 ≡ true) × Adds r after (IsFail w t.0) TakesNone told before now
+Leases p s w r after told before now (leased.Again t) = IsChoice p s t.0 × (is_clean p t.0 ≡ true) × Adds r after (IsAgain w t.0) TakesNone told before now
+Leases p s w r after told before now leased.Done = IsComplete p s × (after ≡ r) × (now ≡ before)
+Leases p s w r after told before now leased.Stopped = (s.failing ≡ true) × (after ≡ r) × (now ≡ before)
+Leases p s w r after told before now leased.NotYet = (s.failing ≡ false) × HasNoChoice p s × ((t : ℕ) → IsFresh p s t → ⊥) × ((u : ℕ) × (s.phase u ≡ Runs)) × (after ≡ r) × (now ≡ before)
 
 -- what the writer of a pair carries for its file
 abbrev pub content : Plan → (ℕ → ℕ → Option (List ℕ)) → ℕ → Option (List ℕ)
@@ -80,10 +99,10 @@ IsWorkers Absent = ⊥
 IsWorkers (TooLong n) = ⊥
 IsWorkers _ = Unit {0}
 
--- a failure of the host that a worker tells is shown by the count of one of the loan's parts
+-- a worker tells a failure of the host where one call of the loan's parts failed, and else none did
 abbrev pub IsBehind : List ReadState → List DraftState → Cause → Type 0
-IsBehind rs ds HostFailed = 1 ≤ reading_faults rs + draft_faults ds
-IsBehind rs ds _ = Unit {0}
+IsBehind rs ds HostFailed = part_faults rs ds ≡ 1
+IsBehind rs ds _ = part_faults rs ds ≡ 0
 
 -- where it is told, the cause is so
 abbrev pub IsTold : Apply → Plan → Store → Option Store → ℕ → Cause → Type 0

@@ -5,7 +5,7 @@ ghost use Rattle.plan_core.specs.Words.{task_numbers};
 ghost use Rattle.lease_book.specs.Book.{state_at};
 ghost use Rattle.lease_book.specs.Legal.{IsComplete, Legal};
 ghost use Rattle.site_yard.specs.Changes.{carries};
-ghost use Rattle.site_yard.specs.Delivered.{AreAllDelivered, AreDigests, AreFiles, AreLengths, AreLong, arrivals};
+ghost use Rattle.site_yard.specs.Delivered.{AreAllDelivered, AreDigests, AreFiles, AreLengths, AreOfBytes, arrivals};
 ghost use Rattle.site_yard.specs.Ending.{Ends};
 ghost use Rattle.site_yard.specs.Failures.{AreCounted};
 ghost use Rattle.site_yard.specs.Kept.{IsOpening};
@@ -59,7 +59,7 @@ impl<H: Host, T: Tool> Yard<H, T> {
         ensures files { AreFiles result.now (arrivals self.now.ordered.plan (drop self.now.opened self.now.book.history.events)) }
         ensures lengths { AreLengths result.now (arrivals self.now.ordered.plan (drop self.now.opened self.now.book.history.events)) }
         ensures digests { IsOpening T.apply self.now.ordered.plan (take self.now.opened self.now.book.history.events) (H.marked self.now.host) → IfSome (H.told self.now.host) (λ s. AreDigests (carries T.apply self.now.ordered.plan (H.marked self.now.host)) result.now (arrivals self.now.ordered.plan (drop self.now.opened self.now.book.history.events))) }
-        ensures long { AreLong result.now }
+        ensures of_bytes { AreOfBytes result.now }
         ensures all { take self.now.opened self.now.book.history.events ≡ [] → AreAllDelivered T.apply self.now.ordered.plan self.now.book.history.events (H.told self.now.host) (H.marked self.now.host) result.now }
     {
         &self.delivered

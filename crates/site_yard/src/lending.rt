@@ -4,7 +4,9 @@ ghost use Rattle.std.specs.Prelude.{◌≡◌, ◌≤◌, ◌<◌, [], IfErr, If
 ghost use Rattle.outside.specs.Counts.{IsLater};
 ghost use Rattle.plan_core.specs.Words.{kind, pair_numbers, reads, writes};
 ghost use Rattle.site_yard.specs.Loan.{AreReadings, delivery_target, fresh_at, pair_target, targets};
-ghost use Rattle.site_yard.specs.Lending.{MakesDraft, MakesDrafts, OpensPair, OpensPairs, OpensReadings, RefusesLoan};
+ghost use Rattle.site_yard.specs.Failures.{AreMore};
+ghost use Rattle.site_yard.specs.Lending.{MakesDraft, MakesDrafts, OpensPair, OpensPairs, OpensReadings, RefusesLoan, count_parts};
+ghost use Rattle.site_yard.specs.Returning.{draft_faults, reading_faults};
 
 use crate::moving::{replica_cause, scratch_cause};
 use crate::names::{declared_size, file_name, pair_file_name, pair_limit, pair_site_name};
@@ -51,6 +53,7 @@ fn open_pairs<H: Host>(
     requires none { readings.old.items ≡ [] }
     requires room { length pairs.now ≤ vec_capacity readings.old }
     ensures answer { OpensPairs plan.now (pair_numbers pairs.now) (H.told host.old) (H.counts host.old) (H.counts host.new) (map H.Reading.state readings.new.items) result }
+    ensures whole { reading_faults (map H.Reading.state readings.new.items) ≡ 0 }
     ensures told { H.told host.new ≡ H.told host.old }
     ensures marked { H.marked host.new ≡ H.marked host.old }
     ensures later { IsLater (H.counts host.old) (H.counts host.new) }
@@ -75,6 +78,7 @@ pub(crate) fn open_readings<H: Host>(
     requires none { readings.old.items ≡ [] }
     requires room { length (reads plan.now task.0) < vec_capacity readings.old }
     ensures answer { OpensReadings plan.now (kind plan.now task.0) (reads plan.now task.0) (H.told host.old) (H.counts host.old) (H.counts host.new) (map H.Reading.state readings.new.items) result }
+    ensures whole { reading_faults (map H.Reading.state readings.new.items) ≡ 0 }
     ensures told { H.told host.new ≡ H.told host.old }
     ensures marked { H.marked host.new ≡ H.marked host.old }
     ensures later { IsLater (H.counts host.old) (H.counts host.new) }
@@ -136,6 +140,7 @@ fn draft_pairs<H: Host>(
     requires none { drafts.old.items ≡ [] }
     requires room { length pairs.now ≤ vec_capacity drafts.old }
     ensures answer { MakesDrafts (map (pair_target plan.now) (pair_numbers pairs.now)) (H.told host.old) (H.counts host.old) (H.counts host.new) (map H.Draft.state drafts.new.items) result }
+    ensures whole { draft_faults (map H.Draft.state drafts.new.items) ≡ 0 }
     ensures told { H.told host.new ≡ H.told host.old }
     ensures marked { H.marked host.new ≡ H.marked host.old }
     ensures later { IsLater (H.counts host.old) (H.counts host.new) }
@@ -181,6 +186,7 @@ pub(crate) fn make_drafts<H: Host>(
     requires none { drafts.old.items ≡ [] }
     requires room { length (writes plan.now task.0) < vec_capacity drafts.old }
     ensures answer { MakesDrafts (targets plan.now task.0) (H.told host.old) (H.counts host.old) (H.counts host.new) (map H.Draft.state drafts.new.items) result }
+    ensures whole { draft_faults (map H.Draft.state drafts.new.items) ≡ 0 }
     ensures told { H.told host.new ≡ H.told host.old }
     ensures marked { H.marked host.new ≡ H.marked host.old }
     ensures later { IsLater (H.counts host.old) (H.counts host.new) }
@@ -212,7 +218,8 @@ pub(crate) fn make_loan<H: Host>(
 ) -> Result<Loan<H>, Cause>
     ensures readings { IfOk result (λ l. AreReadings plan.now (kind plan.now task.0) (reads plan.now task.0) (H.told host.old) (map H.Reading.state l.readings.items)) }
     ensures drafts { IfOk result (λ l. map H.Draft.state l.drafts.items ≡ map (fresh_at (H.told host.old)) (targets plan.now task.0)) }
-    ensures refused { IfErr result (λ c. RefusesLoan plan.now (kind plan.now task.0) (reads plan.now task.0) (H.told host.old) (H.counts host.old) (H.counts host.new) c) }
+    ensures asked { IfOk result (λ l. AreMore (count_parts plan.now task.0) 0 0 (H.counts host.old) (H.counts host.new)) }
+    ensures refused { IfErr result (λ c. RefusesLoan plan.now task.0 (H.told host.old) (H.counts host.old) (H.counts host.new) c) }
     ensures told { H.told host.new ≡ H.told host.old }
     ensures marked { H.marked host.new ≡ H.marked host.old }
     ensures later { IsLater (H.counts host.old) (H.counts host.new) }

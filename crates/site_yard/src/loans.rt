@@ -5,11 +5,11 @@ ghost use Rattle.outside.specs.Counts.{IsLater};
 ghost use Rattle.plan_core.specs.Words.{kind, reads};
 ghost use Rattle.lease_book.specs.Book.{failure, state_at};
 ghost use Rattle.lease_book.specs.Legal.{CauseFits, IsOpen};
-ghost use Rattle.site_yard.specs.Failures.{IsCounted};
+ghost use Rattle.site_yard.specs.Failures.{AreMore, IsCounted, IsMore};
 ghost use Rattle.site_yard.specs.Kept.{IsOpening};
-ghost use Rattle.site_yard.specs.Lending.{RefusesLoan};
+ghost use Rattle.site_yard.specs.Lending.{RefusesLoan, count_parts};
 ghost use Rattle.site_yard.specs.Loan.{AreReadings, CanSettle, IsLent, IsLoan, fresh_at, targets};
-ghost use Rattle.site_yard.specs.Yard.{Adds, IsBehind, IsFailure, IsSettled, IsTold, IsWorkers};
+ghost use Rattle.site_yard.specs.Yard.{Adds, IsBehind, IsFailure, IsSettled, IsTold, IsWorkers, TakesPublished, TakesWithin};
 
 use crate::delivered::keep;
 use crate::law::{plan_laws, record_laws};
@@ -30,32 +30,14 @@ fn only_size(sizes: &[u64]) -> u64
 }
 
 impl<H: Host, T: Tool> Yard<H, T> {
-    /// Makes the loan of a task, and adds nothing.
-    fn make(&mut self, alloc: Global, task: TaskId) -> Result<Loan<H>, Cause>
-        ensures readings { IfOk result (λ l. AreReadings self.old.ordered.plan (kind self.old.ordered.plan task.0) (reads self.old.ordered.plan task.0) (H.told self.old.host) (map H.Reading.state l.readings.items)) }
-        ensures drafts { IfOk result (λ l. map H.Draft.state l.drafts.items ≡ map (fresh_at (H.told self.old.host)) (targets self.old.ordered.plan task.0)) }
-        ensures refused { IfErr result (λ c. RefusesLoan self.old.ordered.plan (kind self.old.ordered.plan task.0) (reads self.old.ordered.plan task.0) (H.told self.old.host) (H.counts self.old.host) (H.counts self.new.host) c) }
-        ensures told { H.told self.new.host ≡ H.told self.old.host }
-        ensures ordered { self.new.ordered ≡ self.old.ordered }
-        ensures book { self.new.book ≡ self.old.book }
-        ensures opened { self.new.opened ≡ self.old.opened }
-        ensures later { IsLater (H.counts self.old.host) (H.counts self.new.host) }
-        ensures marked { H.marked self.new.host ≡ H.marked self.old.host }
-        ensures faults { self.new.faults ≡ self.old.faults }
-        ensures misses { self.new.misses ≡ self.old.misses }
-        ensures delivered { self.new.delivered ≡ self.old.delivered }
-    {
-        let ordered = &self.ordered;
-        make_loan(ordered.plan(), &mut self.host, alloc, task)
-    }
-
     /// Opens the readings and makes the drafts of a task that is open, or adds a failure. While the loan is out the yard
     /// knows nothing of it.
     pub fn lend(&mut self, alloc: Global, worker: u32, task: TaskId) -> Option<Loan<H>>
         requires open { IsOpen (state_at self.old.book) worker task.0 }
         ensures same { IfSome result (λ l. self.new.book.history.events ≡ self.old.book.history.events) }
         ensures lent { IfSome result (λ l. IsLent T.apply self.old.ordered.plan (take self.old.opened self.old.book.history.events) (H.marked self.old.host) (H.told self.old.host) task.0 (map H.Reading.state l.readings.items) (map H.Draft.state l.drafts.items)) }
-        ensures none { IfNone result (Adds self.old.book.history.events self.new.book.history.events (IsFailure worker task.0) (H.told self.old.host) (H.counts self.old.host) (H.counts self.new.host)) }
+        ensures asked { IfSome result (λ l. AreMore (count_parts self.old.ordered.plan task.0) 0 0 (H.counts self.old.host) (H.counts self.new.host)) }
+        ensures none { IfNone result (Adds self.old.book.history.events self.new.book.history.events (IsFailure worker task.0) (TakesWithin (count_parts self.old.ordered.plan task.0)) (H.told self.old.host) (H.counts self.old.host) (H.counts self.new.host)) }
         ensures told { H.told self.new.host ≡ H.told self.old.host }
         ensures ordered { self.new.ordered ≡ self.old.ordered }
         ensures opened { self.new.opened ≡ self.old.opened }
@@ -66,7 +48,8 @@ impl<H: Host, T: Tool> Yard<H, T> {
     {
         plan_laws();
         record_laws();
-        match self.make(alloc, task) {
+        let ordered = &self.ordered;
+        match make_loan(ordered.plan(), &mut self.host, alloc, task) {
             Ok(loan) => Some(loan),
             Err(cause) => {
                 self.book.fail(worker, task, &cause, &[]);
@@ -88,7 +71,7 @@ impl<H: Host, T: Tool> Yard<H, T> {
     )
         requires open { IsOpen (state_at self.old.book) worker task.0 }
         requires settles { CanSettle T.apply self.old.ordered.plan (take self.old.opened self.old.book.history.events) (H.marked self.old.host) (H.told self.old.host) task.0 (map H.Reading.state loan.readings.items) (map H.Draft.state loan.drafts.items) sizes.now digest }
-        ensures entry { Adds self.old.book.history.events self.new.book.history.events (IsSettled self.old.ordered.plan worker task.0 sizes.now) (H.told self.old.host) (H.counts self.old.host) (H.counts self.new.host) }
+        ensures entry { Adds self.old.book.history.events self.new.book.history.events (IsSettled self.old.ordered.plan worker task.0 sizes.now) (TakesPublished (length (targets self.old.ordered.plan task.0))) (H.told self.old.host) (H.counts self.old.host) (H.counts self.new.host) }
         ensures ordered { self.new.ordered ≡ self.old.ordered }
         ensures opened { self.new.opened ≡ self.old.opened }
         ensures tells { is_some (H.told self.new.host) ≡ is_some (H.told self.old.host) }
@@ -131,6 +114,7 @@ impl<H: Host, T: Tool> Yard<H, T> {
         requires told { IsOpening T.apply self.old.ordered.plan (take self.old.opened self.old.book.history.events) (H.marked self.old.host) → IsTold T.apply self.old.ordered.plan (H.marked self.old.host) (H.told self.old.host) task.0 cause.now }
         ensures entry { self.new.book.history.events ≡ self.old.book.history.events ++ failure self.old.ordered.plan (state_at self.old.book) worker task.0 cause.now [] ∷ [] }
         ensures counted { IsCounted (H.told self.old.host) (H.counts self.old.host) (H.counts self.new.host) (failure self.old.ordered.plan (state_at self.old.book) worker task.0 cause.now []) }
+        ensures asked { IsMore 0 (H.counts self.old.host).done (H.counts self.new.host).done }
         ensures told { H.told self.new.host ≡ H.told self.old.host }
         ensures ordered { self.new.ordered ≡ self.old.ordered }
         ensures opened { self.new.opened ≡ self.old.opened }

@@ -2,7 +2,8 @@
 
 ghost use Rattle.std.specs.Prelude.{◌≡◌, map};
 ghost use Rattle.outside.specs.Counts.{IsLater};
-ghost use Rattle.site_yard.specs.Returning.{Publishes, TakesOver, draft_faults, reading_faults};
+ghost use Rattle.site_yard.specs.Failures.{AreMore};
+ghost use Rattle.site_yard.specs.Returning.{Publishes, draft_faults, reading_faults};
 
 use outside::{Host, HostFault};
 use std::alloc::Global;
@@ -18,7 +19,7 @@ pub(crate) struct Publication {
 pub(crate) fn finish_all<H: Host>(host: &mut H, readings: Vec<H::Reading>)
     ensures told { H.told host.new ≡ H.told host.old }
     ensures marked { H.marked host.new ≡ H.marked host.old }
-    ensures counts { TakesOver (reading_faults (map H.Reading.state readings.items)) (H.counts host.old) (H.counts host.new) }
+    ensures asked { AreMore 0 (reading_faults (map H.Reading.state readings.items)) 0 (H.counts host.old) (H.counts host.new) }
     ensures later { IsLater (H.counts host.old) (H.counts host.new) }
 {
     let mut readings = readings;
@@ -31,7 +32,7 @@ pub(crate) fn finish_all<H: Host>(host: &mut H, readings: Vec<H::Reading>)
 pub(crate) fn discard_all<H: Host>(host: &mut H, drafts: Vec<H::Draft>)
     ensures told { H.told host.new ≡ H.told host.old }
     ensures marked { H.marked host.new ≡ H.marked host.old }
-    ensures counts { TakesOver (draft_faults (map H.Draft.state drafts.items)) (H.counts host.old) (H.counts host.new) }
+    ensures asked { AreMore 0 (draft_faults (map H.Draft.state drafts.items)) 0 (H.counts host.old) (H.counts host.new) }
     ensures later { IsLater (H.counts host.old) (H.counts host.new) }
 {
     let mut drafts = drafts;

@@ -35,7 +35,8 @@ pub struct Yard<H: Host, T: Tool> {
 }
 
 impl<H: Host, T: Tool> Yard<H, T> {
-    ghost use Rattle.site_yard.specs.Opening.{AreUnused, Refuses};
+    ghost use Rattle.site_yard.specs.Failures.{AreMore};
+    ghost use Rattle.site_yard.specs.Opening.{AreUnused, Refuses, looks};
 
     /// Takes over a host whose sites are free. It takes room for the deliveries, marks the host, and asks each site that
     /// has a pair once.
@@ -49,6 +50,7 @@ impl<H: Host, T: Tool> Yard<H, T> {
         ensures misses { IfOk result (λ y. y.misses ≡ (H.counts host).misses) }
         ensures later { IfOk result (λ y. IsLater (H.counts host) (H.counts y.host)) }
         ensures opened { IfOk result (λ y. y.opened ≡ 0) }
+        ensures asked { IfOk result (λ y. AreMore (looks ordered.plan) 0 0 (H.counts host) (H.counts y.host)) }
         ensures unused { IfOk result (λ y. AreUnused ordered.plan (H.told host)) }
         ensures refused { IfErr result (λ e. Refuses ordered.plan (H.told host) (H.counts host) (H.counts e.host) e.fault) }
         ensures back { IfErr result (λ e. (e.ordered ≡ ordered) × (H.told e.host ≡ H.told host) × IsLater (H.counts host) (H.counts e.host)) }

@@ -19,7 +19,8 @@ use Rattle.lease_book.specs.Legal.{checksum, is_wrong_for}
 use Rattle.site_yard.specs.Names.{pair_file}
 use Rattle.task_work.specs.Computing.{IsComputed, Makes, computed}
 use Rattle.task_work.specs.Filling.{AreParts}
-use Rattle.task_work.specs.Making.{AreWritten, Each, part_faults}
+use Rattle.task_work.specs.Making.{AreWritten, Each}
+use Rattle.site_yard.specs.Returning.{part_faults}
 use Rattle.task_work.specs.Moving.{Agrees, IsAgreed, Moves, part_cause}
 use Rattle.task_work.specs.Pieces.{HasMoved, HasRead, IsPartFault, IsSteadyDraft}
 use Rattle.values.specs.Apply.{Apply}

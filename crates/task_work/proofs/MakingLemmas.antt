@@ -8,9 +8,10 @@ use Rattle.outside.specs.Parts.{DraftState, ReadState}
 use Rattle.outside.specs.declared.host.HostFault.{HostFault}
 use Rattle.outside.specs.declared.host.HostFault.TheVariants.{Absent, Failed, Over, Memory}
 use Rattle.plan_core.specs.declared.plan.Plan.{Plan}
-use Rattle.site_yard.specs.Loading.{pair_limit}
+use Rattle.site_yard.specs.Names.{pair_limit}
 use Rattle.site_yard.specs.Storing.{AreWithin}
-use Rattle.task_work.specs.Making.{AreBegun, AreEmpty, AreWritten, Each, Fits, IsFaultOf, draft_faults, limit_of, reading_faults}
+use Rattle.task_work.specs.Making.{AreBegun, AreEmpty, AreWritten, Each, Fits, IsFaultOf, limit_of}
+use Rattle.site_yard.specs.Returning.{draft_faults, reading_faults}
 use Rattle.task_work.specs.Pieces.{HasWritten, IsReadFault, IsSteadyDraft, IsSteadyReading}
 use Rattle.task_work.proofs.PieceLemmas.{no_longer, steady_draft}
 
@@ -144,6 +145,25 @@ pub reading_fault : (e : HostFault) (xs ys : List ReadState) (k : ℕ) (x : Read
 reading_fault Failed xs ys k x rest y h cut r = reading_rose xs ys k x rest y h cut r
 reading_fault Memory xs ys k x rest y h cut r = tt
 reading_fault e xs ys k x rest y h cut r = absurd r
+
+-- one call of them fails at most
+readings_set : (ys : List ReadState) (k : ℕ) (x : ReadState) (rest : List ReadState) (y : ReadState) → drop k ys ≡ x ∷ rest → reading_faults (set ys k y) + x.faults ≡ reading_faults ys + y.faults
+readings_set [] zero x rest y cut = absurd cc
+readings_set [] (suc k) x rest y cut = absurd cc
+readings_set (w ∷ ys) zero x rest y cut = let e : w.faults ≡ x.faults = ap (λ (v : ReadState). v.faults) (head_is w x ys rest cut) in omega (arith, e)
+readings_set (w ∷ ys) (suc k) x rest y cut = let more = readings_set ys k x rest y cut in omega (arith, more)
+
+drafts_set : (ys : List DraftState) (k : ℕ) (x : DraftState) (rest : List DraftState) (y : DraftState) → drop k ys ≡ x ∷ rest → draft_faults (set ys k y) + x.faults ≡ draft_faults ys + y.faults
+drafts_set [] zero x rest y cut = absurd cc
+drafts_set [] (suc k) x rest y cut = absurd cc
+drafts_set (w ∷ ys) zero x rest y cut = let e : w.faults ≡ x.faults = ap (λ (v : DraftState). v.faults) (head_is w x ys rest cut) in omega (arith, e)
+drafts_set (w ∷ ys) (suc k) x rest y cut = let more = drafts_set ys k x rest y cut in omega (arith, more)
+
+pub readings_once : (xs ys : List ReadState) (k : ℕ) (x : ReadState) (rest : List ReadState) (y : ReadState) (n : ℕ) → reading_faults ys ≤ reading_faults xs → drop k ys ≡ drop k xs → drop k xs ≡ x ∷ rest → y.faults ≤ x.faults + n → reading_faults (set ys k y) ≤ reading_faults xs + n
+readings_once xs ys k x rest y n few same cut one = let sum = readings_set ys k x rest y (same ∙ cut) in omega (arith, few, one, sum)
+
+pub drafts_once : (xs ys : List DraftState) (k : ℕ) (x : DraftState) (rest : List DraftState) (y : DraftState) (n : ℕ) → draft_faults ys ≤ draft_faults xs → drop k ys ≡ drop k xs → drop k xs ≡ x ∷ rest → y.faults ≤ x.faults + n → draft_faults (set ys k y) ≤ draft_faults xs + n
+drafts_once xs ys k x rest y n few same cut one = let sum = drafts_set ys k x rest y (same ∙ cut) in omega (arith, few, one, sum)
 
 -- a draft that was written, or that wasn't
 pub written_steady : (d e : DraftState) (bytes : List ℕ) (result : Result (Unit {0}) HostFault) → d.size ≡ 0 → HasWritten d e bytes result → IsSteadyDraft d e

@@ -8,7 +8,7 @@ use Rattle.sha2.specs.declared.Sha256.{Sha256}
 use Rattle.outside.specs.declared.host.HostFault.{HostFault}
 use Rattle.outside.specs.declared.host.HostFault.TheVariants.{Absent, Failed, Over, Memory}
 use Rattle.outside.specs.Parts.{AppendsOn, DraftState, Drafted, ReadState, ReadsNext, ReadsOn, extended, longer}
-use Rattle.task_work.specs.Pieces.{HasMoved, HasRead, IsPartFault, IsReadFault, IsSteadyDraft, IsSteadyReading}
+use Rattle.task_work.specs.Pieces.{HasMoved, HasRead, HasWritten, IsPartFault, IsReadFault, IsSteadyDraft, IsSteadyReading, fails_in}
 
 nil_after : {A : Type 0} (r : List A) → r ++ [] ≡ r
 nil_after [] = refl
@@ -201,3 +201,48 @@ append_fault r0 r1 r2 d0 d1 d2 h k piece old new (Over x y) empty room so next l
     let z : r1.size ≡ r0.size = ap (λ (z : ReadState). z.size) so.read.reading in
     let small : r1.given + k ≤ r1.size = next.within in
     absurd (omega (arith, past, l, s, g, z, small, empty, room, long))
+
+-- one call of a part fails at most
+pub ends_once : (r0 r1 r2 : ReadState) (bytes : List ℕ) (k : ℕ) (old new : List ℕ) → ReadSo r0 r1 bytes → ReadsNext r1 r2 old new k → r2.faults ≤ r0.faults + 0
+ends_once r0 r1 r2 bytes k old new so next =
+    let a : r2.faults ≡ r1.faults = (next_state r1 r2 old new k next).2 in
+    let b : r1.faults ≡ r0.faults = ap (λ (z : ReadState). z.faults) so.reading in
+    omega (arith, a, b)
+
+pub read_once : (X : Type 0) (r0 r1 r2 : ReadState) (bytes old new : List ℕ) (e : HostFault) → ReadSo r0 r1 bytes → ReadsOn r1 r2 old new (Err e) → r2.faults ≤ r0.faults + fails_in {X = X} (Err e)
+read_once X r0 r1 r2 bytes old new Failed so next =
+    let f : r2.faults ≡ min (r1.faults + 1) (2 ^ 64 - 1) = ap (λ (z : ReadState). z.faults) next.0 in
+    let b : r1.faults ≡ r0.faults = ap (λ (z : ReadState). z.faults) so.reading in
+    omega (arith, f, b)
+read_once X r0 r1 r2 bytes old new e so next = absurd next
+
+pub moved_once : (r0 r1 r2 : ReadState) (d0 d1 : DraftState) (h : Sha256) (k : ℕ) (old new : List ℕ) → MovedSo r0 r1 d0 d1 h → ReadsNext r1 r2 old new k → r2.faults + d1.faults ≤ r0.faults + d0.faults + 0
+moved_once r0 r1 r2 d0 d1 h k old new so next =
+    let a = ends_once r0 r1 r2 so.bytes k old new so.read next in
+    let d : d1.faults ≡ d0.faults = ap (λ (z : DraftState). z.faults) so.draft in
+    omega (arith, a, d)
+
+pub moved_read_once : (X : Type 0) (r0 r1 r2 : ReadState) (d0 d1 : DraftState) (h : Sha256) (old new : List ℕ) (e : HostFault) → MovedSo r0 r1 d0 d1 h → ReadsOn r1 r2 old new (Err e) → r2.faults + d1.faults ≤ r0.faults + d0.faults + fails_in {X = X} (Err e)
+moved_read_once X r0 r1 r2 d0 d1 h old new e so next =
+    let a = read_once X r0 r1 r2 so.bytes old new e so.read next in
+    let d : d1.faults ≡ d0.faults = ap (λ (z : DraftState). z.faults) so.draft in
+    omega (arith, a, d)
+
+append_once : (X : Type 0) (d1 d2 : DraftState) (piece : List ℕ) (e : HostFault) → AppendsOn d1 d2 piece (Err e) → d2.faults ≤ d1.faults + fails_in {X = X} (Err e)
+append_once X d1 d2 piece Absent wrote = absurd wrote
+append_once X d1 d2 piece Failed wrote = let f : d2.faults ≡ min (d1.faults + 1) (2 ^ 64 - 1) = ap (λ (z : DraftState). z.faults) wrote.0 in omega (arith, f)
+append_once X d1 d2 piece Memory wrote = let f : d2.faults ≡ d1.faults = ap (λ (z : DraftState). z.faults) wrote in omega (arith, f)
+append_once X d1 d2 piece (Over l n) wrote = let f : d2.faults ≡ d1.faults = ap (λ (z : DraftState). z.faults) wrote.2 in omega (arith, f)
+
+pub moved_append_once : (X : Type 0) (r0 r1 r2 : ReadState) (d0 d1 d2 : DraftState) (h : Sha256) (k : ℕ) (piece old new : List ℕ) (e : HostFault) → MovedSo r0 r1 d0 d1 h → ReadsNext r1 r2 old new k → AppendsOn d1 d2 piece (Err e) → r2.faults + d2.faults ≤ r0.faults + d0.faults + fails_in {X = X} (Err e)
+moved_append_once X r0 r1 r2 d0 d1 d2 h k piece old new e so next wrote =
+    let a = moved_once r0 r1 r2 d0 d1 h k old new so next in
+    let b = append_once X d1 d2 piece e wrote in
+    omega (arith, a, b)
+
+pub written_once : (d e : DraftState) (bytes : List ℕ) (result : Result (Unit {0}) HostFault) → HasWritten d e bytes result → e.faults ≤ d.faults + fails_in result
+written_once d e bytes (Ok u) h = let f : e.faults ≡ d.faults = h.3 in omega (arith, f)
+written_once d e bytes (Err Absent) h = absurd h
+written_once d e bytes (Err (Over l n)) h = absurd h
+written_once d e bytes (Err Failed) h = append_once (Unit {0}) d e bytes Failed h
+written_once d e bytes (Err Memory) h = append_once (Unit {0}) d e bytes Memory h

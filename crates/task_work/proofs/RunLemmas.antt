@@ -15,9 +15,9 @@ use Rattle.lease_book.specs.Legal.{AreOfFirst, CauseFits}
 use Rattle.site_yard.specs.Names.{pair_file}
 use Rattle.site_yard.specs.Storing.{AreWithin}
 use Rattle.task_work.specs.Computing.{Computes, Makes, computed, files_of}
-use Rattle.task_work.specs.Making.{AreStored, AreWritten, Each, IsFaultOf, IsRunCause, IsShown, MakesWithin, OfRead}
+use Rattle.task_work.specs.Making.{AreStored, AreWritten, Each, IsFaultOf, IsRunCause, IsShown, MakesWithin, OfRead, blames}
 use Rattle.task_work.specs.Moving.{part_cause}
-use Rattle.task_work.specs.Pieces.{HasRead}
+use Rattle.task_work.specs.Pieces.{HasRead, fails_in}
 
 -- an output for each write
 pub makes_many : (apply : Apply) (p : Plan) (t : ℕ) (blobs outs : List (List ℕ)) → Makes apply p t blobs outs → length outs ≡ length (writes p t)
@@ -98,3 +98,10 @@ is_stored apply p t rs ds0 ds1 blobs outs sizes read many made within written ar
   many = many;
   holds = record { outs = outs; made = made; within = within; written = written; sizes_are = are };
 }
+
+-- what a failed call of a part lays on the host
+pub blamed : (X Y : Type 0) (e : HostFault) → fails_in {X = X} (Err e) ≤ blames {X = Y} (Err (part_cause e))
+blamed X Y fault.Absent = omega arith
+blamed X Y fault.Failed = omega arith
+blamed X Y (fault.Over l n) = omega arith
+blamed X Y fault.Memory = omega arith

@@ -7,12 +7,12 @@ use Rattle.values.specs.declared.numbers.JobId.{JobId}
 use Rattle.plan_core.specs.declared.plan.Plan.{Plan}
 use Rattle.plan_core.specs.declared.plan.TaskKind.{TaskKind}
 use Rattle.plan_core.specs.declared.plan.TaskKind.TheVariants.{Run}
-use Rattle.plan_core.specs.Carried.{after_jobs, stored}
+use Rattle.plan_core.specs.Carried.{after_jobs}
 use Rattle.plan_core.specs.Words.{kind, reads, writes}
 use Rattle.run_record.specs.declared.entry.Cause.{Cause}
 use Rattle.run_record.specs.declared.entry.Cause.TheVariants.{Declined, ToolFailed, Memory}
 use Rattle.lease_book.specs.Legal.{has_job}
-use Rattle.site_yard.specs.Names.{pair_file, pair_site}
+use Rattle.site_yard.specs.Names.{pair_file}
 use Rattle.site_yard.specs.Truthful.{declined, declined_among}
 
 -- the jobs of a Run
@@ -47,10 +47,6 @@ Computes apply p t blobs before later (Err (Declined j)) = (first_declined apply
 Computes apply p t blobs before later (Err (ToolFailed j)) = Rose before later × (has_job (kind p t) j.0 ≡ true)
 Computes apply p t blobs before later (Err Memory) = Unit {0}
 Computes apply p t blobs before later (Err _) = ⊥
-
--- what the writer of a pair carries for its file
-abbrev pub content : Plan → (ℕ → ℕ → Option (List ℕ)) → ℕ → Option (List ℕ)
-content p c q = stored p c (pair_site p q) (pair_file p q)
 
 -- What the writers of the task's reads carry was read; then what its jobs make is what the task carries.
 pub record IsComputed (apply : Apply) (p : Plan) (c : ℕ → ℕ → Option (List ℕ)) (t : ℕ) (blobs : List (List ℕ)) : Type 0 where

@@ -11,8 +11,9 @@ use Rattle.storage_simulation.specs.Goods.{is_delivery}
 use Rattle.run_record.specs.declared.entry.Cause.{Cause}
 use Rattle.run_record.specs.declared.entry.Cause.TheVariants.{Checksum, HostFailed, Memory}
 use Rattle.lease_book.specs.Legal.{is_from_pfn, is_wrong_for}
-use Rattle.site_yard.specs.Loading.{pair_limit}
-use Rattle.task_work.specs.Making.{AreStored, IsRunCause, OfRead, limit_of, part_faults}
+use Rattle.site_yard.specs.Names.{pair_limit}
+use Rattle.task_work.specs.Making.{AreStored, IsRunCause, OfRead, limit_of}
+use Rattle.site_yard.specs.Returning.{part_faults}
 use Rattle.task_work.specs.Moving.{IsAgreeing, digest_of}
 use Rattle.task_work.specs.Pieces.{HasMoved}
 use Rattle.task_work.specs.declared.filling.Filled.{Filled}

@@ -10,6 +10,7 @@ use Rattle.plan_core.specs.declared.plan.Plan.{Plan}
 use Rattle.plan_core.specs.Words.{reads, writes}
 use Rattle.run_record.specs.declared.entry.Cause.{Cause}
 use Rattle.run_record.specs.declared.entry.Cause.TheVariants.{Declined, HostFailed, Memory, Oversize, ToolFailed}
+use Rattle.site_yard.specs.Failures.{fault_in}
 use Rattle.site_yard.specs.Storing.{AreWithin, IsOverlong}
 use Rattle.task_work.specs.Computing.{Computes, Makes, first_declined}
 use Rattle.task_work.specs.Pieces.{HasRead, HasWritten}
@@ -28,18 +29,6 @@ AreBegun (r ∷ rs) = (r.given ≡ 0) × AreBegun rs
 abbrev pub AreEmpty : List DraftState → Type 0
 AreEmpty [] = Unit {0}
 AreEmpty (d ∷ ds) = (d.size ≡ 0) × AreEmpty ds
-
--- how often calls of parts failed
-abbrev pub reading_faults : List ReadState → ℕ
-reading_faults [] = 0
-reading_faults (r ∷ rs) = r.faults + reading_faults rs
-
-abbrev pub draft_faults : List DraftState → ℕ
-draft_faults [] = 0
-draft_faults (d ∷ ds) = d.faults + draft_faults ds
-
-abbrev pub part_faults : List ReadState → List DraftState → ℕ
-part_faults rs ds = reading_faults rs + draft_faults ds
 
 -- a call of some parts failed, or memory was wanted
 abbrev pub IsFaultOf : ℕ → ℕ → HostFault → Type 0
@@ -93,6 +82,11 @@ IsRunCause apply p t rs (ToolFailed j) = Unit {0}
 IsRunCause apply p t rs HostFailed = Unit {0}
 IsRunCause apply p t rs Memory = Unit {0}
 IsRunCause apply p t rs _ = ⊥
+
+-- how many calls of parts have failed at most, by the cause that is told
+abbrev pub blames : {X : Type 0} → Result X Cause → ℕ
+blames (Ok x) = 0
+blames (Err cause) = fault_in cause
 
 -- A failure of the host is shown by the counts of the parts, one of the tool by the tool's count; before and after.
 abbrev pub IsShown : ℕ → ℕ → ℕ → ℕ → Cause → Type 0

@@ -21,6 +21,12 @@ pub record IsSteadyDraft (d0 d1 : DraftState) : Type 0 where
   pub limit : d1.limit ≡ d0.limit
   pub faults : d0.faults ≤ d1.faults
 
+-- how many calls of parts have failed at most, by what came of them
+abbrev pub fails_in : {X : Type 0} → Result X HostFault → ℕ
+fails_in (Ok x) = 0
+fails_in (Err Memory) = 0
+fails_in (Err e) = 1
+
 -- All bytes of the reading were moved to the draft: where it tells them, these. Told or not, the length and the digest
 -- are those of the bytes that were moved.
 pub record HasMoved (r0 : ReadState) (d0 d1 : DraftState) (n : ℕ) (digest : List ℕ) : Type 0 where

@@ -1,11 +1,12 @@
 //! What a task's bytes become: its readings are read, and its drafts filled.
 
-ghost use Rattle.std.specs.Prelude.{◌≡◌, ◌≤◌, [], IfErr, IfOk, map, true};
+ghost use Rattle.std.specs.Prelude.{◌≡◌, ◌+◌, ◌≤◌, [], IfErr, IfOk, map, true};
 ghost use Rattle.plan_core.specs.Proper.{IsProper};
 ghost use Rattle.plan_core.specs.Words.{is_transfer, kind};
 ghost use Rattle.lease_book.specs.Legal.{CauseFits};
 ghost use Rattle.task_work.specs.Filling.{AreParts, FillsTransfer, HasFilled, IsWhy};
-ghost use Rattle.task_work.specs.Making.{AreBegun, AreEmpty, Each, IsShown, part_faults};
+ghost use Rattle.task_work.specs.Making.{AreBegun, AreEmpty, Each, IsShown, blames};
+ghost use Rattle.site_yard.specs.Returning.{part_faults};
 ghost use Rattle.task_work.specs.Pieces.{IsSteadyDraft, IsSteadyReading};
 
 use crate::making::make_files;
@@ -35,6 +36,7 @@ fn fill_transfer<I: ReadPart, O: WritePart>(
     requires start { AreBegun (map I.state readings.old) }
     requires empty { AreEmpty (map O.state drafts.old) }
     ensures fills { FillsTransfer plan.now task.0 (map I.state readings.old) (map I.state readings.new) (map O.state drafts.old) (map O.state drafts.new) result }
+    ensures once { part_faults (map I.state readings.new) (map O.state drafts.new) ≤ part_faults (map I.state readings.old) (map O.state drafts.old) + blames result }
     ensures readings { Each IsSteadyReading (map I.state readings.old) (map I.state readings.new) }
     ensures drafts { Each IsSteadyDraft (map O.state drafts.old) (map O.state drafts.new) }
 {
@@ -60,6 +62,7 @@ pub fn fill<I: ReadPart, O: WritePart, T: Tool>(
     ensures filled { IfOk result (λ f. HasFilled T.apply plan.now task.0 (map I.state readings.old) (map O.state drafts.old) (map O.state drafts.new) f) }
     ensures why { IfErr result (λ c. IsWhy T.apply plan.now task.0 (map I.state readings.old) (map O.state drafts.old) (map O.state drafts.new) c) }
     ensures shown { IfErr result (λ c. IsShown (part_faults (map I.state readings.old) (map O.state drafts.old)) (part_faults (map I.state readings.new) (map O.state drafts.new)) (T.faults tool.old) (T.faults tool.new) c) }
+    ensures once { part_faults (map I.state readings.new) (map O.state drafts.new) ≤ part_faults (map I.state readings.old) (map O.state drafts.old) + blames result }
     ensures fits { IfErr result (λ c. CauseFits plan.now task.0 c []) }
     ensures readings { Each IsSteadyReading (map I.state readings.old) (map I.state readings.new) }
     ensures drafts { Each IsSteadyDraft (map O.state drafts.old) (map O.state drafts.new) }

@@ -1,12 +1,13 @@
 //! What a Run's drafts hold: what its jobs make of its readings.
 
-ghost use Rattle.std.specs.Prelude.{◌≡◌, ◌≤◌, ◌++◌, ◌∷◌, [], IfErr, IfOk, OnOk, length, map, true};
+ghost use Rattle.std.specs.Prelude.{◌≡◌, ◌+◌, ◌≤◌, ◌++◌, ◌∷◌, [], IfErr, IfOk, OnOk, length, map, true};
 ghost use Rattle.plan_core.specs.Proper.{IsProper};
 ghost use Rattle.plan_core.specs.Words.{is_run, reads, writes};
 ghost use Rattle.lease_book.specs.Legal.{CauseFits};
-ghost use Rattle.site_yard.specs.Loading.{pair_limit};
-ghost use Rattle.task_work.specs.Making.{AreBegun, AreEmpty, AreStored, AreWritten, Each, Fits, IsFaultOf, IsRunCause, IsShown, MakesWithin, OfRead, draft_faults, limit_of, part_faults, reading_faults};
-ghost use Rattle.task_work.specs.Pieces.{HasRead, IsSteadyDraft, IsSteadyReading};
+ghost use Rattle.site_yard.specs.Names.{pair_limit};
+ghost use Rattle.task_work.specs.Making.{AreBegun, AreEmpty, AreStored, AreWritten, Each, Fits, IsFaultOf, IsRunCause, IsShown, MakesWithin, OfRead, blames, limit_of};
+ghost use Rattle.site_yard.specs.Returning.{draft_faults, part_faults, reading_faults};
+ghost use Rattle.task_work.specs.Pieces.{HasRead, IsSteadyDraft, IsSteadyReading, fails_in};
 
 use crate::computing::compute;
 use crate::moving::part_cause;
@@ -29,6 +30,7 @@ fn read_all<I: ReadPart>(alloc: Global, readings: &mut [I]) -> Result<Vec<Blob>,
     requires start { AreBegun (map I.state readings.old) }
     ensures read { IfOk result (λ v. Each HasRead (map I.state readings.old) v.items) }
     ensures fault { IfErr result (λ e. IsFaultOf (reading_faults (map I.state readings.old)) (reading_faults (map I.state readings.new)) e) }
+    ensures once { reading_faults (map I.state readings.new) ≤ reading_faults (map I.state readings.old) + fails_in result }
     ensures steady { Each IsSteadyReading (map I.state readings.old) (map I.state readings.new) }
 {
     let mut blobs = Vec::new(alloc);
@@ -56,6 +58,7 @@ fn write_all<O: WritePart>(
     requires fit { Each Fits (map O.state drafts.old) outputs.now }
     ensures written { OnOk result (AreWritten (map O.state drafts.old) (map O.state drafts.new) outputs.now) }
     ensures fault { IfErr result (λ e. IsFaultOf (draft_faults (map O.state drafts.old)) (draft_faults (map O.state drafts.new)) e) }
+    ensures once { draft_faults (map O.state drafts.new) ≤ draft_faults (map O.state drafts.old) + fails_in result }
     ensures steady { Each IsSteadyDraft (map O.state drafts.old) (map O.state drafts.new) }
 {
     for k in 0..outputs.len() {
@@ -113,6 +116,7 @@ fn store<O: WritePart>(
     ensures written { IfOk result (λ v. AreWritten (map O.state drafts.old) (map O.state drafts.new) outputs.now) }
     ensures sizes { IfOk result (λ v. v.items ≡ map length outputs.now) }
     ensures fault { IfErr result (λ e. IsFaultOf (draft_faults (map O.state drafts.old)) (draft_faults (map O.state drafts.new)) e) }
+    ensures once { draft_faults (map O.state drafts.new) ≤ draft_faults (map O.state drafts.old) + fails_in result }
     ensures steady { Each IsSteadyDraft (map O.state drafts.old) (map O.state drafts.new) }
 {
     match write_all(alloc, drafts, outputs) {
@@ -143,6 +147,7 @@ pub(crate) fn make_files<I: ReadPart, O: WritePart, T: Tool>(
     ensures made { IfOk result (λ v. OfRead plan.now task.0 (map I.state readings.old) (AreStored T.apply plan.now task.0 (map O.state drafts.old) (map O.state drafts.new) v.items)) }
     ensures cause { IfErr result (λ c. IsRunCause T.apply plan.now task.0 (map I.state readings.old) c) }
     ensures shown { IfErr result (λ c. IsShown (part_faults (map I.state readings.old) (map O.state drafts.old)) (part_faults (map I.state readings.new) (map O.state drafts.new)) (T.faults tool.old) (T.faults tool.new) c) }
+    ensures once { part_faults (map I.state readings.new) (map O.state drafts.new) ≤ part_faults (map I.state readings.old) (map O.state drafts.old) + blames result }
     ensures fits { IfErr result (λ c. CauseFits plan.now task.0 c []) }
     ensures readings { Each IsSteadyReading (map I.state readings.old) (map I.state readings.new) }
     ensures drafts { Each IsSteadyDraft (map O.state drafts.old) (map O.state drafts.new) }

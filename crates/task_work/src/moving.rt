@@ -1,9 +1,10 @@
 //! The bytes of a Transfer, and their digest.
 
-ghost use Rattle.std.specs.Prelude.{◌≡◌, ◌≤◌, true};
+ghost use Rattle.std.specs.Prelude.{◌≡◌, ◌+◌, ◌≤◌, true};
 ghost use Rattle.lease_book.specs.Legal.{checksum};
 ghost use Rattle.plan_core.specs.Words.{is_transfer, kind};
 ghost use Rattle.storage_simulation.specs.Goods.{is_delivery};
+ghost use Rattle.task_work.specs.Making.{blames};
 ghost use Rattle.task_work.specs.Moving.{Agrees, IsAgreed, Moves, digest_of, part_cause};
 ghost use Rattle.task_work.specs.Pieces.{IsSteadyDraft, IsSteadyReading};
 
@@ -82,6 +83,7 @@ pub(crate) fn move_file<I: ReadPart, O: WritePart>(
     requires start { (I.state reading.old).given ≡ 0 }
     requires empty { (O.state draft.old).size ≡ 0 }
     requires limit { (I.state reading.old).size ≤ (O.state draft.old).limit }
+    ensures once { (I.state reading.new).faults + (O.state draft.new).faults ≤ (I.state reading.old).faults + (O.state draft.old).faults + blames result }
     ensures moves { Moves plan.now task.0 (I.state reading.old) (I.state reading.new) (O.state draft.old) (O.state draft.new) result }
     ensures reading { IsSteadyReading (I.state reading.old) (I.state reading.new) }
     ensures draft { IsSteadyDraft (O.state draft.old) (O.state draft.new) }

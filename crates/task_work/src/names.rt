@@ -1,7 +1,7 @@
 //! The file of a pair, and its declared size.
 
 ghost use Rattle.std.specs.Prelude.{◌≡◌};
-ghost use Rattle.site_yard.specs.Loading.{pair_limit};
+ghost use Rattle.site_yard.specs.Names.{pair_limit};
 ghost use Rattle.site_yard.specs.Names.{pair_file};
 
 use outside::{FileId, PairId};

@@ -1,7 +1,7 @@
 //! Bytes between parts, outside the lock.
 
-ghost use Rattle.std.specs.Prelude.{◌≡◌, ◌≤◌, ◌++◌, IfErr, IfOk, OnOk, length};
-ghost use Rattle.task_work.specs.Pieces.{HasMoved, HasRead, HasWritten, IsPartFault, IsReadFault, IsSteadyDraft, IsSteadyReading};
+ghost use Rattle.std.specs.Prelude.{◌≡◌, ◌+◌, ◌≤◌, ◌++◌, IfErr, IfOk, OnOk, length};
+ghost use Rattle.task_work.specs.Pieces.{HasMoved, HasRead, HasWritten, IsPartFault, IsReadFault, IsSteadyDraft, IsSteadyReading, fails_in};
 
 use outside::{Blob, HostFault, Memory, ReadPart, WritePart};
 use sha2::{Digest, Sha256};
@@ -28,6 +28,7 @@ pub fn move_pieces<I: ReadPart, O: WritePart>(
     requires limit { (I.state reading.old).size ≤ (O.state draft.old).limit }
     ensures moved { IfOk result (λ m. HasMoved (I.state reading.old) (O.state draft.old) (O.state draft.new) m.length m.digest) }
     ensures fault { IfErr result (λ e. IsPartFault (I.state reading.old) (I.state reading.new) (O.state draft.old) (O.state draft.new) e) }
+    ensures once { (I.state reading.new).faults + (O.state draft.new).faults ≤ (I.state reading.old).faults + (O.state draft.old).faults + fails_in result }
     ensures reading { IsSteadyReading (I.state reading.old) (I.state reading.new) }
     ensures draft { IsSteadyDraft (O.state draft.old) (O.state draft.new) }
 {
@@ -65,6 +66,7 @@ pub fn read_whole<I: ReadPart>(alloc: Global, reading: &mut I) -> Result<Blob, H
     requires start { (I.state reading.old).given ≡ 0 }
     ensures read { IfOk result (λ b. HasRead (I.state reading.old) b) }
     ensures fault { IfErr result (λ e. IsReadFault (I.state reading.old) (I.state reading.new) e) }
+    ensures once { (I.state reading.new).faults ≤ (I.state reading.old).faults + fails_in result }
     ensures reading { IsSteadyReading (I.state reading.old) (I.state reading.new) }
 {
     let mut piece = [0u8; PIECE];

@@ -15,21 +15,22 @@ use Rattle.run_record.specs.declared.entry.Cause.TheVariants as why
 use Rattle.run_record.specs.Events.{Event}
 use Rattle.lease_book.specs.Legal.{CauseFits}
 use Rattle.site_yard.specs.Changes.{carries}
-use Rattle.site_yard.specs.Failures.{RoseBy}
+use Rattle.site_yard.specs.Failures.{RoseBy, fault_in}
 use Rattle.site_yard.specs.Kept.{IsOpening}
 use Rattle.site_yard.specs.Law.{HasPlanLaws}
 use Rattle.site_yard.specs.Truthful.{IsCause}
 use Rattle.site_yard.specs.Yard.{IsBehind, IsTold, IsWorkers}
 use Rattle.task_work.specs.Filling.{IsWhy}
-use Rattle.task_work.specs.Making.{Each, IsShown, part_faults}
+use Rattle.task_work.specs.Making.{Each, IsShown}
+use Rattle.site_yard.specs.Returning.{part_faults}
 use Rattle.task_work.specs.Pieces.{IsSteadyDraft}
 use Rattle.task_work.specs.declared.filling.Filled.{Filled}
 use Rattle.task_work.specs.declared.filling.Filled.TheVariants.{Moved, Made}
 use Rattle.worker_gate.specs.Inputs.{IsFilledOf}
 use Rattle.worker_gate.specs.Tending.{CanFinish, Fills, IsHeld, failures_in}
-use Rattle.worker_gate.proofs.LoanLemmas.{no_faults, same_drafts, same_readings, steady_loan, steady_many}
+use Rattle.worker_gate.proofs.LoanLemmas.{no_faults, steady_loan, steady_many, still_whole}
 use Rattle.worker_gate.proofs.MadeLemmas.{CarryLaw, declined_so, job_run, made_settles, overlong_so}
-use Rattle.worker_gate.proofs.MovedLemmas.{checksum_so, digest_of_bytes, moved_settles}
+use Rattle.worker_gate.proofs.MovedLemmas.{checksum_so, digest_of_bytes, moved_bytes, moved_settles}
 use Rattle.worker_gate.proofs.SmallLemmas.{lent}
 use Rattle.worker_gate.proofs.WorkLemmas.{told_rose, wide}
 
@@ -39,14 +40,16 @@ workers apply p t rs ds es why.Absent h = h
 workers apply p t rs ds es (why.TooLong n) h = h
 workers apply p t rs ds es c h = tt
 
--- a failed call of a part shows in the counts, which were 0
-behind : (rs : List ReadState) (ds : List DraftState) (before x y : ℕ) (c : Cause) → before ≡ 0 → IsShown before (part_faults rs ds) x y c → IsBehind rs ds c
-behind rs ds before x y why.HostFailed none h =
-    let a = same_readings rs in
-    let b = same_drafts ds in
-    let one : Rose 0 (part_faults rs ds) = subst (λ n. Rose n (part_faults rs ds)) none h in
-    omega (arith, a, b, one)
-behind rs ds before x y c none h = tt
+-- the counts of the parts, which were 0, are what the cause lays on the host
+behind : (rs : List ReadState) (ds : List DraftState) (before x y : ℕ) (c : Cause) → before ≡ 0 → IsShown before (part_faults rs ds) x y c → part_faults rs ds ≤ before + fault_in c → IsBehind rs ds c
+behind rs ds before x y why.HostFailed none h few = omega (arith, none, h, few)
+behind rs ds before x y why.Absent none h few = still_whole before (part_faults rs ds) none few
+behind rs ds before x y (why.TooLong n) none h few = still_whole before (part_faults rs ds) none few
+behind rs ds before x y (why.Checksum d) none h few = still_whole before (part_faults rs ds) none few
+behind rs ds before x y (why.Oversize j f n) none h few = still_whole before (part_faults rs ds) none few
+behind rs ds before x y (why.Declined j) none h few = still_whole before (part_faults rs ds) none few
+behind rs ds before x y (why.ToolFailed j) none h few = still_whole before (part_faults rs ds) none few
+behind rs ds before x y why.Memory none h few = still_whole before (part_faults rs ds) none few
 
 module _ (apply : Apply) (p : Plan) (proper : IsProper p) (laws : HasPlanLaws p) (law : CarryLaw apply) (first : List Event) (m : Store) (t : ℕ) (rs0 rs1 : List ReadState) (ds0 ds1 : List DraftState) where
   cause_so : (s : Store) (c : Cause) → IsHeld apply p first m (Some s) t rs0 ds0 → IsOpening apply p first m → IsWhy apply p t rs0 ds0 ds1 c → CauseFits p t c [] → IsCause apply (λ pfn. files.get m.replicas pfn) p (carries apply p m) t c
@@ -64,13 +67,13 @@ module _ (apply : Apply) (p : Plan) (proper : IsProper p) (laws : HasPlanLaws p)
   told_so (Some s) c held h fits opening = cause_so s c held opening h fits
 
   pub fills_finish : (o : Option Store) (x y : ℕ) (result : Result Filled Cause) → IsHeld apply p first m o t rs0 ds0 → Fills apply p t rs0 rs1 ds0 ds1 x y result → CanFinish apply p first m o t rs1 ds1 result
-  fills_finish o x y (Ok (Moved n given)) held fills = moved_settles apply p proper laws first m t fills.filled.0 o rs0 rs1 ds0 ds1 n given held fills.filled.1 fills.readings fills.drafts
-  fills_finish o x y (Ok (Made sizes)) held fills = made_settles apply p proper laws law first m t fills.filled.0 o rs0 rs1 ds0 ds1 sizes.items held fills.filled.1 fills.readings fills.drafts
+  fills_finish o x y (Ok (Moved n given)) held fills = moved_settles apply p proper laws first m t fills.filled.0 o rs0 rs1 ds0 ds1 n given held fills.filled.1 (still_whole (part_faults rs0 ds0) (part_faults rs1 ds1) (no_faults apply p proper laws first m t o rs0 ds0 held) fills.once) fills.readings fills.drafts
+  fills_finish o x y (Ok (Made sizes)) held fills = made_settles apply p proper laws law first m t fills.filled.0 o rs0 rs1 ds0 ds1 sizes.items held fills.filled.1 (still_whole (part_faults rs0 ds0) (part_faults rs1 ds1) (no_faults apply p proper laws first m t o rs0 ds0 held) fills.once) fills.readings fills.drafts
   fills_finish o x y (Err c) held fills = record {
     loan = steady_loan apply p proper laws first m t o rs0 rs1 ds0 ds1 held fills.readings fills.drafts;
     kind_is = workers apply p t rs0 ds0 ds1 c fills.why;
     fits = fills.fits;
-    shown = behind rs1 ds1 (part_faults rs0 ds0) x y c (no_faults apply p proper laws first m t o rs0 ds0 held) fills.shown;
+    shown = behind rs1 ds1 (part_faults rs0 ds0) x y c (no_faults apply p proper laws first m t o rs0 ds0 held) fills.shown fills.once;
     is_told = told_so o c held fills.why fills.fits;
   }
 
@@ -86,10 +89,10 @@ module _ (apply : Apply) (p : Plan) (proper : IsProper p) (laws : HasPlanLaws p)
   why_of o why.Memory held h fits = tt
 
   pub fills_of : (o : Option Store) (x y : ℕ) (result : Result Filled Cause) → IsHeld apply p first m o t rs0 ds0 → Fills apply p t rs0 rs1 ds0 ds1 x y result → IsFilledOf apply p t result
-  fills_of o x y (Ok (Moved n given)) held fills = fills.filled.0
+  fills_of o x y (Ok (Moved n given)) held fills = (fills.filled.0, moved_bytes p t rs0 ds0 ds1 n given fills.filled.0 fills.filled.1)
   fills_of o x y (Ok (Made sizes)) held fills =
       let made = fills.filled.1 in
-      record { blobs = made.blobs; many = made.many; holds = (made.holds.outs, made.holds.made, (made.holds.within, made.holds.sizes_are)) }
+      (fills.filled.0, record { blobs = made.blobs; many = made.many; holds = (made.holds.outs, made.holds.made, (made.holds.within, made.holds.sizes_are)) })
   fills_of o x y (Err c) held fills = why_of o c held fills.why fills.fits
 
 -- how the tool's count shows what was filled

@@ -7,7 +7,9 @@ use Rattle.outside.specs.declared.counts.Counts.{Counts}
 use Rattle.values.specs.declared.numbers.TaskId.{TaskId}
 use Rattle.outside.specs.declared.store.Store.{Store}
 use Rattle.plan_core.specs.declared.plan.Plan.{Plan}
-use Rattle.plan_core.specs.Words.{is_transfer}
+use Rattle.plan_core.specs.Words.{is_run_kind, is_transfer, is_transfer_kind, kind}
+use Rattle.plan_core.specs.declared.plan.TaskKind.{TaskKind}
+use Rattle.plan_core.specs.declared.plan.TaskKind.TheVariants.{Transfer, Run, Clean as CleanTask}
 use Rattle.run_record.specs.declared.entry.Cause.{Cause}
 use Rattle.run_record.specs.declared.entry.Cause.TheVariants as why
 use Rattle.run_record.specs.Events.{Event, Grant, Arrive, End, Clean, Fail, Again, Regrant}
@@ -21,7 +23,7 @@ use Rattle.site_yard.specs.declared.leased.Leased.{Leased}
 use Rattle.site_yard.specs.declared.leased.Leased.TheVariants as leased
 use Rattle.task_work.specs.declared.filling.Filled.{Filled}
 use Rattle.task_work.specs.declared.filling.Filled.TheVariants.{Moved, Made}
-use Rattle.worker_gate.specs.Inputs.{AddsOfInputs, AreLengths, AreOfInputs, IsCauseOfInputs, IsFilledOf, IsOfInputs}
+use Rattle.worker_gate.specs.Inputs.{AddsOfInputs, AreBytesMoved, AreLengths, AreOfInputs, IsCauseOfInputs, IsFilledOf, IsOfInputs}
 use Rattle.worker_gate.specs.Tending.{sizes_in}
 use Rattle.worker_gate.specs.Turning.{plan_of}
 
@@ -60,11 +62,24 @@ true_false : (b : Bool) → b ≡ true → b ≡ false → ⊥
 true_false b h k = absurd cc
 
 end_is : (apply : Apply) (p : Plan) (t u : ℕ) (f : Filled) (ns : List ℕ) → IsFilledOf apply p t (Ok f) → u ≡ t → is_transfer p t ≡ false → ns ≡ sizes_in f → AreLengths apply p u ns
-end_is apply p t u (Moved n digest) ns of at off same = absurd (true_false (is_transfer p t) of off)
-end_is apply p t u (Made sizes) ns of at off same = subst (λ z. AreLengths apply p z ns) (sym at) (subst (AreLengths apply p t) (sym same) of)
+end_is apply p t u (Moved n digest) ns of at off same = absurd (true_false (is_transfer p t) of.0 off)
+end_is apply p t u (Made sizes) ns of at off same = subst (λ z. AreLengths apply p z ns) (sym at) (subst (AreLengths apply p t) (sym same) of.1)
+
+one_number : (n k : ℕ) → n ∷ [] ≡ k ∷ [] → n ≡ k
+one_number n k e = cc
+
+not_both : (k : Option TaskKind) → is_transfer_kind k ≡ true → is_run_kind k ≡ true → ⊥
+not_both None moves run = absurd cc
+not_both (Some (Transfer f from to)) moves run = absurd cc
+not_both (Some (Run s js)) moves run = absurd cc
+not_both (Some (CleanTask q)) moves run = absurd cc
+
+arrive_is : (apply : Apply) (p : Plan) (t u : ℕ) (f : Filled) (n : ℕ) → IsFilledOf apply p t (Ok f) → u ≡ t → is_transfer p t ≡ true → sizes_in f ≡ n ∷ [] → AreBytesMoved p (kind p u) n
+arrive_is apply p t u (Moved k digest) n of at moves same = subst (λ z. AreBytesMoved p (kind p z) n) (sym at) (subst (AreBytesMoved p (kind p t)) (one_number k n same) of.1)
+arrive_is apply p t u (Made sizes) n of at moves same = absurd (not_both (kind p t) moves of.0)
 
 settled_is : (apply : Apply) (p : Plan) (w t : ℕ) (f : Filled) (e : Event) → IsFilledOf apply p t (Ok f) → IsSettled p w t (sizes_in f) e → IsOfInputs apply p e
-settled_is apply p w t f (Arrive v u n) of h = tt
+settled_is apply p w t f (Arrive v u n) of h = arrive_is apply p t u f n of h.1 h.2 h.3
 settled_is apply p w t f (End v u ns) of h = end_is apply p t u f ns of h.1 h.2 h.3
 settled_is apply p w t f (Fail v u c ns) of h = stop_is apply p u c h.2
 settled_is apply p w t f (Again v u c ns) of h = stop_is apply p u c h.2
@@ -99,7 +114,7 @@ adds_both apply p r mid new u v = record {
 }
 
 -- the calls of a yard
-pub settles_so : (apply : Apply) (p : Plan) (r new : List Event) (w t : ℕ) (f : Filled) (filled : Result Filled Cause) (sizes : List ℕ) (o : Option Store) (before now_ : Counts) → filled ≡ Ok f → sizes ≡ sizes_in f → IsFilledOf apply p t filled → Adds r new (IsSettled p w t sizes) o before now_ → AddsOfInputs apply p r new
+pub settles_so : {Takes : Event → ℕ → Type 0} (apply : Apply) (p : Plan) (r new : List Event) (w t : ℕ) (f : Filled) (filled : Result Filled Cause) (sizes : List ℕ) (o : Option Store) (before now_ : Counts) → filled ≡ Ok f → sizes ≡ sizes_in f → IsFilledOf apply p t filled → Adds r new (IsSettled p w t sizes) Takes o before now_ → AddsOfInputs apply p r new
 settles_so apply p r new w t f filled sizes o before now_ is same of adds =
     one_more apply p r new adds.entry adds.is (settled_is apply p w t f adds.entry (subst (IsFilledOf apply p t) is of) (subst (λ l. IsSettled p w t l adds.entry) same adds.kind))
 
@@ -140,10 +155,10 @@ leases_so apply p s w r new o before now_ leased.Done h = adds_no_entry apply p 
 leases_so apply p s w r new o before now_ leased.Stopped h = adds_no_entry apply p r new h.1
 leases_so apply p s w r new o before now_ leased.NotYet h = adds_no_entry apply p r new h.4
 
-pub fails_to_lend_so : (apply : Apply) (p : Plan) (r new : List Event) (w t : ℕ) (o : Option Store) (before now_ : Counts) → Adds r new (IsFailure w t) o before now_ → AddsOfInputs apply p r new
+pub fails_to_lend_so : {Takes : Event → ℕ → Type 0} (apply : Apply) (p : Plan) (r new : List Event) (w t : ℕ) (o : Option Store) (before now_ : Counts) → Adds r new (IsFailure w t) Takes o before now_ → AddsOfInputs apply p r new
 fails_to_lend_so apply p r new w t o before now_ adds = one_more apply p r new adds.entry adds.is (failure_is apply p w t adds.entry adds.kind)
 
-pub lends_so : {L : Type 0} (apply : Apply) (p : Plan) (w t : ℕ) (r new : List Event) (o : Option Store) (before now_ : Counts) (x : Option L) → IfSome x (λ l. new ≡ r) → IfNone x (Adds r new (IsFailure w t) o before now_) → AddsOfInputs apply p r new
+pub lends_so : {Takes : Event → ℕ → Type 0} {L : Type 0} (apply : Apply) (p : Plan) (w t : ℕ) (r new : List Event) (o : Option Store) (before now_ : Counts) (x : Option L) → IfSome x (λ l. new ≡ r) → IfNone x (Adds r new (IsFailure w t) Takes o before now_) → AddsOfInputs apply p r new
 lends_so apply p w t r new o before now_ (Some l) same adds = adds_no_entry apply p r new same
 lends_so apply p w t r new o before now_ None same adds = fails_to_lend_so apply p r new w t o before now_ adds
 

@@ -7,6 +7,7 @@ mod MadeLemmas
 mod MovedLemmas
 mod FillingLemmas
 mod InputsLemmas
+mod CallsLemmas
 mod TurningLemmas
 mod TendingLemmas
 mod WorkingLemmas

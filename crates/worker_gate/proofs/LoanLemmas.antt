@@ -17,15 +17,14 @@ use Rattle.storage_simulation.specs.Goods.{or_zero}
 use Rattle.run_record.specs.declared.entry.Cause.TheVariants as why
 use Rattle.run_record.specs.Events.{Event}
 use Rattle.site_yard.specs.Law.{HasPlanLaws}
-use Rattle.site_yard.specs.Loading.{at_pair, pair_limit}
-use Rattle.site_yard.specs.Loan.{Aim, AreDrafts, AreOpened, AreReadings, IsDraftOf, IsLent, IsLoan, IsReplica, count_readings, fresh_at, pair_target, targets, targets_in}
-use Rattle.site_yard.specs.Returning.{draft_faults, reading_faults}
+use Rattle.site_yard.specs.Names.{pair_limit}
+use Rattle.site_yard.specs.Loan.{Aim, AreDrafts, AreOpened, AreReadings, IsDraftOf, IsLent, IsLoan, IsReplica, at_pair, count_readings, fresh_at, pair_target, targets, targets_in}
+use Rattle.site_yard.specs.Returning.{draft_faults, part_faults, reading_faults}
 use Rattle.site_yard.specs.Yard.{IsTold}
 use Rattle.site_yard.proofs.AimLemmas.{aim_of, moved_limit}
 use Rattle.site_yard.proofs.PlanLemmas.{transfer_reads}
 use Rattle.task_work.specs.Filling.{AreParts}
-use Rattle.task_work.specs.Making.{AreBegun, AreEmpty, Each, limit_of, part_faults}
-use Rattle.task_work.specs.Making as parts
+use Rattle.task_work.specs.Making.{AreBegun, AreEmpty, Each, limit_of}
 use Rattle.task_work.specs.Pieces.{IsSteadyDraft, IsSteadyReading}
 use Rattle.worker_gate.specs.Tending.{AreUnread, CanFinish, HasLoan, IsHeld, IsUnread, limits_in}
 
@@ -183,22 +182,14 @@ steady_many [] (s ∷ ss) h = absurd h
 steady_many (r ∷ rs) [] h = absurd h
 steady_many (r ∷ rs) (s ∷ ss) h = let more = steady_many rs ss h.1 in omega (arith, more)
 
--- counts of parts, as both crates add them up
-pub same_readings : (rs : List ReadState) → parts.reading_faults rs ≡ reading_faults rs
-same_readings [] = refl
-same_readings (r ∷ rs) = ap (λ n. r.faults + n) (same_readings rs)
-
-pub same_drafts : (ds : List DraftState) → parts.draft_faults ds ≡ draft_faults ds
-same_drafts [] = refl
-same_drafts (d ∷ ds) = ap (λ n. d.faults + n) (same_drafts ds)
-
-unread_faults : (o : Option Store) (ns : List ℕ) (rs : List ReadState) → AreUnread o ns rs → parts.reading_faults rs ≡ 0
+-- parts of which no call has failed
+unread_faults : (o : Option Store) (ns : List ℕ) (rs : List ReadState) → AreUnread o ns rs → reading_faults rs ≡ 0
 unread_faults o [] [] h = refl
 unread_faults o [] (r ∷ rs) h = absurd h
 unread_faults o (n ∷ ns) [] h = absurd h
 unread_faults o (n ∷ ns) (r ∷ rs) h = let one = h.0.faults in let more = unread_faults o ns rs h.1 in omega (arith, one, more)
 
-fresh_faults : (o : Option Store) (xs : List Aim) → parts.draft_faults (map (fresh_at o) xs) ≡ 0
+fresh_faults : (o : Option Store) (xs : List Aim) → draft_faults (map (fresh_at o) xs) ≡ 0
 fresh_faults o [] = refl
 fresh_faults o (x ∷ xs) = let more = fresh_faults o xs in omega (arith, more)
 
@@ -217,7 +208,7 @@ module _ (apply : Apply) (p : Plan) (proper : IsProper p) (laws : HasPlanLaws p)
   pub no_faults : (o : Option Store) (rs : List ReadState) (ds : List DraftState) → IsHeld apply p first m o t rs ds → part_faults rs ds ≡ 0
   no_faults o rs ds held =
       let a = unread_faults o (limits_in p (kind p t) (reads p t)) rs held.unread in
-      let b = ap parts.draft_faults held.drafts ∙ fresh_faults o (targets p t) in
+      let b = ap draft_faults held.drafts ∙ fresh_faults o (targets p t) in
       omega (arith, a, b)
 
   memory_told : (o : Option Store) → IsTold apply p m o t why.Memory
@@ -226,4 +217,8 @@ module _ (apply : Apply) (p : Plan) (proper : IsProper p) (laws : HasPlanLaws p)
 
   -- without a copy of the plan nothing is done with the loan
   pub memory_finishes : (o : Option Store) (rs : List ReadState) (ds : List DraftState) → IsHeld apply p first m o t rs ds → CanFinish apply p first m o t rs ds (Err why.Memory)
-  memory_finishes o rs ds held = record { loan = held_loan o rs ds held; kind_is = tt; fits = (λ e. refl, tt); shown = tt; is_told = λ opening. memory_told o }
+  memory_finishes o rs ds held = record { loan = held_loan o rs ds held; kind_is = tt; fits = (λ e. refl, tt); shown = no_faults o rs ds held; is_told = λ opening. memory_told o }
+
+-- where one call of a part fails at most, and none had failed before
+pub still_whole : (before later : ℕ) → before ≡ 0 → later ≤ before + 0 → later ≡ 0
+still_whole before later none few = omega (arith, none, few)

@@ -18,9 +18,9 @@ use Rattle.lease_book.specs.Legal.{has_job}
 use Rattle.site_yard.specs.Changes.{carries}
 use Rattle.site_yard.specs.Kept.{IsOpening}
 use Rattle.site_yard.specs.Law.{HasPlanLaws}
-use Rattle.site_yard.specs.Loading.{pair_limit}
 use Rattle.site_yard.specs.Loan.{Aim, AreCarried, AreSmall, CanSettle, draft_size, fresh_at, inputs, pair_target, targets, targets_in}
-use Rattle.site_yard.specs.Names.{pair_file}
+use Rattle.site_yard.specs.Names.{pair_file, pair_limit}
+use Rattle.site_yard.specs.Returning.{part_faults}
 use Rattle.site_yard.specs.Storing.{AreWithin, IsFirstPast, IsOverlong}
 use Rattle.site_yard.specs.Truthful.{HasChecksum, IsLongAs, declined, is_over, oversize_among}
 use Rattle.site_yard.specs.Yard.{content}
@@ -157,13 +157,14 @@ module _ (apply : Apply) (p : Plan) (proper : IsProper p) (laws : HasPlanLaws p)
         sum = run_sums p (carries apply p m t) (kind p t) run;
       }
 
-  pub made_settles : (o : Option Store) (rs0 rs1 : List ReadState) (ds0 ds1 : List DraftState) (sizes : List ℕ) → IsHeld apply p first m o t rs0 ds0 → OfRead p t rs0 (AreStored apply p t ds0 ds1 sizes) → Each IsSteadyReading rs0 rs1 → Each IsSteadyDraft ds0 ds1 → CanSettle apply p first m o t rs1 ds1 sizes None
-  made_settles o rs0 rs1 ds0 ds1 sizes held made readings drafts = record {
+  pub made_settles : (o : Option Store) (rs0 rs1 : List ReadState) (ds0 ds1 : List DraftState) (sizes : List ℕ) → IsHeld apply p first m o t rs0 ds0 → OfRead p t rs0 (AreStored apply p t ds0 ds1 sizes) → part_faults rs1 ds1 ≡ 0 → Each IsSteadyReading rs0 rs1 → Each IsSteadyDraft ds0 ds1 → CanSettle apply p first m o t rs1 ds1 sizes None
+  made_settles o rs0 rs1 ds0 ds1 sizes held made whole readings drafts = record {
     loan = steady_loan apply p proper laws first m t o rs0 rs1 ds0 ds1 held readings drafts;
     sizes_are = written_sizes ds0 ds1 made.holds.outs made.holds.written ∙ sym made.holds.sizes_are;
     small = subst (λ l. AreSmall l sizes) (sym (run_targets p (kind p t) (writes p t) run)) (subst (AreSmall (map (pair_target p) (writes p t))) (sym made.holds.sizes_are) (small_of p (writes p t) made.holds.outs made.holds.within));
     delivery = sym (no_delivery p t run);
-    long = tt;
+    of_bytes = tt;
+    whole = whole;
     carried = carried_so o rs0 ds0 ds1 sizes held made;
   }
 

@@ -17,16 +17,18 @@ use Rattle.storage_simulation.specs.Goods.{is_delivery}
 use Rattle.run_record.specs.Events.{Event}
 use Rattle.lease_book.specs.Legal.{checksum, is_from_pfn}
 use Rattle.site_yard.specs.Changes.{carries, moved}
+use Rattle.site_yard.specs.Delivered.{IsDigestOf}
 use Rattle.site_yard.specs.Kept.{IsOpening}
 use Rattle.site_yard.specs.Law.{HasPlanLaws}
 use Rattle.site_yard.specs.Loan.{Aim, AreCarried, AreSmall, CanSettle, draft_bytes, draft_size, fresh_at, inputs, read_told}
+use Rattle.site_yard.specs.Returning.{part_faults}
 use Rattle.site_yard.specs.Truthful.{HasChecksum, HasSum, IsAtPfn, IsDigest}
 use Rattle.site_yard.proofs.AimLemmas.{IsAimOf, aim_of, moved_limit}
 use Rattle.task_work.specs.Filling.{AreMoved, IsTransferred}
 use Rattle.task_work.specs.Making.{Each}
 use Rattle.task_work.specs.Moving.{IsAgreeing, digest_of}
 use Rattle.task_work.specs.Pieces.{HasMoved, IsSteadyDraft, IsSteadyReading}
-use Rattle.worker_gate.specs.Inputs.{IsDigestOfBytes}
+use Rattle.worker_gate.specs.Inputs.{AreBytesMoved, IsDigestOfBytes}
 use Rattle.worker_gate.specs.Tending.{AreUnread, IsHeld, IsUnread}
 use Rattle.worker_gate.proofs.LoanLemmas.{one_limit, steady_loan}
 
@@ -137,8 +139,8 @@ module _ (apply : Apply) (p : Plan) (proper : IsProper p) (laws : HasPlanLaws p)
           sum = agreed p (c t) (kind p t) by.moved.bytes digest is by.moved.digest_is agrees;
         }
 
-    settles_so : (o : Option Store) (rs0 rs1 : List ReadState) (ds0 ds1 : List DraftState) (n : ℕ) (digest : List ℕ) → IsHeld apply p first m o t rs0 ds0 → IsMovedBy rs0 ds0 ds1 n digest → IsAgreeing p (kind p t) digest → length digest ≡ 32 → Each IsSteadyReading rs0 rs1 → Each IsSteadyDraft ds0 ds1 → CanSettle apply p first m o t rs1 ds1 (n ∷ []) (digest_of (is_delivery p t) digest)
-    settles_so o rs0 rs1 ds0 ds1 n digest held by agrees wide readings drafts =
+    settles_so : (o : Option Store) (rs0 rs1 : List ReadState) (ds0 ds1 : List DraftState) (n : ℕ) (digest : List ℕ) → IsHeld apply p first m o t rs0 ds0 → IsMovedBy rs0 ds0 ds1 n digest → IsAgreeing p (kind p t) digest → part_faults rs1 ds1 ≡ 0 → Each IsSteadyReading rs0 rs1 → Each IsSteadyDraft ds0 ds1 → CanSettle apply p first m o t rs1 ds1 (n ∷ []) (digest_of (is_delivery p t) digest)
+    settles_so o rs0 rs1 ds0 ds1 n digest held by agrees whole readings drafts =
         let a : length by.moved.bytes ≤ moved_limit p (kind p t) = within_limit o rs0 ds0 ds1 n digest held by in
         let b : n ≡ length by.moved.bytes = by.moved.length_is in
         let c : moved_limit p (kind p t) ≡ x.limit = aim.limit_is in
@@ -147,15 +149,16 @@ module _ (apply : Apply) (p : Plan) (proper : IsProper p) (laws : HasPlanLaws p)
           sizes_are = ap (map draft_size) by.later ∙ ap (λ z. z ∷ []) (by.moved.size ∙ sym by.moved.length_is);
           small = subst (λ l. AreSmall l (n ∷ [])) (sym aim.are) (omega (arith, a, b, c), tt);
           delivery = digest_given (is_delivery p t) digest;
-          long = digest_holds (is_delivery p t) digest (λ d. length d ≡ 32) wide;
+          of_bytes = digest_holds (is_delivery p t) digest (λ d. (k : ℕ) × (n ∷ [] ≡ k ∷ []) × IsDigestOf k d) (n, (refl, ∣ (by.moved.bytes, (sym by.moved.length_is, sym by.moved.digest_is)) ∣₁));
+          whole = whole;
           carried = carried_so o rs0 ds0 ds1 n digest held by agrees;
         }
 
-  pub moved_settles : (o : Option Store) (rs0 rs1 : List ReadState) (ds0 ds1 : List DraftState) (n : ℕ) (given : Option (List ℕ)) → IsHeld apply p first m o t rs0 ds0 → IsTransferred p t rs0 ds0 ds1 n given → Each IsSteadyReading rs0 rs1 → Each IsSteadyDraft ds0 ds1 → CanSettle apply p first m o t rs1 ds1 (n ∷ []) given
-  moved_settles o rs0 rs1 ds0 ds1 n given held h readings drafts =
+  pub moved_settles : (o : Option Store) (rs0 rs1 : List ReadState) (ds0 ds1 : List DraftState) (n : ℕ) (given : Option (List ℕ)) → IsHeld apply p first m o t rs0 ds0 → IsTransferred p t rs0 ds0 ds1 n given → part_faults rs1 ds1 ≡ 0 → Each IsSteadyReading rs0 rs1 → Each IsSteadyDraft ds0 ds1 → CanSettle apply p first m o t rs1 ds1 (n ∷ []) given
+  moved_settles o rs0 rs1 ds0 ds1 n given held h whole readings drafts =
       let aim = aim_of p proper laws t (kind p t) refl moves in
       subst (CanSettle apply p first m o t rs1 ds1 (n ∷ [])) (sym h.given_is)
-      (settles_so aim.0 aim.1 o rs0 rs1 ds0 ds1 n h.digest held (moved_by rs0 ds0 ds1 n h.digest h.moved) h.agrees h.long readings drafts)
+      (settles_so aim.0 aim.1 o rs0 rs1 ds0 ds1 n h.digest held (moved_by rs0 ds0 ds1 n h.digest h.moved) h.agrees whole readings drafts)
 
 -- a digest that differs is that of what stands at the pfn
 at_pfn : (told : List ℕ → Option (List ℕ)) (p : Plan) (k : Option TaskKind) (bytes digest : List ℕ) → is_from_pfn k ≡ true → IsAtPfn told k (λ f o. o ≡ Some bytes) → digest ≡ sha256 bytes → length bytes ≤ moved_limit p k → IsAtPfn told k (IsDigest p digest)
@@ -193,3 +196,20 @@ digest_of_bytes apply p proper laws first m t o rs ds es n digest from held h =
     let moves = pfn_moves (kind p t) from in
     let by = moved_by rs ds es n digest h in
     of_bytes p (kind p t) by.moved.bytes digest moves by.moved.digest_is (within_limit apply p proper laws first m t moves o rs ds es n digest held by)
+
+-- told or not, the bytes that were moved
+bytes_in : (p : Plan) (k : Option TaskKind) (n : ℕ) (bytes digest : List ℕ) → is_transfer_kind k ≡ true → n ≡ length bytes → digest ≡ sha256 bytes → IsAgreeing p k digest → AreBytesMoved p k n
+bytes_in p None n bytes digest h is d agrees = absurd cc
+bytes_in p (Some (Run s js)) n bytes digest h is d agrees = absurd cc
+bytes_in p (Some (CleanTask q)) n bytes digest h is d agrees = absurd cc
+bytes_in p (Some (Transfer f (Site s) to)) n bytes digest h is d agrees = (bytes, sym is)
+bytes_in p (Some (Transfer f (Pfn x) to)) n bytes digest h is d agrees = (bytes, (sym is, by (checksum p f.0) agrees))
+  where
+    by : (o : Option (List ℕ)) → IfSome o (λ wanted. digest ≡ wanted) → IfSome o (λ wanted. sha256 bytes ≡ wanted)
+    by None a = tt
+    by (Some wanted) a = sym d ∙ a
+
+pub moved_bytes : (p : Plan) (t : ℕ) (rs : List ReadState) (ds es : List DraftState) (n : ℕ) (given : Option (List ℕ)) → is_transfer p t ≡ true → IsTransferred p t rs ds es n given → AreBytesMoved p (kind p t) n
+moved_bytes p t rs ds es n given moves h =
+    let by = moved_by rs ds es n h.digest h.moved in
+    bytes_in p (kind p t) n by.moved.bytes h.digest moves by.moved.length_is by.moved.digest_is h.agrees

@@ -15,10 +15,10 @@ use Rattle.worker_gate.specs.Tending.{EndsTask, Finishes}
 use Rattle.worker_gate.proofs.TurningLemmas.{done_last}
 use Rattle.worker_gate.proofs.WorkLemmas.{failed_done, failed_faults, failure_done, rose_zero, settled_done}
 
-pub failure_ends : (w t : ℕ) (r new : List Event) (o : Option Store) (before now_ : Counts) → Adds r new (IsFailure w t) o before now_ → EndsTask w t 0 r new
+pub failure_ends : {Takes : Event → ℕ → Type 0} (w t : ℕ) (r new : List Event) (o : Option Store) (before now_ : Counts) → Adds r new (IsFailure w t) Takes o before now_ → EndsTask w t 0 r new
 failure_ends w t r new o before now_ adds = let d = failure_done w t adds.entry adds.kind in record { entry = adds.entry; is = adds.is; done = d.0; failures = d.1 }
 
-pub settled_ends : (p : Plan) (w t : ℕ) (sizes : List ℕ) (r new : List Event) (o : Option Store) (before now_ : Counts) → Adds r new (IsSettled p w t sizes) o before now_ → EndsTask w t 0 r new
+pub settled_ends : {Takes : Event → ℕ → Type 0} (p : Plan) (w t : ℕ) (sizes : List ℕ) (r new : List Event) (o : Option Store) (before now_ : Counts) → Adds r new (IsSettled p w t sizes) Takes o before now_ → EndsTask w t 0 r new
 settled_ends p w t sizes r new o before now_ adds = let d = settled_done p w t sizes adds.entry adds.kind in record { entry = adds.entry; is = adds.is; done = d.0; failures = d.1 }
 
 pub abandoned_ends : (p : Plan) (s : State) (w t : ℕ) (c : Cause) (r new : List Event) → new ≡ r ++ failure p s w t c [] ∷ [] → EndsTask w t (tool_fault_in c) r new
@@ -35,5 +35,5 @@ ends_finishes w t n r new ends = record { entry = ends.entry; is = ends.is; last
 pub ends_does : (t n a b : ℕ) (r new : List Event) → EndsTask 0 t n r new → RoseBy n a b → DoesTask r new t a b
 ends_does t n a b r new ends rose = record { entry = ends.entry; is = ends.is; done = ends.done; counted = subst (λ k. RoseBy k a b) (sym ends.failures) rose }
 
-pub none_does : (t a : ℕ) (r new : List Event) (o : Option Store) (before now_ : Counts) → Adds r new (IsFailure 0 t) o before now_ → DoesTask r new t a a
+pub none_does : {Takes : Event → ℕ → Type 0} (t a : ℕ) (r new : List Event) (o : Option Store) (before now_ : Counts) → Adds r new (IsFailure 0 t) Takes o before now_ → DoesTask r new t a a
 none_does t a r new o before now_ adds = ends_does t 0 a a r new (failure_ends 0 t r new o before now_ adds) (rose_zero 0 a refl)

@@ -1,5 +1,5 @@
 -- What a worker does for a task at a yard, whoever works there besides.
-use Rattle.std.specs.Prelude.{◌≡◌, ℕ, ◌≤◌, true, List, [], ◌∷◌, ◌++◌, map, Option, Some, None, IfErr, IfOk, IfSome, is_some, Result, Ok, Err}
+use Rattle.std.specs.Prelude.{◌≡◌, ℕ, ◌+◌, ◌≤◌, true, List, [], ◌∷◌, ◌++◌, map, Option, Some, None, IfErr, IfOk, IfSome, is_some, Result, Ok, Err}
 use Rattle.values.specs.Apply.{Apply}
 use Rattle.outside.specs.Parts.{DraftState, ReadState}
 use Rattle.outside.specs.declared.store.Store.{Store}
@@ -15,11 +15,12 @@ use Rattle.lease_book.specs.Legal.{CauseFits}
 use Rattle.site_yard.specs.Changes.{carries}
 use Rattle.site_yard.specs.Failures.{tool_fault_in, tool_faults_of}
 use Rattle.site_yard.specs.Kept.{IsOpening}
-use Rattle.site_yard.specs.Loading.{pair_limit}
 use Rattle.site_yard.specs.Loan.{CanSettle, IsLoan, fresh_at, inputs, read_told, targets}
+use Rattle.site_yard.specs.Names.{pair_limit}
 use Rattle.site_yard.specs.Yard.{IsBehind, IsTold, IsWorkers}
 use Rattle.task_work.specs.Filling.{HasFilled, IsWhy}
-use Rattle.task_work.specs.Making.{Each, IsShown, part_faults}
+use Rattle.task_work.specs.Making.{Each, IsShown, blames}
+use Rattle.site_yard.specs.Returning.{part_faults}
 use Rattle.task_work.specs.Pieces.{IsSteadyDraft, IsSteadyReading}
 use Rattle.task_work.specs.declared.filling.Filled.{Filled}
 use Rattle.task_work.specs.declared.filling.Filled.TheVariants.{Moved, Made}
@@ -112,6 +113,7 @@ pub record Fills (apply : Apply) (p : Plan) (t : ℕ) (rs0 rs1 : List ReadState)
   pub filled : IfOk result (HasFilled apply p t rs0 ds0 ds1)
   pub why : IfErr result (IsWhy apply p t rs0 ds0 ds1)
   pub shown : IfErr result (IsShown (part_faults rs0 ds0) (part_faults rs1 ds1) before later)
+  pub once : part_faults rs1 ds1 ≤ part_faults rs0 ds0 + blames result
   pub fits : IfErr result (λ c. CauseFits p t c [])
   pub readings : Each IsSteadyReading rs0 rs1
   pub drafts : Each IsSteadyDraft ds0 ds1

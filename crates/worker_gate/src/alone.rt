@@ -5,6 +5,7 @@ ghost use Rattle.outside.specs.Counts.{IsLater};
 ghost use Rattle.plan_core.specs.Words.{task_numbers};
 ghost use Rattle.lease_book.specs.Book.{state_at};
 ghost use Rattle.worker_gate.specs.Alone.{NoneOpen, WorksAlone};
+ghost use Rattle.worker_gate.specs.Calls.{AddsCalls};
 ghost use Rattle.worker_gate.specs.Inputs.{AddsOfInputs};
 
 use crate::law::lease_laws;
@@ -22,6 +23,7 @@ pub fn run_alone<H: Host, T: Tool, G: Gate>(
 ) -> Yard<H, T>
     requires { NoneOpen (state_at yard.book) }
     ensures works { WorksAlone yard.ordered.plan (task_numbers yard.ordered.tasks.items) yard.book.history.events result.book.history.events (T.faults crew.old.tool) (T.faults crew.new.tool) }
+    ensures calls { AddsCalls yard.ordered.plan yard.book.history.events result.book.history.events (H.counts yard.host) (H.counts result.host) }
     ensures inputs { AddsOfInputs T.apply yard.ordered.plan yard.book.history.events result.book.history.events }
     ensures tool { T.faults crew.old.tool ≤ T.faults crew.new.tool }
     ensures gate { crew.new.gate ≡ crew.old.gate }

@@ -5,6 +5,7 @@ ghost use Rattle.outside.specs.Counts.{IsLater};
 ghost use Rattle.lease_book.specs.Book.{state_at};
 ghost use Rattle.lease_book.specs.Legal.{IsOpen};
 ghost use Rattle.worker_gate.specs.Alone.{NoneOpen};
+ghost use Rattle.worker_gate.specs.Calls.{AddsCalls};
 ghost use Rattle.worker_gate.specs.Inputs.{AddsOfInputs};
 ghost use Rattle.worker_gate.specs.Stepping.{DoesTask, Steps};
 
@@ -19,6 +20,7 @@ use task_work::runs_carry_what_they_compute;
 fn do_task<H: Host, T: Tool>(alloc: Global, yard: &mut Yard<H, T>, tool: &mut T, task: TaskId)
     requires { IsOpen (state_at yard.old.book) 0 task.0 }
     ensures does { DoesTask yard.old.book.history.events yard.new.book.history.events task.0 (T.faults tool.old) (T.faults tool.new) }
+    ensures calls { AddsCalls yard.old.ordered.plan yard.old.book.history.events yard.new.book.history.events (H.counts yard.old.host) (H.counts yard.new.host) }
     ensures inputs { AddsOfInputs T.apply yard.old.ordered.plan yard.old.book.history.events yard.new.book.history.events }
     ensures tool { T.faults tool.old ≤ T.faults tool.new }
     ensures ordered { yard.new.ordered ≡ yard.old.ordered }
@@ -42,6 +44,7 @@ fn do_task<H: Host, T: Tool>(alloc: Global, yard: &mut Yard<H, T>, tool: &mut T,
 pub(crate) fn step<H: Host, T: Tool>(alloc: Global, yard: &mut Yard<H, T>, tool: &mut T) -> bool
     requires { NoneOpen (state_at yard.old.book) }
     ensures steps { Steps yard.old.ordered.plan (state_at yard.old.book) yard.old.book.history.events yard.new.book.history.events (state_at yard.new.book) (T.faults tool.old) (T.faults tool.new) result }
+    ensures calls { AddsCalls yard.old.ordered.plan yard.old.book.history.events yard.new.book.history.events (H.counts yard.old.host) (H.counts yard.new.host) }
     ensures inputs { AddsOfInputs T.apply yard.old.ordered.plan yard.old.book.history.events yard.new.book.history.events }
     ensures tool { T.faults tool.old ≤ T.faults tool.new }
     ensures ordered { yard.new.ordered ≡ yard.old.ordered }

@@ -8,6 +8,7 @@ ghost use Rattle.lease_book.specs.Book.{state_at};
 ghost use Rattle.lease_book.specs.Legal.{IsOpen};
 ghost use Rattle.task_work.specs.Filling.{AreParts};
 ghost use Rattle.task_work.specs.Making.{AreBegun, AreEmpty};
+ghost use Rattle.worker_gate.specs.Calls.{EndsCalls};
 ghost use Rattle.worker_gate.specs.Inputs.{AddsOfInputs, IsFilledOf};
 ghost use Rattle.worker_gate.specs.Tending.{CanFinish, EndsTask, Fills, failures_in};
 
@@ -55,6 +56,7 @@ pub(crate) fn finish_at<H: Host, T: Tool>(
     requires can { CanFinish T.apply yard.old.ordered.plan (take yard.old.opened yard.old.book.history.events) (H.marked yard.old.host) (H.told yard.old.host) task.0 (map H.Reading.state loan.readings.items) (map H.Draft.state loan.drafts.items) filled }
     requires inputs { IsFilledOf T.apply yard.old.ordered.plan task.0 filled }
     ensures ends { EndsTask worker task.0 (failures_in filled) yard.old.book.history.events yard.new.book.history.events }
+    ensures calls { EndsCalls yard.old.ordered.plan task.0 yard.old.book.history.events yard.new.book.history.events (H.counts yard.old.host) (H.counts yard.new.host) }
     ensures inputs { AddsOfInputs T.apply yard.old.ordered.plan yard.old.book.history.events yard.new.book.history.events }
     ensures ordered { yard.new.ordered ≡ yard.old.ordered }
     ensures opened { yard.new.opened ≡ yard.old.opened }

@@ -13,6 +13,6 @@ returns g c =
       entries = rw (c.record-record.ensures.value, c.book.ensures) at c.has_entries.ensures;
       history = ap Some same;
       text = text_is g.T.Tool.apply y.ordered.plan y.book.history.events (g.H.Host.told y.host) (g.H.Host.marked y.host) c.delivered-arrived.result.now c.in_ok-text.text.items
-          all.files all.lengths all.long all.digests is;
+          all.files all.lengths all.of_bytes all.digests is;
       delivered = rw c.new-delivered.ensures.items at c.in_ok-extend_from_slice.ensures.items;
     }

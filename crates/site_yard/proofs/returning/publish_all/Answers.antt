@@ -1,5 +1,5 @@
 use Rattle.std.proofs.Common.{◌∙◌, arith, map}
-use Rattle.site_yard.proofs.ReturnLemmas.{first_and_rest, later_both, next_left, still_left, still_placed}
+use Rattle.site_yard.proofs.ReturnLemmas.{first_and_rest, first_faults, later_both, next_left, publish_more, still_left, still_placed}
 use Rattle.site_yard.proofs.returning.publish_all.Goals as goal
 
 pub loop-alloc-preserved : goal.loop-alloc-preserved
@@ -18,4 +18,5 @@ loop-alloc-preserved g c =
       more.0,
       more.1,
       later_both (g.H.Host.counts c.args.host.now) (g.H.Host.counts c.loop-alloc.host) (g.H.Host.counts c.publish.new.self) i.4 c.publish.ensures.later,
+      publish_more c.loop-alloc.count _ _ _ _ (g.H.Host.counts c.args.host.now) (g.H.Host.counts c.loop-alloc.host) (g.H.Host.counts c.publish.new.self) (first_faults st left rest draft taken) c.in-Ok.ensures.answer.0 i.5,
     )

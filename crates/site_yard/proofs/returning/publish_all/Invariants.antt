@@ -2,7 +2,8 @@ use Rattle.std.proofs.Common.{◌≡◌, ◌≤◌, length, map, take, drop}
 use Rattle.std.specs.Prelude.{option_map}
 use Rattle.outside.specs.Counts.{IsLater}
 use Rattle.outside.specs.Store.{changed_by}
-use Rattle.site_yard.specs.Returning.{placings}
+use Rattle.site_yard.specs.Returning.{draft_faults, placings}
+use Rattle.site_yard.proofs.ReturnLemmas.{IsGivingBack}
 use Rattle.site_yard.proofs.returning.publish_all.Given as goal
 
 abbrev pub invariant-loop-alloc : goal.invariant-loop-alloc
@@ -12,6 +13,7 @@ invariant-loop-alloc g l =
     × (map g.H.Draft.WritePart.state l.drafts.items ≡ drop l.count (map g.H.Draft.WritePart.state l.fn.drafts.items))
     × (l.count ≤ length (map g.H.Draft.WritePart.state l.fn.drafts.items))
     × IsLater (g.H.Host.counts l.fn.host) (g.H.Host.counts l.host)
+    × IsGivingBack l.count (draft_faults (map g.H.Draft.WritePart.state l.fn.drafts.items)) (draft_faults (map g.H.Draft.WritePart.state l.drafts.items)) (g.H.Host.counts l.fn.host) (g.H.Host.counts l.host)
 
 abbrev pub decreases-loop-alloc : goal.decreases-loop-alloc
 decreases-loop-alloc g l = length l.drafts.items

@@ -1,13 +1,15 @@
 use Rattle.std.proofs.Common.{◌≡◌, ◌+◌, ◌<◌, ◌≤◌, ◌∷◌, arith, drop, length, map, refl, slice_index_or, subst, suc, sym, take}
 use Rattle.std.specs.Prelude.{Err, Ok}
 use Rattle.std.proofs.lemmas.List.{map-set}
-use Rattle.task_work.specs.Making.{AreWritten, Each, Fits, IsFaultOf, draft_faults}
+use Rattle.task_work.specs.Making.{AreWritten, Each, Fits, IsFaultOf}
+use Rattle.site_yard.specs.Returning.{draft_faults}
 use Rattle.task_work.specs.Pieces.{IsSteadyDraft}
-use Rattle.task_work.proofs.MakingLemmas.{draft_fault, each_at, each_long, each_same, each_set, empty_at, here_is, left_more, output_is, same_draft, written_more, written_steady, written_whole}
+use Rattle.task_work.proofs.MakingLemmas.{draft_fault, drafts_once, each_at, each_long, each_same, each_set, empty_at, here_is, left_more, output_is, same_draft, written_more, written_steady, written_whole}
+use Rattle.task_work.proofs.PieceLemmas.{written_once}
 use Rattle.task_work.proofs.making.write_all.Goals as goal
 
 pub loop-k-init : goal.loop-k-init
-loop-k-init g c = (tt, each_same IsSteadyDraft same_draft (map g.O.WritePart.state c.args.drafts.now), refl)
+loop-k-init g c = (tt, each_same IsSteadyDraft same_draft (map g.O.WritePart.state c.args.drafts.now), refl, omega arith)
 
 pub write_whole-requires-clause-empty : goal.write_whole-requires-clause-empty
 write_whole-requires-clause-empty g c =
@@ -78,6 +80,8 @@ loop-k-preserved g c =
           (each_set IsSteadyDraft (map st old) (map st now_) k (st x) rest (st new) c.loop-k.invariant.1 here
           (written_steady (st x) (st new) bytes (Ok tt) (empty_at (map st old) k (st x) rest c.requires.empty here) c.in-Ok.ensures.answer)),
       subst (λ z. drop (k + 1) z ≡ drop (k + 1) (map st old)) (sym (map-set st now_ k new)) (left_more (map st old) (map st now_) k (st new) c.loop-k.invariant.2),
+      subst (λ z. draft_faults z ≤ draft_faults (map st old)) (sym (map-set st now_ k new))
+          (let few = drafts_once (map st old) (map st now_) k (st x) rest (st new) 0 c.loop-k.invariant.3 c.loop-k.invariant.2 here (written_once (st x) (st new) bytes (Ok tt) c.in-Ok.ensures.answer) in omega (arith, few)),
     )
 
 pub returns-clause-written : goal.returns-clause-written
@@ -88,3 +92,17 @@ returns-clause-written g c =
     let outs = c.args.outputs.now in
     let long : length outs ≤ c.loop-k.k = omega (arith, c.loop-k-test.false) in
     written_whole (map st old) (map st now_) outs c.loop-k.k long (each_long Fits (map st old) outs c.requires.fit) (each_long IsSteadyDraft (map st old) (map st now_) c.loop-k.invariant.1) c.loop-k.invariant.0
+
+pub returns-in-Err-clause-once : goal.returns-in-Err-clause-once
+returns-in-Err-clause-once g c =
+    let st = g.O.WritePart.state in
+    let old = c.args.drafts.now in
+    let now_ = c.loop-k.drafts in
+    let k = c.loop-k.k in
+    let x = slice_index_or now_ k c.index-drafts-k.result in
+    let less : k < length now_ = omega (arith, c.loop-k-test.true, c.requires.many, c.loop-k.auto.drafts) in
+    let new = c.write_whole.new.draft in
+    let rest = drop (suc k) (map st now_) in
+    let here : drop k (map st old) ≡ st x ∷ rest = here_is st old now_ k x c.index-drafts-k.result less refl c.loop-k.invariant.2 in
+    subst (λ z. draft_faults z ≤ draft_faults (map st old) + _) (sym (map-set st now_ k new))
+    (drafts_once (map st old) (map st now_) k (st x) rest (st new) _ c.loop-k.invariant.3 c.loop-k.invariant.2 here (written_once (st x) (st new) c.as_slice.result.now (Err c.in-Err.fault) c.in-Err.ensures.answer))

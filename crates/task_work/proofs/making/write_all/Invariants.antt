@@ -1,5 +1,6 @@
-use Rattle.std.proofs.Common.{◌≡◌, map, take, drop}
+use Rattle.std.proofs.Common.{◌≡◌, ◌≤◌, map, take, drop}
 use Rattle.task_work.specs.Making.{AreWritten, Each}
+use Rattle.site_yard.specs.Returning.{draft_faults}
 use Rattle.task_work.specs.Pieces.{IsSteadyDraft}
 use Rattle.task_work.proofs.making.write_all.Given as goal
 
@@ -8,3 +9,4 @@ invariant-loop-k g l =
     AreWritten (take l.k (map g.O.WritePart.state l.initial.drafts)) (take l.k (map g.O.WritePart.state l.drafts)) (take l.k l.outputs)
     × Each IsSteadyDraft (map g.O.WritePart.state l.initial.drafts) (map g.O.WritePart.state l.drafts)
     × (drop l.k (map g.O.WritePart.state l.drafts) ≡ drop l.k (map g.O.WritePart.state l.initial.drafts))
+    × (draft_faults (map g.O.WritePart.state l.drafts) ≤ draft_faults (map g.O.WritePart.state l.initial.drafts))
