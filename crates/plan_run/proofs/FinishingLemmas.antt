@@ -14,7 +14,7 @@ use Rattle.run_record.specs.Events.{Event}
 use Rattle.run_record.specs.declared.run_fault.RunFault.{RunFault}
 use Rattle.run_record.specs.declared.run_fault.RunFault.TheVariants as faults
 use Rattle.site_yard.specs.Ending.{first_fault}
-use Rattle.site_yard.specs.Failures.{AreCounted, RoseBy, host_faults, tool_faults}
+use Rattle.site_yard.specs.Failures.{AreCounted, IsMore, RoseBy, host_faults, tool_faults}
 use Rattle.site_yard.specs.Faults.{AllBelow, AllCarried, HasToolFault, IsCountedFault}
 use Rattle.site_yard.specs.Law.{Agrees}
 use Rattle.site_yard.specs.Names.{site_name}
@@ -24,7 +24,7 @@ use Rattle.site_yard.specs.declared.opening.OpenFault.{OpenFault}
 use Rattle.site_yard.specs.declared.opening.OpenFault.TheVariants as openings
 use Rattle.plan_run.specs.Finishing.{CanEnd, IsDoneOrMemory, NoneFailed, replicas_of}
 use Rattle.plan_run.specs.Moments.{Tools, Work}
-use Rattle.plan_run.specs.Running.{End, HasRun, IsRun, IsShown, IsUnopened, Report, Tells}
+use Rattle.plan_run.specs.Running.{End, HasRun, IsRun, IsShown, IsUnopened, Report, ShowsFailures, Tells}
 
 abbrev pub NothingElseFails : Type 0
 NothingElseFails = (apply : Apply) (told : Bytes → Option Bytes) (p : Plan) (order : List ℕ) (r : List Event) (fault : RunFault) (n : ℕ) → IsProper p → Legal p order r → Truthful apply told p (carried apply told p) r → AllCarried apply told p → AllBelow n r
@@ -36,6 +36,9 @@ rose_by n before now_ some rose = by (cases_lt now_ (2 ^ 64 - 1))
     by : (now_ < 2 ^ 64 - 1) ⊎ (2 ^ 64 - 1 ≤ now_) → Rose before now_
     by (inl l) = let more = rose l in grind (arith, more, some)
     by (inr l) = grind (arith, l)
+
+more_rose : (n before now_ : ℕ) → 1 ≤ n → IsMore n before now_ → Rose before now_
+more_rose n before now_ some more = rose_by n before now_ some (λ l. let is = more l in omega (arith, is))
 
 shows_truth : (w : Work) (p : Plan) (r : List Event) (m : Store) → w.before.told ≡ Some m → IsShown w p r → Truthful w.apply (replicas_of m) p (carried w.apply (replicas_of m) p) r
 shows_truth w p r m told shown = by w.after.told (subst (λ (o : Option Store). IfSome o (λ x. MatchOption w.after.told ⊥ (λ s. Agrees w.apply p r x s))) told shown)
@@ -50,14 +53,20 @@ no_refusal w p fault can still h = by h.opening h.refuses h.fault_is
   where
     by : (opening : OpenFault) → Refuses p w.before.told w.before.counts w.after.counts opening → fault ≡ fault_of_opening p opening → fault ≡ faults.Memory
     by (openings.ScratchInUse x) refuses is =
-        let used = subst (λ (o : Option Store). IfSome o (λ s. IsEmptyAt s.scratch (site_name p x.0) → ⊥)) can.told refuses.2.1 in
-        let unused = subst (λ (o : Option Store). IfSome o (λ s. IsEmptyAt s.scratch (site_name p x.0))) can.told (can.unused x.0 refuses.0 refuses.2.0) in
+        let used = subst (λ (o : Option Store). IfSome o (λ s. IsEmptyAt s.scratch (site_name p x.0) → ⊥)) can.told refuses.1.1 in
+        let unused = subst (λ (o : Option Store). IfSome o (λ s. IsEmptyAt s.scratch (site_name p x.0))) can.told (can.unused x.0 refuses.0 refuses.1.0) in
         absurd (used unused)
-    by openings.HostFailed refuses is = absurd (still refuses)
+    by openings.HostFailed refuses is = absurd (still (more_rose 1 _ _ (omega arith) refuses.asked.faults_is))
     by openings.Memory refuses is = is
 
-counted_told : (w : Work) (r : List Event) (m : Store) → w.before.told ≡ Some m → AreCounted w.before.told w.before.counts.faults w.before.counts.misses w.after.counts r → RoseBy (host_faults r) w.before.counts.faults w.after.counts.faults
-counted_told w r m told counted = subst (λ (o : Option Store). AreCounted o w.before.counts.faults w.before.counts.misses w.after.counts r) told counted
+none_host : (r : List Event) → r ≡ [] → 1 ≤ host_faults r → ⊥
+unfolding host_faults
+none_host [] is some = absurd (omega (arith, some))
+none_host (e ∷ r) is some = absurd cc
+
+counted_told : (w : Work) (p : Plan) (r : List Event) (m : Store) → w.before.told ≡ Some m → 1 ≤ host_faults r → ShowsFailures w p r → Rose w.before.counts.faults w.after.counts.faults
+counted_told w p r m told some (inl counted) = more_rose (host_faults r) _ _ some (subst (λ (o : Option Store). AreCounted o w.before.counts.faults w.before.counts.misses w.after.counts r) told counted).0
+counted_told w p r m told some (inr refused) = absurd (none_host r refused.0 some)
 
 no_fail : (law : NothingElseFails) (w : Work) (t : Tools) (n : ℕ) (p : Plan) (order : List ℕ) (r : List Event) (fault : RunFault) → IsProper p → CanEnd w p → IsRun w t n p order r → first_fault p r ≡ Some fault
     → NoneFailed w t n → fault ≡ faults.Memory
@@ -66,7 +75,7 @@ no_fail law w t n p order r fault proper can run first none =
   where
     by : (f : RunFault) → IsCountedFault (HasToolFault n r) r f → f ≡ faults.Memory
     by (faults.HostFailed None) h = absurd h
-    by (faults.HostFailed (Some task)) h = absurd (none.host (rose_by (host_faults r) _ _ h (counted_told w r can.store can.told run.counted)))
+    by (faults.HostFailed (Some task)) h = absurd (none.host (counted_told w p r can.store can.told h run.counted))
     by (faults.ToolFailed id) h = absurd (none.tools h.0 h.1 (rose_by (tool_faults h.0 r) _ _ h.2 (run.tools h.0 h.1)))
     by faults.Memory h = refl
     by f h = absurd h

@@ -20,11 +20,11 @@ use Rattle.lease_book.specs.State.{State, now, opened}
 use Rattle.site_yard.specs.Changes.{carries}
 use Rattle.site_yard.specs.Delivered.{AreDigests, AreFiles, AreLengths, AreOfBytes, arrivals}
 use Rattle.site_yard.specs.Ending.{Ends}
-use Rattle.site_yard.specs.Failures.{AreCounted, RoseBy, host_faults, host_misses, tool_faults}
+use Rattle.site_yard.specs.Failures.{AreCounted, AreMore, IsMore, RoseBy, host_faults, host_misses, tool_faults}
 use Rattle.site_yard.specs.Faults.{AllBelow}
 use Rattle.site_yard.specs.Law.{Agrees}
 use Rattle.site_yard.specs.Leaving.{left_in}
-use Rattle.site_yard.specs.Opening.{AreUnused, Refuses, fault_of_opening}
+use Rattle.site_yard.specs.Opening.{AreUnused, Refuses, fault_of_opening, looks}
 use Rattle.site_yard.specs.Places.{is_delivered, is_published, is_swept}
 use Rattle.site_yard.specs.Trace.{trace_of}
 use Rattle.site_yard.specs.declared.delivered.Delivered.{Delivered}
@@ -32,9 +32,10 @@ use Rattle.run_record.specs.declared.run_fault.RunFault.{RunFault}
 use Rattle.run_record.specs.declared.run_fault.RunFault.TheVariants as faults
 use Rattle.site_yard.specs.declared.opening.OpenFault.{OpenFault}
 use Rattle.worker_gate.specs.Alone.{AllBy, IsOver, NoneOpen, WorksAlone, begun}
+use Rattle.worker_gate.specs.Calls.{AddsCalls, AreAllCalls}
 use Rattle.worker_gate.specs.Inputs.{AddsOfInputs, AreOfInputs}
 use Rattle.plan_run.specs.Moments.{Tools, Work, count_of, first_tool}
-use Rattle.plan_run.specs.Running.{AreDeliveries, End, EndsAs, HasRun, HasRunAlone, IsEmptyReport, IsRefusal, IsReport, IsRun, IsRunText, IsShown, Report, Reports, Tells, ended_by, marked_if}
+use Rattle.plan_run.specs.Running.{AreDeliveries, End, EndsAs, HasRun, HasRunAlone, IsEmptyReport, IsRefusal, IsReport, IsRun, IsRunText, IsShown, Report, Reports, ShowsFailures, TakesCalls, Tells, ended_by, marked_if}
 use Rattle.plan_run.specs.RunText.{run_text}
 
 -- what the laws of lease_book and site_yard say of a record
@@ -149,7 +150,7 @@ run_so w t n p order r told marked faults misses end laws legal agrees counted =
   left = laws.left;
   shown = shown_so w p r marked told end.told_is end.tells end.marked_is agrees;
   inputs = end.inputs;
-  counted = counted_so p r w.before.told told faults misses w.before.counts.faults w.before.counts.misses w.after.counts end.tells end.faults_are end.misses_are counted;
+  counted = inl (counted_so p r w.before.told told faults misses w.before.counts.faults w.before.counts.misses w.after.counts end.tells end.faults_are end.misses_are counted);
   tools = end.tools;
 }
 
@@ -179,6 +180,10 @@ pub record IsAloneEnd (w : Work) (p : Plan) (order : List ℕ) (r : List Event) 
   pub unused : AreUnused p w.before.told
   pub works : WorksAlone p order [] r w.before.tool w.after.tool
   pub inputs : AddsOfInputs w.apply p [] r
+  pub opened : Counts
+  pub looked : AreMore (looks p) 0 0 w.before.counts opened
+  pub later : IsLater opened w.after.counts
+  pub calls : AddsCalls p [] r opened w.after.counts
 
 of_all : (w : Work) (p : Plan) (order : List ℕ) (r : List Event) (told : Option Store) (marked : Store) (faults misses : ℕ) → IsAloneEnd w p order r told marked faults misses → IsYardEnd w (first_tool w) 1 p order r told marked faults misses
 of_all w p order r told marked faults misses end = record {
@@ -195,6 +200,20 @@ of_all w p order r told marked faults misses end = record {
   tools = first_rose w r end.works.added end.works.is end.works.counted;
 }
 
+-- what the host was asked for
+takes_calls : (w : Work) (p : Plan) (order : List ℕ) (r : List Event) (told : Option Store) (marked : Store) (faults misses : ℕ) → IsAloneEnd w p order r told marked faults misses → TakesCalls w p r
+takes_calls w p order r told marked faults misses end = record {
+  calls = end.calls.calls;
+  are = subst (λ (es : List Event). AreAllCalls p es end.calls.calls) (sym end.calls.is) end.calls.are;
+  asked = asked_both (looks p) end.calls.calls w.before.counts.done end.opened.done w.after.counts.done end.looked.done_is end.calls.asked end.later.done;
+}
+  where
+    asked_both : (n k a b c : ℕ) → IsMore n a b → IsMore k b c → b ≤ c → IsMore (n + k) a c
+    asked_both n k a b c first second later = λ small.
+        let one = first (omega (arith, small, later)) in
+        let two = second small in
+        omega (arith, one, two)
+
 -- A run by one worker whose opening was accepted.
 pub ran_alone : (w : Work) (p : Plan) (order : List ℕ) (r : List Event) (told : Option Store) (marked : Store) (faults misses : ℕ) (x : Report) (a : End) → IsAloneEnd w p order r told marked faults misses → HasLaws p order r
     → Legal p order r → IfSome told (Agrees w.apply p r marked) → AreCounted told faults misses w.after.counts r → EndsAs p order r a → Reports w.apply p r (marked_if told marked) x a → HasRunAlone w p order x a
@@ -206,6 +225,7 @@ ran_alone w p order r told marked faults misses x a end laws legal agrees counte
     reports = reports_so w p r told marked x a end.tells end.marked_is reports;
   };
   in_order = λ none. subst (λ (es : List Event). begun es ≡ take (length (begun es)) order) (sym end.works.is) (end.works.in_order none);
+  asked = inl (takes_calls w p order r told marked faults misses end);
 }
 
 -- ---- a refused opening
@@ -230,10 +250,10 @@ shown_at_start w p same = by w.before.told same
     by None after = tt
     by (Some m) after = subst (λ (o : Option Store). MatchOption o ⊥ (λ s. Agrees w.apply p [] m s)) (sym after) (agrees_at_start w.apply p m)
 
-counted_at_start : (told : Option Store) (before after : Counts) → IsLater before after → AreCounted told before.faults before.misses after []
+counted_at_start : (told : Option Store) (c : Counts) → AreCounted told c.faults c.misses c []
 unfolding host_faults host_misses
-counted_at_start None before after later = λ l m. omega (arith, later.faults, later.misses)
-counted_at_start (Some s) before after later = λ l. omega (arith, later.faults)
+counted_at_start None c = λ l m. omega arith
+counted_at_start (Some s) c = (λ l. omega arith, λ l. omega arith)
 
 tool_at_start : (k before after : ℕ) → before ≡ after → RoseBy (tool_faults k []) before after
 unfolding tool_faults
@@ -248,7 +268,7 @@ refusal_tells w p order opening a refuses (inr e) = subst (Tells w p order []) (
     by fault is = inr (refl, record { opening = opening; refuses = refuses; fault_is = is })
 
 no_deliveries : (apply : Apply) (p : Plan) (told : Option Store) → AreDeliveries apply p [] told []
-no_deliveries apply p told = record { files = refl; lengths = refl; long = λ k d l. absurd (omega (arith, l)); digests = by told }
+no_deliveries apply p told = record { files = refl; lengths = refl; of_bytes = λ k d l. absurd (omega (arith, l)); digests = by told }
   where
     by : (o : Option Store) → IfSome o (λ m. AreDigests (carries apply p m) [] (arrivals p []))
     by None = tt
@@ -259,8 +279,8 @@ refusal_reports w p x (Err faults.Memory) h = tt
 refusal_reports w p x a (inl e) = subst (Reports w.apply p [] w.before.told x) (sym e) tt
 refusal_reports w p x a (inr e) = record { entries = tt; history = e.history; text = record { delivered = []; are = no_deliveries w.apply p w.before.told; text_is = e.text }; delivered = e.delivered }
 
-empty_run : (w : Work) (t : Tools) (n : ℕ) (p : Plan) (order : List ℕ) → HasLaws p order [] → w.after.told ≡ w.before.told → IsLater w.before.counts w.after.counts → t.after ≡ t.before → IsRun w t n p order []
-empty_run w t n p order laws told later tools = record {
+empty_run : (w : Work) (t : Tools) (n : ℕ) (p : Plan) (order : List ℕ) → HasLaws p order [] → w.after.told ≡ w.before.told → ShowsFailures w p [] → t.after ≡ t.before → IsRun w t n p order []
+empty_run w t n p order laws told failures tools = record {
   legal = tt;
   below = tt;
   over = inl refl;
@@ -269,32 +289,38 @@ empty_run w t n p order laws told later tools = record {
   left = laws.left;
   shown = shown_at_start w p told;
   inputs = tt;
-  counted = counted_at_start w.before.told w.before.counts w.after.counts later;
+  counted = failures;
   tools = λ k l. tool_at_start k (count_of t.before k) (count_of t.after k) (ap (λ (c : List ℕ). count_of c k) (sym tools));
 }
 
 -- A run that was not begun.
-pub not_begun : (w : Work) (t : Tools) (n : ℕ) (p : Plan) (order : List ℕ) (opening : OpenFault) (x : Report) (a : End) → HasLaws p order [] → w.after.told ≡ w.before.told → IsLater w.before.counts w.after.counts → t.after ≡ t.before
+pub not_begun : (w : Work) (t : Tools) (n : ℕ) (p : Plan) (order : List ℕ) (opening : OpenFault) (x : Report) (a : End) → HasLaws p order [] → w.after.told ≡ w.before.told → t.after ≡ t.before
     → Refuses p w.before.told w.before.counts w.after.counts opening → IsRefusal p opening x a → HasRun w t n p order x a
-not_begun w t n p order opening x a laws told later tools refuses refusal = record {
+not_begun w t n p order opening x a laws told tools refuses refusal = record {
   r = [];
-  run = empty_run w t n p order laws told later tools;
+  run = empty_run w t n p order laws told (inr (refl, record { opening = opening; refuses = refuses })) tools;
   tells = refusal_tells w p order opening a refuses refusal.ends;
   reports = refusal_reports w p x a refusal.says;
 }
 
-pub not_begun_alone : (w : Work) (p : Plan) (order : List ℕ) (opening : OpenFault) (x : Report) (a : End) → HasLaws p order [] → w.after.told ≡ w.before.told → IsLater w.before.counts w.after.counts → w.after.tool ≡ w.before.tool
+pub not_begun_alone : (w : Work) (p : Plan) (order : List ℕ) (opening : OpenFault) (x : Report) (a : End) → HasLaws p order [] → w.after.told ≡ w.before.told → w.after.tool ≡ w.before.tool
     → Refuses p w.before.told w.before.counts w.after.counts opening → IsRefusal p opening x a → HasRunAlone w p order x a
-not_begun_alone w p order opening x a laws told later tool refuses refusal = record {
+not_begun_alone w p order opening x a laws told tool refuses refusal = record {
   ran = record {
     r = [];
-    run = empty_run w (first_tool w) 1 p order laws told later (ap (λ (n : ℕ). n ∷ []) tool);
+    run = empty_run w (first_tool w) 1 p order laws told (inr (refl, record { opening = opening; refuses = refuses })) (ap (λ (n : ℕ). n ∷ []) tool);
     tells = refusal_tells w p order opening a refuses refusal.ends;
     reports = refusal_reports w p x a refusal.says;
   };
   in_order = λ none. refl;
+  asked = inr (refl, record { opening = opening; refuses = refuses });
 }
 
 -- A run for which there was no memory to begin.
-pub no_room : (w : Work) (t : Tools) (n : ℕ) (p : Plan) (order : List ℕ) (x : Report) → HasLaws p order [] → w.after.told ≡ w.before.told → IsLater w.before.counts w.after.counts → t.after ≡ t.before → HasRun w t n p order x (ended_by faults.Memory)
-no_room w t n p order x laws told later tools = record { r = []; run = empty_run w t n p order laws told later tools; tells = tt; reports = tt }
+pub no_room : (w : Work) (t : Tools) (n : ℕ) (p : Plan) (order : List ℕ) (x : Report) → HasLaws p order [] → w.after.told ≡ w.before.told → w.after.counts ≡ w.before.counts → t.after ≡ t.before → HasRun w t n p order x (ended_by faults.Memory)
+no_room w t n p order x laws told same tools = record {
+  r = [];
+  run = empty_run w t n p order laws told (inl (subst (λ (c : Counts). AreCounted w.before.told w.before.counts.faults w.before.counts.misses c []) (sym same) (counted_at_start w.before.told w.before.counts))) tools;
+  tells = tt;
+  reports = tt;
+}

@@ -13,17 +13,18 @@ use Rattle.run_record.specs.RecordText.{AreEntries}
 use Rattle.site_yard.specs.Changes.{carries}
 use Rattle.site_yard.specs.Delivered.{AreDigests, AreFiles, AreLengths, AreOfBytes, arrivals}
 use Rattle.site_yard.specs.Ending.{first_fault}
-use Rattle.site_yard.specs.Failures.{AreCounted, RoseBy, tool_faults}
+use Rattle.site_yard.specs.Failures.{AreCounted, IsMore, RoseBy, tool_faults}
 use Rattle.site_yard.specs.Faults.{AllBelow}
 use Rattle.site_yard.specs.Law.{Agrees}
 use Rattle.site_yard.specs.Leaving.{left_in}
-use Rattle.site_yard.specs.Opening.{AreUnused, Refuses, fault_of_opening}
+use Rattle.site_yard.specs.Opening.{AreUnused, Refuses, fault_of_opening, looks}
 use Rattle.site_yard.specs.Trace.{trace_of}
 use Rattle.site_yard.specs.declared.delivered.Delivered.{Delivered}
 use Rattle.run_record.specs.declared.run_fault.RunFault.{RunFault}
 use Rattle.run_record.specs.declared.run_fault.RunFault.TheVariants as faults
 use Rattle.site_yard.specs.declared.opening.OpenFault.{OpenFault}
 use Rattle.worker_gate.specs.Alone.{NoneOpen, begun}
+use Rattle.worker_gate.specs.Calls.{AreAllCalls}
 use Rattle.worker_gate.specs.Inputs.{AreOfInputs}
 use Rattle.plan_run.specs.Moments.{Tools, Work, count_of, first_tool}
 use Rattle.plan_run.specs.RunText.{run_text}
@@ -38,6 +39,15 @@ ended_by fault = Err fault
 -- where the host told what it held, it still tells, and shows the record
 abbrev pub IsShown : Work → Plan → List Event → Type 0
 IsShown w p r = IfSome w.before.told (λ m. MatchOption w.after.told ⊥ (λ s. Agrees w.apply p r m s))
+
+-- The opening was refused; the host's counts show why, and that it was asked for nothing else.
+pub record WasRefused (w : Work) (p : Plan) : Type 0 where
+  pub opening : OpenFault
+  pub refuses : Refuses p w.before.told w.before.counts w.after.counts opening
+
+-- The host's counts of what didn't come rose by what the record lays on the host, and by no more.
+abbrev pub ShowsFailures : Work → Plan → List Event → Type 0
+ShowsFailures w p r = AreCounted w.before.told w.before.counts.faults w.before.counts.misses w.after.counts r ⊎ ((r ≡ []) × WasRefused w p)
 
 -- Of a run by n workers, whatever its answer: r is its one record.
 pub record IsRun (w : Work) (t : Tools) (n : ℕ) (p : Plan) (order : List ℕ) (r : List Event) : Type 0 where
@@ -55,8 +65,8 @@ pub record IsRun (w : Work) (t : Tools) (n : ℕ) (p : Plan) (order : List ℕ) 
   pub shown : IsShown w p r
   -- told or not, what entries say of a Run's jobs and outputs is so of some bytes, one text for each of its reads
   pub inputs : AreOfInputs w.apply p r
-  -- the host's count rose as often as entries lay a failure on it, and each worker's tool's as often as that worker's do
-  pub counted : AreCounted w.before.told w.before.counts.faults w.before.counts.misses w.after.counts r
+  -- the host failed exactly as often as entries lay a failure on it, and each worker's tool as often as that worker's do
+  pub counted : ShowsFailures w p r
   pub tools : (k : ℕ) → k < n → RoseBy (tool_faults k r) (count_of t.before k) (count_of t.after k)
 
 -- the sites that the plan uses were empty
@@ -123,11 +133,19 @@ pub record HasRun (w : Work) (t : Tools) (n : ℕ) (p : Plan) (order : List ℕ)
   pub tells : Tells w p order r end
   pub reports : Reports w.apply p r w.before.told x end
 
+-- The looks at the opening and the calls of the entries, and no others, did what was asked of them.
+pub record TakesCalls (w : Work) (p : Plan) (r : List Event) : Type 0 where
+  pub calls : ℕ
+  pub are : AreAllCalls p r calls
+  pub asked : IsMore (looks p + calls) w.before.counts.done w.after.counts.done
+
 -- A run by one worker alone.
 pub record HasRunAlone (w : Work) (p : Plan) (order : List ℕ) (x : Report) (end : End) : Type 0 where
   pub ran : HasRun w (first_tool w) 1 p order x end
   -- where nothing is tried again, tasks are begun in the kept order
   pub in_order : retries p ≡ 0 → begun ran.r ≡ take (length (begun ran.r)) order
+  -- the host was asked for nothing else
+  pub asked : TakesCalls w p ran.r ⊎ ((ran.r ≡ []) × WasRefused w p)
 
 -- ---- the end of a run
 

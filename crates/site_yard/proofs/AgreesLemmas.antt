@@ -1,5 +1,5 @@
 -- What a store shows of a record.
-use Rattle.std.proofs.Common.{◌≡◌, ℕ, zero, suc, true, false, List, [], ◌∷◌, ◌++◌, drop, take, refl, sym, ap, ◌∙◌, subst, length}
+use Rattle.std.proofs.Common.{◌≡◌, ℕ, zero, suc, true, List, [], ◌∷◌, ◌++◌, drop, take, refl, sym, ap, ◌∙◌, subst, length}
 use Rattle.std.specs.Prelude.{Option, Some, None, option_map, is_some, IfSome}
 use Rattle.std.proofs.Math.Logic.{∥∥₁_map, ∥∥₁_elim, ∥∥₁_prop}
 use Rattle.values.specs.Apply.{Apply}
@@ -18,7 +18,7 @@ use Rattle.site_yard.specs.Failures.{AreCounted}
 use Rattle.site_yard.specs.Kept.{IsKept, IsOpening, IsTruthful}
 use Rattle.site_yard.specs.Law.{Agrees, AgreesSince, HasPlanLaws, HasRecordLaws, Holds}
 use Rattle.site_yard.specs.Names.{pair_file}
-use Rattle.site_yard.specs.Places.{is_delivered, is_swept}
+use Rattle.site_yard.specs.Places.{is_delivered}
 use Rattle.site_yard.specs.Truthful.{Truthful}
 use Rattle.site_yard.proofs.DeliveredLemmas.{delivered_kept, undelivered_kept}
 use Rattle.site_yard.proofs.GoneLemmas.{swept_gone}

@@ -1,8 +1,8 @@
 -- The one place of a Transfer, and what is published by a failure.
-use Rattle.std.proofs.Common.{◌≡◌, ℕ, zero, suc, ◌≤◌, ◌<◌, Bool, true, false, cond, List, [], ◌∷◌, map, length, take, refl, sym, ap, ◌∙◌, subst, arith}
-use Rattle.std.specs.Prelude.{Option, Some, None, option_map, IfSome}
+use Rattle.std.proofs.Common.{◌≡◌, ℕ, zero, suc, ◌≤◌, Bool, true, false, List, [], ◌∷◌, map, length, take, refl, sym, ap, ◌∙◌, arith}
+use Rattle.std.specs.Prelude.{Option, Some, None}
 use Rattle.outside.specs.declared.operation.Operation.{Operation}
-use Rattle.outside.specs.declared.operation.Operation.TheVariants.{Publish, Deliver}
+use Rattle.outside.specs.declared.operation.Operation.TheVariants.{Publish}
 use Rattle.outside.specs.declared.store.Store.{Store}
 use Rattle.outside.specs.Store.{Change, Publishes}
 use Rattle.values.specs.Apply.{Apply}
@@ -23,7 +23,7 @@ use Rattle.site_yard.specs.Names.{file_name, pair_file, site_name}
 use Rattle.site_yard.specs.Trace.{arrived_at, operations_of, published_at}
 use Rattle.site_yard.specs.Truthful.{AreSizes, IsCause, IsTrue}
 use Rattle.site_yard.specs.Yard.{IsStop, IsTold}
-use Rattle.site_yard.proofs.KeptLemmas.{failed, told_all}
+use Rattle.site_yard.proofs.KeptLemmas.{failed}
 use Rattle.site_yard.proofs.PlacedLemmas.{operation_at}
 use Rattle.site_yard.proofs.PlanLemmas.{transfer_writes}
 

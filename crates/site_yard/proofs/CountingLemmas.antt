@@ -1,5 +1,5 @@
 -- Counts of a host before and after some calls.
-use Rattle.std.proofs.Common.{◌≡◌, ℕ, ◌+◌, ◌-◌, ◌^◌, ◌≤◌, ◌<◌, min, ap, arith}
+use Rattle.std.proofs.Common.{◌≡◌, ℕ, ◌+◌, ◌-◌, ◌^◌, ◌≤◌, min, ap, arith}
 use Rattle.std.specs.Prelude.{Option, Some, None}
 use Rattle.outside.specs.Counts.{IsLater, one_done, one_fault, one_miss}
 use Rattle.outside.specs.declared.counts.Counts.{Counts}
@@ -63,16 +63,22 @@ none_after n f m a b c first second later = more_then n 0 n f 0 f m 0 m a b c (o
 
 -- what an entry lays on the host
 pub shows : (o : Option Store) (n f m : ℕ) (before now_ : Counts) (e : Event) → f ≡ faults_of e → m ≡ misses_of e → AreMore n f m before now_ → IsLater before now_ → IsCounted o before now_ e
-shows None n f m before now_ e fs ms more later = (later, λ x y.
-    let a = more.faults_is x in
-    let b = more.misses_is y in
-    omega (arith, a, b, fs, ms))
+shows None n f m before now_ e fs ms more later = (
+  later,
+  λ x y.
+      let a = more.faults_is x in
+      let b = more.misses_is y in
+      omega (arith, a, b, fs, ms),
+)
 shows (Some s) n f m before now_ e fs ms more later =
     (later, (λ x. let a = more.faults_is x in omega (arith, a, fs)), λ y. let b = more.misses_is y in omega (arith, b, ms))
 
 -- where the host doesn't tell, a file that wasn't found is a failure
 pub shows_missing : (n : ℕ) (before now_ : Counts) (e : Event) → faults_of e ≡ 1 → misses_of e ≡ 0 → AreMore n 0 1 before now_ → IsLater before now_ → IsCounted None before now_ e
-shows_missing n before now_ e fs ms more later = (later, λ x y.
-    let a = more.faults_is x in
-    let b = more.misses_is y in
-    omega (arith, a, b, fs, ms))
+shows_missing n before now_ e fs ms more later = (
+  later,
+  λ x y.
+      let a = more.faults_is x in
+      let b = more.misses_is y in
+      omega (arith, a, b, fs, ms),
+)

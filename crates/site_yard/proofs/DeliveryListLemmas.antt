@@ -1,5 +1,5 @@
 -- What a yard's list says of what was delivered.
-use Rattle.std.proofs.Common.{◌≡◌, ℕ, true, List, [], ◌∷◌, drop, length, refl, subst, take}
+use Rattle.std.proofs.Common.{◌≡◌, ℕ, true, List, [], drop, refl, subst, take}
 use Rattle.std.specs.Prelude.{Option, Some, None, is_some, IfSome}
 use Rattle.std.proofs.Math.Logic.{∥∥₁_elim}
 use Rattle.std.proofs.Props.{props}

@@ -5,7 +5,6 @@ use Rattle.std.specs.List.{list_any}
 use Rattle.values.specs.SiteMap.{pair_at}
 use Rattle.outside.specs.Store.{Removes, changed_by}
 use Rattle.values.specs.Apply.{Apply}
-use Rattle.outside.specs.declared.counts.Counts.{Counts}
 use Rattle.outside.specs.declared.store.Store.{Store}
 use Rattle.plan_core.specs.declared.plan.Plan.{Plan}
 use Rattle.plan_core.specs.declared.plan.TaskKind.{TaskKind}

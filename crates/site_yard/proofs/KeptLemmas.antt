@@ -1,24 +1,22 @@
 -- One entry more of what a yard keeps.
-use Rattle.std.proofs.Common.{◌≡◌, ℕ, zero, suc, ◌+◌, ◌-◌, ◌^◌, ◌≤◌, ◌<◌, Bool, true, false, cond, List, [], ◌∷◌, ◌++◌, map, length, take, drop, refl, sym, ap, ◌∙◌, subst, append_assoc, arith}
+use Rattle.std.proofs.Common.{◌≡◌, ℕ, zero, suc, ◌+◌, ◌≤◌, Bool, true, false, cond, List, [], ◌∷◌, ◌++◌, map, length, take, drop, refl, sym, ap, ◌∙◌, subst, append_assoc, arith}
 use Rattle.std.specs.Prelude.{Option, Some, None, option_map, IfSome}
 use Rattle.std.specs.FinMap as files
 use Rattle.std.proofs.Math.Logic.{∥∥₁_map}
 use Rattle.std.proofs.lemmas.List.{map-append}
 use Rattle.outside.specs.Counts.{IsLater}
-use Rattle.values.specs.SiteMap.{pair_at}
 use Rattle.outside.specs.declared.counts.Counts.{Counts}
 use Rattle.outside.specs.declared.store.Store.{Store}
 use Rattle.outside.specs.Store.{Change, changed, changed_by, operation}
 use Rattle.values.specs.Apply.{Apply}
 use Rattle.plan_core.specs.declared.plan.Plan.{Plan}
 use Rattle.plan_core.specs.Numbers.{has}
-use Rattle.plan_core.specs.Words.{count_pairs}
 use Rattle.storage_simulation.specs.declared.standing.Held.{Held}
-use Rattle.storage_simulation.specs.declared.standing.Held.TheVariants.{Nothing, Stored, Reserved}
+use Rattle.storage_simulation.specs.declared.standing.Held.TheVariants.{Stored, Reserved}
 use Rattle.storage_simulation.specs.Goods.{good_size, makes}
 use Rattle.run_record.specs.declared.entry.Cause.{Cause}
 use Rattle.run_record.specs.Events.{Event, Grant, Regrant, Fail, Again}
-use Rattle.lease_book.specs.State.{State, after, now, now_from, opened, reserved_for}
+use Rattle.lease_book.specs.State.{State, after, now, now_from, opened}
 use Rattle.site_yard.specs.Changes.{carries, changes, changes_of}
 use Rattle.site_yard.specs.Failures.{AreCounted, AreMore, IsCounted, faults_of, host_faults, host_misses, misses_of}
 use Rattle.site_yard.specs.Kept.{HasBecome, HoldsSizes, IsKept, IsOpening}

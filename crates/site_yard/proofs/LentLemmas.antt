@@ -1,17 +1,15 @@
 -- What told readings of a loan hold: what is carried.
-use Rattle.std.proofs.Common.{◌≡◌, ℕ, ◌+◌, ◌≤◌, ◌<◌, Bool, true, false, cond, ◌||◌, List, [], ◌∷◌, ◌++◌, map, length, drop, take, refl, sym, ap, ◌∙◌, subst, nat_eq}
-use Rattle.std.specs.Prelude.{Option, Some, None, option_map, IfSome}
-use Rattle.std.specs.List.{list_any}
+use Rattle.std.proofs.Common.{◌≡◌, ℕ, true, cond, List, [], ◌∷◌, ◌++◌, map, drop, take, refl, sym, ap, ◌∙◌, subst, nat_eq}
+use Rattle.std.specs.Prelude.{Option, Some, None, IfSome}
 use Rattle.std.specs.FinMap as files
 use Rattle.std.proofs.Math.Logic.{∥∥₁_elim}
 use Rattle.std.proofs.Props.{props}
-use Rattle.values.specs.SiteMap.{pair_at}
 use Rattle.values.specs.Apply.{Apply}
 use Rattle.outside.specs.declared.counts.Counts.{Counts}
 use Rattle.values.specs.declared.numbers.FileId.{FileId}
 use Rattle.values.specs.declared.numbers.SiteId.{SiteId}
 use Rattle.outside.specs.declared.store.Store.{Store}
-use Rattle.outside.specs.Lending.{IsOpened, TellsFound}
+use Rattle.outside.specs.Lending.{TellsFound}
 use Rattle.outside.specs.Parts.{DraftState, ReadState}
 use Rattle.plan_core.specs.Carried.{carried_by, read, stored}
 use Rattle.plan_core.specs.declared.plan.Plan.{Plan}
@@ -19,23 +17,21 @@ use Rattle.plan_core.specs.declared.plan.TaskKind.{TaskKind}
 use Rattle.plan_core.specs.declared.plan.TaskKind.TheVariants.{Transfer, Run, Clean as CleanTask}
 use Rattle.plan_core.specs.declared.plan.Target.{Target}
 use Rattle.plan_core.specs.declared.plan.Source.TheVariants.{Pfn, Site}
-use Rattle.plan_core.specs.Kinds.{kind_reads, reads_file}
+use Rattle.plan_core.specs.Kinds.{reads_file}
 use Rattle.plan_core.specs.Numbers.{has}
 use Rattle.plan_core.specs.Proper.{IsProper}
-use Rattle.plan_core.specs.Words.{kind, reads, task_numbers, writes}
+use Rattle.plan_core.specs.Words.{kind, reads, task_numbers}
 use Rattle.plan_core.proofs.TestLemmas.{is_itself, or_left, or_right}
 use Rattle.run_record.specs.Events.{Event}
 use Rattle.lease_book.specs.declared.book.Book.{Book}
 use Rattle.lease_book.specs.Book.{state_at}
 use Rattle.lease_book.specs.Legal.{IsOpen, Legal}
-use Rattle.lease_book.specs.Reading.{ends}
 use Rattle.lease_book.specs.State.{now}
 use Rattle.site_yard.specs.Changes.{carries}
 use Rattle.site_yard.specs.Kept.{IsKept, IsOpening}
 use Rattle.site_yard.specs.Law.{HasPlanLaws, HasRecordLaws}
 use Rattle.site_yard.specs.Loan.{AreOpened, AreReadings, IsLent, IsReplica, at_pair, fresh_at, inputs, read_told, targets}
-use Rattle.site_yard.specs.Names.{pair_file, pair_file_name, pair_site, pair_site_name}
-use Rattle.site_yard.specs.Places.{is_swept}
+use Rattle.site_yard.specs.Names.{pair_file, pair_site}
 use Rattle.site_yard.specs.Yard.{content}
 use Rattle.site_yard.proofs.FollowLemmas.{not_swept, open_after}
 use Rattle.site_yard.proofs.KeptLemmas.{parts}

@@ -1,8 +1,7 @@
 -- The list of what was delivered, with one entry more of the record.
-use Rattle.std.proofs.Common.{◌≡◌, ℕ, ◌≤◌, ◌⊎◌, inl, inr, Bool, true, false, cond, List, [], ◌∷◌, ◌++◌, map, length, drop, take, refl, sym, ap, ◌∙◌, subst, append_assoc}
-use Rattle.std.specs.Prelude.{Option, Some, None, option_map, is_some, IfSome}
-use Rattle.std.proofs.lemmas.List.{length-map, map-append}
-use Rattle.std.proofs.lemmas.List.Elements.{All-append, All-cons, All-nil}
+use Rattle.std.proofs.Common.{◌≡◌, ℕ, ◌≤◌, inl, inr, Bool, true, false, cond, List, [], ◌∷◌, ◌++◌, map, length, drop, take, refl, sym, ap, ◌∙◌, subst, append_assoc}
+use Rattle.std.specs.Prelude.{Option, is_some}
+use Rattle.std.proofs.lemmas.List.Elements.{All-nil}
 use Rattle.std.proofs.Math.Logic.{∥∥₁_map}
 use Rattle.values.specs.Apply.{Apply}
 use Rattle.outside.specs.declared.store.Store.{Store}
@@ -15,8 +14,7 @@ use Rattle.lease_book.specs.declared.leasing.Next.{Next}
 use Rattle.lease_book.specs.declared.leasing.Next.TheVariants as next
 use Rattle.lease_book.specs.Book.{IsNext}
 use Rattle.site_yard.specs.Changes.{carries}
-use Rattle.site_yard.specs.Delivered.{AreDelivered, AreDigests, AreFiles, AreLengths, AreOfBytes, Arrival, IsDigestOf, arrivals, arrivals_of, carried_digest}
-use Rattle.site_yard.specs.Kept.{IsOpening}
+use Rattle.site_yard.specs.Delivered.{AreDelivered, Arrival, IsDigestOf, arrivals, arrivals_of, carried_digest}
 use Rattle.site_yard.specs.declared.delivered.Delivered.{Delivered}
 use Rattle.site_yard.proofs.KeptLemmas.{drop_more, failed, take_same}
 

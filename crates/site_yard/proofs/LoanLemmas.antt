@@ -1,14 +1,14 @@
 -- What the calls with a loan keep.
-use Rattle.std.proofs.Common.{◌≡◌, ℕ, zero, suc, ◌+◌, ◌-◌, ◌^◌, ◌≤◌, ◌<◌, min, ◌⊎◌, inl, inr, Bool, true, false, cond, List, [], ◌∷◌, ◌++◌, map, length, drop, take, refl, sym, ap, ◌∙◌, subst, nat_eq, arith}
-use Rattle.std.specs.Prelude.{Option, Some, None, option_map, is_some, IfSome, Ok, Err}
+use Rattle.std.proofs.Common.{◌≡◌, ℕ, ◌≤◌, ◌<◌, inl, inr, Bool, true, false, cond, List, [], ◌∷◌, ◌++◌, map, length, drop, take, refl, ap, ◌∙◌, subst, nat_eq, arith}
+use Rattle.std.specs.Prelude.{Option, Some, None, option_map}
 use Rattle.std.specs.FinMap as files
-use Rattle.std.proofs.Math.Logic.{∥∥₁_elim, ∥∥₁_map}
+use Rattle.std.proofs.Math.Logic.{∥∥₁_elim}
 use Rattle.std.specs.Coded.{le_prop}
 use Rattle.outside.specs.Counts.{IsLater}
 use Rattle.values.specs.Apply.{Apply}
 use Rattle.outside.specs.declared.counts.Counts.{Counts}
 use Rattle.outside.specs.declared.store.Store.{Store}
-use Rattle.outside.specs.Store.{Change, changed_by, operation}
+use Rattle.outside.specs.Store.{changed_by, operation}
 use Rattle.outside.specs.Parts.{DraftState, ReadState}
 use Rattle.site_yard.specs.Returning.{draft_faults, part_faults, reading_faults}
 use Rattle.plan_core.specs.declared.plan.Plan.{Plan}
@@ -32,7 +32,7 @@ use Rattle.site_yard.specs.Law.{HasPlanLaws, HasRecordLaws}
 use Rattle.site_yard.specs.Lending.{IsHostCause, IsLoanCause, IsPairsCause, IsReplicaCause, RefusesLoan, RefusesReadings}
 use Rattle.site_yard.specs.Trace.{operations_of, published_at}
 use Rattle.site_yard.specs.Truthful.{IsCause, IsTrue}
-use Rattle.site_yard.specs.Yard.{Adds, IsBehind, IsFailure, IsLending, IsTold, IsWorkers}
+use Rattle.site_yard.specs.Yard.{IsBehind, IsTold, IsWorkers}
 use Rattle.site_yard.proofs.KeptLemmas.{KeepsSizes, Makes, failed, keeps, sized_failed, told_all}
 use Rattle.site_yard.proofs.CountingLemmas.{more_then, shows}
 

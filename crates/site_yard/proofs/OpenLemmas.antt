@@ -1,5 +1,5 @@
 -- The opening of a yard, and the looks at its sites.
-use Rattle.std.proofs.Common.{◌≡◌, ℕ, suc, ◌+◌, ◌≤◌, ◌<◌, Bool, true, false, cond, List, [], length, drop, take, refl, sym, ap, ◌∙◌, subst, nat_lt, arith}
+use Rattle.std.proofs.Common.{◌≡◌, ℕ, suc, ◌+◌, ◌<◌, Bool, true, false, cond, List, [], length, drop, take, refl, sym, ap, ◌∙◌, subst, nat_lt, arith}
 use Rattle.std.specs.Prelude.{Option, Some, None, IfSome, Ok, Err, Decides, if◌then◌else◌}
 use Rattle.outside.specs.Counts.{IsLater, one_done, one_miss}
 use Rattle.outside.specs.Host.{Empties}
@@ -10,11 +10,10 @@ use Rattle.outside.specs.declared.store.Store.{Store}
 use Rattle.plan_core.specs.declared.plan.Plan.{Plan}
 use Rattle.run_record.specs.Events.{Event}
 use Rattle.lease_book.specs.State.{now}
-use Rattle.storage_simulation.specs.declared.standing.Held.TheVariants.{Nothing, Stored}
 use Rattle.site_yard.specs.Failures.{AreMore, host_faults, host_misses}
 use Rattle.site_yard.specs.Kept.{HoldsSizes, IsKept}
 use Rattle.site_yard.specs.Names.{is_used, site_name}
-use Rattle.site_yard.specs.Opening.{AreUnused, AreUnusedBelow, IsInUse, IsUnusedAt, Looked, LookedAt, Refuses, looks, looks_at, looks_below}
+use Rattle.site_yard.specs.Opening.{AreUnusedBelow, IsInUse, IsUnusedAt, Looked, LookedAt, Refuses, looks_at, looks_below}
 use Rattle.site_yard.specs.declared.opening.OpenFault.{OpenFault}
 use Rattle.site_yard.specs.declared.opening.OpenFault.TheVariants.{ScratchInUse, HostFailed, Memory}
 use Rattle.site_yard.proofs.CountingLemmas.{done_before, done_once, missed_once, same_more}
@@ -88,9 +87,13 @@ none_below p o x l = absurd (omega (arith, l))
 pub wants_first : (p : Plan) (o : Option Store) (c : Counts) → Refuses p o c c Memory
 wants_first p o c = record { site = 0; below = omega arith; empty = none_below p o; asked = same_more c c refl }
 
-pub wants_last : (p : Plan) (o n : Option Store) (first before now_ : Counts) → n ≡ o → before ≡ first → Looked p n before now_ (Ok tt) → Refuses p o first now_ Memory
-wants_last p o n first before now_ same start looked_ =
-    record { site = length p.sites; below = omega arith; empty = subst (AreUnused p) same looked_.0; asked = subst (λ z. AreMore (looks p) 0 0 z now_) start looked_.1 }
+pub wants_last : (p : Plan) (o : Option Store) (before now_ : Counts) → Looked p o before now_ (Ok tt) → Refuses p o before now_ Memory
+wants_last p o before now_ looked_ = record { site = length p.sites; below = omega arith; empty = looked_.0; asked = looked_.1 }
+
+-- the same before the host was marked
+pub refuses_as : (p q : Plan) (o n : Option Store) (first before now_ : Counts) (fault : OpenFault) → q ≡ p → n ≡ o → before ≡ first → Refuses q n before now_ fault → Refuses p o first now_ fault
+refuses_as p q o n first before now_ fault plan told start h =
+    subst (λ z. Refuses z o first now_ fault) plan (subst (λ z. Refuses q z first now_ fault) told (subst (λ z. Refuses q n z now_ fault) start h))
 
 -- nothing is stored yet
 nothing_stored : (p : Plan) (order : List ℕ) (s : Store) → HoldsSizes p (now p order []).held s

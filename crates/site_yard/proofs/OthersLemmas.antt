@@ -4,7 +4,6 @@ use Rattle.std.specs.Prelude.{Option, Some, None}
 use Rattle.std.specs.List.{list_any}
 use Rattle.values.specs.SiteMap.{pair_at}
 use Rattle.values.specs.Apply.{Apply}
-use Rattle.outside.specs.declared.counts.Counts.{Counts}
 use Rattle.outside.specs.Store.{changed_by}
 use Rattle.outside.specs.declared.store.Store.{Store}
 use Rattle.plan_core.specs.declared.plan.Plan.{Plan}

@@ -1,6 +1,7 @@
 -- Readings and drafts, one more.
-use Rattle.std.proofs.Common.{◌≡◌, ℕ, zero, suc, ◌+◌, ◌≤◌, ◌<◌, ◌⊎◌, inl, inr, true, false, List, [], ◌∷◌, ◌++◌, map, length, get_or, take, refl, sym, ap, ◌∙◌, subst, nat_eq, arith}
-use Rattle.std.specs.Prelude.{Option, Some, None, option_map, IfSome}
+use Rattle.std.proofs.Common.{◌≡◌, ℕ, zero, suc, ◌+◌, ◌≤◌, ◌<◌, inl, inr, true, List, [], ◌∷◌, ◌++◌, map, length, get_or, take, refl, sym, ap, ◌∙◌, subst, nat_eq, arith}
+use Rattle.std.specs.Prelude.{Option, Some, None, option_map, IfNone, IfOk, IfSome, Result, Ok, Err}
+use Rattle.std.specs.Result.{result_ok}
 use Rattle.std.proofs.lemmas.List.{map-append}
 use Rattle.outside.specs.Counts.{IsLater}
 use Rattle.outside.specs.declared.counts.Counts.{Counts}
@@ -98,7 +99,7 @@ replica_whole found limit s h = let f : s.faults ≡ 0 = h.faults in omega (arit
 
 pub drafts_whole : (o : Option Store) (xs : List Aim) → draft_faults (map (fresh_at o) xs) ≡ 0
 drafts_whole o [] = refl
-drafts_whole o (x ∷ xs) = drafts_whole o xs
+drafts_whole o (x ∷ xs) = let more = drafts_whole o xs in omega (arith, more)
 
 pub targets_long : (p : Plan) (qs : List PairId) → length (map (pair_target p) (pair_numbers qs)) ≡ length qs
 targets_long p [] = refl
@@ -162,3 +163,21 @@ wants_loan p t o c = record { calls = 0; within = omega arith; why = inr (same_m
 -- two steps that give back parts without a fault
 pub both_whole : (r d : ℕ) (a b c : Counts) → r ≡ 0 → d ≡ 0 → AreMore 0 r 0 a b → AreMore 0 d 0 b c → IsLater b c → AreMore 0 0 0 a c
 both_whole r d a b c rz dz first second later = more_then 0 0 0 r d 0 0 0 0 a b c (omega arith) (omega (arith, rz, dz)) (omega arith) first second later
+
+pub given_whole : (r : ℕ) (a b : Counts) → r ≡ 0 → AreMore 0 r 0 a b → AreMore 0 0 0 a b
+given_whole r a b none more = subst (λ n. AreMore 0 n 0 a b) none more
+
+-- what an answer says of what is taken out of it
+pub some_if_ok : {A E : Type 0} (r : Result A E) (o : Option A) (P : A → Type 0) → o ≡ result_ok r → IfOk r P → IfSome o P
+some_if_ok (Ok a) o P is h = subst (λ (z : Option _). IfSome z P) (sym is) h
+some_if_ok (Err e) o P is h = subst (λ (z : Option _). IfSome z P) (sym is) tt
+
+pub if_ok_both : {A E : Type 0} (r : Result A E) (P Q R : A → Type 0) → ((a : A) → P a → Q a → R a) → IfOk r P → IfOk r Q → IfOk r R
+if_ok_both (Ok a) P Q R f h k = f a h k
+if_ok_both (Err e) P Q R f h k = tt
+
+pub none_if_err : {A E : Type 0} (r : Result A E) (o : Option A) (e : E) (P : Type 0) → o ≡ result_ok r → r ≡ Err e → P → IfNone o P
+none_if_err r o e P is err h = subst (λ (z : Option _). IfNone z P) (sym (is ∙ ap result_ok err)) h
+
+pub some_if_none : {A E : Type 0} (r : Result A E) (o : Option A) (a : A) (P : Type 0) → o ≡ result_ok r → r ≡ Ok a → IfNone o P
+some_if_none r o a P is ok = subst (λ (z : Option _). IfNone z P) (sym (is ∙ ap result_ok ok)) tt

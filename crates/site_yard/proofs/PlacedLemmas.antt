@@ -1,7 +1,7 @@
 -- What published drafts come to: their operations are those of the entry, and where they hold what is carried, so are their
 -- changes and sizes.
-use Rattle.std.proofs.Common.{◌≡◌, ℕ, zero, suc, ◌+◌, ◌≤◌, ◌<◌, Bool, true, false, cond, List, [], ◌∷◌, ◌++◌, map, length, take, refl, sym, ap, ◌∙◌, subst, arith}
-use Rattle.std.specs.Prelude.{Option, Some, None, option_map, IfSome}
+use Rattle.std.proofs.Common.{◌≡◌, ℕ, zero, suc, List, [], ◌∷◌, ◌++◌, map, length, take, refl, sym, ap, ◌∙◌}
+use Rattle.std.specs.Prelude.{Option, Some, None, option_map}
 use Rattle.outside.specs.declared.operation.Operation.{Operation}
 use Rattle.outside.specs.declared.operation.Operation.TheVariants.{Publish, Deliver}
 use Rattle.outside.specs.declared.store.Store.{Store}

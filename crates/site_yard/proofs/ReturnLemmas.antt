@@ -1,8 +1,8 @@
 -- Parts, given back one by one.
 use Rattle.std.proofs.Common.{◌≡◌, ℕ, zero, suc, ◌+◌, ◌-◌, ◌^◌, ◌≤◌, ◌<◌, min, List, [], ◌∷◌, ◌++◌, length, map, get_or, take, drop, refl, sym, ap, ◌∙◌, subst, append_assoc, arith}
 use Rattle.std.specs.Prelude.{Option, Some, None, option_map, Err}
-use Rattle.std.proofs.lemmas.List.{length-map, map-append}
-use Rattle.outside.specs.Counts.{IsLater, one_done, one_fault}
+use Rattle.std.proofs.lemmas.List.{map-append}
+use Rattle.outside.specs.Counts.{IsLater, one_done}
 use Rattle.outside.specs.Store.{Change, changed, changed_by}
 use Rattle.outside.specs.declared.counts.Counts.{Counts}
 use Rattle.outside.specs.declared.store.Store.{Store}

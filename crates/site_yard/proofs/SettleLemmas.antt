@@ -1,6 +1,6 @@
 -- What the settling of a loan asks of the book, and what it adds.
-use Rattle.std.proofs.Common.{◌≡◌, ℕ, zero, suc, ◌+◌, ◌-◌, ◌^◌, ◌≤◌, ◌<◌, min, ◌⊎◌, inl, inr, Bool, true, false, cond, List, [], ◌∷◌, ◌++◌, map, length, get_or, take, refl, sym, ap, ◌∙◌, subst, nat_eq, nat_lt, arith}
-use Rattle.std.specs.Prelude.{Option, Some, None, is_some, IfSome, Ok, Err, slice_get}
+use Rattle.std.proofs.Common.{◌≡◌, ℕ, zero, suc, ◌+◌, ◌-◌, ◌≤◌, ◌<◌, ◌⊎◌, inl, inr, Bool, true, false, cond, List, [], ◌∷◌, ◌++◌, map, length, get_or, take, refl, sym, ap, ◌∙◌, subst, nat_eq, nat_lt, arith}
+use Rattle.std.specs.Prelude.{Option, Some, None, slice_get}
 use Rattle.std.proofs.Math.Logic.{∥∥₁_elim}
 use Rattle.std.proofs.Props.{props}
 use Rattle.std.proofs.lemmas.List.{length-map}
@@ -19,11 +19,11 @@ use Rattle.plan_core.specs.declared.plan.Target.TheVariants.{Site as Into, Deliv
 use Rattle.plan_core.specs.Numbers.{has}
 use Rattle.plan_core.specs.Proper.{IsProper}
 use Rattle.plan_core.proofs.TestLemmas.{is_itself, or_left, or_right}
-use Rattle.plan_core.specs.Words.{count_pairs, count_tasks, declared, is_clean, is_clean_kind, is_run, is_run_kind, is_transfer, is_transfer_kind, kind, kind_in, pair, task_numbers, writes}
+use Rattle.plan_core.specs.Words.{count_pairs, count_tasks, declared, is_clean_kind, is_run, is_run_kind, is_transfer, is_transfer_kind, kind, kind_in, pair, task_numbers, writes}
 use Rattle.storage_simulation.specs.Goods.{delivered_size, good_size, is_delivery, is_delivery_kind, kind_size, makes, or_zero, pair_size}
 use Rattle.run_record.specs.declared.entry.Cause.{Cause}
 use Rattle.run_record.specs.declared.entry.Cause.TheVariants.{HostFailed, Memory}
-use Rattle.run_record.specs.Events.{Event, Arrive, End, Fail, Again}
+use Rattle.run_record.specs.Events.{Event, Arrive, End, Fail}
 use Rattle.lease_book.specs.declared.book.Book.{Book}
 use Rattle.lease_book.specs.Book.{failure, is_tried_again, state_at}
 use Rattle.lease_book.specs.Legal.{Allowed, AreDeclared, AreOfFirst, ArePublished, CauseFits, IsOpen, Legal}

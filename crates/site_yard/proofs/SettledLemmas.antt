@@ -1,33 +1,27 @@
 -- What a settling keeps.
-use Rattle.std.proofs.Common.{◌≡◌, ℕ, zero, suc, ◌+◌, ◌≤◌, ◌<◌, ◌⊎◌, inl, inr, Bool, true, false, cond, List, [], ◌∷◌, ◌++◌, map, length, drop, take, refl, sym, ap, ◌∙◌, subst, arith}
+use Rattle.std.proofs.Common.{◌≡◌, ℕ, zero, suc, ◌≤◌, ◌<◌, ◌⊎◌, inl, inr, Bool, true, List, [], ◌∷◌, ◌++◌, map, length, drop, take, refl, sym, ap, ◌∙◌, subst, arith}
 use Rattle.std.specs.Prelude.{Option, Some, None, option_map, is_some, IfSome}
 use Rattle.std.specs.FinMap as files
 use Rattle.std.proofs.lemmas.List.{length-map}
 use Rattle.outside.specs.Counts.{IsLater}
 use Rattle.values.specs.Apply.{Apply}
 use Rattle.outside.specs.declared.counts.Counts.{Counts}
-use Rattle.values.specs.declared.numbers.FileId.{FileId}
 use Rattle.outside.specs.declared.store.Store.{Store}
-use Rattle.outside.specs.Store.{Change, changed_by, operation}
+use Rattle.outside.specs.Store.{changed_by, operation}
 use Rattle.outside.specs.Parts.{DraftState, ReadState}
-use Rattle.site_yard.specs.Returning.{placing_of, placings}
+use Rattle.site_yard.specs.Returning.{placings}
 use Rattle.plan_core.specs.declared.plan.Plan.{Plan}
-use Rattle.plan_core.specs.declared.plan.TaskKind.{TaskKind}
-use Rattle.plan_core.specs.declared.plan.TaskKind.TheVariants.{Transfer, Run, Clean as CleanTask}
-use Rattle.plan_core.specs.declared.plan.Target.TheVariants.{Site as Into, Delivery}
-use Rattle.plan_core.specs.Words.{is_run, is_run_kind, is_transfer, kind, task_numbers, writes}
+use Rattle.plan_core.specs.Words.{is_run, is_transfer, kind, task_numbers, writes}
 use Rattle.run_record.specs.declared.entry.Cause.{Cause}
-use Rattle.run_record.specs.declared.entry.Cause.TheVariants.{HostFailed, Memory}
-use Rattle.run_record.specs.Events.{Event, Arrive, End, Fail, Again}
+use Rattle.run_record.specs.Events.{Arrive, End}
 use Rattle.lease_book.specs.declared.book.Book.{Book}
 use Rattle.lease_book.specs.Book.{failure, is_tried_again, state_at}
 use Rattle.lease_book.specs.Legal.{IsOpen}
-use Rattle.site_yard.specs.Changes.{carries, changes_of, publishes}
-use Rattle.site_yard.specs.Kept.{IsKept, IsOpening}
-use Rattle.site_yard.specs.Loan.{Aim, AreCarried, AreDrafts, CanSettle, draft_bytes, draft_size, pair_target, targets}
+use Rattle.site_yard.specs.Changes.{carries, publishes}
+use Rattle.site_yard.specs.Kept.{IsKept}
+use Rattle.site_yard.specs.Loan.{Aim, AreDrafts, CanSettle, draft_bytes, draft_size, pair_target, targets}
 use Rattle.site_yard.specs.Names.{pair_file}
 use Rattle.site_yard.specs.Trace.{operations_of, published_at}
-use Rattle.site_yard.specs.Truthful.{AreSizes, IsCause, IsTrue}
 use Rattle.site_yard.specs.Yard.{IsStop}
 use Rattle.site_yard.proofs.KeptLemmas.{KeepsSizes, Makes, failed, keeps}
 use Rattle.site_yard.proofs.LoanLemmas.{HasBookLaws}
@@ -39,7 +33,7 @@ use Rattle.site_yard.specs.Returning.{IsRefused, refusal_faults}
 use Rattle.site_yard.specs.Failures.{AreMore, IsCounted}
 use Rattle.site_yard.specs.Lending.{IsHostCause}
 use Rattle.site_yard.specs.Moving.{scratch_cause}
-use Rattle.site_yard.specs.Changes.{arrival, moved, or_nil}
+use Rattle.site_yard.specs.Changes.{arrival, or_nil}
 use Rattle.site_yard.proofs.AimLemmas.{IsAimOf, aim_of, failed_at, failed_publishes, length_take, stop_told, stop_true}
 use Rattle.site_yard.proofs.KeptLemmas.{sized_failed, told_all}
 use Rattle.site_yard.proofs.LoanLemmas.{failed_counted, failed_made, failed_operations}

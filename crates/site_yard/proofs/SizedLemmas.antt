@@ -1,12 +1,11 @@
 -- Sizes stay those of the record where drafts are published.
-use Rattle.std.proofs.Common.{◌≡◌, ℕ, zero, suc, ◌+◌, ◌≤◌, ◌<◌, Bool, true, false, cond, ◌&&◌, ◌||◌, List, [], ◌∷◌, ◌++◌, map, length, take, refl, sym, ap, ◌∙◌, subst, nat_eq, arith}
-use Rattle.std.specs.Prelude.{Option, Some, None, option_map, IfSome, slice_get}
-use Rattle.std.specs.List.{list_any}
+use Rattle.std.proofs.Common.{◌≡◌, ℕ, zero, suc, ◌+◌, ◌<◌, Bool, true, false, cond, ◌&&◌, ◌||◌, List, [], ◌∷◌, ◌++◌, map, length, take, refl, sym, ap, ◌∙◌, subst, nat_eq, arith}
+use Rattle.std.specs.Prelude.{Option, Some, None, option_map, slice_get}
 use Rattle.std.proofs.lemmas.List.{length-map}
 use Rattle.std.proofs.lemmas.List.Folds.{list_any-append}
 use Rattle.values.specs.SiteMap.{pair_at}
 use Rattle.outside.specs.declared.store.Store.{Store}
-use Rattle.outside.specs.Store.{Change, changed_by}
+use Rattle.outside.specs.Store.{changed_by}
 use Rattle.outside.specs.Parts.{DraftState}
 use Rattle.site_yard.specs.Returning.{placing_of, placings}
 use Rattle.plan_core.specs.declared.plan.Plan.{Plan}
@@ -23,7 +22,7 @@ use Rattle.storage_simulation.specs.declared.standing.Held.{Held}
 use Rattle.storage_simulation.specs.declared.standing.Held.TheVariants.{Nothing, Reserved, Stored}
 use Rattle.storage_simulation.specs.Goods.{is_delivery, is_delivery_kind, makes}
 use Rattle.run_record.specs.declared.entry.Cause.{Cause}
-use Rattle.run_record.specs.Events.{Event, Arrive, End, Fail, Again}
+use Rattle.run_record.specs.Events.{Arrive, End}
 use Rattle.lease_book.specs.State.{State, stored_among}
 use Rattle.site_yard.specs.Kept.{HoldsSizes}
 use Rattle.site_yard.specs.Law.{HasPlanLaws}

@@ -1,39 +1,23 @@
 -- A pair that was published and not swept holds what its writer carries.
-use Rattle.std.proofs.Common.{◌≡◌, ℕ, true, false, cond, ◌&&◌, List, length, refl, sym, ap, ◌∙◌, subst, nat_eq, arith}
+use Rattle.std.proofs.Common.{◌≡◌, ℕ, true, false, List, length, refl, sym, ap, ◌∙◌}
 use Rattle.std.specs.Prelude.{Option, Some, None, option_map}
-use Rattle.std.specs.List.{list_any}
 use Rattle.std.specs.FinMap as files
 use Rattle.values.specs.SiteMap.{pair_at}
 use Rattle.values.specs.Apply.{Apply}
-use Rattle.outside.specs.declared.counts.Counts.{Counts}
-use Rattle.values.specs.declared.numbers.FileId.{FileId}
-use Rattle.values.specs.declared.numbers.SiteId.{SiteId}
 use Rattle.outside.specs.Store.{changed_by}
 use Rattle.outside.specs.declared.store.Store.{Store}
 use Rattle.plan_core.specs.declared.plan.Plan.{Plan}
-use Rattle.plan_core.specs.declared.plan.TaskKind.{TaskKind}
-use Rattle.plan_core.specs.declared.plan.TaskKind.TheVariants.{Transfer}
-use Rattle.plan_core.specs.declared.plan.Source.{Source}
-use Rattle.plan_core.specs.declared.plan.Source.TheVariants.{Pfn, Site}
-use Rattle.plan_core.specs.declared.plan.Target.{Target}
-use Rattle.plan_core.specs.Carried.{carried_by, read, stored}
-use Rattle.plan_core.specs.Kinds.{kind_reads, reads_file}
 use Rattle.plan_core.specs.Numbers.{has}
 use Rattle.plan_core.specs.Proper.{IsProper}
-use Rattle.plan_core.specs.Words.{is_pair, kind, reads, writes}
+use Rattle.plan_core.specs.Words.{writes}
 use Rattle.run_record.specs.Events.{Event}
-use Rattle.lease_book.specs.Legal.{IsOpen, Legal}
-use Rattle.lease_book.specs.Reading.{ends}
-use Rattle.lease_book.specs.State.{now, opened}
 use Rattle.site_yard.specs.Changes.{carries, changes, or_nil}
 use Rattle.site_yard.specs.Kept.{IsTruthful}
-use Rattle.site_yard.specs.Law.{HasPlanLaws, HasRecordLaws}
-use Rattle.site_yard.specs.Names.{file_name, pair_file, pair_file_name, pair_site_name, site_name}
+use Rattle.site_yard.specs.Law.{HasPlanLaws}
+use Rattle.site_yard.specs.Names.{pair_file, pair_file_name, pair_site_name}
 use Rattle.site_yard.specs.Places.{is_published, is_swept}
-use Rattle.site_yard.proofs.FollowLemmas.{not_swept, open_after}
 use Rattle.site_yard.proofs.HoldsLemmas.{IsSized, record_sets, record_sized}
-use Rattle.site_yard.proofs.PlaceLemmas.{pair_changed, replicas_changed}
-use Rattle.site_yard.proofs.PlanLemmas.{has_writer, is_pair_of, pair_of, read_below, stored_is}
+use Rattle.site_yard.proofs.PlaceLemmas.{pair_changed}
 use Rattle.site_yard.proofs.SuitsLemmas.{AllSuit}
 
 pub known : (o : Option (List ℕ)) (n : ℕ) → option_map length o ≡ Some n → o ≡ Some (or_nil o)

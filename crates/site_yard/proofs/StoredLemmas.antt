@@ -1,5 +1,5 @@
 -- What an open task reads stands in the store at its recorded size.
-use Rattle.std.proofs.Common.{◌≡◌, ℕ, ◌+◌, ◌≤◌, ◌<◌, inl, inr, Bool, true, false, cond, ◌||◌, List, [], ◌∷◌, ◌++◌, length, drop, take, refl, sym, ap, ◌∙◌, subst, nat_eq, arith}
+use Rattle.std.proofs.Common.{◌≡◌, ℕ, ◌+◌, ◌≤◌, inl, inr, Bool, true, false, cond, ◌||◌, List, [], ◌∷◌, ◌++◌, length, refl, sym, ap, ◌∙◌, subst, nat_eq, arith}
 use Rattle.std.specs.Prelude.{Option, Some, None, option_map, is_some, IfSome}
 use Rattle.std.specs.List.{list_any}
 use Rattle.std.proofs.Math.Logic.{∥∥₁_elim}
@@ -12,17 +12,17 @@ use Rattle.plan_core.specs.declared.plan.TaskKind.TheVariants.{Transfer, Run, Cl
 use Rattle.plan_core.specs.declared.plan.Target.TheVariants.{Site as Into, Delivery}
 use Rattle.plan_core.specs.Kinds.{kind_writes}
 use Rattle.plan_core.specs.Numbers.{has, or_else}
-use Rattle.plan_core.specs.Words.{count_pairs, declared, kind, reads, task_numbers, writes}
+use Rattle.plan_core.specs.Words.{count_pairs, kind, reads, task_numbers, writes}
 use Rattle.plan_core.proofs.TestLemmas.{either, or_left, same_number}
 use Rattle.storage_simulation.specs.declared.standing.Held.{Held}
-use Rattle.storage_simulation.specs.declared.standing.Held.TheVariants.{Nothing, Reserved, Stored}
-use Rattle.storage_simulation.specs.Goods.{good_size, is_delivery, is_delivery_kind, makes, or_zero}
+use Rattle.storage_simulation.specs.declared.standing.Held.TheVariants.{Stored}
+use Rattle.storage_simulation.specs.Goods.{good_size, is_delivery, is_delivery_kind, makes}
 use Rattle.storage_simulation.specs.Standings.{sizes}
 use Rattle.run_record.specs.Events.{Event, Grant, Arrive, End, Clean, Fail, Again, Regrant}
 use Rattle.lease_book.specs.declared.book.Book.{Book}
 use Rattle.lease_book.specs.Book.{state_at}
 use Rattle.lease_book.specs.Legal.{IsOpen, Legal}
-use Rattle.lease_book.specs.Reading.{ends, frees, held_by, held_in, reserves, size_among, stored, stores}
+use Rattle.lease_book.specs.Reading.{ends, frees, held_by, reserves, size_among, stored, stores}
 use Rattle.lease_book.specs.State.{now, opened}
 use Rattle.site_yard.specs.Kept.{HoldsSizes, IsKept}
 use Rattle.site_yard.specs.Law.{HasPlanLaws, HasRecordLaws}

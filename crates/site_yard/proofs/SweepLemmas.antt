@@ -1,8 +1,7 @@
 -- The Clean of a lease.
-use Rattle.std.proofs.Common.{◌≡◌, ℕ, ◌+◌, ◌-◌, ◌≤◌, ◌<◌, ◌⊎◌, inl, inr, Bool, true, false, cond, ◌&&◌, ◌||◌, List, [], ◌∷◌, ◌++◌, map, length, length-append, drop, take, refl, sym, ap, ◌∙◌, subst, nat_eq, nat_lt, arith}
+use Rattle.std.proofs.Common.{◌≡◌, ℕ, ◌-◌, ◌≤◌, ◌<◌, inl, inr, Bool, true, false, cond, ◌&&◌, List, [], ◌∷◌, ◌++◌, map, length, length-append, drop, take, refl, sym, ap, ◌∙◌, subst, nat_eq, nat_lt, arith}
 use Rattle.std.specs.Prelude.{Option, Some, None, option_map, is_some, IfSome, Err, Ok, slice_get}
 use Rattle.std.specs.List.{list_any}
-use Rattle.std.specs.FinMap as files
 use Rattle.std.proofs.Math.Logic.{∥∥₁_elim}
 use Rattle.outside.specs.Counts.{IsLater}
 use Rattle.values.specs.SiteMap.{pair_at}
@@ -17,9 +16,8 @@ use Rattle.plan_core.specs.declared.plan.TaskKind.{TaskKind}
 use Rattle.plan_core.specs.declared.plan.TaskKind.TheVariants.{Clean as CleanTask}
 use Rattle.plan_core.specs.Numbers.{has}
 use Rattle.plan_core.specs.Proper.{IsProper}
-use Rattle.plan_core.specs.Words.{cleans, count_pairs, is_clean, kind, kind_cleans, task_numbers, writes}
+use Rattle.plan_core.specs.Words.{cleans, count_pairs, kind, kind_cleans, task_numbers, writes}
 use Rattle.plan_core.proofs.TestLemmas.{both, either, is_itself, or_left, or_right}
-use Rattle.storage_simulation.specs.declared.standing.Held.{Held}
 use Rattle.storage_simulation.specs.declared.standing.Held.TheVariants.{Nothing, Stored}
 use Rattle.storage_simulation.specs.declared.standing.Phase.{Phase}
 use Rattle.storage_simulation.specs.declared.standing.Phase.TheVariants.{Waits, Runs, Ended}
@@ -34,9 +32,9 @@ use Rattle.lease_book.specs.Choice.{IsChoice}
 use Rattle.lease_book.specs.Legal.{CauseFits, Legal}
 use Rattle.lease_book.specs.Reading.{ends, frees, reserves, stored}
 use Rattle.lease_book.specs.State.{State, ended, now, opened}
-use Rattle.site_yard.specs.Changes.{carries, removal}
+use Rattle.site_yard.specs.Changes.{removal}
 use Rattle.site_yard.specs.Failures.{AreMore, IsCounted, IsMore}
-use Rattle.site_yard.specs.Kept.{HoldsSizes, IsKept, IsOpening}
+use Rattle.site_yard.specs.Kept.{HoldsSizes, IsKept}
 use Rattle.site_yard.specs.Law.{HasPlanLaws, HasRecordLaws}
 use Rattle.site_yard.specs.Leased.{failed_as}
 use Rattle.site_yard.specs.Moving.{SweptAway}

@@ -55,7 +55,7 @@ AreDigests c ds arrived = map (λ (d : Delivered). Some d.digest) ds ≡ map (ca
 
 -- some bytes have this length and this digest
 abbrev pub IsDigestOf : ℕ → List ℕ → Type 0
-IsDigestOf n digest = ∥ (bytes : List ℕ) × (length bytes ≡ n) × (sha256 bytes ≡ digest) ∥₁
+IsDigestOf n digest = ∥ ((bytes : List ℕ) × (length bytes ≡ n) × (sha256 bytes ≡ digest)) ∥₁
 
 -- told or not, each delivery has the length and the digest of some bytes
 abbrev pub AreOfBytes : List Delivered → Type 0

@@ -1,12 +1,11 @@
 -- What a yard keeps.
-use Rattle.std.specs.Prelude.{◌≡◌, ℕ, ◌<◌, true, false, List, [], ◌++◌, length, map, Option, Some, option_map, IfSome}
+use Rattle.std.specs.Prelude.{◌≡◌, ℕ, ◌<◌, true, false, List, ◌++◌, length, map, Option, Some, option_map, IfSome}
 use Rattle.std.specs.List.{list_any}
 use Rattle.std.specs.FinMap as files
 use Rattle.values.specs.SiteMap.{pair_at}
 use Rattle.outside.specs.Store.{Change, changed_by, operation}
 use Rattle.values.specs.Apply.{Apply}
 use Rattle.outside.specs.declared.counts.Counts.{Counts}
-use Rattle.outside.specs.declared.operation.Operation.{Operation}
 use Rattle.outside.specs.declared.store.Store.{Store}
 use Rattle.plan_core.specs.declared.plan.Plan.{Plan}
 use Rattle.plan_core.specs.Numbers.{has}

@@ -1,5 +1,5 @@
 -- What the calls answer that open readings and make drafts, in the host's words alone.
-use Rattle.std.specs.Prelude.{◌≡◌, ℕ, ◌+◌, ◌≤◌, ◌<◌, ◌⊎◌, true, List, [], ◌∷◌, map, length, Option, Some, None, option_map, Result, Ok, Err, IfSome}
+use Rattle.std.specs.Prelude.{◌≡◌, ℕ, ◌+◌, ◌≤◌, ◌<◌, ◌⊎◌, true, List, map, length, Option, Some, None, option_map, Result, Ok, Err, IfSome}
 use Rattle.std.specs.FinMap as files
 use Rattle.outside.specs.declared.counts.Counts.{Counts}
 use Rattle.outside.specs.declared.store.Store.{Store}

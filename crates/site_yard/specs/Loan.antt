@@ -2,7 +2,6 @@
 use Rattle.std.specs.Prelude.{◌≡◌, ℕ, ◌≤◌, List, [], ◌∷◌, map, length, Option, Some, None, option_map, is_some, IfSome}
 use Rattle.std.specs.FinMap as files
 use Rattle.values.specs.SiteMap.{pair_at}
-use Rattle.outside.specs.declared.counts.Counts.{Counts}
 use Rattle.outside.specs.declared.store.Store.{Store}
 use Rattle.values.specs.Apply.{Apply}
 use Rattle.sha2.specs.Sha256.{sha256}

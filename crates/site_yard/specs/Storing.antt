@@ -1,13 +1,8 @@
 -- What the writing of outputs answers, in the host's words alone.
-use Rattle.std.specs.Prelude.{◌≡◌, ℕ, ◌≤◌, ◌<◌, ◌⊎◌, true, List, [], ◌∷◌, map, length, take, Option, option_map, Result, Ok, Err}
-use Rattle.outside.specs.Store.{Change, Publishes, changed_by}
-use Rattle.outside.specs.declared.counts.Counts.{Counts}
-use Rattle.outside.specs.declared.store.Store.{Store}
+use Rattle.std.specs.Prelude.{◌≡◌, ℕ, ◌≤◌, ◌<◌, ◌⊎◌, true, List, [], ◌∷◌, length}
 use Rattle.plan_core.specs.declared.plan.Plan.{Plan}
 use Rattle.plan_core.specs.Numbers.{has}
 use Rattle.plan_core.specs.Words.{kind, outputs, writes}
-use Rattle.run_record.specs.declared.entry.Cause.{Cause}
-use Rattle.run_record.specs.declared.entry.Cause.TheVariants.{HostFailed, Memory}
 use Rattle.lease_book.specs.Legal.{has_job}
 use Rattle.site_yard.specs.Names.{pair_file, pair_limit}
 

@@ -1,6 +1,5 @@
 -- What a call of a yard adds to its record.
-use Rattle.std.specs.Prelude.{◌≡◌, ℕ, ◌≤◌, ◌+◌, ◌⊎◌, true, false, List, [], ◌∷◌, ◌++◌, length, map, take, Option, Some, None, IfSome, Vec}
-use Rattle.std.specs.declared.alloc.Global.{Global}
+use Rattle.std.specs.Prelude.{◌≡◌, ℕ, ◌≤◌, ◌⊎◌, true, false, List, [], ◌∷◌, ◌++◌, length, take, Option, IfSome}
 use Rattle.std.specs.FinMap as files
 use Rattle.values.specs.Apply.{Apply}
 use Rattle.outside.specs.declared.counts.Counts.{Counts}
@@ -10,7 +9,7 @@ use Rattle.plan_core.specs.Carried.{stored}
 use Rattle.plan_core.specs.Words.{is_clean, is_transfer}
 use Rattle.storage_simulation.specs.declared.standing.Phase.TheVariants.{Runs}
 use Rattle.run_record.specs.declared.entry.Cause.{Cause}
-use Rattle.run_record.specs.declared.entry.Cause.TheVariants.{Absent, Declined, HostFailed, Memory, Oversize, ToolFailed, TooLong}
+use Rattle.run_record.specs.declared.entry.Cause.TheVariants.{Absent, HostFailed, Memory, TooLong}
 use Rattle.run_record.specs.Events.{Event, Grant, Regrant, Arrive, End, Clean, Fail, Again}
 use Rattle.lease_book.specs.Choice.{HasNoChoice, IsChoice, IsFresh}
 use Rattle.lease_book.specs.Legal.{IsComplete}

@@ -6,7 +6,7 @@
 //! each file, of the trace and of the replicas is [`Yard::agrees`], by `specs/Law.antt`. How often the host's counts rose
 //! at least is in `specs/Failures.antt`. The plan and the book are those of `plan_core` and `lease_book`; what a task
 //! carries is plan_core's. What a call adds to the record is in `specs/Yard.antt`, what moves bytes in
-//! `specs/Moving.antt`, `Loading.antt` and `Storing.antt`, in the host's words alone. What was delivered, with lengths and
+//! `specs/Moving.antt` and `Storing.antt`, in the host's words alone. What was delivered, with lengths and
 //! digests, is [`Yard::delivered`] (`specs/Delivered.antt`). As the value of a lock a yard has a charter, which never
 //! changes, and its record as the journal (`chronicle.rt`).
 #![tactic(auto)]

@@ -49,13 +49,11 @@ impl<H: Host, T: Tool> Yard<H, T> {
         plan_laws();
         record_laws();
         let ordered = &self.ordered;
-        match make_loan(ordered.plan(), &mut self.host, alloc, task) {
-            Ok(loan) => Some(loan),
-            Err(cause) => {
-                self.book.fail(worker, task, &cause, &[]);
-                None
-            }
+        let made = make_loan(ordered.plan(), &mut self.host, alloc, task);
+        if let Err(cause) = &made {
+            self.book.fail(worker, task, cause, &[]);
         }
+        made.ok()
     }
 
     /// Publishes the drafts of a loan in order, and adds an Arrive, with what was delivered, or an End; or a failure of the

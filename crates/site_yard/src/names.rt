@@ -6,7 +6,7 @@ ghost use Rattle.plan_core.specs.declared.plan.Pair.{Pair};
 ghost use Rattle.plan_core.specs.declared.plan.TaskKind.TheVariants.{Clean};
 ghost use Rattle.plan_core.specs.Words.{declared, is_clean, kind};
 ghost use Rattle.storage_simulation.specs.Goods.{or_zero};
-ghost use Rattle.site_yard.specs.Names.{file_name, is_used, pair_file, pair_file_name, pair_site, pair_site_name, site_name};
+ghost use Rattle.site_yard.specs.Names.{file_name, is_used, pair_file, pair_file_name, pair_limit, pair_site, pair_site_name, site_name};
 
 use outside::{FileId, PairId, SiteId, TaskId};
 use plan_core::{Plan, TaskKind};

@@ -23,6 +23,7 @@ returns-in-Ok-clause-ran g c =
     let reports = rw same at c.end_run.ensures.reports in
     let works = rw (c.in-Ok.ensures.ordered, c.in-Ok.ensures.history) at c.run_alone-yard.ensures.works in
     let inputs = rw (c.in-Ok.ensures.ordered, c.in-Ok.ensures.history) at c.run_alone-yard.ensures.inputs in
+    let calls = rw (c.in-Ok.ensures.ordered, c.in-Ok.ensures.history) at c.run_alone-yard.ensures.calls in
     let fits = c.ordered_plans_fit.ensures c.args.ordered in
     let before = work_moment g.H.Host c.args.host (g.T.Tool.faults c.args.crew.now.tool) in
     let after = work_moment g.H.Host y.host (g.T.Tool.faults c.run_alone-yard.new.crew.tool) in
@@ -38,6 +39,10 @@ returns-in-Ok-clause-ran g c =
       unused = c.in-Ok.ensures.unused;
       works = works;
       inputs = inputs;
+      opened = g.H.Host.counts c.in-Ok.yard.host;
+      looked = c.in-Ok.ensures.asked;
+      later = c.run_alone-yard.ensures.later;
+      calls = calls;
     })
     (record {
       safe = λ n. c.legal_records_are_safe.ensures.always p order r c.args.ordered.proper fits l n;
@@ -60,7 +65,7 @@ returns-in-Err-clause-ran g c =
       safe = λ n. c.legal_records_are_safe.ensures.always p order [] c.args.ordered.proper fits tt n;
       left = λ n site. c.what_is_left_is_held.ensures p order [] c.args.ordered.proper fits tt n site;
     })
-    c.in-Err.ensures.back.1 c.in-Err.ensures.back.2 refl c.in-Err.ensures.refused refusal ∣₁)
+    c.in-Err.ensures.back.1 refl c.in-Err.ensures.refused refusal ∣₁)
 
 pub end_run-requires-clause-fresh : goal.end_run-requires-clause-fresh
 end_run-requires-clause-fresh g c = ap (λ n. take n c.run_alone-yard.result.book.history.events) (c.run_alone-yard.ensures.opened ∙ c.in-Ok.ensures.opened)

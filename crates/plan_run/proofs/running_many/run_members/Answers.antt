@@ -66,7 +66,7 @@ returns-in-Err-clause-ran g c =
       safe = λ n. c.legal_records_are_safe.ensures.always p order [] c.args.ordered.proper fits tt n;
       left = λ n site. c.what_is_left_is_held.ensures p order [] c.args.ordered.proper fits tt n site;
     })
-    c.in-Err.ensures.back.1 c.in-Err.ensures.back.2 refl c.in-Err.ensures.refused refusal ∣₁)
+    c.in-Err.ensures.back.1 refl c.in-Err.ensures.refused refusal ∣₁)
 
 pub end_many-ran-requires-clause-fresh : goal.end_many-ran-requires-clause-fresh
 end_many-ran-requires-clause-fresh g c = c.run_many-end.ensures.opened ∙ ap (λ n. take n c.in-Ok.yard.book.history.events) c.in-Ok.ensures.opened

@@ -1,7 +1,4 @@
-use Rattle.std.proofs.Common.{◌∙◌, ap, arith, map, subst, sym}
-use Rattle.std.proofs.lemmas.List.{length-map}
-use Rattle.plan_core.specs.Words.{pair_numbers}
-use Rattle.site_yard.specs.Loan.{pair_target}
+use Rattle.std.proofs.Common.{◌∙◌, arith}
 use Rattle.site_yard.proofs.CountingLemmas.{done_before}
 use Rattle.site_yard.proofs.PartLemmas.{draft_stops, drafted_more, drafts_whole, later_both, targets_long}
 use Rattle.site_yard.proofs.lending.draft_pairs.Goals as goal
@@ -28,3 +25,6 @@ returns-in-Err-clause-answer g c =
 
 pub returns-in-Err-clause-whole : goal.returns-in-Err-clause-whole
 returns-in-Err-clause-whole g c = let i = c.loop-k.invariant in rw i.3 (drafts_whole _ _)
+
+pub returns-clause-whole : goal.returns-clause-whole
+returns-clause-whole g c = let i = c.loop-k.invariant in rw i.3 (drafts_whole _ _)

@@ -27,3 +27,6 @@ returns-in-Err-clause-answer g c =
 
 pub returns-in-Err-clause-whole : goal.returns-in-Err-clause-whole
 returns-in-Err-clause-whole g c = let i = c.loop-k.invariant in readings_whole c.args.plan.now _ _ _ i.3
+
+pub returns-clause-whole : goal.returns-clause-whole
+returns-clause-whole g c = let i = c.loop-k.invariant in readings_whole c.args.plan.now _ _ _ i.3

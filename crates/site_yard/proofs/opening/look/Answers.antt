@@ -1,4 +1,4 @@
-use Rattle.std.proofs.Common.{◌∙◌}
+use Rattle.std.proofs.Common.{◌∙◌, ap, arith, length}
 use Rattle.site_yard.proofs.OpenLemmas.{look_stops, still_looked}
 use Rattle.site_yard.proofs.PartLemmas.{later_both}
 use Rattle.site_yard.proofs.opening.look.Goals as goal
@@ -14,4 +14,5 @@ pub returns-in-Err-clause-answer : goal.returns-in-Err-clause-answer
 returns-in-Err-clause-answer g c =
     let i = c.loop-k.invariant in
     let st = g.H.Host.counts in
-    look_stops c.args.plan.now (g.H.Host.told c.args.host.now) (g.H.Host.told c.loop-k.host) c.loop-k.k (st c.args.host.now) (st c.loop-k.host) (st c.look_at.new.host) c.in-Err.fault c.loop-k-test.true i.0 i.3 i.4 c.in-Err.ensures.answer c.look_at.ensures.later
+    let same = ap length c.as_slice-k-end.ensures in
+    look_stops c.args.plan.now (g.H.Host.told c.args.host.now) (g.H.Host.told c.loop-k.host) c.loop-k.k (st c.args.host.now) (st c.loop-k.host) (st c.look_at.new.host) c.in-Err.fault (omega (arith, same, c.loop-k-test.true)) i.0 i.3 i.4 c.in-Err.ensures.answer c.look_at.ensures.later

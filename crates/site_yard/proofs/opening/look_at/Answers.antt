@@ -1,5 +1,4 @@
 use Rattle.std.proofs.Common.{refl, sym, ◌∙◌}
-use Rattle.site_yard.proofs.CountingLemmas.{failed_once, same_more}
 use Rattle.site_yard.proofs.OpenLemmas.{in_use, looked, not_looked}
 use Rattle.site_yard.proofs.opening.look_at.Goals as goal
 

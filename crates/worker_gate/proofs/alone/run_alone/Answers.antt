@@ -2,8 +2,10 @@ use Rattle.std.proofs.Common.{refl, sym, ap, subst, ◌∙◌}
 use Rattle.plan_core.specs.Words.{task_numbers}
 use Rattle.lease_book.specs.Book.{state_at}
 use Rattle.worker_gate.specs.Alone.{IsOver}
+use Rattle.worker_gate.specs.Calls.{AddsCalls}
 use Rattle.worker_gate.specs.Inputs.{AddsOfInputs}
 use Rattle.worker_gate.specs.Stepping.{WorksOn}
+use Rattle.worker_gate.proofs.CallsLemmas.{calls_both, calls_none}
 use Rattle.worker_gate.proofs.InputsLemmas.{adds_none, adds_both}
 use Rattle.worker_gate.proofs.RunLemmas.{both_counts, later_both, room_falls_on, same_count, still, works_alone, works_first, works_then}
 use Rattle.worker_gate.proofs.WorkLemmas.{one_run_of}
@@ -12,7 +14,7 @@ use Rattle.worker_gate.proofs.alone.run_alone.Goals as goal
 pub loop-alloc-init : goal.loop-alloc-init
 loop-alloc-init g c =
     let x = g.T.Tool.faults c.args.crew.now.tool in
-    (works_first c.args.yard.book x c.requires, same_count x, refl, refl, refl, refl, refl, still (g.H.Host.counts c.args.yard.host), adds_none g.T.Tool.apply c.args.yard.ordered.plan c.args.yard.book.history.events, refl, refl)
+    (works_first c.args.yard.book x c.requires, same_count x, refl, refl, refl, refl, refl, still (g.H.Host.counts c.args.yard.host), adds_none g.T.Tool.apply c.args.yard.ordered.plan c.args.yard.book.history.events, refl, refl, calls_none c.args.yard.ordered.plan c.args.yard.book.history.events (g.H.Host.counts c.args.yard.host) (g.H.Host.counts c.args.yard.host) refl)
 
 pub loop-alloc-smaller : goal.loop-alloc-smaller
 loop-alloc-smaller g c =
@@ -47,6 +49,7 @@ loop-alloc-preserved g c =
       adds_both g.T.Tool.apply a.ordered.plan a.book.history.events b.book.history.events d.book.history.events i.8 (subst (λ p. AddsOfInputs g.T.Tool.apply p b.book.history.events d.book.history.events) (ap (λ o. o.plan) i.2) e.inputs),
       i.9,
       e.opened ∙ i.10,
+      calls_both a.ordered.plan a.book.history.events b.book.history.events d.book.history.events (g.H.Host.counts a.host) (g.H.Host.counts b.host) (g.H.Host.counts d.host) i.11 (subst (λ p. AddsCalls p b.book.history.events d.book.history.events (g.H.Host.counts b.host) (g.H.Host.counts d.host)) (ap (λ o. o.plan) i.2) e.calls) e.later,
     )
 
 pub returns-clause-works : goal.returns-clause-works
@@ -70,3 +73,12 @@ returns-clause-inputs g c =
     let i = c.loop-alloc.invariant in
     let e = c.loop-alloc-test.ensures in
     rw (e.steps.0) i.8
+
+pub returns-clause-calls : goal.returns-clause-calls
+returns-clause-calls g c =
+    let a = c.args.yard in
+    let b = c.loop-alloc.yard in
+    let d = c.step.new.yard in
+    let i = c.loop-alloc.invariant in
+    let e = c.loop-alloc-test.ensures in
+    calls_both a.ordered.plan a.book.history.events b.book.history.events d.book.history.events (g.H.Host.counts a.host) (g.H.Host.counts b.host) (g.H.Host.counts d.host) i.11 (subst (λ p. AddsCalls p b.book.history.events d.book.history.events (g.H.Host.counts b.host) (g.H.Host.counts d.host)) (ap (λ o. o.plan) i.2) e.calls) e.later

@@ -3,6 +3,7 @@ use Rattle.std.specs.Prelude.{is_some}
 use Rattle.outside.specs.Counts.{IsLater}
 use Rattle.lease_book.specs.Book.{state_at}
 use Rattle.lease_book.specs.Room.{entries_room}
+use Rattle.worker_gate.specs.Calls.{AddsCalls}
 use Rattle.worker_gate.specs.Inputs.{AddsOfInputs}
 use Rattle.worker_gate.specs.Stepping.{WorksOn}
 use Rattle.worker_gate.proofs.alone.run_alone.Given as goal
@@ -20,6 +21,7 @@ invariant-loop-alloc g l =
     × AddsOfInputs g.T.Tool.apply l.fn.yard.ordered.plan l.fn.yard.book.history.events l.yard.book.history.events
     × (l.crew.gate ≡ l.initial.crew.gate)
     × (l.yard.opened ≡ l.fn.yard.opened)
+    × AddsCalls l.fn.yard.ordered.plan l.fn.yard.book.history.events l.yard.book.history.events (g.H.Host.counts l.fn.yard.host) (g.H.Host.counts l.yard.host)
 
 abbrev pub decreases-loop-alloc : goal.decreases-loop-alloc
 decreases-loop-alloc g l = entries_room l.yard.book.plan (state_at l.yard.book)

@@ -6,6 +6,8 @@ use Rattle.lease_book.specs.Book.{state_at}
 use Rattle.task_work.specs.Filling.{AreParts}
 use Rattle.worker_gate.specs.Inputs.{IsFilledOf}
 use Rattle.worker_gate.specs.Tending.{Fills}
+use Rattle.worker_gate.specs.Calls.{EndsCalls}
+use Rattle.worker_gate.proofs.CallsLemmas.{lent_then}
 use Rattle.worker_gate.proofs.FillingLemmas.{fills_finish, fills_of, finish_then}
 use Rattle.worker_gate.proofs.LoanLemmas.{held_begun, held_empty, lent_held, parts_are}
 use Rattle.worker_gate.proofs.StateLemmas.{open_loan}
@@ -93,3 +95,11 @@ finish_at-requires-clause-inputs g c =
     let fills = subst (λ (q : Plan). Fills g.T.Tool.apply q t rs rs1 ds ds1 a b filled.result) (c.plan.ensures ∙ ap (λ x. x.plan) c.lend.ensures.ordered) filled.ensures.fills in
     subst (λ (q : Plan). IsFilledOf g.T.Tool.apply q t filled.result) (sym (ap (λ x. x.plan) c.lend.ensures.ordered))
     (fills_of g.T.Tool.apply p proper (c.plan_laws.ensures p proper) (c.runs_carry_what_they_compute.ensures g.T.Tool.apply) first m t rs rs1 ds ds1 o a b filled.result (lent_held g.T.Tool.apply p first m o t rs ds e.lent) fills)
+
+pub returns-in-Some-clause-calls : goal.returns-in-Some-clause-calls
+returns-in-Some-clause-calls g c =
+    let y = c.args.yard.now in
+    let z = c.lend.new.self in
+    let e = c.in-Some.ensures in
+    lent_then y.ordered.plan c.args.task.0 y.book.history.events z.book.history.events _ (g.H.Host.counts y.host) (g.H.Host.counts z.host) _ e.same e.asked
+    (subst (λ (q : Plan). EndsCalls q c.args.task.0 z.book.history.events _ (g.H.Host.counts z.host) _) (ap (λ x. x.plan) c.lend.ensures.ordered) c.finish_at.ensures.calls) c.finish_at.ensures.later

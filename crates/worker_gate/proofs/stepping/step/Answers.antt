@@ -6,6 +6,7 @@ use Rattle.site_yard.specs.Yard.{Leases}
 use Rattle.site_yard.specs.declared.leased.Leased.TheVariants as leased
 use Rattle.worker_gate.specs.Stepping.{WorksOn}
 use Rattle.worker_gate.proofs.WorkLemmas.{again_works, failed_works, granted_is_open, granted_works, one_run_of, swept_works}
+use Rattle.worker_gate.proofs.CallsLemmas.{calls_no_entry, fails_calls, grants_calls, sweeps_calls, tries_again_calls}
 use Rattle.worker_gate.proofs.InputsLemmas.{adds_no_entry, fails_so, grants_so, sweeps_so, tries_again_so}
 use Rattle.worker_gate.proofs.stepping.step.Goals as goal
 
@@ -97,3 +98,37 @@ pub returns-in-Stopped-clause-inputs : goal.returns-in-Stopped-clause-inputs
 returns-in-Stopped-clause-inputs g c =
     let a = c.args.yard.now in
     adds_no_entry g.T.Tool.apply a.ordered.plan a.book.history.events _ c.in-Stopped.ensures.leased.1
+
+pub returns-in-Granted-clause-calls : goal.returns-in-Granted-clause-calls
+returns-in-Granted-clause-calls g c =
+    let a = c.args.yard.now in
+    let b = c.lease.new.self in
+    grants_calls a.ordered.plan b.ordered.plan (state_at a.book) 0 c.in-Granted.task a.book.history.events b.book.history.events _ (g.H.Host.told a.host) (g.H.Host.counts a.host) (g.H.Host.counts b.host) _ (ap (λ o. o.plan) c.lease.ensures.ordered) c.in-Granted.ensures.leased c.do_task.ensures.calls c.do_task.ensures.later
+
+pub returns-in-Swept-clause-calls : goal.returns-in-Swept-clause-calls
+returns-in-Swept-clause-calls g c =
+    let a = c.args.yard.now in
+    let b = c.lease.new.self in
+    sweeps_calls a.ordered.plan (state_at a.book) 0 c.in-Swept.field-0 a.book.history.events b.book.history.events (g.H.Host.told a.host) (g.H.Host.counts a.host) (g.H.Host.counts b.host) c.in-Swept.ensures.leased
+
+pub returns-in-Failed-clause-calls : goal.returns-in-Failed-clause-calls
+returns-in-Failed-clause-calls g c =
+    let a = c.args.yard.now in
+    let b = c.lease.new.self in
+    fails_calls a.ordered.plan (state_at a.book) 0 c.in-Failed.field-0 a.book.history.events b.book.history.events (g.H.Host.told a.host) (g.H.Host.counts a.host) (g.H.Host.counts b.host) c.in-Failed.ensures.leased
+
+pub returns-in-Again-clause-calls : goal.returns-in-Again-clause-calls
+returns-in-Again-clause-calls g c =
+    let a = c.args.yard.now in
+    let b = c.lease.new.self in
+    tries_again_calls a.ordered.plan (state_at a.book) 0 c.in-Again.field-0 a.book.history.events b.book.history.events (g.H.Host.told a.host) (g.H.Host.counts a.host) (g.H.Host.counts b.host) c.in-Again.ensures.leased
+
+pub returns-in-Done-clause-calls : goal.returns-in-Done-clause-calls
+returns-in-Done-clause-calls g c =
+    let a = c.args.yard.now in
+    calls_no_entry a.ordered.plan a.book.history.events _ _ _ c.in-Done.ensures.leased.1 c.in-Done.ensures.leased.2
+
+pub returns-in-Stopped-clause-calls : goal.returns-in-Stopped-clause-calls
+returns-in-Stopped-clause-calls g c =
+    let a = c.args.yard.now in
+    calls_no_entry a.ordered.plan a.book.history.events _ _ _ c.in-Stopped.ensures.leased.1 c.in-Stopped.ensures.leased.2

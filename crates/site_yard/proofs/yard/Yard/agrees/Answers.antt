@@ -1,4 +1,4 @@
-use Rattle.std.proofs.Common.{sym, take}
+use Rattle.std.proofs.Common.{sym}
 use Rattle.site_yard.proofs.AgreesLemmas.{book_agrees, book_counted, fresh_agrees, fresh_counted}
 use Rattle.site_yard.proofs.LoanLemmas.{book_laws}
 use Rattle.site_yard.proofs.yard.Yard.agrees.Goals as goal

@@ -1,4 +1,4 @@
-use Rattle.std.proofs.Common.{sym, ap, ◌∙◌}
+use Rattle.std.proofs.Common.{refl, sym, ap, ◌∙◌}
 use Rattle.plan_core.specs.Words.{kind}
 use Rattle.site_yard.proofs.NextLemmas.{clean_is, next_begun, next_choice, next_keeps, next_leases}
 use Rattle.site_yard.proofs.ListLemmas.{next_lists}
@@ -22,7 +22,9 @@ returns-in-Some-clause-leased g c =
     next_leases y.book c.next.new.self y.ordered.plan c.args.worker c.in-Task.task.0 _ _ _ _ c.sweep.result y.same_plan c.next.ensures.plan (ap (λ o. o.items) c.next.ensures.order) clean c.in-Task.ensures.next c.sweep.ensures.leased
 
 pub returns-in-NotYet-clause-leased : goal.returns-in-NotYet-clause-leased
-returns-in-NotYet-clause-leased g c = rw (sym c.args.self.now.same_plan) c.in-NotYet.ensures.next
+returns-in-NotYet-clause-leased g c =
+    let h = c.in-NotYet.ensures.next in
+    rw (sym c.args.self.now.same_plan) (h.0, h.1, h.2, h.3, h.4, refl)
 
 pub invariant_of-self-clause-listed : goal.invariant_of-self-clause-listed
 invariant_of-self-clause-listed g c =

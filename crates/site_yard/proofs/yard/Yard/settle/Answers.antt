@@ -1,4 +1,4 @@
-use Rattle.std.proofs.Common.{◌+◌, map, rules, sym, ap, refl, take, true, ◌≡◌, ◌∙◌}
+use Rattle.std.proofs.Common.{◌+◌, map, sym, ap, refl, take, true, ◌≡◌, ◌∙◌}
 use Rattle.std.specs.Prelude.{None, Some, is_some}
 use Rattle.std.proofs.Common.{length, subst}
 use Rattle.plan_core.specs.Words.{is_transfer}
@@ -14,7 +14,7 @@ use Rattle.site_yard.proofs.RoomLemmas.{arrive_lists, settle_room}
 use Rattle.site_yard.proofs.SettledLemmas.{arrive_keeps, end_keeps, refused_keeps, tells_by}
 use Rattle.site_yard.proofs.PartLemmas.{later_both}
 use Rattle.site_yard.specs.Yard.{Adds, IsSettled, TakesPublished}
-use Rattle.site_yard.proofs.SettleLemmas.{arrive_adds, arrive_is_allowed, end_is_allowed, one_is, open_run, refused_adds, refused_fits, settled_counts}
+use Rattle.site_yard.proofs.SettleLemmas.{arrive_adds, arrive_is_allowed, drafts_are, end_adds, end_is_allowed, one_is, open_run, refused_adds, refused_fits, settled_counts}
 use Rattle.site_yard.proofs.yard.Yard.settle.Goals as goal
 
 pub fail-requires-clause-worker : goal.fail-requires-clause-worker
@@ -144,3 +144,33 @@ invariant_of-self-then-is_transfer-clause-listed g c =
     rw (c.arrive.ensures.history, c.arrive.ensures.plan, c.publish_all-done.ensures.marked, c.finish_all.ensures.marked, c.keep.ensures.items)
     (arrive_lists g.T.Tool.apply y.book.plan _ y.book.history.events y.opened c.args.worker c.args.task.0 c.only_size-size.result (g.H.Host.told y.host) (g.H.Host.told c.publish_all-done.new.host) (g.H.Host.marked y.host) y.delivered.items (map g.H.Reading.ReadPart.state c.args.loan.readings.items) ds c.args.sizes.now _ (c.plan-plan.ensures ∙ sym y.same_plan) y.begun (tells_by _ _ _ c.publish_all-done.ensures.answer.told ∙ ap is_some c.finish_all.ensures.told) c.only_size-size.ensures
     (subst (λ p. CanSettle g.T.Tool.apply p (take y.opened y.book.history.events) (g.H.Host.marked y.host) (g.H.Host.told y.host) c.args.task.0 (map g.H.Reading.ReadPart.state c.args.loan.readings.items) ds c.args.sizes.now c.args.digest) (sym y.same_plan) c.requires.settles) y.listed)
+
+pub returns-then-is_transfer-clause-entry : goal.returns-then-is_transfer-clause-entry
+returns-then-is_transfer-clause-entry g c =
+    let y = c.args.self.now in
+    let ds = map g.H.Draft.WritePart.state c.args.loan.drafts.items in
+    let laws = book_laws y.book c.plan_laws.ensures c.record_laws.ensures in
+    let st = g.H.Host.counts in
+    let all : IsRefused c.publish_all-done.result.count (length ds) None = subst (IsRefused c.publish_all-done.result.count (length ds)) c.in-None.is c.publish_all-done.ensures.answer.refused_is in
+    let asked : AreMore c.publish_all-done.result.count (draft_faults ds + refusal_faults None) 0 (st c.finish_all.new.host) (st c.publish_all-done.new.host) = subst (λ r. AreMore c.publish_all-done.result.count (draft_faults ds + refusal_faults r) 0 (st c.finish_all.new.host) (st c.publish_all-done.new.host)) c.in-None.is c.publish_all-done.ensures.answer.asked in
+    let more = settled_counts (map g.H.Reading.ReadPart.state c.args.loan.readings.items) ds c.publish_all-done.result.count None (st y.host) (st c.finish_all.new.host) (st c.publish_all-done.new.host) c.requires.settles.whole c.finish_all.ensures.asked asked c.publish_all-done.ensures.later in
+    let later = later_both (st y.host) (st c.finish_all.new.host) (st c.publish_all-done.new.host) c.finish_all.ensures.later c.publish_all-done.ensures.later in
+    let many = all ∙ drafts_are y.book y.ordered.plan g.T.Tool.apply _ _ _ c.args.worker c.args.task.0 (map g.H.Reading.ReadPart.state c.args.loan.readings.items) ds c.args.sizes.now _ y.same_plan laws c.requires.open c.requires.settles in
+    let moves : is_transfer y.book.plan c.args.task.0 ≡ true = ap (λ p. is_transfer p c.args.task.0) (y.same_plan ∙ sym c.plan-plan.ensures) ∙ sym c.is_transfer.ensures ∙ c.if-is_transfer.true in
+    subst (λ p. Adds y.book.history.events c.arrive.new.self.history.events (IsSettled p c.args.worker c.args.task.0 c.args.sizes.now) (TakesPublished (length (targets p c.args.task.0))) (g.H.Host.told y.host) (st y.host) (st c.publish_all-done.new.host)) y.same_plan
+    (arrive_adds y.book (g.H.Host.told y.host) _ c.publish_all-done.result.count (st y.host) (st c.publish_all-done.new.host) c.args.worker c.args.task.0 c.only_size-size.result c.args.sizes.now _ moves c.only_size-size.ensures many more later c.arrive.ensures.history)
+
+pub returns-else-is_transfer-clause-entry : goal.returns-else-is_transfer-clause-entry
+returns-else-is_transfer-clause-entry g c =
+    let y = c.args.self.now in
+    let ds = map g.H.Draft.WritePart.state c.args.loan.drafts.items in
+    let laws = book_laws y.book c.plan_laws.ensures c.record_laws.ensures in
+    let st = g.H.Host.counts in
+    let all : IsRefused c.publish_all-done.result.count (length ds) None = subst (IsRefused c.publish_all-done.result.count (length ds)) c.in-None.is c.publish_all-done.ensures.answer.refused_is in
+    let asked : AreMore c.publish_all-done.result.count (draft_faults ds + refusal_faults None) 0 (st c.finish_all.new.host) (st c.publish_all-done.new.host) = subst (λ r. AreMore c.publish_all-done.result.count (draft_faults ds + refusal_faults r) 0 (st c.finish_all.new.host) (st c.publish_all-done.new.host)) c.in-None.is c.publish_all-done.ensures.answer.asked in
+    let more = settled_counts (map g.H.Reading.ReadPart.state c.args.loan.readings.items) ds c.publish_all-done.result.count None (st y.host) (st c.finish_all.new.host) (st c.publish_all-done.new.host) c.requires.settles.whole c.finish_all.ensures.asked asked c.publish_all-done.ensures.later in
+    let later = later_both (st y.host) (st c.finish_all.new.host) (st c.publish_all-done.new.host) c.finish_all.ensures.later c.publish_all-done.ensures.later in
+    let many = all ∙ drafts_are y.book y.ordered.plan g.T.Tool.apply _ _ _ c.args.worker c.args.task.0 (map g.H.Reading.ReadPart.state c.args.loan.readings.items) ds c.args.sizes.now _ y.same_plan laws c.requires.open c.requires.settles in
+    let off = ap (λ p. is_transfer p c.args.task.0) (y.same_plan ∙ sym c.plan-plan.ensures) ∙ sym c.is_transfer.ensures ∙ c.if-is_transfer.false in
+    subst (λ p. Adds y.book.history.events c.end.new.self.history.events (IsSettled p c.args.worker c.args.task.0 c.args.sizes.now) (TakesPublished (length (targets p c.args.task.0))) (g.H.Host.told y.host) (st y.host) (st c.publish_all-done.new.host)) y.same_plan
+    (end_adds y.book (g.H.Host.told y.host) _ c.publish_all-done.result.count (st y.host) (st c.publish_all-done.new.host) c.args.worker c.args.task.0 c.args.sizes.now _ off many more later c.end.ensures.history)

@@ -1,4 +1,4 @@
-use Rattle.std.proofs.Common.{sym, ap, refl, ◌∙◌, ◌-◌, length, [], ◌∷◌, ◌++◌}
+use Rattle.std.proofs.Common.{sym, ap, refl, ◌∙◌, ◌-◌, length, []}
 use Rattle.std.specs.Prelude.{slice_get}
 use Rattle.run_record.specs.Events.{Clean, Log}
 use Rattle.lease_book.specs.Book.{failure, is_tried_again, state_at}
@@ -25,7 +25,7 @@ pub invariant_of-self-clause-listed : goal.invariant_of-self-clause-listed
 invariant_of-self-clause-listed g c =
     let y = c.args.self.now in
     rw (c.clean.ensures.history, c.clean.ensures.plan, c.in-Ok.ensures.marked)
-    (list_still g.T.Tool.apply y.book.plan y.book.history.events y.opened (Clean c.args.worker c.args.task.0) (g.H.Host.told y.host) _ _ y.delivered.items y.begun refl (tells_by _ _ _ c.in-Ok.ensures.answer) y.listed)
+    (list_still g.T.Tool.apply y.book.plan y.book.history.events y.opened (Clean c.args.worker c.args.task.0) (g.H.Host.told y.host) _ _ y.delivered.items y.begun refl (tells_by _ _ _ c.in-Ok.ensures.answer.0) y.listed)
 
 pub invariant_of-self-in-Err-clause-begun : goal.invariant_of-self-in-Err-clause-begun
 invariant_of-self-in-Err-clause-begun g c =
