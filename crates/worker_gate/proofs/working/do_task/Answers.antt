@@ -53,5 +53,5 @@ finish-requires-clause-inputs g c =
 pub returns-clause-asked : goal.returns-clause-asked
 returns-clause-asked g c =
     let xs = g.G.Gate.asked c.args.crew.now.gate in
-    let ys = g.G.Gate.asked c.before.new.self in
-    asks_between (mine_of c.args.pass.now) (mine_of c.begin.new.pass) (mine_of c.finish.new.pass) c.args.task.0 xs ys ys c.in-Some.ensures.mine c.before.ensures refl (c.finish.ensures.asked xs)
+    let ys = g.G.Gate.asked c.before-2.new.self in
+    asks_between (mine_of c.args.pass.now) (mine_of c.begin.new.pass) (mine_of c.finish.new.pass) c.args.task.0 xs ys ys c.in-Some.ensures.mine c.before-2.ensures refl (c.finish.ensures.asked xs)
