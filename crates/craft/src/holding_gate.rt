@@ -1,7 +1,10 @@
 //! A gate that holds the first task back.
 
+ghost use Rattle.std.specs.Prelude.{◌≡◌, []};
+
 use crate::gate::Gate;
 use crate::holding::Hold;
+use crate::notes::Notes;
 use outside::TaskId;
 use std::sync::Arc;
 use std::sync::atomic::Ordering;
@@ -12,17 +15,22 @@ use std::sync::atomic::Ordering;
 pub struct HoldingGate {
     hold: Arc<Hold>,
     limit: u64,
+    notes: Notes,
 }
 
 impl HoldingGate {
     /// `limit` is how often the held task looks for another one before it goes on.
-    pub fn new(hold: Arc<Hold>, limit: u64) -> HoldingGate {
-        HoldingGate { hold, limit }
+    pub fn new(hold: Arc<Hold>, limit: u64) -> HoldingGate
+        ensures { ⟦<HoldingGate as Gate>⟧.asked result ≡ [] }
+    {
+        HoldingGate {
+            hold,
+            limit,
+            notes: Notes::new(),
+        }
     }
-}
 
-impl Gate for HoldingGate {
-    fn before(&mut self, _task: TaskId) {
+    fn pass(&self) {
         if self.limit == 0 {
             return;
         }
@@ -31,6 +39,17 @@ impl Gate for HoldingGate {
         } else {
             self.hold.answered.fetch_add(1, Ordering::SeqCst);
         }
+    }
+}
+
+impl Gate for HoldingGate {
+    ghost use Rattle.craft.specs.Notes.{noted};
+
+    ghost asked = { λ g. noted g.notes };
+
+    fn before(&mut self, task: TaskId) {
+        self.notes.add(task);
+        self.pass();
     }
 
     fn idle(&mut self) {}

@@ -1,8 +1,9 @@
 //! A worker's tool and gate, and tools over another one for tests.
 //!
 //! A [`Gate`] is called outside the lock, before a task's bytes are moved and where a worker has nothing to do; [`OpenGate`]
-//! lets everything pass, and [`HoldingGate`] holds the first task until another one came. [`Faulty`] fails at stated runs,
-//! and [`Holding`] holds the first run until another one was answered.
+//! lets everything pass, and [`HoldingGate`] holds the first task until another one came. Contracts see the tasks for which
+//! a gate was called, in order; [`Notes`] are such a list, which has no bytes in a program. [`Faulty`] fails at stated
+//! runs, and [`Holding`] holds the first run until another one was answered.
 #![tactic(auto)]
 
 mod crew;
@@ -10,9 +11,13 @@ mod faulty;
 mod gate;
 mod holding;
 mod holding_gate;
+mod note;
+mod notes;
 
 pub use crew::Crew;
 pub use faulty::Faulty;
 pub use gate::{Gate, OpenGate};
 pub use holding::{Hold, Holding};
 pub use holding_gate::HoldingGate;
+pub use note::Note;
+pub use notes::Notes;

@@ -26,7 +26,7 @@ fn crew_of(alloc: Global, progress: &Arc<Progress<HostRuntime>>) -> Result<Vec<M
     for member in 0..16_usize {
         crew.push(Crew {
             tool: ShownTool::new(Shipped::new(), progress.clone()?),
-            gate: OpenGate,
+            gate: OpenGate::new(),
         })?;
     }
     Ok(crew)

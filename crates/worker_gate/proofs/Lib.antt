@@ -10,6 +10,7 @@ mod InputsLemmas
 mod CallsLemmas
 mod TurningLemmas
 mod TendingLemmas
+mod AskingLemmas
 mod WorkingLemmas
 mod HandsLemmas
 mod ManyLemmas

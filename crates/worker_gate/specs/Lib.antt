@@ -6,6 +6,7 @@ pub mod Working
 pub mod Many
 pub mod Inputs
 pub mod Calls
+pub mod Asking
 -- What the laws stand on.
 pub mod Law
 -- What its parts answer.
