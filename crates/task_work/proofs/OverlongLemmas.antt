@@ -15,8 +15,7 @@ use Rattle.plan_core.specs.Words.{count_pairs, file_numbers, is_pair, is_run, is
 use Rattle.plan_core.proofs.TestLemmas.{both, is_itself, or_left, or_right}
 use Rattle.run_record.specs.declared.entry.Cause.TheVariants.{Oversize}
 use Rattle.lease_book.specs.Legal.{CauseFits, is_too_long}
-use Rattle.site_yard.specs.Loading.{pair_limit}
-use Rattle.site_yard.specs.Names.{pair_file, pair_site}
+use Rattle.site_yard.specs.Names.{pair_file, pair_limit, pair_site}
 use Rattle.site_yard.specs.Storing.{AreWithin, IsFirstPast, IsOverlong}
 use Rattle.task_work.proofs.PairLemmas.{written_file}
 

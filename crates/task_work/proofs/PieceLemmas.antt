@@ -1,6 +1,6 @@
 -- Bytes, moved piece by piece.
 use Rattle.std.proofs.Common.{◌≡◌, ℕ, zero, suc, ◌+◌, ◌-◌, ◌^◌, ◌≤◌, ◌<◌, min, List, [], ◌∷◌, ◌++◌, length, length-append, take, drop, refl, sym, ap, ◌∙◌, subst, append_assoc, arith}
-use Rattle.std.specs.Prelude.{Option, Some, None, option_map, IfSome, Ok, Err}
+use Rattle.std.specs.Prelude.{Option, Some, None, option_map, IfSome, Result, Ok, Err}
 use Rattle.std.proofs.Math.Seq.{take-add}
 use Rattle.sha2.specs.Hashers.{Holds256}
 use Rattle.sha2.specs.Sha256.{sha256}
@@ -246,3 +246,9 @@ written_once d e bytes (Err Absent) h = absurd h
 written_once d e bytes (Err (Over l n)) h = absurd h
 written_once d e bytes (Err Failed) h = append_once (Unit {0}) d e bytes Failed h
 written_once d e bytes (Err Memory) h = append_once (Unit {0}) d e bytes Memory h
+
+pub same_fails : (X Y : Type 0) (e : HostFault) → fails_in {X = X} (Err e) ≡ fails_in {X = Y} (Err e)
+same_fails X Y Absent = refl
+same_fails X Y Failed = refl
+same_fails X Y (Over l n) = refl
+same_fails X Y Memory = refl

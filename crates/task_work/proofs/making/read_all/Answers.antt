@@ -1,8 +1,11 @@
-use Rattle.std.proofs.Common.{◌≡◌, ◌+◌, ◌≤◌, ◌<◌, [], ◌∷◌, arith, drop, length, map, refl, slice_index_or, subst, suc, sym, take}
+use Rattle.std.proofs.Common.{◌≡◌, ℕ, List, ◌+◌, ◌≤◌, ◌<◌, [], ◌∷◌, arith, drop, length, map, refl, slice_index_or, subst, suc, sym, take}
 use Rattle.std.proofs.lemmas.List.{map-set}
 use Rattle.task_work.specs.Making.{Each, IsFaultOf}
 use Rattle.site_yard.specs.Returning.{reading_faults}
-use Rattle.task_work.specs.Pieces.{HasRead, IsSteadyReading}
+use Rattle.std.specs.Prelude.{Err, Vec}
+use Rattle.std.specs.declared.alloc.Global.{Global}
+use Rattle.task_work.specs.Pieces.{HasRead, IsSteadyReading, fails_in}
+use Rattle.task_work.proofs.PieceLemmas.{same_fails}
 use Rattle.task_work.proofs.MakingLemmas.{begun_at, each_more, each_same, each_set, here_is, left_more, reading_fault, readings_once, same_reading}
 use Rattle.task_work.proofs.making.read_all.Goals as goal
 
@@ -85,8 +88,9 @@ returns-in-Err-clause-once g c =
     let less : k < length now_ = omega (arith, c.loop-reading-test.true, c.loop-reading.auto.readings, c.loop-reading.auto.reading-index-end) in
     let new = c.read_whole.new.reading in
     let here = here_is st old now_ k x c.reading-item.result less refl c.loop-reading.invariant.2 in
-    subst (λ z. reading_faults z ≤ reading_faults (map st old) + _) (sym (map-set st now_ k new))
-    (readings_once (map st old) (map st now_) k (st x) (drop (suc k) (map st now_)) (st new) _ c.loop-reading.invariant.3 c.loop-reading.invariant.2 here c.in-Err.ensures.once)
+    let same = same_fails (List ℕ) (Vec (List ℕ) Global) c.in-Err.fault in
+    let few = readings_once (map st old) (map st now_) k (st x) (drop (suc k) (map st now_)) (st new) (fails_in {X = List ℕ} (Err c.in-Err.fault)) c.loop-reading.invariant.3 c.loop-reading.invariant.2 here c.in-Err.ensures.once in
+    subst (λ z. reading_faults z ≤ reading_faults (map st old) + fails_in {X = Vec (List ℕ) Global} (Err c.in-Err.fault)) (sym (map-set st now_ k new)) (omega (arith, few, same))
 
 pub returns-in-Err-keep-clause-once : goal.returns-in-Err-keep-clause-once
 returns-in-Err-keep-clause-once g c =

@@ -3,7 +3,7 @@ use Rattle.std.specs.Prelude.{Err, Ok}
 use Rattle.std.proofs.lemmas.List.{map-set}
 use Rattle.task_work.specs.Making.{AreWritten, Each, Fits, IsFaultOf}
 use Rattle.site_yard.specs.Returning.{draft_faults}
-use Rattle.task_work.specs.Pieces.{IsSteadyDraft}
+use Rattle.task_work.specs.Pieces.{IsSteadyDraft, fails_in}
 use Rattle.task_work.proofs.MakingLemmas.{draft_fault, drafts_once, each_at, each_long, each_same, each_set, empty_at, here_is, left_more, output_is, same_draft, written_more, written_steady, written_whole}
 use Rattle.task_work.proofs.PieceLemmas.{written_once}
 use Rattle.task_work.proofs.making.write_all.Goals as goal
@@ -104,5 +104,5 @@ returns-in-Err-clause-once g c =
     let new = c.write_whole.new.draft in
     let rest = drop (suc k) (map st now_) in
     let here : drop k (map st old) ≡ st x ∷ rest = here_is st old now_ k x c.index-drafts-k.result less refl c.loop-k.invariant.2 in
-    subst (λ z. draft_faults z ≤ draft_faults (map st old) + _) (sym (map-set st now_ k new))
-    (drafts_once (map st old) (map st now_) k (st x) rest (st new) _ c.loop-k.invariant.3 c.loop-k.invariant.2 here (written_once (st x) (st new) c.as_slice.result.now (Err c.in-Err.fault) c.in-Err.ensures.answer))
+    subst (λ z. draft_faults z ≤ draft_faults (map st old) + fails_in {X = Unit {0}} (Err c.in-Err.fault)) (sym (map-set st now_ k new))
+    (drafts_once (map st old) (map st now_) k (st x) rest (st new) (fails_in {X = Unit {0}} (Err c.in-Err.fault)) c.loop-k.invariant.3 c.loop-k.invariant.2 here (written_once (st x) (st new) c.as_slice.result.now (Err c.in-Err.fault) c.in-Err.ensures.answer))
