@@ -9,6 +9,7 @@ mod FillingLemmas
 mod InputsLemmas
 mod TurningLemmas
 mod TendingLemmas
+mod AskingLemmas
 mod WorkingLemmas
 mod HandsLemmas
 mod ManyLemmas

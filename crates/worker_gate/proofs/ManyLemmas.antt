@@ -27,12 +27,14 @@ use Rattle.site_yard.specs.Failures.{RoseBy, tool_fault_in, tool_faults, tool_fa
 use Rattle.site_yard.specs.Faults.{AllBelow}
 use Rattle.site_yard.specs.declared.chronicle.Charter.{Charter}
 use Rattle.worker_gate.specs.Alone.{IsOver}
+use Rattle.worker_gate.specs.Asking.{AreAskedBy, AreGatesAsked, AsksOwn, IsAskedFor}
 use Rattle.worker_gate.specs.Hands.{AreDealt, AreReady, IsDealt, IsGathered, count_at, member_of, own_list}
 use Rattle.worker_gate.specs.Inputs.{AddsOfInputs, AreOfInputs}
-use Rattle.worker_gate.specs.Many.{AreToolsCounted, CanAllWork, HasWorked, HaveAllWorked, WorksMany}
+use Rattle.worker_gate.specs.Many.{AreToolsCounted, CanAllWork, HasWorked, HaveAllAsked, HaveAllWorked, WorksMany}
 use Rattle.worker_gate.specs.Turning.{NoneOpenBy, NoneOpenFor, plan_of, state_of}
 use Rattle.worker_gate.specs.Working.{Works}
 use Rattle.worker_gate.specs.declared.hands.Hand.{Hand}
+use Rattle.worker_gate.proofs.AskingLemmas.{no_more}
 use Rattle.worker_gate.proofs.RunLemmas.{no_faults}
 use Rattle.worker_gate.proofs.StateLemmas.{same_number}
 use Rattle.worker_gate.proofs.TurningLemmas.{OpenLaw, OwnLaw}
@@ -269,7 +271,39 @@ module _ {C M : Type 0} {h : _} where
           let from = subst (λ (m : List Event). AddsOfInputs apply g.ordered.plan m (mine_of (get_or news k d).pass)) x.new.mine so in
           subst (AreOfInputs apply g.ordered.plan) (sym (own_at_end apply lock g n faults hs news p r same dealt worked gathered items k d there ∙ from.is)) from.are
 
+-- the gates
+asked_at : (r s : List Event) (a b x y : List ℕ) → s ≡ r → a ≡ x → b ≡ y → IsAskedFor r x y → IsAskedFor s a b
+asked_at r s a b x y same was is h = record {
+  asked = h.asked;
+  is = is ∙ h.is ∙ ap (λ (l : List ℕ). l ++ h.asked) (sym was);
+  are = subst (λ (l : List Event). AreAskedBy l h.asked) (sym same) h.are;
+}
+
+module _ {C M : Type 0} {h : _} where
+  pub many_asked : (apply : Apply) (lock : RuledLock C Charter Event) (g : Charter) (n : ℕ) (faults : M → ℕ) (asked : M → List ℕ) (hs news : List (Hand C M Charter Event h)) (p : Pass C Charter Event h) (r : List Event) (before after : List M) → map member_of hs ≡ before → after ≡ map member_of news → length news ≡ length hs → AreDealt lock (Some g) [] n hs → HaveAllWorked apply lock faults hs news → HaveAllAsked asked hs news → IsGathered news p → ((k : ℕ) → items_of worker k r ≡ list_of k (lists_of p)) → AreGatesAsked r (map asked before) (map asked after)
+  many_asked apply lock g n faults asked hs news p r before after was is same dealt worked asks gathered items = record { each = each }
+    where
+      here : (ms : List M) (xs : List (Hand C M Charter Event h)) → ms ≡ map member_of xs → (k : ℕ) (d : Hand C M Charter Event h) → k < length xs → get_or (map asked ms) k [] ≡ asked (get_or xs k d).member
+      here ms xs e k d l =
+          ap (λ (m : List M). get_or (map asked m) k []) e
+          ∙ get_or-map asked (map member_of xs) k d.member [] (let m = length-map xs member_of in omega (arith, l, m))
+          ∙ ap asked (get_or-map member_of xs k d d.member l)
+
+      each : (k : ℕ) → k < length (map asked before) → IsAskedFor (entries_by k r) (get_or (map asked before) k []) (get_or (map asked after) k [])
+      each k l =
+          let there : k < length hs = (let a = length-map before asked in let e = ap length was in let f = length-map hs member_of in omega (arith, l, a, e, f)) in
+          let d = some_element hs (omega (arith, there)) in
+          let own = subst (λ (m : List Event). AsksOwn m (mine_of (get_or news k d).pass) (asked (get_or hs k d).member) (asked (get_or news k d).member)) (dealt k d there).new.mine (asks k d there) in
+          asked_at own.added (entries_by k r) (get_or (map asked before) k []) (get_or (map asked after) k []) (asked (get_or hs k d).member) (asked (get_or news k d).member)
+          (own_at_end apply lock g n faults hs news p r same dealt worked gathered items k d there ∙ own.is)
+          (here before hs (sym was) k d there) (here after news is k d (omega (arith, there, same))) own.asked
+
 -- a run that was not begun
+pub none_asked : (r : List Event) (lists : List (List ℕ)) → r ≡ [] → AreGatesAsked r lists lists
+none_asked r lists none = record {
+  each = λ k l. record { asked = []; is = sym (no_more (get_or lists k [])); are = subst (λ (q : List Event). AreAskedBy (entries_by k q) []) (sym none) refl };
+}
+
 pub no_inputs : (apply : Apply) (p : Plan) (r : List Event) → r ≡ [] → AreOfInputs apply p r
 no_inputs apply p r none = subst (AreOfInputs apply p) (sym none) tt
 

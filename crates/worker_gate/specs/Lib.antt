@@ -5,6 +5,7 @@ pub mod Turning
 pub mod Working
 pub mod Many
 pub mod Inputs
+pub mod Asking
 -- What the laws stand on.
 pub mod Law
 -- What its parts answer.

@@ -13,6 +13,7 @@ use Rattle.site_yard.specs.Faults.{AllBelow}
 use Rattle.site_yard.specs.declared.chronicle.Charter.{Charter}
 use Rattle.worker_gate.specs.declared.hands.Hand.{Hand}
 use Rattle.worker_gate.specs.Alone.{IsOver, NoneOpen}
+use Rattle.worker_gate.specs.Asking.{AsksOwn}
 use Rattle.worker_gate.specs.Inputs.{AddsOfInputs}
 use Rattle.worker_gate.specs.Turning.{NoneOpenFor, plan_of}
 use Rattle.worker_gate.specs.Working.{Works}
@@ -52,3 +53,6 @@ module _ {C M : Type 0} {g : _} where
 
   abbrev pub HaveAllWorked : Apply → RuledLock C Charter Event → (M → ℕ) → List (Hand C M Charter Event g) → List (Hand C M Charter Event g) → Type 0
   HaveAllWorked apply lock faults hs after = (k : ℕ) (d : Hand C M Charter Event g) → k < length hs → HasWorked apply lock (get_or hs k d).pass (get_or after k d).pass (faults (get_or hs k d).member) (faults (get_or after k d).member)
+
+  abbrev pub HaveAllAsked : (M → List ℕ) → List (Hand C M Charter Event g) → List (Hand C M Charter Event g) → Type 0
+  HaveAllAsked asked hs after = (k : ℕ) (d : Hand C M Charter Event g) → k < length hs → AsksOwn (mine_of (get_or hs k d).pass) (mine_of (get_or after k d).pass) (asked (get_or hs k d).member) (asked (get_or after k d).member)

@@ -1,9 +1,11 @@
 //! All workers over one yard.
 
 ghost use Rattle.std.specs.Prelude.{◌≡◌, ◌≤◌, ◌<◌, [], is_some, length, map, take, true};
+ghost use Rattle.ruled_lock.specs.Pass.{mine_of};
 ghost use Rattle.plan_core.specs.Words.{task_numbers};
+ghost use Rattle.worker_gate.specs.Asking.{AreGatesAsked, AsksOwn};
 ghost use Rattle.worker_gate.specs.Inputs.{AreOfInputs};
-ghost use Rattle.worker_gate.specs.Many.{AreToolsCounted, CanAllWork, CanWork, HasWorked, HaveAllWorked, WorksMany};
+ghost use Rattle.worker_gate.specs.Many.{AreToolsCounted, CanAllWork, CanWork, HasWorked, HaveAllAsked, HaveAllWorked, WorksMany};
 
 use crate::hands::{Hand, deal, gather};
 use crate::working::work;
@@ -32,7 +34,8 @@ fn work_hand<R: Wait, H: Host, T: Tool, G: Gate>(
     hand: &mut Hand<Yard<H, T>, Crew<T, G>>,
 )
     requires { CanWork lock.now hand.old.pass }
-    ensures { HasWorked T.apply lock.now hand.old.pass hand.new.pass (T.faults hand.old.member.tool) (T.faults hand.new.member.tool) }
+    ensures worked { HasWorked T.apply lock.now hand.old.pass hand.new.pass (T.faults hand.old.member.tool) (T.faults hand.new.member.tool) }
+    ensures asked { AsksOwn (mine_of hand.old.pass) (mine_of hand.new.pass) (G.asked hand.old.member.gate) (G.asked hand.new.member.gate) }
 {
     work(rt, alloc, lock, &mut hand.pass, &mut hand.member);
 }
@@ -50,6 +53,7 @@ where
     requires { CanAllWork lock.now hands.old }
     ensures length { length hands.new ≡ length hands.old }
     ensures worked { HaveAllWorked T.apply lock.now (λ c. T.faults c.tool) hands.old hands.new }
+    ensures asked { HaveAllAsked (λ c. G.asked c.gate) hands.old hands.new }
 {
     for_each_mut(rt, hands, 16, &|_, hand| work_hand(rt, alloc, lock, hand));
 }
@@ -76,6 +80,7 @@ where
     ensures members { length result.crew.items ≡ length crew.items }
     ensures works { WorksMany yard.ordered.plan (task_numbers yard.ordered.tasks.items) (length crew.items) result.unstarted result.yard.book.history.events }
     ensures tools { AreToolsCounted result.yard.book.history.events (map (λ (c : Crew T G). T.faults c.tool) crew.items) (map (λ (c : Crew T G). T.faults c.tool) result.crew.items) }
+    ensures gates { AreGatesAsked result.yard.book.history.events (map (λ (c : Crew T G). G.asked c.gate) crew.items) (map (λ (c : Crew T G). G.asked c.gate) result.crew.items) }
     ensures inputs { AreOfInputs T.apply yard.ordered.plan result.yard.book.history.events }
     ensures unstarted { result.unstarted ≡ true → (result.yard.book.history.events ≡ []) × (result.crew.items ≡ crew.items) }
 {

@@ -1,10 +1,11 @@
 //! The turns of a worker at a yard that several share. In each it makes one call of the yard, which adds one entry at
 //! most.
 
-ghost use Rattle.std.specs.Prelude.{◌≡◌, ◌<◌, IfNone, IfOk, IfSome, false, map, true};
+ghost use Rattle.std.specs.Prelude.{◌≡◌, ◌<◌, ◌++◌, ◌∷◌, [], ℕ, IfNone, IfOk, IfSome, List, false, map, true};
 ghost use Rattle.lease_book.specs.Owning.{is_open_after};
 ghost use Rattle.ruled_lock.specs.Lock.{IsOf};
 ghost use Rattle.ruled_lock.specs.Pass.{IsIdle, IsSamePass, charter_of, mine_of, seen_of, worker_of};
+ghost use Rattle.worker_gate.specs.Asking.{AsksOwn};
 ghost use Rattle.worker_gate.specs.Inputs.{AddsOfInputs, IsFilledOf};
 ghost use Rattle.worker_gate.specs.Tending.{CanFinish, Finishes, failures_in};
 ghost use Rattle.worker_gate.specs.Turning.{IsHeldFor, IsPlanOf, LeasesOwn, NoneOpenBy, NoneOpenFor, plan_of, told_of};
@@ -61,6 +62,7 @@ pub(crate) fn lease<R: Wait, H: Host, T: Tool>(
     ensures same { IsSamePass pass.old pass.new }
     ensures leased { LeasesOwn (charter_of pass.old) (worker_of pass.old) (mine_of pass.old) (mine_of pass.new) (seen_of pass.new) result }
     ensures inputs { IfSome (charter_of pass.old) (λ g. AddsOfInputs T.apply (plan_of g) (mine_of pass.old) (mine_of pass.new)) }
+    ensures asked { (ts : List ℕ) → AsksOwn (mine_of pass.old) (mine_of pass.new) ts ts }
 {
     own_entries_tell_open_tasks();
     let mut yard = lock.take(rt, pass);
@@ -87,6 +89,7 @@ pub(crate) fn begin<R: Wait, H: Host, T: Tool>(
     ensures mine { IfSome result (λ l. mine_of pass.new ≡ mine_of pass.old) }
     ensures none { IfNone result (Finishes (worker_of pass.old) task.0 0 (mine_of pass.old) (mine_of pass.new)) }
     ensures inputs { IfSome (charter_of pass.old) (λ g. AddsOfInputs T.apply (plan_of g) (mine_of pass.old) (mine_of pass.new)) }
+    ensures asked { (ts : List ℕ) → AsksOwn (mine_of pass.old) (mine_of pass.new) ts ts }
 {
     // Laws for the proof: they do nothing.
     own_entries_tell_open_tasks();
@@ -116,6 +119,7 @@ pub(crate) fn finish<R: Wait, H: Host, T: Tool>(
     ensures same { IsSamePass pass.old pass.new }
     ensures finishes { Finishes (worker_of pass.old) task.0 (failures_in filled) (mine_of pass.old) (mine_of pass.new) }
     ensures inputs { IfSome (charter_of pass.old) (λ g. AddsOfInputs T.apply (plan_of g) (mine_of pass.old) (mine_of pass.new)) }
+    ensures asked { (ts : List ℕ) → AsksOwn (mine_of pass.old) (mine_of pass.new) ts (ts ++ task.0 ∷ []) }
 {
     own_entries_tell_open_tasks();
     let mut yard = lock.take(rt, pass);

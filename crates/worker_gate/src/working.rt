@@ -6,6 +6,7 @@ ghost use Rattle.plan_core.specs.Words.{kind};
 ghost use Rattle.lease_book.specs.Owning.{is_open_after};
 ghost use Rattle.ruled_lock.specs.Lock.{IsOf};
 ghost use Rattle.ruled_lock.specs.Pass.{IsIdle, IsSamePass, charter_of, mine_of, seen_of, worker_of};
+ghost use Rattle.worker_gate.specs.Asking.{AsksOwn};
 ghost use Rattle.worker_gate.specs.Inputs.{AddsOfInputs};
 ghost use Rattle.worker_gate.specs.Turning.{IsPlanOf, NoneOpenFor, plan_of};
 ghost use Rattle.task_work.specs.Filling.{AreParts};
@@ -64,6 +65,7 @@ fn do_task<R: Wait, H: Host, T: Tool, G: Gate>(
     ensures does { DoesOwn (worker_of pass.old) task.0 (mine_of pass.old) (mine_of pass.new) (T.faults crew.old.tool) (T.faults crew.new.tool) }
     ensures inputs { IfSome (charter_of pass.old) (λ g. AddsOfInputs T.apply (plan_of g) (mine_of pass.old) (mine_of pass.new)) }
     ensures tool { T.faults crew.old.tool ≤ T.faults crew.new.tool }
+    ensures asked { AsksOwn (mine_of pass.old) (mine_of pass.new) (G.asked crew.old.gate) (G.asked crew.new.gate) }
 {
     // Laws for the proof: they do nothing.
     plan_laws();
@@ -95,6 +97,7 @@ pub fn work<R: Wait, H: Host, T: Tool, G: Gate>(
     ensures works { IfSome (charter_of pass.old) (λ g. Works g (worker_of pass.old) (mine_of pass.old) (mine_of pass.new) (seen_of pass.new) (T.faults crew.old.tool) (T.faults crew.new.tool)) }
     ensures inputs { IfSome (charter_of pass.old) (λ g. AddsOfInputs T.apply (plan_of g) (mine_of pass.old) (mine_of pass.new)) }
     ensures tool { T.faults crew.old.tool ≤ T.faults crew.new.tool }
+    ensures asked { AsksOwn (mine_of pass.old) (mine_of pass.new) (G.asked crew.old.gate) (G.asked crew.new.gate) }
 {
     let plan = copy_plan(rt, alloc, lock, pass);
     for _ in rt.forever() {

@@ -1,8 +1,8 @@
 use Rattle.std.proofs.Common.{◌≡◌, ◌++◌, ◌∙◌, length, map, take, drop, sym, ap, subst, arith}
 use Rattle.std.specs.Prelude.{is_some}
 use Rattle.worker_gate.specs.Hands.{AreReady, member_of}
-use Rattle.worker_gate.specs.Many.{CanAllWork, HaveAllWorked}
-use Rattle.worker_gate.proofs.ManyLemmas.{all_ready, can_all, charter_back, charter_with, dealt_as, dealt_many, many_counted, many_done, many_inputs, no_inputs, none_counted}
+use Rattle.worker_gate.specs.Many.{CanAllWork, HaveAllAsked, HaveAllWorked}
+use Rattle.worker_gate.proofs.ManyLemmas.{all_ready, can_all, charter_back, charter_with, dealt_as, dealt_many, many_asked, many_counted, many_done, many_inputs, no_inputs, none_asked, none_counted}
 use Rattle.worker_gate.proofs.SmallLemmas.{lent}
 use Rattle.worker_gate.proofs.many.run_many.Given as given
 use Rattle.worker_gate.proofs.many.run_many.Goals as goal
@@ -164,3 +164,29 @@ returns-in-Ok-new-clause-inputs g c =
     (dealt_as lock there n first hs p.charter_is p.seen_is c.deal.ensures.dealt)
     (subst (HaveAllWorked g.T.Tool.apply lock (λ m. g.T.Tool.faults m.tool) hs) whole (subst (λ l. HaveAllWorked g.T.Tool.apply lock (λ m. g.T.Tool.faults m.tool) l news) c.as_mut_slice.ensures.value c.work_all.ensures.worked))
     c.gather-pass.ensures.gathered c.close.ensures.items (returns-in-Ok-new-clause-works g c).below
+
+pub returns-in_default-clause-gates : goal.returns-in_default-clause-gates
+returns-in_default-clause-gates g c = none_asked c.args.yard.book.history.events (map (λ m. g.G.Gate.asked m.gate) c.args.crew.items) c.requires.empty
+
+pub returns-in-Err-clause-gates : goal.returns-in-Err-clause-gates
+returns-in-Err-clause-gates g c = none_asked c.in-Err.field-0.value.book.history.events (map (λ m. g.G.Gate.asked m.gate) c.args.crew.items) (ap (λ y. y.book.history.events) c.in-Err.ensures.refused ∙ c.requires.empty)
+
+pub returns-in-Ok-new-clause-gates : goal.returns-in-Ok-new-clause-gates
+returns-in-Ok-new-clause-gates g c =
+    let y = c.args.yard in
+    let z = c.close.result in
+    let there = charter_with y.ordered (take y.opened y.book.history.events) (g.H.Host.marked y.host) (is_some (g.H.Host.told y.host)) y.faults y.misses in
+    let first = c.in-Ok-new.first in
+    let lock = c.in-Ok-new.lock in
+    let p = c.in-Ok-new.ensures.pass in
+    let hs = c.deal.new.hands.items in
+    let news = c.work_all.new.hands in
+    let all = take c.deal.new.hands.len (news ++ drop (length news) hs) in
+    let n = length c.args.crew.items in
+    let whole = lent c.deal.new.hands.len news hs (c.work_all.ensures.length ∙ c.as_mut_slice.ensures.len) in
+    let same = sym (ap length whole) ∙ c.work_all.ensures.length ∙ ap length c.as_mut_slice.ensures.value in
+    many_asked g.T.Tool.apply lock there n (λ m. g.T.Tool.faults m.tool) (λ m. g.G.Gate.asked m.gate) hs all c.gather-pass.result z.book.history.events c.args.crew.items c.gather-pass.new.crew.items c.deal.ensures.members c.gather-pass.ensures.members same
+    (dealt_as lock there n first hs p.charter_is p.seen_is c.deal.ensures.dealt)
+    (subst (HaveAllWorked g.T.Tool.apply lock (λ m. g.T.Tool.faults m.tool) hs) whole (subst (λ l. HaveAllWorked g.T.Tool.apply lock (λ m. g.T.Tool.faults m.tool) l news) c.as_mut_slice.ensures.value c.work_all.ensures.worked))
+    (subst (HaveAllAsked (λ m. g.G.Gate.asked m.gate) hs) whole (subst (λ l. HaveAllAsked (λ m. g.G.Gate.asked m.gate) l news) c.as_mut_slice.ensures.value c.work_all.ensures.asked))
+    c.gather-pass.ensures.gathered c.close.ensures.items

@@ -2,6 +2,7 @@ use Rattle.std.proofs.Common.{◌∙◌, ap, map, refl, take}
 use Rattle.std.specs.Prelude.{is_some}
 use Rattle.lease_book.specs.Book.{state_at}
 use Rattle.ruled_lock.specs.Pass.{charter_of, mine_of, taken_of, worker_of}
+use Rattle.worker_gate.proofs.AskingLemmas.{asks_no_turn, lend_asks}
 use Rattle.worker_gate.proofs.InputsLemmas.{inputs_turn, lends_so}
 use Rattle.worker_gate.proofs.StateLemmas.{open_loan}
 use Rattle.worker_gate.proofs.TurningLemmas.{adds_there, charter_kept, held_turn, lend_adds, none_turn, open_there, opened_kept, same_turn}
@@ -65,3 +66,12 @@ returns-clause-inputs g c =
     (lend_adds c.worker.result c.args.task.0 y.book.history.events z.book.history.events (g.H.Host.told y.host) (g.H.Host.counts y.host) (g.H.Host.counts z.host) c.lend-lent.result e.same e.none)
     c.give.ensures.grown
     (lends_so g.T.Tool.apply y.ordered.plan c.worker.result c.args.task.0 y.book.history.events z.book.history.events (g.H.Host.told y.host) (g.H.Host.counts y.host) (g.H.Host.counts z.host) c.lend-lent.result e.same e.none)
+
+pub returns-clause-asked : goal.returns-clause-asked
+returns-clause-asked g c =
+    let y = c.take-yard.result in
+    let z = c.lend-lent.new.self in
+    let e = c.lend-lent.ensures in
+    let mid = c.take-yard.new.pass in
+    λ ts. asks_no_turn (taken_of mid) y.book.history.events z.book.history.events (mine_of c.args.pass.now) (mine_of mid) (mine_of c.give.new.pass) ts c.take-yard.ensures.taken c.take-yard.ensures.lists.1 c.give.ensures.grown
+    (lend_asks c.worker.result c.args.task.0 y.book.history.events z.book.history.events (g.H.Host.told y.host) (g.H.Host.counts y.host) (g.H.Host.counts z.host) c.lend-lent.result e.same e.none)

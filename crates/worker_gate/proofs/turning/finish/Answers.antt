@@ -1,7 +1,8 @@
-use Rattle.std.proofs.Common.{◌∙◌, map, refl, take}
+use Rattle.std.proofs.Common.{◌∙◌, ◌∷◌, [], map, refl, take}
 use Rattle.std.specs.Prelude.{is_some}
 use Rattle.ruled_lock.specs.Pass.{charter_of, mine_of, taken_of, worker_of}
 use Rattle.worker_gate.specs.Tending.{failures_in}
+use Rattle.worker_gate.proofs.AskingLemmas.{asks_turn, end_asks}
 use Rattle.worker_gate.proofs.InputsLemmas.{inputs_turn}
 use Rattle.worker_gate.proofs.TendingLemmas.{ends_finishes}
 use Rattle.worker_gate.proofs.TurningLemmas.{adds_there, charter_kept, filled_here, finish_here, finishes_adds, finishes_there, open_there, opened_kept}
@@ -56,3 +57,11 @@ returns-clause-inputs g c =
     c.take-yard.ensures.charter c.take-yard.ensures.taken c.take-yard.ensures.lists.1
     (finishes_adds c.worker.result c.args.task.0 (failures_in c.args.filled) y.book.history.events z.book.history.events (ends_finishes c.worker.result c.args.task.0 (failures_in c.args.filled) y.book.history.events z.book.history.events c.finish_at.ensures.ends))
     c.give.ensures.grown c.finish_at.ensures.inputs
+
+pub returns-clause-asked : goal.returns-clause-asked
+returns-clause-asked g c =
+    let y = c.take-yard.result in
+    let z = c.finish_at.new.yard in
+    let mid = c.take-yard.new.pass in
+    λ ts. asks_turn (taken_of mid) y.book.history.events z.book.history.events (mine_of c.args.pass.now) (mine_of mid) (mine_of c.give.new.pass) (c.args.task.0 ∷ []) ts c.take-yard.ensures.taken c.take-yard.ensures.lists.1 c.give.ensures.grown
+    (end_asks c.worker.result c.args.task.0 (failures_in c.args.filled) y.book.history.events z.book.history.events c.finish_at.ensures.ends)

@@ -2,6 +2,7 @@ use Rattle.std.proofs.Common.{◌∙◌, take}
 use Rattle.std.specs.Prelude.{is_some}
 use Rattle.ruled_lock.specs.Pass.{charter_of, mine_of, seen_of, taken_of, worker_of}
 use Rattle.lease_book.specs.Book.{state_at}
+use Rattle.worker_gate.proofs.AskingLemmas.{asks_no_turn, lease_asks}
 use Rattle.worker_gate.proofs.InputsLemmas.{inputs_turn, leases_so}
 use Rattle.worker_gate.proofs.TurningLemmas.{adds_there, charter_kept, lease_adds, lease_turn, opened_kept}
 use Rattle.worker_gate.proofs.turning.lease.Goals as goal
@@ -44,3 +45,11 @@ returns-clause-inputs g c =
     (lease_adds y.ordered.plan (state_at y.book) c.worker.result y.book.history.events z.book.history.events (g.H.Host.told y.host) (g.H.Host.counts y.host) (g.H.Host.counts z.host) c.lease-leased.result c.lease-leased.ensures.leased)
     c.give.ensures.grown
     (leases_so g.T.Tool.apply y.ordered.plan (state_at y.book) c.worker.result y.book.history.events z.book.history.events (g.H.Host.told y.host) (g.H.Host.counts y.host) (g.H.Host.counts z.host) c.lease-leased.result c.lease-leased.ensures.leased)
+
+pub returns-clause-asked : goal.returns-clause-asked
+returns-clause-asked g c =
+    let y = c.take-yard.result in
+    let z = c.lease-leased.new.self in
+    let mid = c.take-yard.new.pass in
+    λ ts. asks_no_turn (taken_of mid) y.book.history.events z.book.history.events (mine_of c.args.pass.now) (mine_of mid) (mine_of c.give.new.pass) ts c.take-yard.ensures.taken c.take-yard.ensures.lists.1 c.give.ensures.grown
+    (lease_asks y.ordered.plan (state_at y.book) c.worker.result y.book.history.events z.book.history.events (g.H.Host.told y.host) (g.H.Host.counts y.host) (g.H.Host.counts z.host) c.lease-leased.result c.lease-leased.ensures.leased)

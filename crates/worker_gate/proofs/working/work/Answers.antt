@@ -1,7 +1,8 @@
 use Rattle.std.proofs.Common.{◌∙◌}
-use Rattle.ruled_lock.specs.Pass.{charter_of, mine_of, worker_of}
+use Rattle.ruled_lock.specs.Pass.{charter_of, mine_of, seen_of, worker_of}
+use Rattle.worker_gate.proofs.AskingLemmas.{asks_nothing, asks_then}
 use Rattle.worker_gate.proofs.InputsLemmas.{own_both, own_none}
-use Rattle.worker_gate.proofs.WorkingLemmas.{granted_opens, own_does_by, own_finishes_by, own_first, rising, same_as, still_tool}
+use Rattle.worker_gate.proofs.WorkingLemmas.{granted_opens, own_does_by, own_finishes_by, own_first, own_over_by, rising, same_as, still_tool}
 use Rattle.worker_gate.proofs.working.work.Goals as goal
 
 pub loop-init : goal.loop-init
@@ -9,7 +10,7 @@ loop-init g c =
     let old = c.args.pass.now in
     let e = c.copy_plan-plan.ensures in
     let x = g.T.Tool.faults c.args.crew.now.tool in
-    (e.of, e.idle, e.same, own_first (worker_of old) (mine_of old) (mine_of c.copy_plan-plan.new.pass) x e.mine e.none_open, still_tool x, e.plan, own_none g.T.Tool.apply (charter_of old) (mine_of old) (mine_of c.copy_plan-plan.new.pass) e.mine)
+    (e.of, e.idle, e.same, own_first (worker_of old) (mine_of old) (mine_of c.copy_plan-plan.new.pass) x e.mine e.none_open, still_tool x, e.plan, own_none g.T.Tool.apply (charter_of old) (mine_of old) (mine_of c.copy_plan-plan.new.pass) e.mine, asks_nothing (mine_of old) (mine_of c.copy_plan-plan.new.pass) (g.G.Gate.asked c.args.crew.now.gate) e.mine)
 
 pub do_task-requires-clause-open : goal.do_task-requires-clause-open
 do_task-requires-clause-open g c = granted_opens (worker_of c.loop.pass) c.in-Granted.task.0 (mine_of c.loop.pass) (mine_of c.lease.new.pass) c.in-Granted.ensures.leased
@@ -25,7 +26,10 @@ loop-preserved-in-Granted g c =
     let d = c.do_task.ensures in
     let x = g.T.Tool.faults c.args.crew.now.tool in
     let y = g.T.Tool.faults c.loop.crew.tool in
-    let z = g.T.Tool.faults c.do_task.new.crew.tool in (
+    let z = g.T.Tool.faults c.do_task.new.crew.tool in
+    let first = g.G.Gate.asked c.args.crew.now.gate in
+    let now = g.G.Gate.asked c.loop.crew.gate in
+    let later = g.G.Gate.asked c.do_task.new.crew.gate in (
       d.of,
       d.idle,
       same_as old here done i.2 (same_as here leased done l.same d.same),
@@ -33,6 +37,7 @@ loop-preserved-in-Granted g c =
       rising x y z i.4 d.tool,
       i.5,
       own_both g.T.Tool.apply (charter_of old) (charter_of leased) (mine_of old) (mine_of leased) (mine_of done) (l.same.charter ∙ i.2.charter) (own_both g.T.Tool.apply (charter_of old) (charter_of here) (mine_of old) (mine_of here) (mine_of leased) i.2.charter i.6 l.inputs) d.inputs,
+      asks_then (mine_of old) (mine_of leased) (mine_of done) first now later (asks_then (mine_of old) (mine_of here) (mine_of leased) first now now i.7 (l.asked now)) d.asked,
     )
 
 pub loop-preserved-in-Swept : goal.loop-preserved-in-Swept
@@ -43,7 +48,9 @@ loop-preserved-in-Swept g c =
     let i = c.loop.invariant in
     let l = c.lease.ensures in
     let x = g.T.Tool.faults c.args.crew.now.tool in
-    let y = g.T.Tool.faults c.loop.crew.tool in (
+    let y = g.T.Tool.faults c.loop.crew.tool in
+    let first = g.G.Gate.asked c.args.crew.now.gate in
+    let now = g.G.Gate.asked c.loop.crew.gate in (
       l.of,
       l.idle,
       same_as old here leased i.2 l.same,
@@ -51,6 +58,7 @@ loop-preserved-in-Swept g c =
       i.4,
       i.5,
       own_both g.T.Tool.apply (charter_of old) (charter_of here) (mine_of old) (mine_of here) (mine_of leased) i.2.charter i.6 l.inputs,
+      asks_then (mine_of old) (mine_of here) (mine_of leased) first now now i.7 (l.asked now),
     )
 
 pub loop-preserved-in-Failed : goal.loop-preserved-in-Failed
@@ -61,7 +69,9 @@ loop-preserved-in-Failed g c =
     let i = c.loop.invariant in
     let l = c.lease.ensures in
     let x = g.T.Tool.faults c.args.crew.now.tool in
-    let y = g.T.Tool.faults c.loop.crew.tool in (
+    let y = g.T.Tool.faults c.loop.crew.tool in
+    let first = g.G.Gate.asked c.args.crew.now.gate in
+    let now = g.G.Gate.asked c.loop.crew.gate in (
       l.of,
       l.idle,
       same_as old here leased i.2 l.same,
@@ -69,6 +79,7 @@ loop-preserved-in-Failed g c =
       i.4,
       i.5,
       own_both g.T.Tool.apply (charter_of old) (charter_of here) (mine_of old) (mine_of here) (mine_of leased) i.2.charter i.6 l.inputs,
+      asks_then (mine_of old) (mine_of here) (mine_of leased) first now now i.7 (l.asked now),
     )
 
 pub loop-preserved-in-Again : goal.loop-preserved-in-Again
@@ -79,7 +90,9 @@ loop-preserved-in-Again g c =
     let i = c.loop.invariant in
     let l = c.lease.ensures in
     let x = g.T.Tool.faults c.args.crew.now.tool in
-    let y = g.T.Tool.faults c.loop.crew.tool in (
+    let y = g.T.Tool.faults c.loop.crew.tool in
+    let first = g.G.Gate.asked c.args.crew.now.gate in
+    let now = g.G.Gate.asked c.loop.crew.gate in (
       l.of,
       l.idle,
       same_as old here leased i.2 l.same,
@@ -87,6 +100,7 @@ loop-preserved-in-Again g c =
       i.4,
       i.5,
       own_both g.T.Tool.apply (charter_of old) (charter_of here) (mine_of old) (mine_of here) (mine_of leased) i.2.charter i.6 l.inputs,
+      asks_then (mine_of old) (mine_of here) (mine_of leased) first now now i.7 (l.asked now),
     )
 
 pub returns-in-Done-clause-inputs : goal.returns-in-Done-clause-inputs
@@ -100,3 +114,27 @@ returns-in-Stopped-clause-inputs g c =
     let old = c.args.pass.now in
     let here = c.loop.pass in
     own_both g.T.Tool.apply (charter_of old) (charter_of here) (mine_of old) (mine_of here) (mine_of c.lease.new.pass) c.loop.invariant.2.charter c.loop.invariant.6 c.lease.ensures.inputs
+
+pub returns-in-Done-clause-asked : goal.returns-in-Done-clause-asked
+returns-in-Done-clause-asked g c =
+    let now = g.G.Gate.asked c.loop.crew.gate in
+    asks_then (mine_of c.args.pass.now) (mine_of c.loop.pass) (mine_of c.lease.new.pass) (g.G.Gate.asked c.args.crew.now.gate) now now c.loop.invariant.7 (c.lease.ensures.asked now)
+
+pub returns-in-Stopped-clause-asked : goal.returns-in-Stopped-clause-asked
+returns-in-Stopped-clause-asked g c =
+    let now = g.G.Gate.asked c.loop.crew.gate in
+    asks_then (mine_of c.args.pass.now) (mine_of c.loop.pass) (mine_of c.lease.new.pass) (g.G.Gate.asked c.args.crew.now.gate) now now c.loop.invariant.7 (c.lease.ensures.asked now)
+
+pub returns-in-Done-clause-works : goal.returns-in-Done-clause-works
+returns-in-Done-clause-works g c =
+    let old = c.args.pass.now in
+    let here = c.loop.pass in
+    let i = c.loop.invariant in
+    own_over_by (worker_of old) (worker_of here) (charter_of old) (charter_of here) (mine_of old) (mine_of here) (mine_of c.lease.new.pass) (seen_of c.lease.new.pass) (g.T.Tool.faults c.args.crew.now.tool) (g.T.Tool.faults c.loop.crew.tool) i.2.worker i.2.charter i.3 c.in-Done.ensures.leased
+
+pub returns-in-Stopped-clause-works : goal.returns-in-Stopped-clause-works
+returns-in-Stopped-clause-works g c =
+    let old = c.args.pass.now in
+    let here = c.loop.pass in
+    let i = c.loop.invariant in
+    own_over_by (worker_of old) (worker_of here) (charter_of old) (charter_of here) (mine_of old) (mine_of here) (mine_of c.lease.new.pass) (seen_of c.lease.new.pass) (g.T.Tool.faults c.args.crew.now.tool) (g.T.Tool.faults c.loop.crew.tool) i.2.worker i.2.charter i.3 c.in-Stopped.ensures.leased

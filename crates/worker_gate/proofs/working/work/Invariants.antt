@@ -2,6 +2,7 @@ use Rattle.std.proofs.Common.{◌≤◌}
 use Rattle.std.specs.Prelude.{IfSome}
 use Rattle.ruled_lock.specs.Lock.{IsOf}
 use Rattle.ruled_lock.specs.Pass.{IsIdle, IsSamePass, charter_of, mine_of, worker_of}
+use Rattle.worker_gate.specs.Asking.{AsksOwn}
 use Rattle.worker_gate.specs.Inputs.{AddsOfInputs}
 use Rattle.worker_gate.specs.Turning.{IsPlanOf, plan_of}
 use Rattle.worker_gate.specs.Working.{WorksOwn}
@@ -16,3 +17,4 @@ invariant-loop g l =
     × (g.T.Tool.faults l.fn.crew.tool ≤ g.T.Tool.faults l.crew.tool)
     × IsPlanOf (charter_of l.fn.pass) l.plan
     × IfSome (charter_of l.fn.pass) (λ c. AddsOfInputs g.T.Tool.apply (plan_of c) (mine_of l.fn.pass) (mine_of l.pass))
+    × AsksOwn (mine_of l.fn.pass) (mine_of l.pass) (g.G.Gate.asked l.fn.crew.gate) (g.G.Gate.asked l.crew.gate)
