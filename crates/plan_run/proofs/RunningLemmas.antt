@@ -16,6 +16,7 @@ use Rattle.lease_book.specs.declared.book.Book.{Book}
 use Rattle.lease_book.specs.Book.{state_at}
 use Rattle.lease_book.specs.Law.{IsSafeState, reserved_at, stored_at}
 use Rattle.lease_book.specs.Legal.{IsComplete, Legal}
+use Rattle.lease_book.specs.Owning.{entries_by}
 use Rattle.lease_book.specs.State.{State, now, opened}
 use Rattle.site_yard.specs.Changes.{carries}
 use Rattle.site_yard.specs.Delivered.{AreDigests, AreFiles, AreLengths, AreLong, arrivals}
@@ -33,8 +34,8 @@ use Rattle.run_record.specs.declared.run_fault.RunFault.TheVariants as faults
 use Rattle.site_yard.specs.declared.opening.OpenFault.{OpenFault}
 use Rattle.worker_gate.specs.Alone.{AllBy, IsOver, NoneOpen, WorksAlone, begun}
 use Rattle.worker_gate.specs.Inputs.{AddsOfInputs, AreOfInputs}
-use Rattle.plan_run.specs.Moments.{Tools, Work, count_of, first_tool}
-use Rattle.plan_run.specs.Running.{AreDeliveries, End, EndsAs, HasRun, HasRunAlone, IsEmptyReport, IsRefusal, IsReport, IsRun, IsRunText, IsShown, Report, Reports, Tells, ended_by, marked_if}
+use Rattle.plan_run.specs.Moments.{MemberMoment, Tools, Work, asked_of, count_of, first_tool, gateless}
+use Rattle.plan_run.specs.Running.{AreDeliveries, End, EndsAs, HasAsked, HasRun, HasRunAlone, IsEmptyReport, IsRefusal, IsReport, IsRun, IsRunText, IsShown, Report, Reports, Tells, ended_by, marked_if}
 use Rattle.plan_run.specs.RunText.{run_text}
 
 -- what the laws of lease_book and site_yard say of a record
@@ -137,6 +138,7 @@ pub record IsYardEnd (w : Work) (t : Tools) (n : ℕ) (p : Plan) (order : List �
   pub none_open : NoneOpen (now p order r)
   pub inputs : AreOfInputs w.apply p r
   pub tools : (k : ℕ) → k < n → RoseBy (tool_faults k r) (count_of t.before k) (count_of t.after k)
+  pub gates : (k : ℕ) → k < n → HasAsked (entries_by k r) (asked_of t.before k) (asked_of t.after k)
 
 run_so : (w : Work) (t : Tools) (n : ℕ) (p : Plan) (order : List ℕ) (r : List Event) (told : Option Store) (marked : Store) (faults misses : ℕ) → IsYardEnd w t n p order r told marked faults misses → HasLaws p order r → Legal p order r
     → IfSome told (Agrees w.apply p r marked) → AreCounted told faults misses w.after.counts r → IsRun w t n p order r
@@ -151,6 +153,7 @@ run_so w t n p order r told marked faults misses end laws legal agrees counted =
   inputs = end.inputs;
   counted = counted_so p r w.before.told told faults misses w.before.counts.faults w.before.counts.misses w.after.counts end.tells end.faults_are end.misses_are counted;
   tools = end.tools;
+  gates = end.gates;
 }
 
 -- A run whose opening was accepted.
@@ -168,6 +171,10 @@ ran w t n p order r told marked faults misses x a end laws legal agrees counted 
 first_rose : (w : Work) (r added : List Event) → r ≡ added → RoseBy (tool_faults 0 added) w.before.tool w.after.tool → (k : ℕ) → k < 1 → RoseBy (tool_faults k r) (count_of (first_tool w).before k) (count_of (first_tool w).after k)
 first_rose w r added is rose zero l = subst (λ (es : List Event). RoseBy (tool_faults 0 es) w.before.tool w.after.tool) (sym is) rose
 first_rose w r added is rose (suc k) l = absurd (omega (arith, l))
+
+no_gate : (r : List Event) (m n k : ℕ) → HasAsked (entries_by k r) (asked_of (gateless m ∷ []) k) (asked_of (gateless n ∷ []) k)
+no_gate r m n zero = tt
+no_gate r m n (suc k) = tt
 
 -- What a yard shows at the end of a run by one worker alone.
 pub record IsAloneEnd (w : Work) (p : Plan) (order : List ℕ) (r : List Event) (told : Option Store) (marked : Store) (faults misses : ℕ) : Type 0 where
@@ -193,6 +200,7 @@ of_all w p order r told marked faults misses end = record {
   none_open = end.works.none_open;
   inputs = subst (AreOfInputs w.apply p) (sym end.inputs.is) end.inputs.are;
   tools = first_rose w r end.works.added end.works.is end.works.counted;
+  gates = λ k l. no_gate r w.before.tool w.after.tool k;
 }
 
 -- A run by one worker whose opening was accepted.
@@ -239,6 +247,10 @@ tool_at_start : (k before after : ℕ) → before ≡ after → RoseBy (tool_fau
 unfolding tool_faults
 tool_at_start k before after same = λ l. omega (arith, same)
 
+gate_at_start : (asked : Option (List ℕ)) → HasAsked [] asked asked
+gate_at_start None = tt
+gate_at_start (Some ts) = record { asked = []; is = sym (append-nil ts); are = refl }
+
 refusal_tells : (w : Work) (p : Plan) (order : List ℕ) (opening : OpenFault) (a : End) → Refuses p w.before.told w.before.counts w.after.counts opening → (a ≡ ended_by faults.Memory) ⊎ (a ≡ ended_by (fault_of_opening p opening)) → Tells w p order [] a
 refusal_tells w p order opening a refuses (inl e) = subst (Tells w p order []) (sym e) tt
 refusal_tells w p order opening a refuses (inr e) = subst (Tells w p order []) (sym e) (by (fault_of_opening p opening) refl)
@@ -270,7 +282,8 @@ empty_run w t n p order laws told later tools = record {
   shown = shown_at_start w p told;
   inputs = tt;
   counted = counted_at_start w.before.told w.before.counts w.after.counts later;
-  tools = λ k l. tool_at_start k (count_of t.before k) (count_of t.after k) (ap (λ (c : List ℕ). count_of c k) (sym tools));
+  tools = λ k l. tool_at_start k (count_of t.before k) (count_of t.after k) (ap (λ (c : List MemberMoment). count_of c k) (sym tools));
+  gates = λ k l. subst (λ (c : List MemberMoment). HasAsked [] (asked_of t.before k) (asked_of c k)) (sym tools) (gate_at_start (asked_of t.before k));
 }
 
 -- A run that was not begun.
@@ -288,7 +301,7 @@ pub not_begun_alone : (w : Work) (p : Plan) (order : List ℕ) (opening : OpenFa
 not_begun_alone w p order opening x a laws told later tool refuses refusal = record {
   ran = record {
     r = [];
-    run = empty_run w (first_tool w) 1 p order laws told later (ap (λ (n : ℕ). n ∷ []) tool);
+    run = empty_run w (first_tool w) 1 p order laws told later (ap (λ (n : ℕ). gateless n ∷ []) tool);
     tells = refusal_tells w p order opening a refuses refusal.ends;
     reports = refusal_reports w p x a refusal.says;
   };

@@ -1,9 +1,12 @@
 -- What the host and the tools show before and after a run.
-use Rattle.std.specs.Prelude.{ℕ, Bool, List, [], ◌∷◌, get_or, Option}
+use Rattle.std.specs.Prelude.{ℕ, Bool, List, [], ◌∷◌, get_or, map, Option, Some, None}
 use Rattle.values.specs.Apply.{Apply}
+use Rattle.craft.specs.declared.crew.Crew.{Crew}
+use Rattle.craft.specs.declared.gate.Gate as gate
 use Rattle.outside.specs.declared.counts.Counts.{Counts}
 use Rattle.outside.specs.declared.host.Host as host
 use Rattle.outside.specs.declared.store.Store.{Store}
+use Rattle.outside.specs.declared.tool.Tool as tool
 
 -- what the host holds, where it is told, its counts, and how often the tool of the first member of the crew has failed
 pub record WorkMoment : Type 0 where
@@ -18,28 +21,51 @@ pub record Work : Type 0 where
   pub before : WorkMoment
   pub after : WorkMoment
 
--- how often the tool of each member of the crew has failed, in order, before and after
+-- How often the tool of a member of the crew has failed, and the tasks for which its gate was asked, in order; None where
+-- no gate is asked.
+pub record MemberMoment : Type 0 where
+  pub faults : ℕ
+  pub asked : Option (List ℕ)
+
+-- what each member of the crew shows of its tool and its gate, in order, before and after
 pub record Tools : Type 0 where
-  pub before : List ℕ
-  pub after : List ℕ
+  pub before : List MemberMoment
+  pub after : List MemberMoment
 
 abbrev pub work_moment : {H Reading Draft : Type 0} → host.Ghosts H Reading Draft → H → ℕ → WorkMoment
 work_moment g h n = record { told = g.told h; counts = g.counts h; tool = n }
 
--- the count of a member of a crew, and of its first
-abbrev pub count_of : List ℕ → ℕ → ℕ
-count_of counts k = get_or counts k 0
+abbrev pub member_moment : {T G : Type 0} → tool.Ghosts T → gate.Ghosts G → Crew T G → MemberMoment
+member_moment t g m = record { faults = t.faults m.tool; asked = Some (g.asked m.gate) }
 
-abbrev pub first_count : List ℕ → ℕ
+abbrev pub crew_moment : {T G : Type 0} → tool.Ghosts T → gate.Ghosts G → List (Crew T G) → List MemberMoment
+crew_moment t g crew = map (member_moment t g) crew
+
+-- a member that asks no gate
+abbrev pub gateless : ℕ → MemberMoment
+gateless n = record { faults = n; asked = None }
+
+-- what a member of a crew shows
+abbrev pub shown_of : List MemberMoment → ℕ → MemberMoment
+shown_of ms k = get_or ms k (gateless 0)
+
+-- its count, that of the first, and for what its gate was asked
+abbrev pub count_of : List MemberMoment → ℕ → ℕ
+count_of ms k = (shown_of ms k).faults
+
+abbrev pub first_count : List MemberMoment → ℕ
 first_count [] = 0
-first_count (n ∷ ns) = n
+first_count (m ∷ ms) = m.faults
+
+abbrev pub asked_of : List MemberMoment → ℕ → Option (List ℕ)
+asked_of ms k = (shown_of ms k).asked
 
 abbrev pub working : Apply → (List ℕ → Bool) → WorkMoment → WorkMoment → Work
 working apply known before after = record { apply = apply; known = known; before = before; after = after }
 
-abbrev pub counting : List ℕ → List ℕ → Tools
+abbrev pub counting : List MemberMoment → List MemberMoment → Tools
 counting before after = record { before = before; after = after }
 
--- those of a crew of its first member alone
+-- those of a crew of its first member alone, which asks no gate
 abbrev pub first_tool : Work → Tools
-first_tool w = counting (w.before.tool ∷ []) (w.after.tool ∷ [])
+first_tool w = counting (gateless w.before.tool ∷ []) (gateless w.after.tool ∷ [])

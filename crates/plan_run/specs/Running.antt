@@ -1,12 +1,13 @@
 -- A run of a plan by workers: what its one record says, what the host and the tools show of it, and how the end and the
 -- report are read off it.
-use Rattle.std.specs.Prelude.{◌≡◌, ◌⊎◌, ℕ, ◌+◌, ◌≤◌, ◌<◌, true, List, [], length, take, option_map, Option, Some, IfSome, MatchOption, Result, Ok, Err}
+use Rattle.std.specs.Prelude.{◌≡◌, ◌⊎◌, ℕ, ◌+◌, ◌≤◌, ◌<◌, true, List, [], length, take, option_map, Option, Some, None, IfSome, MatchOption, Result, Ok, Err}
 use Rattle.outside.specs.declared.store.Store.{Store}
 use Rattle.values.specs.Apply.{Apply}
 use Rattle.plan_core.specs.declared.plan.Plan.{Plan}
 use Rattle.plan_core.specs.Words.{retries}
 use Rattle.lease_book.specs.Law.{IsSafeState, reserved_at, stored_at}
 use Rattle.lease_book.specs.Legal.{IsComplete, Legal}
+use Rattle.lease_book.specs.Owning.{entries_by}
 use Rattle.lease_book.specs.State.{now}
 use Rattle.run_record.specs.Events.{Event, Log}
 use Rattle.run_record.specs.RecordText.{AreEntries}
@@ -24,8 +25,9 @@ use Rattle.run_record.specs.declared.run_fault.RunFault.{RunFault}
 use Rattle.run_record.specs.declared.run_fault.RunFault.TheVariants as faults
 use Rattle.site_yard.specs.declared.opening.OpenFault.{OpenFault}
 use Rattle.worker_gate.specs.Alone.{NoneOpen, begun}
+use Rattle.worker_gate.specs.Asking.{IsAskedFor}
 use Rattle.worker_gate.specs.Inputs.{AreOfInputs}
-use Rattle.plan_run.specs.Moments.{Tools, Work, count_of, first_tool}
+use Rattle.plan_run.specs.Moments.{Tools, Work, asked_of, count_of, first_tool}
 use Rattle.plan_run.specs.RunText.{run_text}
 
 -- how a run ends: all was done, or this is why not; want of memory is one of the reasons
@@ -38,6 +40,12 @@ ended_by fault = Err fault
 -- where the host told what it held, it still tells, and shows the record
 abbrev pub IsShown : Work → Plan → List Event → Type 0
 IsShown w p r = IfSome w.before.told (λ m. MatchOption w.after.told ⊥ (λ s. Agrees w.apply p r m s))
+
+-- for what a gate was asked by the entries of its worker, where one is asked
+abbrev pub HasAsked : List Event → Option (List ℕ) → Option (List ℕ) → Type 0
+HasAsked r (Some earlier) (Some later) = IsAskedFor r earlier later
+HasAsked r (Some earlier) None = ⊥
+HasAsked r None later = Unit {0}
 
 -- Of a run by n workers, whatever its answer: r is its one record.
 pub record IsRun (w : Work) (t : Tools) (n : ℕ) (p : Plan) (order : List ℕ) (r : List Event) : Type 0 where
@@ -58,6 +66,8 @@ pub record IsRun (w : Work) (t : Tools) (n : ℕ) (p : Plan) (order : List ℕ) 
   -- the host's count rose as often as entries lay a failure on it, and each worker's tool's as often as that worker's do
   pub counted : AreCounted w.before.told w.before.counts.faults w.before.counts.misses w.after.counts r
   pub tools : (k : ℕ) → k < n → RoseBy (tool_faults k r) (count_of t.before k) (count_of t.after k)
+  -- and each worker's gate was asked for what that worker's entries say, in their order
+  pub gates : (k : ℕ) → k < n → HasAsked (entries_by k r) (asked_of t.before k) (asked_of t.after k)
 
 -- the sites that the plan uses were empty
 abbrev pub IsOpened : Work → Plan → Type 0

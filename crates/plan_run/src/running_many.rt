@@ -1,11 +1,10 @@
 //! A run of a plan by several workers.
 
-ghost use Rattle.std.specs.Prelude.{◌≡◌, ◌<◌, ◌≤◌, ◌⊎◌, [], drop, false, length, map as list_map, take, true};
-ghost use Rattle.craft.specs.declared.crew.Crew.{Crew};
+ghost use Rattle.std.specs.Prelude.{◌≡◌, ◌<◌, ◌≤◌, ◌⊎◌, [], drop, false, length, take, true};
 ghost use Rattle.plan_core.specs.Words.{retries, task_numbers};
 ghost use Rattle.lease_book.specs.Book.{state_at};
 ghost use Rattle.lease_book.specs.Legal.{IsComplete};
-ghost use Rattle.plan_run.specs.Moments.{counting, first_count, work_moment, working};
+ghost use Rattle.plan_run.specs.Moments.{counting, crew_moment, first_count, work_moment, working};
 ghost use Rattle.plan_run.specs.Running.{EndsAs, HasRun, Reports, marked_if, reporting};
 
 use crate::members::{put_back, take_members};
@@ -53,8 +52,8 @@ where
     H::Draft: Send,
     requires retries { retries ordered.plan ≤ 10 }
     requires members { (0 < length members.items) × (length members.items ≤ 16) }
-    ensures ran { let before = list_map (λ (c : Crew T G). T.faults c.tool) members.items in
-        let after = list_map (λ (c : Crew T G). T.faults c.tool) result.members.items in
+    ensures ran { let before = crew_moment T.Tool G.Gate members.items in
+        let after = crew_moment T.Tool G.Gate result.members.items in
         ∥ HasRun (working T.apply T.known (work_moment H.Host host (first_count before)) (work_moment H.Host result.ran.host (first_count after)))
         (counting before after) (length members.items) ordered.plan (task_numbers ordered.tasks.items) (reporting result.ran.history result.ran.text.items result.ran.delivered.items) result.ran.end ∥₁ }
     ensures members { length result.members.items ≡ length members.items }
@@ -99,8 +98,8 @@ where
     requires retries { retries ordered.plan ≤ 10 }
     requires workers { (0 < workers) × (workers ≤ 16) }
     requires crew { length crew.old.items ≡ 16 }
-    ensures ran { let before = list_map (λ (c : Crew T G). T.faults c.tool) crew.old.items in
-        let after = list_map (λ (c : Crew T G). T.faults c.tool) crew.new.items in
+    ensures ran { let before = crew_moment T.Tool G.Gate crew.old.items in
+        let after = crew_moment T.Tool G.Gate crew.new.items in
         ∥ HasRun (working T.apply T.known (work_moment H.Host host (first_count before)) (work_moment H.Host result.host (first_count after)))
         (counting before after) workers ordered.plan (task_numbers ordered.tasks.items) (reporting result.history result.text.items result.delivered.items) result.end ∥₁ }
     ensures crew { length crew.new.items ≡ 16 }

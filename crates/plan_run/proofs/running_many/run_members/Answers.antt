@@ -1,13 +1,11 @@
-use Rattle.std.proofs.Common.{[], length, take, map, ◌∙◌, ap, refl}
+use Rattle.std.proofs.Common.{[], length, take, ◌∙◌, ap, refl}
 use Rattle.std.proofs.Math.Logic.{∥∥₁_elim, ∥∥₁_map, ∥∥₁_prop}
-use Rattle.std.proofs.lemmas.List.{length-map}
 use Rattle.std.specs.Prelude.{is_some}
-use Rattle.craft.specs.declared.crew.Crew.{Crew}
 use Rattle.plan_core.specs.Words.{task_numbers}
-use Rattle.plan_run.specs.Moments.{counting, first_count, work_moment, working}
+use Rattle.plan_run.specs.Moments.{counting, crew_moment, first_count, work_moment, working}
 use Rattle.plan_run.specs.Running.{reporting}
 use Rattle.plan_run.proofs.RunningLemmas.{marked_so, not_begun, ran}
-use Rattle.plan_run.proofs.RunningManyLemmas.{many_end}
+use Rattle.plan_run.proofs.RunningManyLemmas.{gates_shown, many_end, tools_shown}
 use Rattle.plan_run.proofs.running_many.run_members.Goals as goal
 
 pub returns-in-Ok-clause-ran : goal.returns-in-Ok-clause-ran
@@ -18,9 +16,8 @@ returns-in-Ok-clause-ran g c =
     let y = many.yard in
     let r = y.book.history.events in
     let n = length c.args.members.items in
-    let count = λ (m : Crew g.row.T.Denot g.row.G.Denot). g.T.Tool.faults m.tool in
-    let old = map count c.args.members.items in
-    let new = map count many.crew.items in
+    let old = crew_moment g.T.Tool g.G.Gate c.args.members.items in
+    let new = crew_moment g.T.Tool g.G.Gate many.crew.items in
     let x = reporting c.end_many-ran.result.history c.end_many-ran.result.text.items c.end_many-ran.result.delivered.items in
     let end_ = c.end_many-ran.result.end in
     let same = c.run_many-end.ensures.ordered ∙ c.in-Ok.ensures.ordered in
@@ -41,7 +38,9 @@ returns-in-Ok-clause-ran g c =
     (marked_so (g.H.Host.told c.args.host) _ _ c.run_many-end.ensures.marked c.in-Ok.ensures.marked)
     (c.run_many-end.ensures.faults ∙ c.in-Ok.ensures.faults)
     (c.run_many-end.ensures.misses ∙ c.in-Ok.ensures.misses)
-    c.in-Ok.ensures.unused works (λ u. (c.run_many-end.ensures.unstarted u).0) (length-map c.args.members.items count) c.run_many-end.ensures.tools inputs in
+    c.in-Ok.ensures.unused works (λ u. (c.run_many-end.ensures.unstarted u).0)
+    (tools_shown g.T.Tool g.G.Gate r c.args.members.items many.crew.items c.run_many-end.ensures.tools)
+    (gates_shown g.T.Tool g.G.Gate r c.args.members.items many.crew.items c.run_many-end.ensures.members c.run_many-end.ensures.gates) inputs in
     rw c.end_many-ran.ensures.host (∥∥₁_elim legal ∥∥₁_prop (λ l. ∥∥₁_elim shows ∥∥₁_prop (λ s. ∥∥₁_map (c.agrees.ensures.counts_all fresh) (λ k.
     ran w t n p order r (g.H.Host.told y.host) (g.H.Host.marked y.host) y.faults y.misses x end_ end
     (record {
@@ -56,8 +55,7 @@ returns-in-Err-clause-ran g c =
     let order = task_numbers c.args.ordered.tasks.items in
     let fits = c.ordered_plans_fit.ensures c.args.ordered in
     let refusal = rw c.in-Err.ensures.back.0 at c.refuse_run.ensures.refusal in
-    let count = λ (m : Crew g.row.T.Denot g.row.G.Denot). g.T.Tool.faults m.tool in
-    let old = map count c.args.members.items in
+    let old = crew_moment g.T.Tool g.G.Gate c.args.members.items in
     let before = work_moment g.H.Host c.args.host (first_count old) in
     let after = work_moment g.H.Host c.in-Err.refused.host (first_count old) in
     let w = working g.T.Tool.apply g.T.Tool.known before after in
