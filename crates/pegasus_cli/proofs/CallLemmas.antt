@@ -2,11 +2,14 @@
 use Rattle.std.proofs.Common.{◌≡◌, true, ℕ, ◌++◌, List, [], ◌∷◌, length, map, get_or, take, refl, sym, ap, subst, ◌∙◌, inl, inr, arith}
 use Rattle.std.specs.Prelude.{◌⊎◌, Option, Some, None, Err, is_some, option_map, slice_set}
 use Rattle.std.specs.Io.KnownBytes.{Appends, Keeps}
+use Rattle.craft.specs.declared.crew.Crew.{Crew}
+use Rattle.craft.specs.declared.gate.Gate as gate
 use Rattle.outside.specs.Counts.{Rose}
 use Rattle.outside.specs.Sink.{WroteAll}
 use Rattle.outside.specs.declared.sink.SinkFault.{SinkFault}
 use Rattle.outside.specs.declared.sink.SinkFault.TheVariants as sink_faults
-use Rattle.plan_run.specs.Moments.{first_count}
+use Rattle.outside.specs.declared.tool.Tool as tool
+use Rattle.plan_run.specs.Moments.{MemberMoment, crew_moment, first_count, member_moment}
 use Rattle.pegasus_cli.specs.declared.outcome.Outcome.{Outcome}
 use Rattle.pegasus_cli.specs.declared.outcome.Outcome.TheVariants as outcomes
 use Rattle.pegasus_cli.specs.Call.{Ends, IsAnswered, IsDoneBy, IsDoneOrMemory, IsUsage, NoneRose, doing_of}
@@ -100,19 +103,19 @@ no_command_is_usage c outcome none answered = came_so answered.came
     came_so (inr came) = absurd (no_command (command_of c.asked.words) came.command came.is_command none)
 
 -- the count of the first member of a crew, before and after it worked
-pub first_is : {A : Type 0} (count : A → ℕ) (crew : List A) (first : A) → length crew ≡ 16 → first ≡ get_or crew 0 first → first_count (map count crew) ≡ count first
-first_is count [] first long is = absurd (omega (arith, long))
-first_is count (m ∷ ms) first long is = ap count (sym is)
+pub first_is : {A : Type 0} (shown : A → MemberMoment) (crew : List A) (first : A) → length crew ≡ 16 → first ≡ get_or crew 0 first → first_count (map shown crew) ≡ (shown first).faults
+first_is shown [] first long is = absurd (omega (arith, long))
+first_is shown (m ∷ ms) first long is = ap (λ x. (shown x).faults) (sym is)
 
-pub first_set : {A : Type 0} (count : A → ℕ) (crew : List A) (first : A) → length crew ≡ 16 → first_count (map count (slice_set crew 0 first)) ≡ count first
-first_set count [] first long = absurd (omega (arith, long))
-first_set count (m ∷ ms) first long = refl
+pub first_set : {A : Type 0} (shown : A → MemberMoment) (crew : List A) (first : A) → length crew ≡ 16 → first_count (map shown (slice_set crew 0 first)) ≡ (shown first).faults
+first_set shown [] first long = absurd (omega (arith, long))
+first_set shown (m ∷ ms) first long = refl
 
 -- what stays of the first member of a crew stays of all
 pub all_stay : {A B : Type 0} (part : A → B) (crew : List A) (first last : A) → first ≡ get_or crew 0 first → part last ≡ part first → map part (slice_set crew 0 last) ≡ map part crew
 all_stay part [] first last is same = refl
 all_stay part (m ∷ ms) first last is same = ap (λ x. x ∷ map part ms) (same ∙ ap part is)
 
--- where the first count stayed, all did
-pub counts_stay : {A : Type 0} (count : A → ℕ) (crew : List A) (first last : A) → first ≡ get_or crew 0 first → count last ≡ count first → map count (slice_set crew 0 last) ≡ map count crew
-counts_stay count crew first last is same = all_stay count crew first last is same
+-- where the first member's count and gate stayed, all members show the same
+pub members_stay : {T G : Type 0} (t : tool.Ghosts T) (g : gate.Ghosts G) (crew : List (Crew T G)) (first last : Crew T G) → first ≡ get_or crew 0 first → last.gate ≡ first.gate → t.faults last.tool ≡ t.faults first.tool → crew_moment t g (slice_set crew 0 last) ≡ crew_moment t g crew
+members_stay t g crew first last is gate_same same = all_stay (member_moment t g) crew first last is (λ i. record { faults = same i; asked = Some (g.asked (gate_same i)) })

@@ -1,13 +1,14 @@
 -- What the objects of a call show before and after it.
-use Rattle.std.specs.Prelude.{ℕ, List, map, Option}
+use Rattle.std.specs.Prelude.{ℕ, List, Option}
 use Rattle.craft.specs.declared.crew.Crew.{Crew}
+use Rattle.craft.specs.declared.gate.Gate as gate
 use Rattle.values.specs.FileMap.{Files}
 use Rattle.outside.specs.declared.counts.Counts.{Counts}
 use Rattle.outside.specs.declared.docs.Docs as docs
 use Rattle.outside.specs.declared.host.Host as host
 use Rattle.outside.specs.declared.sink.Sink as sink
 use Rattle.outside.specs.declared.tool.Tool as tool
-use Rattle.plan_run.specs.Moments.{Tools, Work, WorkMoment, counting, first_count, work_moment, working}
+use Rattle.plan_run.specs.Moments.{Tools, Work, WorkMoment, counting, crew_moment, first_count, work_moment, working}
 
 -- the documents, where they are told, and how often they were asked for
 pub record DocsMoment : Type 0 where
@@ -67,14 +68,10 @@ pub record Objects (D K H T G : Type 0) : Type 0 where
 abbrev pub objects : {D K H T G : Type 0} → D → K → H → List (Crew T G) → Objects D K H T G
 objects docs sink host crew = record { docs = docs; sink = sink; host = host; crew = crew }
 
--- how often the tool of each member has failed
-abbrev pub tool_counts : {T G : Type 0} → tool.Ghosts T → List (Crew T G) → List ℕ
-tool_counts g crew = map (λ c. g.faults c.tool) crew
-
 -- A call by its words, and by what its objects show before and after it. Callers see a word and not its parts.
-unfoldable pub call_of : {D K H Reading Draft T G : Type 0} → docs.Ghosts D → sink.Ghosts K → host.Ghosts H Reading Draft → tool.Ghosts T → List (List ℕ) → Objects D K H T G → Objects D K H T G → Call
-call_of d k h t words old new =
+unfoldable pub call_of : {D K H Reading Draft T G : Type 0} → docs.Ghosts D → sink.Ghosts K → host.Ghosts H Reading Draft → tool.Ghosts T → gate.Ghosts G → List (List ℕ) → Objects D K H T G → Objects D K H T G → Call
+call_of d k h t g words old new =
     call (asking words (docs_moment d old.docs) (docs_moment d new.docs))
-    (working t.apply t.known (work_moment h old.host (first_count (tool_counts t old.crew))) (work_moment h new.host (first_count (tool_counts t new.crew))))
-    (counting (tool_counts t old.crew) (tool_counts t new.crew))
+    (working t.apply t.known (work_moment h old.host (first_count (crew_moment t g old.crew))) (work_moment h new.host (first_count (crew_moment t g new.crew))))
+    (counting (crew_moment t g old.crew) (crew_moment t g new.crew))
     (writing (sink_moment k old.sink) (sink_moment k new.sink))

@@ -78,7 +78,7 @@ pub fn quick<D: Docs, K: Sink, H: Host, T: Tool, G: Gate>(
 ) -> (Outcome, H, Vec<Crew<T, G>>)
     requires crew { length crew.items ≡ 16 }
     requires words { is_threaded (list_map string_bytes words.now) ≡ false }
-    ensures answered { IsAnswered (call_of D.Docs K.Sink H.Host T.Tool (list_map string_bytes words.now)
+    ensures answered { IsAnswered (call_of D.Docs K.Sink H.Host T.Tool G.Gate (list_map string_bytes words.now)
         (objects docs.old out.old host crew.items)
         (objects docs.new out.new result.1 result.2.items)) result.0 }
     ensures crew { length result.2.items ≡ 16 }

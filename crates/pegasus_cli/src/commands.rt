@@ -1,8 +1,7 @@
 //! The commands.
 
-ghost use Rattle.std.specs.Prelude.{◌≡◌, [], drop, length, map as list_map};
-ghost use Rattle.craft.specs.declared.crew.Crew.{Crew};
-ghost use Rattle.plan_run.specs.Moments.{Tools, counting, first_count, work_moment, working};
+ghost use Rattle.std.specs.Prelude.{◌≡◌, [], drop, length};
+ghost use Rattle.plan_run.specs.Moments.{Tools, counting, crew_moment, first_count, work_moment, working};
 ghost use Rattle.pegasus_cli.specs.Commands.{has_line, quick_spec, threaded_spec};
 ghost use Rattle.pegasus_cli.specs.CommandSpec.{Does, OfFirst, doing};
 ghost use Rattle.pegasus_cli.specs.Fault.{not_for};
@@ -138,8 +137,8 @@ where
     requires few { AreFew (threaded_members (threaded_of command)) }
     requires images { HasImagesBy (threaded_of command) }
     requires crew { length crew.old.items ≡ 16 }
-    ensures does { let before = list_map (λ (c : Crew T G). T.faults c.tool) crew.old.items in
-        let after = list_map (λ (c : Crew T G). T.faults c.tool) crew.new.items in
+    ensures does { let before = crew_moment T.Tool G.Gate crew.old.items in
+        let after = crew_moment T.Tool G.Gate crew.new.items in
         Does (threaded_spec (threaded_of command.entry)) (doing (docs_moment D.Docs docs.old) (docs_moment D.Docs docs.new)
         (working T.apply T.known (work_moment H.Host host (first_count before)) (work_moment H.Host result.host (first_count after)))
         (counting before after)) result.told.text.items result.told.answer }

@@ -42,7 +42,7 @@ where
     H::Draft: Send,
     requires crew { length crew.items ≡ 16 }
     requires words { is_threaded (list_map string_bytes words.now) ≡ true }
-    ensures answered { IsAnswered (call_of D.Docs K.Sink H.Host T.Tool (list_map string_bytes words.now)
+    ensures answered { IsAnswered (call_of D.Docs K.Sink H.Host T.Tool G.Gate (list_map string_bytes words.now)
         (objects docs.old out.old host crew.items)
         (objects docs.new out.new result.1 result.2.items)) result.0 }
     ensures crew { length result.2.items ≡ 16 }
@@ -87,10 +87,10 @@ where
     H::Reading: Send,
     H::Draft: Send,
     requires { length crew.items ≡ 16 }
-    ensures answered { IsAnswered (call_of D.Docs K.Sink H.Host T.Tool (list_map string_bytes words.now)
+    ensures answered { IsAnswered (call_of D.Docs K.Sink H.Host T.Tool G.Gate (list_map string_bytes words.now)
         (objects docs.old out.old host crew.items)
         (objects docs.new out.new result.1 result.2.items)) result.0 }
-    ensures headline { HoldsOf (call_of D.Docs K.Sink H.Host T.Tool (list_map string_bytes words.now)
+    ensures headline { HoldsOf (call_of D.Docs K.Sink H.Host T.Tool G.Gate (list_map string_bytes words.now)
         (objects docs.old out.old host crew.items)
         (objects docs.new out.new result.1 result.2.items)) result.0 }
     ensures crew { length result.2.items ≡ 16 }

@@ -1,11 +1,10 @@
 //! `rehearse`.
 
-ghost use Rattle.std.specs.Prelude.{◌≡◌, ◌≤◌, IfSome, drop, length, map as list_map, true};
-ghost use Rattle.craft.specs.declared.crew.Crew.{Crew};
+ghost use Rattle.std.specs.Prelude.{◌≡◌, ◌≤◌, IfSome, drop, length, true};
 ghost use Rattle.outside.specs.MemoryHost.{host_counts};
 ghost use Rattle.plan_core.specs.Words.{task_numbers};
 ghost use Rattle.rehearsal.specs.Preparing.{IsPrepared};
-ghost use Rattle.plan_run.specs.Moments.{Tools, WorkMoment, counting, first_count, first_tool, working};
+ghost use Rattle.plan_run.specs.Moments.{Tools, WorkMoment, counting, crew_moment, first_count, first_tool, working};
 ghost use Rattle.pegasus_cli.specs.Commands.Rehearse.{AreFigures, ClosesOrMemory, IsOfTools, Rehearses, TellsEnd, prepared, rehearse, rehearse_by};
 ghost use Rattle.pegasus_cli.specs.CommandSpec.{Does, doing};
 ghost use Rattle.pegasus_cli.specs.Moments.{DocsMoment, with_tool};
@@ -141,8 +140,8 @@ fn run_workload_by<R: Threads + Wait + Sync, T: Tool + Send, G: Gate + Send>(
     requires prepared { IsPrepared images (prepared surveyed.now host) }
     requires workers { AreFew workers }
     requires crew { length crew.old.items ≡ 16 }
-    ensures works { (m : WorkMoment) → let before = list_map (λ (c : Crew T G). T.faults c.tool) crew.old.items in
-        let after = list_map (λ (c : Crew T G). T.faults c.tool) crew.new.items in
+    ensures works { (m : WorkMoment) → let before = crew_moment T.Tool G.Gate crew.old.items in
+        let after = crew_moment T.Tool G.Gate crew.new.items in
         Rehearses images workers (working T.apply T.known (with_tool m (first_count before)) (with_tool m (first_count after)))
         (counting before after) surveyed.now result.text.items result.answer }
     ensures crew { length crew.new.items ≡ 16 }
@@ -187,8 +186,8 @@ pub(crate) fn work_by<R: Threads + Wait + Sync, T: Tool + Send, G: Gate + Send>(
     requires images { AreImages images }
     requires workers { AreFew workers }
     requires crew { length crew.old.items ≡ 16 }
-    ensures does { (d : DocsMoment) (m : WorkMoment) → let before = list_map (λ (c : Crew T G). T.faults c.tool) crew.old.items in
-        let after = list_map (λ (c : Crew T G). T.faults c.tool) crew.new.items in
+    ensures does { (d : DocsMoment) (m : WorkMoment) → let before = crew_moment T.Tool G.Gate crew.old.items in
+        let after = crew_moment T.Tool G.Gate crew.new.items in
         Does (rehearse_by images workers) (doing d d (working T.apply T.known (with_tool m (first_count before)) (with_tool m (first_count after))) (counting before after)) result.text.items result.answer }
     ensures crew { length crew.new.items ≡ 16 }
     ensures others { drop workers crew.new.items ≡ drop workers crew.old.items }

@@ -1,8 +1,7 @@
 //! `run`.
 
-ghost use Rattle.std.specs.Prelude.{◌≡◌, drop, length, map as list_map};
-ghost use Rattle.craft.specs.declared.crew.Crew.{Crew};
-ghost use Rattle.plan_run.specs.Moments.{counting, first_count, work_moment, working};
+ghost use Rattle.std.specs.Prelude.{◌≡◌, drop, length};
+ghost use Rattle.plan_run.specs.Moments.{counting, crew_moment, first_count, work_moment, working};
 ghost use Rattle.pegasus_cli.specs.Commands.Run.{RunsMany, run};
 ghost use Rattle.pegasus_cli.specs.CommandSpec.{Does, doing};
 ghost use Rattle.pegasus_cli.specs.Moments.{docs_moment};
@@ -35,8 +34,8 @@ where
     H::Draft: Send,
     requires workers { AreFew workers }
     requires crew { length crew.old.items ≡ 16 }
-    ensures works { let before = list_map (λ (c : Crew T G). T.faults c.tool) crew.old.items in
-        let after = list_map (λ (c : Crew T G). T.faults c.tool) crew.new.items in
+    ensures works { let before = crew_moment T.Tool G.Gate crew.old.items in
+        let after = crew_moment T.Tool G.Gate crew.new.items in
         RunsMany workers (working T.apply T.known (work_moment H.Host host (first_count before)) (work_moment H.Host result.host (first_count after)))
         (counting before after) surveyed.now result.told.text.items result.told.answer }
     ensures crew { length crew.new.items ≡ 16 }
@@ -72,8 +71,8 @@ where
     H::Draft: Send,
     requires workers { AreFew workers }
     requires crew { length crew.old.items ≡ 16 }
-    ensures does { let before = list_map (λ (c : Crew T G). T.faults c.tool) crew.old.items in
-        let after = list_map (λ (c : Crew T G). T.faults c.tool) crew.new.items in
+    ensures does { let before = crew_moment T.Tool G.Gate crew.old.items in
+        let after = crew_moment T.Tool G.Gate crew.new.items in
         Does (run name.now workers) (doing (docs_moment D.Docs docs.old) (docs_moment D.Docs docs.new)
         (working T.apply T.known (work_moment H.Host host (first_count before)) (work_moment H.Host result.host (first_count after)))
         (counting before after)) result.told.text.items result.told.answer }

@@ -1,7 +1,6 @@
-use Rattle.std.proofs.Common.{map, arith}
-use Rattle.craft.specs.declared.crew.Crew.{Crew}
+use Rattle.std.proofs.Common.{arith}
 use Rattle.plan_core.specs.Words.{task_numbers}
-use Rattle.plan_run.specs.Moments.{counting, first_count}
+use Rattle.plan_run.specs.Moments.{counting, crew_moment, first_count}
 use Rattle.pegasus_cli.specs.Commands.Plan.{task_limit}
 use Rattle.pegasus_cli.proofs.PlanRunLemmas.{HasDeliveryLaws}
 use Rattle.pegasus_cli.proofs.RehearseLemmas.{many_is}
@@ -14,9 +13,8 @@ returns-clause-works g c = λ m.
     let fits = c.ordered_plans_fit.ensures o in
     let ran = c.run_plan_by-ran.result in
     let ready = c.in-Ok.ensures.readies in
-    let count = λ (x : Crew g.row.T.Denot g.row.G.Denot). g.T.Tool.faults x.tool in
-    let before = map count c.args.crew.now.items in
-    let after = map count c.run_plan_by-ran.new.crew.items in
+    let before = crew_moment g.T.Tool g.G.Gate c.args.crew.now.items in
+    let after = crew_moment g.T.Tool g.G.Gate c.run_plan_by-ran.new.crew.items in
     let laws : HasDeliveryLaws o.plan (task_numbers o.tasks.items) = record {
       complete = λ r legal done. c.complete_records_deliver.ensures.complete o.plan (task_numbers o.tasks.items) r o.proper fits legal done;
       only = λ r f is. c.complete_records_deliver.ensures.only o.plan r f is;

@@ -1,7 +1,6 @@
-use Rattle.std.proofs.Common.{map, inl, refl, arith}
-use Rattle.craft.specs.declared.crew.Crew.{Crew}
+use Rattle.std.proofs.Common.{inl, refl, arith}
 use Rattle.plan_core.specs.Words.{task_numbers}
-use Rattle.plan_run.specs.Moments.{counting, first_count, work_moment, working}
+use Rattle.plan_run.specs.Moments.{counting, crew_moment, first_count, work_moment, working}
 use Rattle.pegasus_cli.specs.Commands.Plan.{task_limit}
 use Rattle.pegasus_cli.proofs.PlanRunLemmas.{unrun_is}
 use Rattle.pegasus_cli.proofs.RunLemmas.{many_is}
@@ -16,9 +15,8 @@ returns-in-Ok-clause-works g c =
     let ready = c.in-Ok.ensures.readies in
     let fits = c.ordered_plans_fit.ensures o in
     let ran = c.run_plan_by.result in
-    let count = λ (m : Crew g.row.T.Denot g.row.G.Denot). g.T.Tool.faults m.tool in
-    let old = map count c.args.crew.now.items in
-    let new = map count c.run_plan_by.new.crew.items in
+    let old = crew_moment g.T.Tool g.G.Gate c.args.crew.now.items in
+    let new = crew_moment g.T.Tool g.G.Gate c.run_plan_by.new.crew.items in
     let before = work_moment g.H.Host c.args.host (first_count old) in
     let after = work_moment g.H.Host ran.host (first_count new) in
     let w = working g.T.Tool.apply g.T.Tool.known before after in
@@ -33,8 +31,7 @@ returns-in-Ok-clause-works g c =
 
 pub returns-in-Err-clause-works : goal.returns-in-Err-clause-works
 returns-in-Err-clause-works g c =
-    let count = λ (m : Crew g.row.T.Denot g.row.G.Denot). g.T.Tool.faults m.tool in
-    let old = map count c.args.crew.now.items in
+    let old = crew_moment g.T.Tool g.G.Gate c.args.crew.now.items in
     let moment = work_moment g.H.Host c.args.host (first_count old) in
     let w = working g.T.Tool.apply g.T.Tool.known moment moment in
     rw c.unrun.ensures.host (inl (unrun_is w (counting old old) c.args.surveyed.now _ _ c.in-Err.fault c.in-Err.ensures.readies c.unrun.ensures.answer refl refl c.unrun.ensures.text))
