@@ -16,7 +16,7 @@ use Rattle.worker_gate.specs.Alone.{IsOver}
 use Rattle.worker_gate.specs.Asking.{AreGatesAsked}
 use Rattle.worker_gate.specs.Inputs.{AreOfInputs}
 use Rattle.worker_gate.specs.Many.{AreToolsCounted, WorksMany}
-use Rattle.plan_run.specs.Moments.{MemberMoment, Tools, Work, asked_of, count_of, crew_moment}
+use Rattle.plan_run.specs.Moments.{Tools, Work, asked_of, count_of, crew_moment}
 use Rattle.plan_run.specs.Running.{HasAsked}
 use Rattle.plan_run.proofs.RunningLemmas.{IsYardEnd}
 
