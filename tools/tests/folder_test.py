@@ -16,7 +16,7 @@ from workflows import delivery, job, replica, write
 
 PROGRAM = pathlib.Path("crates/pegasus/out/pegasus").absolute()
 # Long enough that a file is seen while it is written, one piece after the other.
-LONG = 96 * 2**20
+LONG = 64 * 2**20
 ALONE = ("alone", "request.json")
 CALLS = (ALONE, ("run", "request.json", "--workers", "2"))
 
@@ -150,6 +150,21 @@ def discarded(place):
     return 6
 
 
+def amid(place):
+    """Sixteen workers are about files when one of these turns out to be wrong: each that was told stands in the output, and nothing
+    else is left anywhere."""
+    hole(place / "long", LONG // 8)
+    (place / "short").write_text("brought\n")
+    names = [f"a{number}" for number in range(40)]
+    replicas = [replica(name, "short" if name == "a9" else "long", checksum="0" * 64 if name == "a9" else None) for name in names]
+    write(place, [delivery(name) for name in names], replicas)
+    status, lines = call(place, ("run", "request.json", "--workers", "16"))
+    assert status == 6 and lines[-1].startswith("failed checksum a9 "), lines
+    told = [line.split()[1] for line in lines[:-1]]
+    assert len(told) < len(names) and files(place) == sorted(f"output/{it}" for it in told), (told, files(place))
+    return 1
+
+
 def changing(place):
     """A file that is shortened while it is read is a fault; of one that is lengthened there comes what it had at first."""
     line = hole(place / "long")
@@ -280,7 +295,10 @@ if not PROGRAM.exists():
     print("folder: skipped, no program is built")
     sys.exit()
 count = 0
-for subject in (names, at_once, dropped, planted, discarded, changing, linked_folders, linked_output, linked_scratch, limited, full):
+SUBJECTS = (
+    names, at_once, dropped, planted, discarded, amid, changing, linked_folders, linked_output, linked_scratch, limited, full
+)
+for subject in SUBJECTS:
     with tempfile.TemporaryDirectory() as work:
         count += subject(pathlib.Path(work))
 print(f"folder: ok, {count} calls")
