@@ -224,7 +224,9 @@ fn two_drafts_of_one_name(rt: HostRuntime) -> Result<(), Fail> {
         fs::read_to_string(&rt, "host_files_elsewhere")?.as_str(),
         "hello"
     );
-    assert_eq!(rt; host.faults() + later.faults() + last.faults(), 0);
+    assert_eq!(rt; host.faults(), 0);
+    assert_eq!(rt; later.faults(), 0);
+    assert_eq!(rt; last.faults(), 0);
     fs::remove_dir_all(&rt, "sites/host_files_parts")?;
     fs::remove_file(&rt, "host_files_elsewhere")?;
     Ok(())
