@@ -108,16 +108,18 @@ def called(place, words):
     return done.returncode, done.stdout, files, left
 
 
-def is_right(place, plan, workers, alone, least):
-    """Whether a run by so many workers left a complete record, delivered what a run by one does, and brought so many files at
-    least while the first job ran."""
+def arrived(place, plan, workers, alone):
+    """How many files arrived while the first job of a run by so many workers ran, where the run left a complete record and
+    delivered what a run by one does; else nothing."""
     status, text, files, left = called(place, ["run", "request.json", "--workers", str(workers)])
     record, rest = text.split("closed\n", 1)
     verdict = record_model.judge(plan, record + "closed\n", workers)
-    return status == 0 and verdict == "complete" and (rest, files, left) == alone and (not least or beside(record) >= least)
+    is_right = status == 0 and verdict == "complete" and (rest, files, left) == alone
+    return beside(record) if is_right else None
 
 
 def holds(make, counts, least=0):
+    """Runs by so many workers each, in all of which together so many files at least arrive while the first job runs."""
     with tempfile.TemporaryDirectory() as work:
         place = pathlib.Path(work)
         make(place)
@@ -126,8 +128,9 @@ def holds(make, counts, least=0):
         assert status == 0 and files and not left, (make.__name__, status, text[-200:])
         alone = text.split("closed\n", 1)[1], files, left
         with concurrent.futures.ThreadPoolExecutor(os.cpu_count()) as pool:
-            found = list(pool.map(lambda workers: is_right(place, plan, workers, alone, least), counts))
-        assert all(found), (make.__name__, [it for it, right in zip(counts, found) if not right])
+            found = list(pool.map(lambda workers: arrived(place, plan, workers, alone), counts))
+        assert None not in found, (make.__name__, [it for it, count in zip(counts, found) if count is None])
+        assert sum(found) >= least, (make.__name__, found)
     return len(counts)
 
 
@@ -150,5 +153,5 @@ if not PROGRAM.exists():
     print("workers: skipped, no program is built")
     sys.exit()
 runs = holds(apart, [16]) + holds(chain, [4]) + holds(few, [16] * 300) + holds(mosaic, [1, 2, 4, 16]) + stops()
-runs += holds(wide, [16] * 6, 8) + holds(narrow, [16] * 6, 2)
+runs += holds(wide, [16] * 6, 12) + holds(narrow, [16] * 6, 6)
 print(f"workers: ok, {runs} runs")
