@@ -11,6 +11,8 @@ import subprocess
 import sys
 import tempfile
 
+import workflows
+
 PROGRAM = pathlib.Path("crates/pegasus/out/pegasus").absolute()
 PLAN_MODEL = pathlib.Path("tools/plan-model").absolute()
 MAKE = pathlib.Path("examples/montage/make").absolute()
@@ -63,6 +65,37 @@ def mosaic(place):
     subprocess.run([sys.executable, MAKE, "12", "."], cwd=place, check=True, stdout=subprocess.DEVNULL)
 
 
+def moving(place, bound):
+    """A job that sorts half a million lines, and sixty-four files of four megabytes, each of which is brought for a job of
+    its own. By the declared sizes the lines come first."""
+    lines = b"".join(b"%06d\n" % (number * 7919 % 999983) for number in range(500_000))
+    (place / "lines").write_bytes(lines)
+    (place / "piece").write_bytes(lines + bytes(4 * 2**20 - len(lines)))
+    names = [f"piece{number}" for number in range(64)]
+    jobs = [workflows.job("sorted", [], ["lines"], ["f"])]
+    jobs += [workflows.job("digest", [], [name], [f"digest_of_{name}"]) for name in names]
+    replicas = [workflows.replica("lines", "lines")] + [workflows.replica(name, "piece") for name in names]
+    sizes = {"lines": len(lines), "f": len(lines), **{f"digest_of_{name}": 100 for name in names}}
+    workflows.write(place, jobs, replicas, bound=bound, size=4 * 2**20, sizes=sizes)
+
+
+def wide(place):
+    moving(place, 2**40)
+
+
+def narrow(place):
+    """The same where the site holds the lines, what is made of them and seven of the files."""
+    moving(place, 36 * 2**20)
+
+
+def beside(record):
+    """How many files arrived while the first job ran."""
+    lines = [line.split(" ") for line in record.splitlines()]
+    begun = next(k for k, it in enumerate(lines) if it[0] == "grant" and it[2] == "0")
+    ended = next(k for k, it in enumerate(lines) if it[0] == "end" and it[2] == "0")
+    return sum(it[0] == "arrive" for it in lines[begun:ended])
+
+
 def called(place, words):
     """Status and text of a call, in a folder of its own with the same documents; what stands in `output` after it."""
     with tempfile.TemporaryDirectory() as own:
@@ -75,15 +108,18 @@ def called(place, words):
     return done.returncode, done.stdout, files, left
 
 
-def is_right(place, plan, workers, alone):
-    """Whether a run by so many workers left a complete record, and delivered what a run by one does."""
+def arrived(place, plan, workers, alone):
+    """How many files arrived while the first job of a run by so many workers ran, where the run left a complete record and
+    delivered what a run by one does; else nothing."""
     status, text, files, left = called(place, ["run", "request.json", "--workers", str(workers)])
     record, rest = text.split("closed\n", 1)
     verdict = record_model.judge(plan, record + "closed\n", workers)
-    return status == 0 and verdict == "complete" and (rest, files, left) == alone
+    is_right = status == 0 and verdict == "complete" and (rest, files, left) == alone
+    return beside(record) if is_right else None
 
 
-def holds(make, counts):
+def holds(make, counts, least=0):
+    """Runs by so many workers each, in all of which together so many files at least arrive while the first job runs."""
     with tempfile.TemporaryDirectory() as work:
         place = pathlib.Path(work)
         make(place)
@@ -92,8 +128,9 @@ def holds(make, counts):
         assert status == 0 and files and not left, (make.__name__, status, text[-200:])
         alone = text.split("closed\n", 1)[1], files, left
         with concurrent.futures.ThreadPoolExecutor(os.cpu_count()) as pool:
-            found = list(pool.map(lambda workers: is_right(place, plan, workers, alone), counts))
-        assert all(found), (make.__name__, [it for it, right in zip(counts, found) if not right])
+            found = list(pool.map(lambda workers: arrived(place, plan, workers, alone), counts))
+        assert None not in found, (make.__name__, [it for it, count in zip(counts, found) if count is None])
+        assert sum(found) >= least, (make.__name__, found)
     return len(counts)
 
 
@@ -116,4 +153,5 @@ if not PROGRAM.exists():
     print("workers: skipped, no program is built")
     sys.exit()
 runs = holds(apart, [16]) + holds(chain, [4]) + holds(few, [16] * 300) + holds(mosaic, [1, 2, 4, 16]) + stops()
+runs += holds(wide, [16] * 6, 12) + holds(narrow, [16] * 6, 6)
 print(f"workers: ok, {runs} runs")

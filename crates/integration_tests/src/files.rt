@@ -180,6 +180,58 @@ fn drafts_of_a_folder(rt: HostRuntime) -> Result<(), Fail> {
     Ok(())
 }
 
+/// What stands in the file `x` of a site, and in two drafts' files: the length of each, if it is there.
+fn standing<R: Files>(rt: &R) -> Result<[Option<u64>; 3], Fail> {
+    let mut lengths = [None; 3];
+    let paths = [
+        "sites/host_files_parts/x",
+        ".pegasus.part.1",
+        ".pegasus.part.2",
+    ];
+    for k in 0..3 {
+        if fs::exists(rt, paths[k])? {
+            lengths[k] = Some(fs::metadata(rt, paths[k])?.len());
+        }
+    }
+    Ok(lengths)
+}
+
+#[test]
+fn two_drafts_of_one_name(rt: HostRuntime) -> Result<(), Fail> {
+    let alloc = rt.alloc();
+    let site = "host_files_parts";
+    fs::write(&rt, "host_files_elsewhere", "hello")?;
+    fs::write(&rt, ".pegasus.part.1", "of an earlier run")?;
+    symlink(&rt, "host_files_elsewhere", ".pegasus.part.2")?;
+    let mut host = FolderHost::new(rt);
+    let first = drafted(alloc, &mut host, site, b"one")?;
+    let second = drafted(alloc, &mut host, site, b"three")?;
+    assert!(rt; standing(&rt)? == [None, Some(3), Some(5)]);
+    host.publish(alloc, second)?;
+    assert!(rt; standing(&rt)? == [Some(5), Some(3), None]);
+    host.publish(alloc, first)?;
+    assert!(rt; standing(&rt)? == [Some(3), None, None]);
+    let mut later = FolderHost::new(rt);
+    let dropped = drafted(alloc, &mut later, site, b"four")?;
+    drop(dropped);
+    assert!(rt; standing(&rt)? == [Some(3), Some(4), None]);
+    let mut last = FolderHost::new(rt);
+    let discarded = drafted(alloc, &mut last, site, b"five!")?;
+    assert!(rt; standing(&rt)? == [Some(3), Some(5), None]);
+    last.discard(discarded);
+    assert!(rt; standing(&rt)? == [Some(3), None, None]);
+    assert_eq!(rt;
+        fs::read_to_string(&rt, "host_files_elsewhere")?.as_str(),
+        "hello"
+    );
+    assert_eq!(rt; host.faults(), 0);
+    assert_eq!(rt; later.faults(), 0);
+    assert_eq!(rt; last.faults(), 0);
+    fs::remove_dir_all(&rt, "sites/host_files_parts")?;
+    fs::remove_file(&rt, "host_files_elsewhere")?;
+    Ok(())
+}
+
 /// Why a site's file isn't opened.
 fn refusal<H: Host>(alloc: Global, host: &mut H, site: &str, name: &str) -> Option<HostFault> {
     host.open_scratch(alloc, site, name, 5).err()
