@@ -1,10 +1,10 @@
 -- The walk, one job further.
-use Rattle.std.proofs.Common.{◌≡◌, ℕ, zero, suc, ◌+◌, ◌-◌, ◌<◌, ◌≤◌, ◌||◌, ◌&&◌, Bool, true, false, cond, List, [], ◌∷◌, ◌++◌, length, map, take, drop, get_or, nat_eq, nat_lt, refl, sym, ap, subst, ◌∙◌, arith}
-use Rattle.std.specs.Prelude.{slice_set, replicate, Decides}
+use Rattle.std.proofs.Common.{◌≡◌, ℕ, zero, suc, ◌+◌, ◌<◌, ◌≤◌, ◌||◌, ◌&&◌, Bool, true, false, cond, List, [], ◌∷◌, length, map, take, drop, get_or, nat_eq, nat_lt, refl, sym, ap, subst, ◌∙◌, arith}
+use Rattle.std.specs.Prelude.{slice_set, Decides}
 use Rattle.std.specs.List.{list_any, AllByRecursion}
-use Rattle.std.proofs.lemmas.Bool.{eqb-true, eqb-false, eq-eqb}
+use Rattle.std.proofs.lemmas.Bool.{eqb-true, eq-eqb}
 use Rattle.std.proofs.Math.Seq.{drop-cons}
-use Rattle.std.proofs.lemmas.List.{drop_all, length-set, length-map, length-take-le, take-append-drop, get_or-take, get_or-map, get_or_past, get_or_default}
+use Rattle.std.proofs.lemmas.List.{drop_all, length-set, length-map, length-take-le, take-append-drop, get_or-take, get_or-map, get_or_past}
 use Rattle.std.proofs.lemmas.List.Folds.{list_any-append}
 use Rattle.values.specs.declared.numbers.FileId.{FileId}
 use Rattle.values.specs.declared.numbers.JobId.{JobId}
@@ -16,15 +16,14 @@ use Rattle.workflow_core.specs.Requested.{is_requested}
 use Rattle.digraph.specs.Adjacency.{has, times}
 use Rattle.digraph.specs.Distances.{Walk}
 use Rattle.digraph.specs.Order.{IsInOrder}
-use Rattle.dependency_graph.specs.Built.{name_of}
 use Rattle.dependency_graph.specs.Edges.{edge, is_among, is_paired, passes_file, read_by, written_by}
 use Rattle.dependency_graph.specs.Graph.{IsGraphOf, Links, numbers}
 use Rattle.dependency_graph.specs.Levels.{is_kept}
 use Rattle.replica_catalog.specs.declared.catalog.Replica.{Replica}
 use Rattle.data_reuse.specs.Flags.{has_both, is_set, reads}
 use Rattle.data_reuse.specs.Kept.{AreKept, IsClosed, IsKept, feeds, is_wanted}
-use Rattle.data_reuse.specs.Registered.{absent_in, is_absent}
-use Rattle.data_reuse.proofs.FlagsLemmas.{flag_set, none_set}
+use Rattle.data_reuse.specs.Absent.{absent_in, is_absent}
+use Rattle.data_reuse.proofs.FlagsLemmas.{flag_set}
 use Rattle.data_reuse.proofs.TestsLemmas.{all_at, and_both, and_left, and_right, any_alike, any_at, any_has, by_bool, or_case, or_left, or_right}
 
 -- the kept jobs are the least closed set

@@ -3,7 +3,7 @@
 ghost use Rattle.std.specs.Prelude.{◌≡◌, ◌||◌, ◌&&◌, ℕ, length, IfOk};
 ghost use Rattle.workflow_core.specs.WellFormed.{IsWellFormed, IsJobOver};
 ghost use Rattle.dependency_graph.specs.Graph.{IsGraphOf};
-ghost use Rattle.data_reuse.specs.Registered.{absent_in};
+ghost use Rattle.data_reuse.specs.Absent.{absent_in};
 ghost use Rattle.data_reuse.specs.Flags.{is_set, reads, has_both};
 ghost use Rattle.data_reuse.specs.Kept.{AreKept};
 
@@ -49,12 +49,7 @@ pub fn kept(
     requires graph { IsGraphOf workflow.now graph.now }
     ensures { IfOk result (λ v. AreKept (absent_in workflow.now replicas.now.entries force) workflow.now v.items) }
 {
-    let absent = absent_files(
-        alloc,
-        workflow.files.as_slice(),
-        replicas.entries.as_slice(),
-        force,
-    )?;
+    let absent = absent_files(alloc, workflow.files.as_slice(), replicas, force)?;
     let mut needed = requested_files(alloc, workflow)?;
     let jobs = workflow.jobs.as_slice();
     let ordered = graph.ordered();

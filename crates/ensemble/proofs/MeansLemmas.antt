@@ -11,7 +11,7 @@ use Rattle.workflow_core.specs.Law.{NumbersNames}
 use Rattle.workflow_core.specs.Requested.{requests}
 use Rattle.workflow_core.specs.WellFormed.{IsWellFormed}
 use Rattle.replica_catalog.specs.declared.catalog.Replica.{Replica}
-use Rattle.replica_catalog.specs.Lookup.{is_of}
+use Rattle.replica_catalog.specs.Lookup.{is_of, pfns_in}
 use Rattle.replica_catalog.specs.Reader.{view}
 use Rattle.plan_request.specs.declared.request.PlanRequest.{PlanRequest}
 use Rattle.plan_request.specs.JobTools.{tool_of}
@@ -19,7 +19,7 @@ use Rattle.dependency_graph.specs.Edges.{producer}
 use Rattle.dependency_graph.specs.Graph.{IsSound}
 use Rattle.dependency_graph.specs.Value.{Basis, IsValuation, base_at, by_producer, made_for, tool_for, value}
 use Rattle.values.specs.Apply.{Apply}
-use Rattle.planner.specs.Meaning.{AreHonest, IsHonest, Told, base, basis_of, entry_named, entry_of, first_told, pfns_in, value_of}
+use Rattle.planner.specs.Meaning.{AreHonest, IsHonest, Told, base, basis_of, entry_named, entry_of, first_told, value_of}
 use Rattle.planner.specs.declared.surveyed.Surveyed.{Surveyed}
 use Rattle.ensemble.specs.declared.member.Member.{Member}
 use Rattle.ensemble.specs.Entries.{replica_of}

@@ -21,12 +21,11 @@ use Rattle.plan_request.specs.declared.request.SizeOf.{SizeOf}
 use Rattle.plan_request.specs.FileSizes.{declared_sizes, named_size}
 use Rattle.plan_request.specs.Limits.{IsRuntimeInRange, IsSmallDefault, IsWithinLimits}
 use Rattle.plan_request.specs.declared.request.Runtime.{Runtime}
-use Rattle.planner.specs.Meaning.{IsJoined}
 use Rattle.ensemble.specs.declared.member.Member.{Member}
 use Rattle.ensemble.specs.Catalogues.{joint_replicas}
 use Rattle.ensemble.specs.Entries.{replica_of}
 use Rattle.ensemble.specs.Jobs.{job_of, pair_after}
-use Rattle.ensemble.specs.Member.{AreMembers, IsMember, count_files, count_jobs, files_of, jobs_of}
+use Rattle.ensemble.specs.Member.{AreMembers, IsJoined, IsMember, count_files, count_jobs, files_of, jobs_of}
 use Rattle.ensemble.specs.MemberEntry.{has_slash}
 use Rattle.ensemble.specs.Prefix.{prefixed}
 use Rattle.ensemble.specs.Requests.{joint_sizes, sizes_of}

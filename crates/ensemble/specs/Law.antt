@@ -5,11 +5,11 @@ use Rattle.workflow_core.specs.Requested.{is_requested}
 use Rattle.replica_catalog.specs.Reader.{view}
 use Rattle.plan_request.specs.declared.request.PlanRequest.{PlanRequest}
 use Rattle.plan_request.specs.FileSizes.{declared_size}
-use Rattle.planner.specs.Meaning.{AreHonest, IsJoined, Told, value_of}
+use Rattle.planner.specs.Meaning.{AreHonest, Told, value_of}
 use Rattle.planner.specs.declared.inputs.Survey.{Survey}
 use Rattle.planner.specs.declared.surveyed.Surveyed.{Surveyed}
 use Rattle.ensemble.specs.declared.member.Member.{Member}
-use Rattle.ensemble.specs.Member.{files_of}
+use Rattle.ensemble.specs.Member.{IsJoined, files_of}
 use Rattle.ensemble.specs.Prefix.{prefixed}
 
 -- the number of a member's first file in the joint

@@ -3,10 +3,11 @@ use Rattle.std.specs.Prelude.{◌≡◌, ℕ, ◌+◌, true, false, List, [], �
 use Rattle.std.specs.List.{All}
 use Rattle.std.specs.Str.{bytes_eq}
 use Rattle.workflow_core.specs.WellFormed.{IsWellFormed, are_distinct}
-use Rattle.replica_catalog.specs.Reader.{view}
+use Rattle.replica_catalog.specs.declared.catalog.Replica.{Replica}
+use Rattle.replica_catalog.specs.Joining.{joined}
+use Rattle.replica_catalog.specs.Reader.{CatalogEntry, view}
 use Rattle.plan_request.specs.Limits.{IsWithinLimits}
 use Rattle.dependency_graph.specs.Graph.{IsGraphOf}
-use Rattle.planner.specs.Meaning.{IsJoined}
 use Rattle.ensemble.specs.declared.member.Member.{Member}
 use Rattle.ensemble.specs.MemberEntry.{has_slash}
 
@@ -25,6 +26,11 @@ count_jobs (m ∷ ms) = jobs_of m + count_jobs ms
 abbrev pub count_files : List Member → ℕ
 count_files [] = 0
 count_files (m ∷ ms) = files_of m + count_files ms
+
+-- A catalogue has one entry for each name: several entries of one name are put together.
+pub record IsJoined (c : CatalogEntry) : Type 0 where
+  pub entries : List Replica
+  pub joined_is : c.entries ≡ joined entries
 
 -- A member's name has no `/`, its workflow is sound, its replicas are joined, its request is within the limits.
 pub record IsMember (m : Member) : Type 0 where

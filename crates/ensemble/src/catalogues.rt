@@ -2,9 +2,8 @@
 
 ghost use Rattle.std.specs.Prelude.{◌≡◌, IfOk};
 ghost use Rattle.replica_catalog.specs.Reader.{view};
-ghost use Rattle.planner.specs.Meaning.{IsJoined};
 ghost use Rattle.ensemble.specs.Catalogues.{AreJointReplicas, AreJointTransformations, first_sites, joint_entries, joint_replicas};
-ghost use Rattle.ensemble.specs.Member.{AreMembers};
+ghost use Rattle.ensemble.specs.Member.{AreMembers, IsJoined};
 
 use crate::entries::{add_entries, add_replicas};
 use crate::member::Member;

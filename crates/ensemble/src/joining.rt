@@ -6,9 +6,8 @@ ghost use Rattle.workflow_core.specs.WellFormed.{IsWellFormed};
 ghost use Rattle.replica_catalog.specs.Reader.{view};
 ghost use Rattle.plan_request.specs.Limits.{IsWithinLimits};
 ghost use Rattle.plan_request.specs.Reader.{execute_checked};
-ghost use Rattle.planner.specs.Meaning.{IsJoined};
 ghost use Rattle.ensemble.specs.Joining.{IsJointSurvey, Joins};
-ghost use Rattle.ensemble.specs.Member.{AreMembers, count_files, count_jobs};
+ghost use Rattle.ensemble.specs.Member.{AreMembers, IsJoined, count_files, count_jobs};
 
 use crate::catalogues::{first_sites, joint_replicas, joint_transformations};
 use crate::counting::check_counts;

@@ -7,9 +7,7 @@ use Rattle.workflow_core.specs.declared.workflow.Job.{Job}
 use Rattle.dependency_graph.specs.Value.{Basis, basis, value}
 use Rattle.replica_catalog.specs.declared.catalog.Pfn.{Pfn}
 use Rattle.replica_catalog.specs.declared.catalog.Replica.{Replica}
-use Rattle.replica_catalog.specs.Joining.{joined}
-use Rattle.replica_catalog.specs.Lookup.{is_of}
-use Rattle.replica_catalog.specs.Reader.{CatalogEntry}
+use Rattle.replica_catalog.specs.Lookup.{is_of, pfns_in}
 use Rattle.plan_request.specs.declared.request.PlanRequest.{PlanRequest}
 use Rattle.plan_request.specs.JobTools.{tool_of}
 use Rattle.plan_core.specs.declared.plan.Plan.{Plan}
@@ -17,23 +15,14 @@ use Rattle.plan_core.specs.Carried.{carried}
 use Rattle.plan_core.specs.Kinds.{carries}
 use Rattle.planner.specs.declared.inputs.Survey.{Survey}
 
--- A catalogue has one entry for each name: several entries of one name are put together.
-pub record IsJoined (c : CatalogEntry) : Type 0 where
-  pub entries : List Replica
-  pub joined_is : c.entries ≡ joined entries
-
 -- what stands at each pfn
 abbrev pub Told : Type 0
 Told = List ℕ → Option (List ℕ)
 
--- the entry of a name, and its pfns
+-- the entry of a name
 abbrev pub entry_named : List Replica → Option (List ℕ) → Option Replica
 entry_named es None = None
 entry_named es (Some lfn) = find (is_of lfn) es
-
-abbrev pub pfns_in : Option Replica → List Pfn
-pfns_in None = []
-pfns_in (Some e) = e.pfns
 
 -- the entry that registers a file
 abbrev pub entry_of : Survey → ℕ → Option Replica

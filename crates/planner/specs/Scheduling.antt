@@ -10,7 +10,7 @@ use Rattle.plan_request.specs.declared.request.PlanRequest.{PlanRequest}
 use Rattle.dependency_graph.specs.Built.{id_of}
 use Rattle.dependency_graph.specs.Graph.{numbers}
 use Rattle.data_reuse.specs.Kept.{AreKept}
-use Rattle.data_reuse.specs.Registered.{absent_in}
+use Rattle.data_reuse.specs.Absent.{absent_in}
 use Rattle.list_schedule.specs.declared.heft.Heft.{Heft}
 use Rattle.list_schedule.specs.Board.{schedule_of}
 use Rattle.list_schedule.specs.Schedule.{IsHeft, Schedule, finish, site, start}

@@ -9,7 +9,7 @@ use Rattle.plan_request.specs.declared.request.Selector.{Selector}
 use Rattle.plan_request.specs.declared.request.Selector.TheVariants.{RoundRobin, Heft}
 use Rattle.dependency_graph.specs.Levels.{AreLevels, is_kept}
 use Rattle.data_reuse.specs.Kept.{AreKept}
-use Rattle.data_reuse.specs.Registered.{absent_in}
+use Rattle.data_reuse.specs.Absent.{absent_in}
 use Rattle.site_selector.specs.Selecting.{IsFirstFault, IsSelected, Selection, selection}
 use Rattle.list_schedule.specs.Schedule.{IsHeft, Schedule}
 use Rattle.heft_selector.specs.Candidates.{IsFirstFault as IsFirstByNumber}

@@ -3,12 +3,11 @@
 ghost use Rattle.std.specs.Prelude.{◌≡◌, ◌≤◌, ℕ, Ok};
 ghost use Rattle.workflow_core.specs.WellFormed.{IsWellFormed};
 ghost use Rattle.dependency_graph.specs.Graph.{IsGraphOf};
-ghost use Rattle.replica_catalog.specs.Reader.{view};
 ghost use Rattle.plan_request.specs.declared.request.PlanRequest.{PlanRequest};
 ghost use Rattle.plan_request.specs.Reader.{execute_checked};
 ghost use Rattle.plan_core.specs.declared.plan.Plan.{Plan};
 ghost use Rattle.planner.specs.declared.inputs.Survey.{Survey};
-ghost use Rattle.planner.specs.Meaning.{IsJoined, MeansWorkflow};
+ghost use Rattle.planner.specs.Meaning.{MeansWorkflow};
 ghost use Rattle.planner.specs.Planning.{IsPlanOf};
 
 use crate::law::placed_jobs_are_a_draft;
@@ -21,11 +20,11 @@ use transfer_refiner::{
     refined_plan_means_the_workflow,
 };
 
-/// A plan of a sound workflow, over a catalogue with one entry for each name, means that workflow.
+/// A plan of a sound workflow means that workflow.
 pub fn plans_mean_the_workflow()
     ensures { (r : PlanRequest) (s : Survey) (limit : ℕ) (p : Plan)
         → execute_checked r.execute ≡ Ok tt → limit ≤ 120000
-        → IsWellFormed s.workflow → IsGraphOf s.workflow s.graph → IsJoined (view s.replicas)
+        → IsWellFormed s.workflow → IsGraphOf s.workflow s.graph
         → IsPlanOf r s limit p → MeansWorkflow r s p }
 {
     placed_jobs_are_a_draft();

@@ -21,7 +21,7 @@ use Rattle.outside.specs.declared.store.Store.{Store}
 use Rattle.workflow_core.specs.declared.workflow.Job.{Job}
 use Rattle.plan_request.specs.Reader.{read_of}
 use Rattle.plan_request.specs.declared.request.PlanRequest.{PlanRequest}
-use Rattle.replica_catalog.specs.Lookup.{is_of}
+use Rattle.replica_catalog.specs.Lookup.{is_of, pfns_in}
 use Rattle.replica_catalog.specs.declared.catalog.Pfn.{Pfn}
 use Rattle.replica_catalog.specs.declared.catalog.Replica.{Replica}
 use Rattle.dependency_graph.specs.Edges.{producer}
@@ -33,7 +33,7 @@ use Rattle.workload_maker.specs.Replicas.{image_of, replicas_text}
 use Rattle.workload_maker.specs.Workflow.{workflow_text}
 use Rattle.workload_maker.specs.declared.making.Workload.{Workload}
 use Rattle.planner.specs.Course.{IsSurvey, Refuses}
-use Rattle.planner.specs.Meaning.{AreHonest, HoldsValue, IsHonest, Told, base, basis_of, entry_named, first_told, pfns_in, value_of}
+use Rattle.planner.specs.Meaning.{AreHonest, HoldsValue, IsHonest, Told, base, basis_of, entry_named, first_told, value_of}
 use Rattle.planner.specs.PlanFault.{FailsPlan, answered}
 use Rattle.planner.specs.declared.document.Document.TheVariants.{Request}
 use Rattle.planner.specs.declared.inputs.Survey.{Survey}

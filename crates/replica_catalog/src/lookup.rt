@@ -3,9 +3,9 @@
 ghost use Rattle.std.specs.Prelude.{◌≡◌, List, ℕ, IfOk, option_map, position, find};
 ghost use Rattle.std.specs.Str.{bytes_eq};
 ghost use Rattle.indexmap.specs.IndexMap.{get_by};
-ghost use Rattle.replica_catalog.specs.Lookup.{is_of};
+ghost use Rattle.replica_catalog.specs.Lookup.{has_pfn, is_of, is_registered};
 
-use crate::catalog::{Replica, ReplicaCatalog};
+use crate::catalog::{Pfn, Replica, ReplicaCatalog};
 use indexmap::IndexMap;
 use std::alloc::Global;
 use std::marker::Model;
@@ -41,6 +41,15 @@ fn places_of(alloc: Global, entries: &[Replica]) -> Result<IndexMap<Text, usize>
     Ok(places)
 }
 
+fn has_pfn(pfns: &[Pfn]) -> bool
+    ensures { result ≡ has_pfn pfns.now }
+{
+    match pfns {
+        [] => false,
+        [_, ..] => true,
+    }
+}
+
 impl<'a> Replicas<'a> {
     pub fn new(alloc: Global, catalog: &'a ReplicaCatalog) -> Result<Replicas<'a>, Memory>
         ensures { IfOk result (λ r. r ≡ catalog.now.entries) }
@@ -57,6 +66,16 @@ impl<'a> Replicas<'a> {
         match self.places.get(lfn) {
             Some(place) => Some(&self.entries[*place]),
             None => None,
+        }
+    }
+
+    /// Whether a file's entry has a pfn.
+    pub fn is_registered(&self, lfn: &Text) -> bool
+        ensures { result ≡ is_registered self.now lfn.now }
+    {
+        match self.entry_of(lfn) {
+            Some(entry) => has_pfn(entry.pfns.as_slice()),
+            None => false,
         }
     }
 }

@@ -1,5 +1,6 @@
 -- No job is kept where every requested file is registered.
 use Rattle.std.proofs.Common.{◌≡◌, ℕ, ◌||◌, ◌&&◌, Bool, true, false, not, cond, List, [], ◌∷◌, map, filter, Ok, Result, refl, sym, ap, subst, ◌∙◌, inl, inr, nat_eq, ◌<◌, length}
+use Rattle.std.specs.Prelude.{Option, Some, find}
 use Rattle.std.specs.List.{AllByRecursion, list_any}
 use Rattle.std.specs.Str.{bytes_eq}
 use Rattle.std.specs.Cmp.Lexicographic.{bytes_decides}
@@ -14,8 +15,9 @@ use Rattle.dependency_graph.specs.Built.{name_of}
 use Rattle.dependency_graph.specs.Edges.{written_by}
 use Rattle.peg_json.specs.declared.read_fault.ReadFault.{ReadFault}
 use Rattle.replica_catalog.specs.declared.catalog.Replica.{Replica}
+use Rattle.replica_catalog.specs.Lookup.{has_pfn, is_of, is_registered, pfns_in}
 use Rattle.replica_catalog.specs.Reader.{CatalogEntry}
-use Rattle.data_reuse.specs.Registered.{absent_in, is_registered, registers}
+use Rattle.data_reuse.specs.Absent.{absent_in}
 use Rattle.site_yard.specs.Names.{file_name}
 use Rattle.site_yard.specs.declared.delivered.Delivered.{Delivered}
 use Rattle.replica_writer.specs.Document.{replica}
@@ -41,10 +43,6 @@ keeps_nothing w es all a kept = none_wanted w es all (written_by w kept.last) ke
 
 -- ---- the entries of what is registered
 
-and_true : (b : Bool) → (b && true) ≡ b
-and_true true = refl
-and_true false = refl
-
 abbrev entries : Plan → List Delivered → List Replica
 entries p ds = map replica (map (registration p) ds)
 
@@ -52,9 +50,13 @@ registers_flagged : (p : Plan) (name : List ℕ) (ds : List Delivered) → is_re
 registers_flagged p name [] = refl
 registers_flagged p name (d ∷ ds) = by (has_flag p d) (registers_flagged p name ds)
   where
+    first : (b c : Bool) (o : Option Replica) → has_pfn (pfns_in o) ≡ c → has_pfn (pfns_in (cond b (Some (replica (registration p d))) o)) ≡ (b || c)
+    first true c o rest = refl
+    first false c o rest = rest
+
     by : (b : Bool) → is_registered (entries p (filter (has_flag p) ds)) name ≡ list_any (is_flagged_as p name) ds
-        → list_any (registers name) (entries p (cond b (d ∷ filter (has_flag p) ds) (filter (has_flag p) ds))) ≡ ((b && bytes_eq name (delivered_name p d)) || list_any (is_flagged_as p name) ds)
-    by true rest = ap (λ (t : Bool). t || is_registered (entries p (filter (has_flag p) ds)) name) (and_true (bytes_eq name (delivered_name p d))) ∙ ap (λ (t : Bool). bytes_eq name (delivered_name p d) || t) rest
+        → is_registered (entries p (cond b (d ∷ filter (has_flag p) ds) (filter (has_flag p) ds))) name ≡ ((b && bytes_eq name (delivered_name p d)) || list_any (is_flagged_as p name) ds)
+    by true rest = first (bytes_eq name (delivered_name p d)) (list_any (is_flagged_as p name) ds) (find (is_of name) (entries p (filter (has_flag p) ds))) rest
     by false rest = rest
 
 abbrev entries_in : Result CatalogEntry ReadFault → List Replica

@@ -7,9 +7,10 @@ use Rattle.workflow_core.specs.Requested.{is_requested}
 use Rattle.workflow_core.specs.WellFormed.{IsWellFormed}
 use Rattle.dependency_graph.specs.Built.{name_of}
 use Rattle.replica_catalog.specs.declared.catalog.Replica.{Replica}
+use Rattle.replica_catalog.specs.Lookup.{is_registered}
 use Rattle.replica_catalog.specs.Reader.{CatalogEntry, read_of}
+use Rattle.data_reuse.specs.Absent.{absent_in}
 use Rattle.data_reuse.specs.Kept.{IsKept}
-use Rattle.data_reuse.specs.Registered.{absent_in, is_registered}
 use Rattle.plan_core.specs.declared.plan.Plan.{Plan}
 use Rattle.plan_core.specs.Proper.{IsProper}
 use Rattle.run_record.specs.Events.{Event}

@@ -5,7 +5,8 @@ use Rattle.values.specs.declared.numbers.JobId.{JobId}
 use Rattle.values.specs.declared.numbers.SiteId.{SiteId}
 use Rattle.plan_core.specs.Numbers.{has, below}
 use Rattle.workflow_core.specs.Requested.{is_requested}
-use Rattle.transfer_refiner.specs.Draft.{Draft, uses, makes, needs, site_of, made_at, needed_at, stands, home, pfns_of, declared_of, is_empty}
+use Rattle.replica_catalog.specs.Lookup.{is_registered}
+use Rattle.transfer_refiner.specs.Draft.{Draft, uses, makes, needs, site_of, made_at, needed_at, stands, home, name_of, declared_of, is_empty}
 use Rattle.transfer_refiner.specs.Tasks.{used, is_made, lacks_replica, lacks_size, count_files}
 use Rattle.plan_core.proofs.TestLemmas.{is_itself, both, and_both, either, or_left, or_right, by_bool}
 use Rattle.plan_core.proofs.NumbersLemmas.{below_has, has_below}
@@ -41,11 +42,11 @@ asked_is d f xs low is = ap (λ (ns : List ℕ). has ns f) is ∙ by_bool (is_re
     none : is_requested d.workflow f ≡ false → has (below (count_files d) (is_requested d.workflow)) f ≡ is_requested d.workflow f
     none h = by_bool (has (below (count_files d) (is_requested d.workflow)) f) (λ k. absurd (let x : false ≡ true = sym h ∙ (below_has (count_files d) (is_requested d.workflow) f k).1 in cc)) (λ k. k ∙ sym h)
 
-pub replica_lacks : (d : Draft) (f : ℕ) (result there made without : Bool) → result ≡ (there && (not made && without)) → there ≡ (used d f || is_made d f) → made ≡ is_some (home d f) → without ≡ is_empty (pfns_of d f) → result ≡ lacks_replica d f
+pub replica_lacks : (d : Draft) (f : ℕ) (result there made registered : Bool) → result ≡ (there && (not made && not registered)) → there ≡ (used d f || is_made d f) → made ≡ is_some (home d f) → registered ≡ is_registered d.replicas (name_of d f) → result ≡ lacks_replica d f
 unfolding lacks_replica
-replica_lacks d f result there made without is t m w =
-    is ∙ ap (λ (b : Bool). b && (not made && without)) t ∙ ap (λ (b : Bool). (used d f || is_made d f) && (not b && without)) (m ∙ made_is_some d f)
-    ∙ ap (λ (b : Bool). (used d f || is_made d f) && (not (is_made d f) && b)) w ∙ turn (used d f) (is_made d f) (is_empty (pfns_of d f))
+replica_lacks d f result there made registered is t m r =
+    is ∙ ap (λ (b : Bool). b && (not made && not registered)) t ∙ ap (λ (b : Bool). (used d f || is_made d f) && (not b && not registered)) (m ∙ made_is_some d f)
+    ∙ ap (λ (b : Bool). (used d f || is_made d f) && (not (is_made d f) && not b)) r ∙ turn (used d f) (is_made d f) (not (is_registered d.replicas (name_of d f)))
   where
     turn : (u m e : Bool) → ((u || m) && (not m && e)) ≡ (u && (not m && e))
     turn true m e = refl

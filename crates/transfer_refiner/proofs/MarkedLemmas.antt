@@ -7,8 +7,8 @@ use Rattle.workflow_core.specs.declared.workflow.Workflow.{Workflow}
 use Rattle.workflow_core.specs.Requested.{requests, is_requested}
 use Rattle.workflow_core.specs.WellFormed.{IsJobOver, IsWellFormed}
 use Rattle.plan_core.specs.Numbers.{has, below, RisesFrom}
-use Rattle.transfer_refiner.specs.Marked.{requested_by, registered_by, all_requested, all_registered}
-use Rattle.transfer_refiner.specs.Tasks.{registers, is_registered}
+use Rattle.transfer_refiner.specs.Marked.{requested_by, flagged_by, all_requested, all_flagged}
+use Rattle.transfer_refiner.specs.Tasks.{flags, is_flagged}
 use Rattle.plan_core.proofs.TestLemmas.{same_number, both, by_bool}
 use Rattle.plan_core.proofs.RisingLemmas.{rising_is_below}
 use Rattle.transfer_refiner.proofs.JobsLemmas.{any_same}
@@ -30,8 +30,8 @@ marked g os f =
 pub requested_all : (js : List Job) (f : ℕ) → has (all_requested js) f ≡ list_any (requests f) js
 requested_all js f = any_flat (λ y. nat_eq y f) (λ (j : Job). requested_by j.outputs) js ∙ any_same (λ (j : Job). has (requested_by j.outputs) f) (requests f) js (λ j. marked (λ (o : Output). o.stage_out) j.outputs f)
 
-pub registered_all : (js : List Job) (f : ℕ) → has (all_registered js) f ≡ list_any (registers f) js
-registered_all js f = any_flat (λ y. nat_eq y f) (λ (j : Job). registered_by j.outputs) js ∙ any_same (λ (j : Job). has (registered_by j.outputs) f) (registers f) js (λ j. marked (λ (o : Output). o.register) j.outputs f)
+pub flagged_all : (js : List Job) (f : ℕ) → has (all_flagged js) f ≡ list_any (flags f) js
+flagged_all js f = any_flat (λ y. nat_eq y f) (λ (j : Job). flagged_by j.outputs) js ∙ any_same (λ (j : Job). has (flagged_by j.outputs) f) (flags f) js (λ j. marked (λ (o : Output). o.register) j.outputs f)
 
 output_below : (n f : ℕ) (os : List Output) → AllByRecursion (λ g. g < n) (map (λ (o : Output). o.file.0) os) → list_any (λ (o : Output). o.stage_out && nat_eq o.file.0 f) os ≡ true → f < n
 output_below n f [] all h = absurd cc
@@ -51,5 +51,5 @@ requested_is w list sorted formed is rises same = rising_is_below (length w.file
     are : (x : ℕ) → has sorted x ≡ is_requested w x
     are x = same x ∙ ap (λ (xs : List ℕ). has xs x) is ∙ requested_all w.jobs x
 
-pub registered_is : (w : Workflow) (list sorted : List ℕ) → list ≡ all_registered w.jobs → ((x : ℕ) → has sorted x ≡ has list x) → (f : ℕ) → has sorted f ≡ is_registered w f
-registered_is w list sorted is same f = same f ∙ ap (λ (xs : List ℕ). has xs f) is ∙ registered_all w.jobs f
+pub flagged_is : (w : Workflow) (list sorted : List ℕ) → list ≡ all_flagged w.jobs → ((x : ℕ) → has sorted x ≡ has list x) → (f : ℕ) → has sorted f ≡ is_flagged w f
+flagged_is w list sorted is same f = same f ∙ ap (λ (xs : List ℕ). has xs f) is ∙ flagged_all w.jobs f

@@ -5,17 +5,16 @@ use Rattle.std.specs.Str.{bytes_eq}
 use Rattle.std.specs.List.{list_any, AllByRecursion}
 use Rattle.std.proofs.lemmas.List.{append-nil, append_assoc, length-map}
 use Rattle.std.proofs.lemmas.List.Folds.{list_any-append}
-use Rattle.std.proofs.lemmas.Option.{get_or_from_slice_get}
+use Rattle.std.proofs.lemmas.Option.{get_or_from_slice_get, slice_get-get_or}
 use Rattle.values.specs.Apply.{Apply, all_of, part}
 use Rattle.values.specs.declared.numbers.JobId.{JobId}
 use Rattle.values.specs.declared.numbers.SiteId.{SiteId}
 use Rattle.workflow_core.specs.declared.workflow.Job.{Job}
 use Rattle.workflow_core.specs.declared.workflow.Output.{Output}
-use Rattle.workflow_core.specs.Requested.{is_requested}
 use Rattle.workflow_core.specs.WellFormed.{inputs_of, outputs_of}
 use Rattle.dependency_graph.specs.Edges.{has_output, read_by, written_by}
-use Rattle.dependency_graph.specs.Value.{run_of}
 use Rattle.replica_catalog.specs.declared.catalog.Pfn.{Pfn}
+use Rattle.replica_catalog.specs.Lookup.{has_pfn, is_registered, pfns_in}
 use Rattle.plan_request.specs.declared.request.ToolOf.{ToolOf}
 use Rattle.plan_request.specs.JobTools.{tool_of}
 use Rattle.plan_core.specs.declared.plan.Plan.{Plan}
@@ -35,7 +34,7 @@ use Rattle.plan_core.proofs.NumbersLemmas.{none_least}
 use Rattle.plan_core.proofs.TestLemmas.{and_both, both, by_bool, either, is_itself, or_left, or_right, same_number}
 use Rattle.transfer_refiner.specs.declared.fault.RefineFault.TheVariants.{NoReplica, NoSize}
 use Rattle.transfer_refiner.specs.Conditions.{IsDraft, IsOrdered}
-use Rattle.transfer_refiner.specs.Draft.{Draft, chosen, first_of, first_on, home, is_empty, makes, name_in, name_of, needs, pfns_of, site_of, uses}
+use Rattle.transfer_refiner.specs.Draft.{Draft, chosen, first_of, first_on, entry_in, home, makes, name_in, name_of, needs, pfns_of, site_of, uses}
 use Rattle.transfer_refiner.specs.Meaning.{AreAtHand, AreHeld, AreValues}
 use Rattle.transfer_refiner.specs.Refined.{IsRefined}
 use Rattle.transfer_refiner.specs.Tasks.{count_all, count_files, first_fault, is_made, jobs_of, lacks_replica, lacks_size, planned_job, source, too_many, used}
@@ -48,7 +47,7 @@ use Rattle.transfer_refiner.proofs.StandingLemmas.{home_none, moved_needed}
 use Rattle.transfer_refiner.proofs.TogetherLemmas.{fault_none, or_first}
 
 -- registered copies
-first_held : (told : Bytes → Option Bytes) (v : Option Bytes) (xs : List Pfn) → is_empty xs ≡ false → AllByRecursion (λ (x : Pfn). told x.pfn ≡ v) xs → told (first_of xs) ≡ v
+first_held : (told : Bytes → Option Bytes) (v : Option Bytes) (xs : List Pfn) → has_pfn xs ≡ true → AllByRecursion (λ (x : Pfn). told x.pfn ≡ v) xs → told (first_of xs) ≡ v
 first_held told v [] e all = absurd cc
 first_held told v (x ∷ xs) e all = all.0
 
@@ -173,16 +172,20 @@ from_home : (apply : Apply) (told : Bytes → Option Bytes) (v : ℕ → Option 
 from_home apply told v jobs at None x g f to same held reading = held refl
 from_home apply told v jobs at (Some a) x g f to same held reading = reading a (and_both (nat_eq a a) (nat_eq g f) (is_itself a) same)
 
--- a file that is needed and not made has a pfn
-pfns_there : (d : Draft) (f : ℕ) → (f < count_files d → lacks_replica d f ≡ false) → f < count_files d → used d f ≡ true → home d f ≡ None → is_empty (pfns_of d f) ≡ false
-unfolding lacks_replica
-pfns_there d f enough l used_it none = by (is_empty (pfns_of d f)) refl
-  where
-    by : (b : Bool) → is_empty (pfns_of d f) ≡ b → is_empty (pfns_of d f) ≡ false
-    by true e = absurd (let x : false ≡ true = sym (enough l) ∙ and_both (used d f) (not (is_made d f) && is_empty (pfns_of d f)) used_it (and_both (not (is_made d f)) (is_empty (pfns_of d f)) (ap not (home_none d f none)) e) in cc)
-    by false e = e
+-- a file that is registered has a pfn
+has_pfns : (d : Draft) (f : ℕ) → f < count_files d → is_registered d.replicas (name_of d f) ≡ true → has_pfn (pfns_of d f) ≡ true
+has_pfns d f l registered = ap (λ (o : Option (List ℕ)). has_pfn (pfns_in (entry_in d.replicas o))) (slice_get-get_or d.workflow.files f [] l) ∙ registered
 
-chosen_held : (told : Bytes → Option Bytes) (v : ℕ → Option Bytes) (d : Draft) (f s : ℕ) → AreHeld d told v → is_empty (pfns_of d f) ≡ false → told (chosen d f s) ≡ v f
+-- a file that is needed and not made is registered
+registered_there : (d : Draft) (f : ℕ) → lacks_replica d f ≡ false → used d f ≡ true → home d f ≡ None → is_registered d.replicas (name_of d f) ≡ true
+unfolding lacks_replica
+registered_there d f enough used_it none = by (is_registered d.replicas (name_of d f)) refl
+  where
+    by : (b : Bool) → is_registered d.replicas (name_of d f) ≡ b → is_registered d.replicas (name_of d f) ≡ true
+    by true e = e
+    by false e = absurd (let x : false ≡ true = sym enough ∙ and_both (used d f) (not (is_made d f) && not (is_registered d.replicas (name_of d f))) used_it (and_both (not (is_made d f)) (not (is_registered d.replicas (name_of d f))) (ap not (home_none d f none)) (ap not e)) in cc)
+
+chosen_held : (told : Bytes → Option Bytes) (v : ℕ → Option Bytes) (d : Draft) (f s : ℕ) → AreHeld d told v → has_pfn (pfns_of d f) ≡ true → told (chosen d f s) ≡ v f
 chosen_held told v d f s held some = on_held told (v f) (name_in (slice_get d.request.execute s)) (first_of (pfns_of d f)) (pfns_of d f) (first_held told (v f) (pfns_of d f) some (held f)) (held f)
 
 -- what plan_core says of a proper plan
@@ -222,13 +225,13 @@ carries_value apply told v d p draft refined along written enough are held hand 
             let same : nat_eq g f ≡ true = ap (λ (x : TaskKind). kind_carries p.jobs (Some x) f) is ∙ c in
             ap (λ (x : TaskKind). carried_by apply told p.jobs (read p (carried apply told p) a) (Some x) f) (sym is)
             ∙ from_home apply told v p.jobs (read p (carried apply told p) a) (home d g) (chosen d g s) g f (Into (record { 0 = s })) same
-            (λ none. chosen_held told v d g s held (pfns_there d g (enough g) l (needed_used d s g (moved_needed d g s moved).0) none) ∙ ap v (same_number g f same))
+            (λ none. chosen_held told v d g s held (has_pfns d g l (registered_there d g (enough g l) (needed_used d s g (moved_needed d g s moved).0) none)) ∙ ap v (same_number g f same))
             (λ x r. reading_kind x f (ap (λ (y : TaskKind). kind_reads p.jobs (Some y) x f) (sym is) ∙ r))
         of_sort (a_delivery g i l asked is there placed) =
             let same : nat_eq g f ≡ true = ap (λ (x : TaskKind). kind_carries p.jobs (Some x) f) is ∙ c in
             ap (λ (x : TaskKind). carried_by apply told p.jobs (read p (carried apply told p) a) (Some x) f) (sym is)
             ∙ from_home apply told v p.jobs (read p (carried apply told p) a) (home d g) (first_of (pfns_of d g)) g f Delivery same
-            (λ none. first_held told (v g) (pfns_of d g) (hand g asked (home_none d g none)) (held g) ∙ ap v (same_number g f same))
+            (λ none. first_held told (v g) (pfns_of d g) (has_pfns d g l (hand g asked (home_none d g none))) (held g) ∙ ap v (same_number g f same))
             (λ x r. reading_kind x f (ap (λ (y : TaskKind). kind_reads p.jobs (Some y) x f) (sym is) ∙ r))
 
 -- without a fault every file that is needed and not made has a pfn

@@ -1,25 +1,23 @@
 -- The plan of a draft is small.
-use Rattle.std.proofs.Common.{◌≡◌, ℕ, zero, suc, ◌^◌, ◌≤◌, Bool, true, false, cond, List, [], ◌∷◌, length, map, refl, sym, ap, subst, ◌∙◌, arith}
-use Rattle.std.specs.Prelude.{Option, Some, None, slice_get, slice_index_or, option_map}
-use Rattle.std.specs.List.{AllByRecursion, zip}
+use Rattle.std.proofs.Common.{◌≡◌, ℕ, zero, suc, ◌^◌, ◌≤◌, Bool, true, false, cond, List, [], ◌∷◌, length, map, sym, ap, subst, ◌∙◌, arith}
+use Rattle.std.specs.Prelude.{Option, Some, None, slice_get, slice_index_or}
+use Rattle.std.specs.List.{AllByRecursion}
 use Rattle.std.specs.Map.{lookup}
 use Rattle.std.specs.Option.{option_or}
 use Rattle.std.specs.Str.{bytes_eq}
 use Rattle.std.proofs.lemmas.List.{length-map}
-use Rattle.std.proofs.lemmas.Option.{slice_get-map}
 use Rattle.workflow_core.specs.WellFormed.{IsSmallSize}
 use Rattle.plan_request.specs.Limits.{IsSmallDefault, IsWithinLimits}
-use Rattle.plan_request.specs.FileSizes.{declared_size, declared_sizes, named_size, size_by}
+use Rattle.plan_request.specs.FileSizes.{declared_size, declared_sizes, named_size}
 use Rattle.plan_request.specs.declared.request.PlanRequest.{PlanRequest}
 use Rattle.plan_request.specs.declared.request.SizeOf.{SizeOf}
 use Rattle.plan_core.specs.declared.plan.Plan.{Plan}
 use Rattle.plan_core.specs.declared.plan.PlanFile.{PlanFile}
-use Rattle.plan_core.specs.declared.plan.Task.{Task}
 use Rattle.plan_core.specs.Numbers.{below}
-use Rattle.plan_core.specs.Words.{declared, declared_in, is_clean, is_clean_kind, kind, kind_in}
-use Rattle.transfer_refiner.specs.Draft.{Draft, declared_of, sizes_of}
+use Rattle.plan_core.specs.Words.{declared, declared_in, is_clean, kind}
+use Rattle.transfer_refiner.specs.Draft.{Draft}
 use Rattle.transfer_refiner.specs.Conditions.{IsDraft}
-use Rattle.transfer_refiner.specs.Tasks.{count_files, files_of, planned_file, planned_site}
+use Rattle.transfer_refiner.specs.Tasks.{count_files, planned_file, planned_site}
 use Rattle.transfer_refiner.specs.Refined.{IsRefined}
 use Rattle.transfer_refiner.proofs.TogetherLemmas.{below_short, no_cleans}
 

@@ -10,7 +10,7 @@ use Rattle.dependency_graph.specs.Edges.{read_by, written_by}
 use Rattle.replica_catalog.specs.declared.catalog.Pfn.{Pfn}
 use Rattle.replica_catalog.specs.declared.catalog.Replica.{Replica}
 use Rattle.replica_catalog.specs.declared.catalog.ReplicaCatalog.{ReplicaCatalog}
-use Rattle.replica_catalog.specs.Lookup.{is_of}
+use Rattle.replica_catalog.specs.Lookup.{is_of, pfns_in}
 use Rattle.plan_request.specs.declared.request.Execution.{Execution}
 use Rattle.plan_request.specs.declared.request.PlanRequest.{PlanRequest}
 use Rattle.plan_request.specs.FileSizes.{declared_sizes}
@@ -84,10 +84,6 @@ entry_in rs (Some n) = find (is_of n) rs
 
 abbrev pub entry_of : Draft → ℕ → Option Replica
 entry_of d f = entry_in d.replicas (slice_get d.workflow.files f)
-
-abbrev pub pfns_in : Option Replica → List Pfn
-pfns_in None = []
-pfns_in (Some e) = e.pfns
 
 -- the registered pfns; the first, and the first on a site of this name, else the first
 abbrev pub pfns_of : Draft → ℕ → List Pfn

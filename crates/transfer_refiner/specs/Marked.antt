@@ -7,11 +7,11 @@ use Rattle.workflow_core.specs.declared.workflow.Output.{Output}
 abbrev pub requested_by : List Output → List ℕ
 requested_by = flat_map (λ (o : Output). cond o.stage_out (o.file.0 ∷ []) [])
 
-abbrev pub registered_by : List Output → List ℕ
-registered_by = flat_map (λ (o : Output). cond o.register (o.file.0 ∷ []) [])
+abbrev pub flagged_by : List Output → List ℕ
+flagged_by = flat_map (λ (o : Output). cond o.register (o.file.0 ∷ []) [])
 
 abbrev pub all_requested : List Job → List ℕ
 all_requested = flat_map (λ (j : Job). requested_by j.outputs)
 
-abbrev pub all_registered : List Job → List ℕ
-all_registered = flat_map (λ (j : Job). registered_by j.outputs)
+abbrev pub all_flagged : List Job → List ℕ
+all_flagged = flat_map (λ (j : Job). flagged_by j.outputs)

@@ -1,5 +1,5 @@
 -- What a plan's files are worth, and where that can be had.
-use Rattle.std.specs.Prelude.{◌≡◌, ℕ, Bool, true, false, List, map, Option, Some, option_and_then, slice_get}
+use Rattle.std.specs.Prelude.{◌≡◌, ℕ, true, false, List, map, Option, Some, option_and_then, slice_get}
 use Rattle.std.specs.List.{AllByRecursion}
 use Rattle.values.specs.Apply.{Apply, all_of, part}
 use Rattle.workflow_core.specs.declared.workflow.Job.{Job}
@@ -9,9 +9,10 @@ use Rattle.workflow_core.specs.WellFormed.{inputs_of, outputs_of}
 use Rattle.dependency_graph.specs.Edges.{has_output}
 use Rattle.dependency_graph.specs.Value.{run_of}
 use Rattle.replica_catalog.specs.declared.catalog.Pfn.{Pfn}
+use Rattle.replica_catalog.specs.Lookup.{is_registered}
 use Rattle.plan_request.specs.declared.request.ToolOf.{ToolOf}
 use Rattle.plan_request.specs.JobTools.{tool_of}
-use Rattle.transfer_refiner.specs.Draft.{Draft, is_empty, pfns_of}
+use Rattle.transfer_refiner.specs.Draft.{Draft, name_of, pfns_of}
 use Rattle.transfer_refiner.specs.Tasks.{is_made}
 
 -- what a job makes for one of its outputs, where v stands at its inputs
@@ -26,6 +27,6 @@ AreValues apply tools w v = (a f : ℕ) (j : Job) → slice_get w.jobs a ≡ Som
 abbrev pub AreHeld : Draft → (List ℕ → Option (List ℕ)) → (ℕ → Option (List ℕ)) → Type 0
 AreHeld d told v = (f : ℕ) → AllByRecursion (λ (x : Pfn). told x.pfn ≡ v f) (pfns_of d f)
 
--- a requested file that no part makes has a registered copy
+-- a requested file that no part makes is registered
 abbrev pub AreAtHand : Draft → Type 0
-AreAtHand d = (f : ℕ) → is_requested d.workflow f ≡ true → is_made d f ≡ false → is_empty (pfns_of d f) ≡ false
+AreAtHand d = (f : ℕ) → is_requested d.workflow f ≡ true → is_made d f ≡ false → is_registered d.replicas (name_of d f) ≡ true

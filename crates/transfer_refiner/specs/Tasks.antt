@@ -9,6 +9,7 @@ use Rattle.workflow_core.specs.declared.workflow.Workflow.{Workflow}
 use Rattle.workflow_core.specs.WellFormed.{before, after}
 use Rattle.workflow_core.specs.Requested.{is_requested}
 use Rattle.replica_catalog.specs.declared.catalog.Replica.{Replica}
+use Rattle.replica_catalog.specs.Lookup.{is_registered}
 use Rattle.plan_request.specs.declared.request.Cleanup.{Cleanup}
 use Rattle.plan_request.specs.declared.request.Cleanup.TheVariants.{None as NoCleanup, Inplace, Constraint}
 use Rattle.plan_request.specs.declared.request.Execution.{Execution}
@@ -27,7 +28,7 @@ use Rattle.plan_core.specs.Numbers.{has, below, least, or_else}
 use Rattle.plan_core.specs.Words.{job_numbers}
 use Rattle.transfer_refiner.specs.declared.fault.RefineFault.{RefineFault}
 use Rattle.transfer_refiner.specs.declared.fault.RefineFault.TheVariants.{NoReplica, NoSize, TooMany}
-use Rattle.transfer_refiner.specs.Draft.{Draft, uses, makes, site_of, moves, stands, home, name_of, entry_of, pfns_of, first_of, chosen, declared_of, is_empty}
+use Rattle.transfer_refiner.specs.Draft.{Draft, uses, makes, site_of, moves, stands, home, name_of, entry_of, pfns_of, first_of, chosen, declared_of}
 
 abbrev pub count_files : Draft → ℕ
 count_files d = length d.workflow.files
@@ -89,15 +90,15 @@ jobs_of tools [] ss = []
 jobs_of tools (j ∷ js) [] = []
 jobs_of tools (j ∷ js) (s ∷ ss) = planned_job tools j s ∷ jobs_of tools js ss
 
--- an output of the job has the file, to be registered
-abbrev pub registers : ℕ → Job → Bool
-registers f j = list_any (λ (o : Output). o.register && (o.file.0 == f)) j.outputs
+-- an output of the job has the file, and the flag that it is to be registered
+abbrev pub flags : ℕ → Job → Bool
+flags f j = list_any (λ (o : Output). o.register && (o.file.0 == f)) j.outputs
 
-abbrev pub is_registered : Workflow → ℕ → Bool
-is_registered w f = list_any (registers f) w.jobs
+abbrev pub is_flagged : Workflow → ℕ → Bool
+is_flagged w f = list_any (flags f) w.jobs
 
 abbrev pub planned_file : Draft → ℕ → PlanFile
-planned_file d f = record { lfn = name_of d f; declared = declared_of d f; checksum = option_and_then (λ (e : Replica). e.checksum) (entry_of d f); register = is_registered d.workflow f }
+planned_file d f = record { lfn = name_of d f; declared = declared_of d f; checksum = option_and_then (λ (e : Replica). e.checksum) (entry_of d f); register = is_flagged d.workflow f }
 
 abbrev pub files_of : Draft → List PlanFile
 files_of d = map (planned_file d) (below (count_files d) (λ f. true))
@@ -111,9 +112,9 @@ used d f = list_any (λ (js : List JobId). uses d js f) d.parts
 abbrev pub is_made : Draft → ℕ → Bool
 is_made d f = list_any (λ (js : List JobId). makes d js f) d.parts
 
--- a kept job reads the file, no kept job makes it, and it has no pfn
+-- a kept job reads the file, no kept job makes it, and it isn't registered
 unfoldable pub lacks_replica : Draft → ℕ → Bool
-lacks_replica d f = used d f && (not (is_made d f) && is_empty (pfns_of d f))
+lacks_replica d f = used d f && (not (is_made d f) && not (is_registered d.replicas (name_of d f)))
 
 -- a task moves or writes the file, and it has no declared size
 unfoldable pub lacks_size : Draft → ℕ → Bool

@@ -5,10 +5,10 @@ ghost use Rattle.plan_core.specs.Numbers.{RisesFrom, below, has};
 ghost use Rattle.workflow_core.specs.declared.workflow.Output.{Output};
 ghost use Rattle.transfer_refiner.specs.Conditions.{IsDraft};
 ghost use Rattle.transfer_refiner.specs.Tables.{AreTables};
-ghost use Rattle.transfer_refiner.specs.Tasks.{count_files, files_of, is_registered, jobs_of, planned_file, planned_job, planned_site};
+ghost use Rattle.transfer_refiner.specs.Tasks.{count_files, files_of, is_flagged, jobs_of, planned_file, planned_job, planned_site};
 ghost use Rattle.transfer_refiner.specs.View.{draft_of};
 
-use crate::marked::registered_files;
+use crate::marked::flagged_files;
 use crate::tables::{Tables, declared_of, entry_of, name_of};
 use crate::view::View;
 use plan_core::{PlanFile, PlanJob, PlanSite, copied, is_among, texts_copied};
@@ -115,12 +115,12 @@ fn planned_file(
     alloc: Global,
     view: &View<'_>,
     tables: &Tables,
-    registered: &[u32],
+    flagged: &[u32],
     file: FileId,
 ) -> Result<PlanFile, Memory>
     requires tables { AreTables (draft_of view.now) tables.now }
-    requires rises { RisesFrom 0 registered.now }
-    requires same { has registered.now file.0 ≡ is_registered view.now.workflow.now file.0 }
+    requires rises { RisesFrom 0 flagged.now }
+    requires same { has flagged.now file.0 ≡ is_flagged view.now.workflow.now file.0 }
     ensures { IfOk result (λ f. f ≡ planned_file (draft_of view.now) file.0) }
 {
     let lfn = name_of(alloc, view, file)?;
@@ -128,7 +128,7 @@ fn planned_file(
         lfn,
         declared: declared_of(tables, file),
         checksum: checksum_of(view, file),
-        register: is_among(registered, file.0),
+        register: is_among(flagged, file.0),
     })
 }
 
@@ -139,10 +139,10 @@ pub fn files_of(alloc: Global, view: &View<'_>, tables: &Tables) -> Result<Items
     requires tables { AreTables (draft_of view.now) tables.now }
     ensures { IfOk result (λ files. files ≡ files_of (draft_of view.now)) }
 {
-    let registered = registered_files(alloc, view.workflow)?;
+    let flagged = flagged_files(alloc, view.workflow)?;
     let mut files = Vec::new(alloc);
     for file in 0..view.workflow.files.as_slice().len() {
-        files.push(planned_file(alloc, view, tables, &registered, FileId(file as u32))?)?;
+        files.push(planned_file(alloc, view, tables, &flagged, FileId(file as u32))?)?;
     }
     Ok(Items::new(files))
 }

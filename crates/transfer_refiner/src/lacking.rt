@@ -4,6 +4,7 @@ ghost use Rattle.std.specs.Prelude.{◌≡◌, ◌<◌, ◌&&◌, ◌||◌, not,
 ghost use Rattle.values.specs.declared.numbers.FileId.{FileId};
 ghost use Rattle.dependency_graph.specs.Graph.{IsGraphOf};
 ghost use Rattle.workflow_core.specs.Requested.{is_requested};
+ghost use Rattle.replica_catalog.specs.Lookup.{is_registered};
 ghost use Rattle.plan_core.specs.Numbers.{least};
 ghost use Rattle.transfer_refiner.specs.declared.fault.RefineFault.TheVariants.{NoReplica, NoSize, TooMany};
 ghost use Rattle.transfer_refiner.specs.Conditions.{IsDraft};
@@ -14,7 +15,6 @@ ghost use Rattle.transfer_refiner.specs.View.{draft_of};
 
 use crate::fault::RefineFault;
 use crate::rows::before;
-use crate::sources::pfns_of;
 use crate::tables::{Tables, declared_of, home, name_of};
 use crate::view::View;
 use plan_core::is_among;
@@ -51,10 +51,19 @@ fn is_asked(view: &View<'_>, tables: &Tables, file: FileId) -> bool
     asked
 }
 
-fn lacks_pfn(there: bool, made: bool, without: bool) -> bool
-    ensures { result ≡ (there && (not made && without)) }
+/// Whether the file is registered.
+fn is_registered(view: &View<'_>, file: FileId) -> bool
+    requires in_range { file.0 < length view.now.workflow.now.files }
+    ensures { result ≡ is_registered view.now.replicas (name_of (draft_of view.now) file.0) }
 {
-    there && !made && without
+    let names = view.workflow.files.as_slice();
+    view.replicas.is_registered(&names[file.0 as usize])
+}
+
+fn lacks_pfn(there: bool, made: bool, registered: bool) -> bool
+    ensures { result ≡ (there && (not made && not registered)) }
+{
+    there && !made && !registered
 }
 
 fn lacks_known(there: bool, asked: bool, known: bool) -> bool
@@ -63,7 +72,7 @@ fn lacks_known(there: bool, asked: bool, known: bool) -> bool
     (there || asked) && !known
 }
 
-/// Whether a kept job reads the file, no kept job makes it, and it has no pfn.
+/// Whether a kept job reads the file, no kept job makes it, and it isn't registered.
 fn lacks_replica(view: &View<'_>, tables: &Tables, file: FileId) -> bool
     requires draft { IsDraft (draft_of view.now) }
     requires graph { IsGraphOf view.now.workflow.now view.now.graph.now }
@@ -73,8 +82,8 @@ fn lacks_replica(view: &View<'_>, tables: &Tables, file: FileId) -> bool
 {
     let there = is_there(view, tables, file);
     let home = home(view, tables, file);
-    let without = is_empty(pfns_of(view, file));
-    lacks_pfn(there, home.is_some(), without)
+    let registered = is_registered(view, file);
+    lacks_pfn(there, home.is_some(), registered)
 }
 
 /// Whether a task moves or writes the file, and it has no declared size.
@@ -90,7 +99,7 @@ fn lacks_size(view: &View<'_>, tables: &Tables, file: FileId) -> bool
     lacks_known(there, asked, size.is_some())
 }
 
-/// The first file that lacks a pfn.
+/// The first file that lacks a replica.
 #[tactic(auto, using(plan_core::proofs::NumbersLemmas::least_none, plan_core::proofs::NumbersLemmas::least_more, plan_core::proofs::NumbersLemmas::least_found))]
 fn without_replica(view: &View<'_>, tables: &Tables) -> Option<FileId>
     requires draft { IsDraft (draft_of view.now) }

@@ -4,8 +4,8 @@ ghost use Rattle.std.specs.Prelude.{◌≡◌, ◌++◌, ℕ, length, IfOk, OnOk
 ghost use Rattle.workflow_core.specs.WellFormed.{IsWellFormed};
 ghost use Rattle.workflow_core.specs.Requested.{is_requested};
 ghost use Rattle.plan_core.specs.Numbers.{RisesFrom, below, has};
-ghost use Rattle.transfer_refiner.specs.Marked.{requested_by, registered_by, all_requested, all_registered};
-ghost use Rattle.transfer_refiner.specs.Tasks.{is_registered};
+ghost use Rattle.transfer_refiner.specs.Marked.{requested_by, flagged_by, all_requested, all_flagged};
+ghost use Rattle.transfer_refiner.specs.Tasks.{is_flagged};
 
 use plan_core::sorted;
 use std::alloc::Global;
@@ -23,8 +23,8 @@ fn push_requested(files: &mut Vec<u32>, outputs: &[Output]) -> Result<(), Memory
     Ok(())
 }
 
-fn push_registered(files: &mut Vec<u32>, outputs: &[Output]) -> Result<(), Memory>
-    ensures { OnOk result (files.new.items ≡ files.old.items ++ registered_by outputs.now) }
+fn push_flagged(files: &mut Vec<u32>, outputs: &[Output]) -> Result<(), Memory>
+    ensures { OnOk result (files.new.items ≡ files.old.items ++ flagged_by outputs.now) }
 {
     for output in outputs {
         if output.register {
@@ -44,12 +44,12 @@ fn all_requested(alloc: Global, workflow: &Workflow) -> Result<Vec<u32>, Memory>
     Ok(files)
 }
 
-fn all_registered(alloc: Global, workflow: &Workflow) -> Result<Vec<u32>, Memory>
-    ensures { IfOk result (λ v. v.items ≡ all_registered workflow.now.jobs) }
+fn all_flagged(alloc: Global, workflow: &Workflow) -> Result<Vec<u32>, Memory>
+    ensures { IfOk result (λ v. v.items ≡ all_flagged workflow.now.jobs) }
 {
     let mut files = Vec::new(alloc);
     for job in workflow.jobs.as_slice() {
-        push_registered(&mut files, job.outputs.as_slice())?;
+        push_flagged(&mut files, job.outputs.as_slice())?;
     }
     Ok(files)
 }
@@ -63,11 +63,11 @@ pub fn requested_files(alloc: Global, workflow: &Workflow) -> Result<Vec<u32>, M
     Ok(files)
 }
 
-/// The files to be registered, in rising order.
-pub fn registered_files(alloc: Global, workflow: &Workflow) -> Result<Vec<u32>, Memory>
+/// The files with the flag that they are to be registered, in rising order.
+pub fn flagged_files(alloc: Global, workflow: &Workflow) -> Result<Vec<u32>, Memory>
     ensures rises { IfOk result (λ v. RisesFrom 0 v.items) }
-    ensures same { IfOk result (λ v. (f : ℕ) → has v.items f ≡ is_registered workflow.now f) }
+    ensures same { IfOk result (λ v. (f : ℕ) → has v.items f ≡ is_flagged workflow.now f) }
 {
-    let files = sorted(all_registered(alloc, workflow)?);
+    let files = sorted(all_flagged(alloc, workflow)?);
     Ok(files)
 }

@@ -19,7 +19,7 @@ use std::alloc::Global;
 use values::{FileId, Memory, SiteId, Text};
 
 /// The registered pfns of a file.
-pub fn pfns_of<'b>(view: &'b View<'_>, file: FileId) -> &'b [Pfn]
+fn pfns_of<'b>(view: &'b View<'_>, file: FileId) -> &'b [Pfn]
     ensures { result.now ≡ pfns_of (draft_of view.now) file.0 }
 {
     match entry_of(view, file) {

@@ -6,8 +6,7 @@ use Rattle.workflow_core.specs.declared.workflow.Job.{Job}
 use Rattle.workflow_core.specs.WellFormed.{IsJobOver}
 use Rattle.workflow_core.specs.Requested.{requests, is_requested}
 use Rattle.data_reuse.specs.Flags.{is_set}
-use Rattle.data_reuse.proofs.TestsLemmas.{all_at, rest_more, rest_none}
-use Rattle.data_reuse.proofs.AbsentLemmas.{no_name}
+use Rattle.data_reuse.proofs.TestsLemmas.{all_at, or_false, rest_more, rest_none}
 use Rattle.data_reuse.proofs.FlagsLemmas.{none_set}
 use Rattle.data_reuse.proofs.flags.requested_files.Goals as goal
 
@@ -16,7 +15,7 @@ loop-job-init c =
     let zeros : c.in_ok-flags.flags.items ≡ replicate (length c.as_slice.result.now) false = c.in_ok-flags.ensures.items_if_clones_equal (λ y h. h) in (
       ap (λ (bs : List Bool). length bs) zeros ∙ length-replicate (length c.as_slice.result.now) false ∙ ap (λ (ns : List (List ℕ)). length ns) c.as_slice.ensures,
       λ f. ap (λ (js : List Job). list_any (requests f) js || is_set c.in_ok-flags.flags.items f) c.as_slice-job-items.ensures
-          ∙ ap (λ (b : Bool). is_requested c.args.workflow.now f || b) (ap (λ (bs : List Bool). is_set bs f) zeros ∙ none_set (length c.as_slice.result.now) f) ∙ no_name (is_requested c.args.workflow.now f),
+          ∙ ap (λ (b : Bool). is_requested c.args.workflow.now f || b) (ap (λ (bs : List Bool). is_set bs f) zeros ∙ none_set (length c.as_slice.result.now) f) ∙ or_false (is_requested c.args.workflow.now f),
     )
 
 pub set_requested-requires : goal.set_requested-requires

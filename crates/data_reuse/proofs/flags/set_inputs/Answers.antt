@@ -1,4 +1,4 @@
-use Rattle.std.proofs.Common.{◌≡◌, ◌∙◌, ◌<◌, ◌||◌, ℕ, true, List, length, refl, ap, subst, sym, slice_index_or, slice_set, nat_eq, arith}
+use Rattle.std.proofs.Common.{◌∙◌, ◌<◌, ◌||◌, ℕ, true, List, length, refl, ap, slice_index_or, slice_set, nat_eq, arith}
 use Rattle.std.specs.List.{list_any}
 use Rattle.std.proofs.lemmas.List.{length-set}
 use Rattle.values.specs.declared.numbers.FileId.{FileId}

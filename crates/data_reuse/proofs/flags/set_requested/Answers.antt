@@ -1,4 +1,4 @@
-use Rattle.std.proofs.Common.{◌≡◌, ◌∙◌, ◌<◌, ◌||◌, ◌&&◌, ◌+◌, ℕ, Bool, true, false, List, length, drop, refl, ap, subst, sym, slice_index_or, slice_set, nat_eq, arith}
+use Rattle.std.proofs.Common.{◌≡◌, ◌∙◌, ◌<◌, ◌||◌, ◌&&◌, ◌+◌, ℕ, Bool, true, false, List, length, drop, refl, ap, sym, slice_index_or, nat_eq, arith}
 use Rattle.std.specs.List.{list_any}
 use Rattle.std.proofs.lemmas.List.{length-set}
 use Rattle.workflow_core.specs.declared.workflow.Output.{Output}

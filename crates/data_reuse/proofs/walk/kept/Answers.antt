@@ -1,4 +1,4 @@
-use Rattle.std.proofs.Common.{◌≡◌, ◌∙◌, ◌+◌, ◌-◌, ◌<◌, ◌≤◌, ℕ, suc, Bool, false, List, length, map, ap, subst, sym, slice_index_or, slice_set, arith}
+use Rattle.std.proofs.Common.{◌≡◌, ◌∙◌, ◌-◌, ◌<◌, ◌≤◌, ℕ, suc, Bool, false, List, length, map, ap, subst, sym, slice_index_or, slice_set, arith}
 use Rattle.std.specs.Prelude.{replicate}
 use Rattle.std.proofs.lemmas.List.{length-replicate}
 use Rattle.values.specs.declared.numbers.JobId.{JobId}
@@ -6,9 +6,8 @@ use Rattle.workflow_core.specs.declared.workflow.Workflow.{Workflow}
 use Rattle.workflow_core.specs.declared.workflow.Job.{Job}
 use Rattle.dependency_graph.specs.Graph.{Links}
 use Rattle.replica_catalog.specs.declared.catalog.Replica.{Replica}
-use Rattle.data_reuse.specs.Flags.{has_both}
-use Rattle.data_reuse.specs.Registered.{absent_in, is_absent}
-use Rattle.data_reuse.proofs.WalkLemmas.{IsWalked, job_is, keeps, keeps_is, marked_is, placed, placed_in, walk_all, walk_more, walk_none}
+use Rattle.data_reuse.specs.Absent.{absent_in, is_absent}
+use Rattle.data_reuse.proofs.WalkLemmas.{IsWalked, job_is, keeps_is, marked_is, placed, placed_in, walk_all, walk_more, walk_none}
 use Rattle.data_reuse.proofs.walk.kept.Goals as goal
 
 pub loop-place-init : goal.loop-place-init
@@ -32,7 +31,7 @@ loop-place-preserved c =
     let is = ap (λ (js : List Job). slice_index_or js (placed g q) j) (sym c.as_slice-jobs.ensures) ∙ ap (λ (n : ℕ). slice_index_or c.as_slice-jobs.result.now n j) (sym at.1) ∙ sym c.index-jobs-number.is in
     let within = placed_in w g c.requires.graph q at.0 in
     let flags_are : c.deref.result.now ≡ map (is_absent es c.args.force) w.files =
-    c.deref.ensures.value ∙ c.in_ok-absent.ensures ∙ ap (λ (rs : List Replica). map (is_absent rs c.args.force) c.as_slice.result.now) c.as_slice-2.ensures ∙ ap (λ (ns : List (List ℕ)). map (is_absent es c.args.force) ns) c.as_slice.ensures in
+    c.deref.ensures.value ∙ c.in_ok-absent.ensures ∙ ap (λ (ns : List (List ℕ)). map (is_absent es c.args.force) ns) c.as_slice.ensures in
     let keep = c.visit.ensures.kept ∙ keeps_is w es c.args.force c.deref.result.now c.loop-place.needed.items (placed g q) j c.requires.well_formed within is flags_are in
     let walked : IsWalked (absent_in w es c.args.force) w g c.loop-place.kept.items c.loop-place.needed.items (suc (c.loop-place.place - 1)) =
     subst (λ (p : ℕ). IsWalked (absent_in w es c.args.force) w g c.loop-place.kept.items c.loop-place.needed.items p) (let one : c.loop-place.place ≡ suc (c.loop-place.place - 1) = omega (arith, some) in one) c.loop-place.invariant in

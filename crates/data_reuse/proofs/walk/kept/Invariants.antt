@@ -1,4 +1,4 @@
-use Rattle.data_reuse.specs.Registered.{absent_in}
+use Rattle.data_reuse.specs.Absent.{absent_in}
 use Rattle.data_reuse.proofs.WalkLemmas.{IsWalked}
 use Rattle.data_reuse.proofs.walk.kept.Given as goal
 

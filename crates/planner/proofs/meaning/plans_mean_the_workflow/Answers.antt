@@ -1,4 +1,4 @@
-use Rattle.std.proofs.Common.{◌≡◌, ◌+◌, ◌<◌, ◌^◌, ℕ, true, refl, sym, subst, arith}
+use Rattle.std.proofs.Common.{◌≡◌, ◌+◌, ◌<◌, ◌^◌, ℕ, true, sym, subst, arith}
 use Rattle.plan_core.specs.declared.plan.Plan.{Plan}
 use Rattle.plan_core.specs.Carried.{carried}
 use Rattle.plan_core.specs.Kinds.{carries}
@@ -9,7 +9,7 @@ use Rattle.planner.proofs.MeaningLemmas.{at_hand, replicas_hold, values_are, wit
 use Rattle.planner.proofs.meaning.plans_mean_the_workflow.Goals as goal
 
 pub returns : goal.returns
-returns c r s limit p checked few formed graph joined planned apply told honest =
+returns c r s limit p checked few formed graph planned apply told honest =
     let placed = planned.placed in
     let is = draft r s planned.sites planned.clusters in
     let are = c.placed_jobs_are_a_draft.ensures r s planned.sites planned.clusters formed graph checked placed in
@@ -21,7 +21,7 @@ returns c r s limit p checked few formed graph joined planned apply told honest 
     let pairs = c.pairs_are_few.ensures planned.bare proper (small.sites is planned.bare are refined) (small.files is planned.bare are refined) in
     let counted = c.cleans_are_counted.ensures is limit planned.bare fine refined in
     let tasks : count_tasks planned.bare + count_pairs planned.bare < 2 ^ 32 = omega (arith, counted, few, pairs) in
-    let hand = at_hand r s _ refl joined formed planned.sites planned.clusters placed.kept placed.levels placed.leveled (c.kept_jobs_are_clustered.ensures r.cluster s.workflow _ placed.kept planned.clusters placed.clustered) in
+    let hand = at_hand r s planned.sites planned.clusters placed.kept placed.levels placed.leveled (c.kept_jobs_are_clustered.ensures r.cluster s.workflow _ placed.kept planned.clusters placed.clustered) in
     let values = values_are apply told r s s.graph.ordered (c.values_flow_in_order.ensures s.workflow s.graph formed graph) in
     let held = replicas_hold apply told r s planned.sites planned.clusters honest in
     let means : (t f : ℕ) → carries planned.bare t f ≡ true → carried apply told planned.bare t f ≡ value_of apply told r s f =

@@ -1,4 +1,3 @@
-use Rattle.planner.proofs.MeaningLemmas.{said_joined}
 use Rattle.planner.proofs.PlanningLemmas.{fails_unplanned}
 use Rattle.planner.proofs.planning.plan.Goals as goal
 
@@ -10,5 +9,5 @@ returns-in-Ok-ordered_plan-clause-means c = record {
   survey = c.in-Ok.survey;
   says = c.in-Ok.ensures.answer;
   holds = c.plans_mean_the_workflow.ensures c.args.request.now c.in-Ok.survey c.args.limit c.in-Ok-ordered_plan.ordered.plan c.requires.sites c.requires.few c.in-Ok.ensures.well_formed
-      c.in-Ok.ensures.answer.graph (said_joined c.args.request.now c.args.documents.now _ c.in-Ok.ensures.answer.says) c.in-Ok-ordered_plan.ensures.plan.planned;
+      c.in-Ok.ensures.answer.graph c.in-Ok-ordered_plan.ensures.plan.planned;
 }

@@ -1,4 +1,3 @@
-use Rattle.planner.proofs.MeaningLemmas.{said_joined}
 use Rattle.planner.proofs.surveyed.survey_request.Goals as goal
 
 pub invariant_of-result : goal.invariant_of-result
@@ -11,5 +10,5 @@ invariant_of-result c =
       sites = c.requires.sites;
       limits = c.requires.limits;
       policy = c.requires.policy;
-      means = λ limit p few planned. c.plans_mean_the_workflow.ensures c.args.request s limit p c.requires.sites few c.in-Ok.ensures.well_formed answer.graph (said_joined c.args.request c.args.documents.now _ answer.says) planned;
+      means = λ limit p few planned. c.plans_mean_the_workflow.ensures c.args.request s limit p c.requires.sites few c.in-Ok.ensures.well_formed answer.graph planned;
     }

@@ -1,5 +1,5 @@
 use Rattle.std.proofs.Common.{◌≡◌, ℕ, ◌+◌, List, [], ◌∷◌, ◌++◌, drop, ap, sym, ◌∙◌, arith}
-use Rattle.std.specs.Prelude.{is_some, position}
+use Rattle.std.specs.Prelude.{position}
 use Rattle.std.specs.Map.{lookup}
 use Rattle.std.proofs.lemmas.List.{drop_more}
 use Rattle.indexmap.proofs.CallerLemmas.{insert_entry-new}
