@@ -160,9 +160,9 @@ lease_asks p s w r next o before now_ leased.Done h = inl (h.1, refl)
 lease_asks p s w r next o before now_ leased.Stopped h = inl (h.1, refl)
 lease_asks p s w r next o before now_ leased.NotYet h = inl (h.4, refl)
 
-pub lend_asks : {L : Type 0} (w t : ℕ) (r next : List Event) (o : Option Store) (before now_ : Counts) (x : Option L) → IfSome x (λ l. next ≡ r) → IfNone x (Adds r next (IsFailure w t) o before now_) → AddsAsking r next []
-lend_asks w t r next o before now_ (Some l) same adds = inl (same, refl)
-lend_asks w t r next o before now_ None same adds = inr (adds.entry, adds.is, failure_unasked w t adds.entry adds.kind)
+pub lend_asks : {L : Type 0} (Takes : Event → ℕ → Type 0) (w t : ℕ) (r next : List Event) (o : Option Store) (before now_ : Counts) (x : Option L) → IfSome x (λ l. next ≡ r) → IfNone x (Adds r next (IsFailure w t) Takes o before now_) → AddsAsking r next []
+lend_asks Takes w t r next o before now_ (Some l) same adds = inl (same, refl)
+lend_asks Takes w t r next o before now_ None same adds = inr (adds.entry, adds.is, failure_unasked w t adds.entry adds.kind)
 
 pub end_asks : (w t n : ℕ) (r next : List Event) → EndsTask w t n r next → AddsAsking r next (t ∷ [])
 end_asks w t n r next ends = inr (ends.entry, ends.is, done_asked w t ends.entry ends.done)

@@ -158,9 +158,9 @@ leases_so apply p s w r new o before now_ leased.NotYet h = adds_no_entry apply 
 pub fails_to_lend_so : {Takes : Event → ℕ → Type 0} (apply : Apply) (p : Plan) (r new : List Event) (w t : ℕ) (o : Option Store) (before now_ : Counts) → Adds r new (IsFailure w t) Takes o before now_ → AddsOfInputs apply p r new
 fails_to_lend_so apply p r new w t o before now_ adds = one_more apply p r new adds.entry adds.is (failure_is apply p w t adds.entry adds.kind)
 
-pub lends_so : {Takes : Event → ℕ → Type 0} {L : Type 0} (apply : Apply) (p : Plan) (w t : ℕ) (r new : List Event) (o : Option Store) (before now_ : Counts) (x : Option L) → IfSome x (λ l. new ≡ r) → IfNone x (Adds r new (IsFailure w t) Takes o before now_) → AddsOfInputs apply p r new
-lends_so apply p w t r new o before now_ (Some l) same adds = adds_no_entry apply p r new same
-lends_so apply p w t r new o before now_ None same adds = fails_to_lend_so apply p r new w t o before now_ adds
+pub lends_so : {L : Type 0} (Takes : Event → ℕ → Type 0) (apply : Apply) (p : Plan) (w t : ℕ) (r new : List Event) (o : Option Store) (before now_ : Counts) (x : Option L) → IfSome x (λ l. new ≡ r) → IfNone x (Adds r new (IsFailure w t) Takes o before now_) → AddsOfInputs apply p r new
+lends_so Takes apply p w t r new o before now_ (Some l) same adds = adds_no_entry apply p r new same
+lends_so Takes apply p w t r new o before now_ None same adds = fails_to_lend_so apply p r new w t o before now_ adds
 
 -- what a worker's own entries gain in it
 only_one : (apply : Apply) (p : Plan) (xs : List Event) (e : Event) → xs ≡ e ∷ [] → AreOfInputs apply p xs → IsOfInputs apply p e

@@ -149,7 +149,7 @@ module _ (apply : Apply) (p : Plan) (proper : IsProper p) (laws : HasPlanLaws p)
           sizes_are = ap (map draft_size) by.later ∙ ap (λ z. z ∷ []) (by.moved.size ∙ sym by.moved.length_is);
           small = subst (λ l. AreSmall l (n ∷ [])) (sym aim.are) (omega (arith, a, b, c), tt);
           delivery = digest_given (is_delivery p t) digest;
-          of_bytes = digest_holds (is_delivery p t) digest (λ d. (k : ℕ) × (n ∷ [] ≡ k ∷ []) × IsDigestOf k d) (n, (refl, ∣ (by.moved.bytes, (sym by.moved.length_is, sym by.moved.digest_is)) ∣₁));
+          of_bytes = digest_holds (is_delivery p t) digest (λ d. (k : ℕ) × (n ∷ [] ≡ k ∷ []) × IsDigestOf k d) (n, refl, ∣ (by.moved.bytes, sym by.moved.length_is, sym by.moved.digest_is) ∣₁);
           whole = whole;
           carried = carried_so o rs0 ds0 ds1 n digest held by agrees;
         }
@@ -203,7 +203,7 @@ bytes_in p None n bytes digest h is d agrees = absurd cc
 bytes_in p (Some (Run s js)) n bytes digest h is d agrees = absurd cc
 bytes_in p (Some (CleanTask q)) n bytes digest h is d agrees = absurd cc
 bytes_in p (Some (Transfer f (Site s) to)) n bytes digest h is d agrees = (bytes, sym is)
-bytes_in p (Some (Transfer f (Pfn x) to)) n bytes digest h is d agrees = (bytes, (sym is, by (checksum p f.0) agrees))
+bytes_in p (Some (Transfer f (Pfn x) to)) n bytes digest h is d agrees = (bytes, sym is, by (checksum p f.0) agrees)
   where
     by : (o : Option (List ℕ)) → IfSome o (λ wanted. digest ≡ wanted) → IfSome o (λ wanted. sha256 bytes ≡ wanted)
     by None a = tt

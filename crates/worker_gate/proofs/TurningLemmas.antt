@@ -252,16 +252,16 @@ finishes_there w v t n taken r next mine mid after_ number took middle grow h =
     finishes_grow w t n r next mine after_ (subst (λ (l : List Event). GrowsAlike l next mine after_) took (subst (λ (l : List Event). GrowsAlike taken next l after_) middle grow)) (subst (λ (k : ℕ). Finishes k t n r next) number h)
 
 -- The turn in which a loan is made. `rs` and `ds` are the states of its parts.
-pub lend_adds : {Takes : Event → ℕ → Type 0} {L : Type 0} (w t : ℕ) (r next : List Event) (o : Option Store) (before now_ : Counts) (x : Option L) → IfSome x (λ l. next ≡ r) → IfNone x (Adds r next (IsFailure w t) Takes o before now_) → AddsAtMostOne worker w r next
-lend_adds w t r next o before now_ None same adds = finishes_adds w t 0 r next (ends_last adds.entry (failure_done w t adds.entry adds.kind) adds.is)
+pub lend_adds : {L : Type 0} (Takes : Event → ℕ → Type 0) (w t : ℕ) (r next : List Event) (o : Option Store) (before now_ : Counts) (x : Option L) → IfSome x (λ l. next ≡ r) → IfNone x (Adds r next (IsFailure w t) Takes o before now_) → AddsAtMostOne worker w r next
+lend_adds Takes w t r next o before now_ None same adds = finishes_adds w t 0 r next (ends_last adds.entry (failure_done w t adds.entry adds.kind) adds.is)
   where
     ends_last : (e : Event) → IsDone w t e × (tool_faults_of w e ≡ 0) → next ≡ r ++ e ∷ [] → Finishes w t 0 r next
     ends_last e d is = record { entry = e; is = is; last = done_last w t e d.0; failures = d.1 }
-lend_adds w t r next o before now_ (Some l) same adds = inl same
+lend_adds Takes w t r next o before now_ (Some l) same adds = inl same
 
-pub none_turn : {Takes : Event → ℕ → Type 0} {L : Type 0} (w v t : ℕ) (taken r next mine mid after_ : List Event) (o : Option Store) (before now_ : Counts) (x : Option L) → v ≡ w → taken ≡ r → mid ≡ mine → GrowsAlike taken next mid after_ → IfNone x (Adds r next (IsFailure v t) Takes o before now_) → IfNone x (Finishes w t 0 mine after_)
-none_turn w v t taken r next mine mid after_ o before now_ (Some l) number took middle grow adds = tt
-none_turn w v t taken r next mine mid after_ o before now_ None number took middle grow adds =
+pub none_turn : {L : Type 0} (Takes : Event → ℕ → Type 0) (w v t : ℕ) (taken r next mine mid after_ : List Event) (o : Option Store) (before now_ : Counts) (x : Option L) → v ≡ w → taken ≡ r → mid ≡ mine → GrowsAlike taken next mid after_ → IfNone x (Adds r next (IsFailure v t) Takes o before now_) → IfNone x (Finishes w t 0 mine after_)
+none_turn Takes w v t taken r next mine mid after_ o before now_ (Some l) number took middle grow adds = tt
+none_turn Takes w v t taken r next mine mid after_ o before now_ None number took middle grow adds =
     let d = failure_done v t adds.entry adds.kind in
     finishes_there w v t 0 taken r next mine mid after_ number took middle grow (record { entry = adds.entry; is = adds.is; last = done_last v t adds.entry d.0; failures = d.1 })
 

@@ -102,4 +102,4 @@ returns-in-Some-clause-calls g c =
     let z = c.lend.new.self in
     let e = c.in-Some.ensures in
     lent_then y.ordered.plan c.args.task.0 y.book.history.events z.book.history.events _ (g.H.Host.counts y.host) (g.H.Host.counts z.host) _ e.same e.asked
-    (subst (λ (q : Plan). EndsCalls q c.args.task.0 z.book.history.events _ (g.H.Host.counts z.host) _) (ap (λ x. x.plan) c.lend.ensures.ordered) c.finish_at.ensures.calls) c.finish_at.ensures.later
+    (subst (λ (q : Plan). EndsCalls q c.args.task.0 z.book.history.events c.finish_at.new.yard.book.history.events (g.H.Host.counts z.host) (g.H.Host.counts c.finish_at.new.yard.host)) (ap (λ x. x.plan) c.lend.ensures.ordered) c.finish_at.ensures.calls) c.finish_at.ensures.later
