@@ -78,7 +78,7 @@ counted_so : (p : Plan) (r : List Event) (old new : Option Store) (faults misses
 counted_so p r None None faults misses f m now_ tells e g counted = rw (e, g) at counted
 counted_so p r None (Some s) faults misses f m now_ tells e g counted = absurd cc
 counted_so p r (Some x) None faults misses f m now_ tells e g counted = absurd cc
-counted_so p r (Some x) (Some s) faults misses f m now_ tells e g counted = rw e at counted
+counted_so p r (Some x) (Some s) faults misses f m now_ tells e g counted = rw (e, g) at counted
 
 deliveries_so : (apply : Apply) (p : Plan) (r : List Event) (old new : Option Store) (m : Store) (ds : _) → is_some new ≡ is_some old → IfSome old (λ s. m ≡ s) → AreDeliveries apply p r (marked_if new m) ds → AreDeliveries apply p r old ds
 deliveries_so apply p r old new m ds tells marked are = record { files = are.files; lengths = are.lengths; of_bytes = are.of_bytes; digests = by old new tells marked are.digests }

@@ -1,5 +1,5 @@
 -- Calls of the host, entry by entry.
-use Rattle.std.proofs.Common.{◌≡◌, ℕ, ◌+◌, ◌≤◌, ◌<◌, Bool, true, false, cond, inl, inr, List, [], ◌∷◌, ◌++◌, length, refl, sym, ap, subst, ◌∙◌, append_assoc, arith}
+use Rattle.std.proofs.Common.{◌≡◌, ℕ, ◌+◌, ◌≤◌, Bool, true, false, cond, inl, inr, List, [], ◌∷◌, ◌++◌, length, refl, sym, ap, subst, ◌∙◌, append_assoc, arith}
 use Rattle.std.specs.Prelude.{Option}
 use Rattle.outside.specs.Counts.{IsLater}
 use Rattle.outside.specs.declared.counts.Counts.{Counts}
@@ -13,7 +13,7 @@ use Rattle.lease_book.specs.State.{State}
 use Rattle.site_yard.specs.Failures.{AreMore, IsMore}
 use Rattle.site_yard.specs.Lending.{count_parts}
 use Rattle.site_yard.specs.Loan.{targets}
-use Rattle.site_yard.specs.Yard.{Adds, IsAgain, IsFail, IsFailure, IsSettled, Leases, TakesNone, TakesPublished, TakesWithin}
+use Rattle.site_yard.specs.Yard.{Adds, IsAgain, IsFail, IsFailure, IsSettled, Leases, TakesPublished, TakesWithin}
 use Rattle.site_yard.specs.declared.leased.Leased.TheVariants as leased
 use Rattle.worker_gate.specs.Calls.{AddsCalls, AreAllCalls, AreCalls, EndsCalls}
 
