@@ -1,4 +1,4 @@
-use Rattle.std.proofs.Common.{ℕ, [], List, ◌++◌, ◌∙◌, ap, refl, arith}
+use Rattle.std.proofs.Common.{ℕ, [], List, ◌++◌, ◌∙◌, ap, refl}
 use Rattle.craft.specs.declared.crew.Crew.{Crew}
 use Rattle.plan_core.specs.Words.{task_numbers}
 use Rattle.plan_run.specs.Moments.{counting, crew_moment, first_count, member_moment, work_moment, working}
