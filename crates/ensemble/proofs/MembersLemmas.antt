@@ -21,6 +21,7 @@ use Rattle.plan_request.specs.declared.request.SizeOf.{SizeOf}
 use Rattle.plan_request.specs.FileSizes.{declared_sizes, named_size}
 use Rattle.plan_request.specs.Limits.{IsRuntimeInRange, IsSmallDefault, IsWithinLimits}
 use Rattle.plan_request.specs.declared.request.Runtime.{Runtime}
+use Rattle.plan_request.specs.RunPolicy.{IsPolicyInRange}
 use Rattle.ensemble.specs.declared.member.Member.{Member}
 use Rattle.ensemble.specs.Catalogues.{joint_replicas}
 use Rattle.ensemble.specs.Entries.{replica_of}
@@ -215,11 +216,12 @@ sizes_small (m ∷ ms) all =
     (entries_small m.name m.survey.workflow.files (declared_sizes m.request m.survey.workflow.files m.survey.workflow.sizes) (declared_small m.request all.0.limits m.survey.workflow.files m.survey.workflow.sizes all.0.well_formed.small_sizes))
     (sizes_small ms all.1)
 
-pub joint_small : (ms : List Member) (r q : PlanRequest) → AreMembers ms → IsWithinLimits r → q.execute ≡ r.execute → q.sizes ≡ joint_sizes ms → q.default_size ≡ None → q.rate ≡ 1 → q.runtimes ≡ [] → IsWithinLimits q
-joint_small ms r q are limits same sizes none rate times = record {
+pub joint_small : (ms : List Member) (r q : PlanRequest) → AreMembers ms → IsWithinLimits r → q.execute ≡ r.execute → q.sizes ≡ joint_sizes ms → q.default_size ≡ None → q.policy ≡ r.policy → q.rate ≡ 1 → q.runtimes ≡ [] → IsWithinLimits q
+joint_small ms r q are limits same sizes none policy rate times = record {
   bounds = subst (λ (es : List Execution). AllByRecursion (λ (e : Execution). e.bound ≤ 2 ^ 60) es) (sym same) limits.bounds;
   sizes = subst (λ (ss : List SizeOf). AllByRecursion IsSmallEntry ss) (sym sizes) (sizes_small ms (each_member ms are));
   default_size = subst IsSmallDefault (sym none) tt;
+  policy = subst IsPolicyInRange (sym policy) limits.policy;
   rate = omega (arith, rate);
   runtimes = subst (λ (ts : List Runtime). AllByRecursion IsRuntimeInRange ts) (sym times) tt;
 }

@@ -5,7 +5,6 @@ use Rattle.std.specs.List.{AllByRecursion, list_any}
 use Rattle.std.specs.Str.{bytes_eq}
 use Rattle.std.proofs.lemmas.Bool.{and_from}
 use Rattle.serde_json.specs.Data.{Data}
-use Rattle.values.specs.Policy.{plain}
 use Rattle.peg_json.specs.Duplicates.{first_repeat}
 use Rattle.peg_json.specs.Path.{key_path}
 use Rattle.peg_json.specs.ReadFault.{then_read}
@@ -20,8 +19,9 @@ use Rattle.plan_request.specs.declared.request.Execution.{Execution}
 use Rattle.plan_request.specs.Execution.{execution_of}
 use Rattle.plan_request.specs.Known.{only_known}
 use Rattle.plan_request.specs.Modes.{cleanup_at, cluster_at}
+use Rattle.plan_request.specs.RunPolicy.{IsPolicyInRange, policy_of}
 use Rattle.plan_request.specs.Reader.{execute_checked}
-use Rattle.plan_request.proofs.LimitsLemmas.{execution_small}
+use Rattle.plan_request.proofs.LimitsLemmas.{execution_small, policy_in_range}
 use Rattle.plan_request.proofs.StepLemmas.{Always, list_has, passed, required_has, unwrapped}
 use Rattle.ensemble.specs.declared.document.Ensemble.{Ensemble}
 use Rattle.ensemble.specs.declared.document.MemberEntry.{MemberEntry}
@@ -70,7 +70,7 @@ member_plain path d m h =
 
 -- ---- the whole
 
-ensemble_plain : (d : Data) (e : Ensemble) → ensemble_of [] d ≡ Ok e → AllByRecursion IsPlain e.members × AllByRecursion (λ (x : Execution). x.bound ≤ 2 ^ 60) e.execute × (e.policy ≡ plain)
+ensemble_plain : (d : Data) (e : Ensemble) → ensemble_of [] d ≡ Ok e → AllByRecursion IsPlain e.members × AllByRecursion (λ (x : Execution). x.bound ≤ 2 ^ 60) e.execute × IsPolicyInRange e.policy
 unfolding ensemble_of
 ensemble_plain d e h =
     let a = passed (checks [] d ensemble_rows) _ e h in
@@ -80,10 +80,11 @@ ensemble_plain d e h =
     let f = passed (cluster_at [] d (codes "cluster")) _ e execute.rest in
     let g = passed (cleanup_at [] d (codes "cleanup")) _ e f.rest in
     let i = passed (optional flag_of [] d (codes "force")) _ e g.rest in
-    subst (λ (q : Ensemble). AllByRecursion IsPlain q.members × AllByRecursion (λ (x : Execution). x.bound ≤ 2 ^ 60) q.execute × (q.policy ≡ plain)) (unwrapped _ e i.rest) (
+    let policy = passed (policy_of [] d) _ e i.rest in
+    subst (λ (q : Ensemble). AllByRecursion IsPlain q.members × AllByRecursion (λ (x : Execution). x.bound ≤ 2 ^ 60) q.execute × IsPolicyInRange q.policy) (unwrapped _ e policy.rest) (
       required_has (list_in member_of) (AllByRecursion IsPlain) (list_has member_of IsPlain member_plain) [] d (codes "members") members.value members.is,
       required_has (list_in execution_of) (AllByRecursion (λ (x : Execution). x.bound ≤ 2 ^ 60)) (list_has execution_of (λ (x : Execution). x.bound ≤ 2 ^ 60) execution_small) [] d (codes "execute") execute.value execute.is,
-      refl,
+      policy_in_range [] d policy.value policy.is,
     )
 
 then_ok : {A B : Type 0} (m : Result A TreeFault) (k : A → Result B ReadFault) (y : B) → then_read m k ≡ Ok y → (x : A) × (m ≡ Ok x) × (k x ≡ Ok y)
@@ -94,7 +95,7 @@ then_ok (Err f) k y e = absurd cc
 record IsSited (e : Ensemble) : Type 0 where
   plain_names : AllByRecursion IsPlain e.members
   bounds : AllByRecursion (λ (x : Execution). x.bound ≤ 2 ^ 60) e.execute
-  policy : e.policy ≡ plain
+  policy : IsPolicyInRange e.policy
   sites : execute_checked e.execute ≡ Ok tt
 
 unit_only : (u : Unit {0}) → tt ≡ u

@@ -1,7 +1,6 @@
 -- What the tree of an ensemble is.
 use Rattle.std.specs.Prelude.{ℕ, List, [], ◌∷◌, codes, false, unwrap_or, Result, Ok}
 use Rattle.serde_json.specs.Data.{Data}
-use Rattle.values.specs.Policy.{plain}
 use Rattle.peg_json.specs.Tree.{◌>>=◌, list_in}
 use Rattle.peg_json.specs.Table.{Row, needs, may_have, checks}
 use Rattle.peg_json.specs.Typed.{required, optional, flag_of}
@@ -10,6 +9,7 @@ use Rattle.peg_json.specs.declared.fault.TreeFault.{TreeFault}
 use Rattle.plan_request.specs.Execution.{execution_of}
 use Rattle.plan_request.specs.Known.{only_known}
 use Rattle.plan_request.specs.Modes.{cluster_at, cleanup_at}
+use Rattle.plan_request.specs.RunPolicy.{policy_of}
 use Rattle.ensemble.specs.declared.document.Ensemble.{Ensemble}
 use Rattle.ensemble.specs.MemberEntry.{member_of}
 
@@ -20,6 +20,9 @@ ensemble_rows =
     ∷ may_have (codes "cluster") kinds.Text
     ∷ may_have (codes "cleanup") kinds.Text
     ∷ may_have (codes "force") kinds.Flag
+    ∷ may_have (codes "retries") kinds.Number
+    ∷ may_have (codes "fresh") kinds.Flag
+    ∷ may_have (codes "output_bound") kinds.Number
     ∷ []
 
 -- a whole ensemble; what is absent is as in a request
@@ -32,11 +35,12 @@ ensemble_of path d = do
   cluster ← cluster_at path d (codes "cluster")
   cleanup ← cleanup_at path d (codes "cleanup")
   force ← optional flag_of path d (codes "force")
+  policy ← policy_of path d
   Ok (record {
     members = members;
     execute = execute;
     cluster = cluster;
     cleanup = cleanup;
     force = unwrap_or force false;
-    policy = plain;
+    policy = policy;
   })

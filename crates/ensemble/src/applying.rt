@@ -1,7 +1,6 @@
 //! The requests of an ensemble and of its members.
 
 ghost use Rattle.std.specs.Prelude.{◌≡◌, Ok, IfOk};
-ghost use Rattle.values.specs.Policy.{plain};
 ghost use Rattle.plan_request.specs.Limits.{IsWithinLimits};
 ghost use Rattle.plan_request.specs.Reader.{execute_checked};
 ghost use Rattle.ensemble.specs.Applying.{of_ensemble, own_request};
@@ -24,7 +23,6 @@ pub fn member_request(
     ensures request { IfOk result (λ r. r ≡ of_ensemble ensemble.now request) }
     ensures sites { IfOk result (λ r. execute_checked r.execute ≡ Ok tt) }
     ensures limits { IfOk result (λ r. IsWithinLimits r) }
-    ensures policy { IfOk result (λ r. r.policy ≡ plain) }
 {
     let execute = executions_copied(alloc, ensemble.execute.as_slice())?;
     Ok(PlanRequest {
@@ -43,7 +41,6 @@ pub fn ensemble_request(alloc: Global, ensemble: &Ensemble) -> Result<PlanReques
     ensures request { IfOk result (λ r. r ≡ own_request ensemble.now) }
     ensures sites { IfOk result (λ r. execute_checked r.execute ≡ Ok tt) }
     ensures limits { IfOk result (λ r. IsWithinLimits r) }
-    ensures policy { IfOk result (λ r. r.policy ≡ plain) }
 {
     let execute = executions_copied(alloc, ensemble.execute.as_slice())?;
     Ok(PlanRequest {

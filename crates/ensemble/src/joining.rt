@@ -1,7 +1,6 @@
 //! The joint of some members: one request and one survey, in which each part bears its member's name.
 
 ghost use Rattle.std.specs.Prelude.{◌≡◌, ◌≤◌, IfOk, Ok};
-ghost use Rattle.values.specs.Policy.{plain};
 ghost use Rattle.workflow_core.specs.WellFormed.{IsWellFormed};
 ghost use Rattle.replica_catalog.specs.Reader.{view};
 ghost use Rattle.plan_request.specs.Limits.{IsWithinLimits};
@@ -53,7 +52,6 @@ pub fn join(alloc: Global, members: &[Member], request: &PlanRequest) -> Result<
     requires members { AreMembers members.now }
     requires sites { execute_checked request.now.execute ≡ Ok tt }
     requires limits { IsWithinLimits request.now }
-    requires policy { request.now.policy ≡ plain }
     ensures { Joins members.now request.now result }
 {
     // A law for the proof: it does nothing.

@@ -6,12 +6,12 @@ ghost use Rattle.ensemble.specs.Root.{ensemble_rows};
 
 use crate::document::{Ensemble, MemberEntry};
 use peg_json::{FromTree, KeyRow, KeyTable, Kind, TreeFault, checked, row};
-use plan_request::{Execution, cleanup, cluster, only_known};
+use plan_request::{Execution, cleanup, cluster, only_known, policy};
 use serde_json::Value;
 use std::alloc::Global;
-use values::{Items, Policy, Text};
+use values::{Items, Text};
 
-const ENSEMBLE: [KeyRow; 5] = [
+const ENSEMBLE: [KeyRow; 8] = [
     KeyRow {
         key: "members",
         kind: Kind::List,
@@ -37,9 +37,24 @@ const ENSEMBLE: [KeyRow; 5] = [
         kind: Kind::Flag,
         required: false,
     },
+    KeyRow {
+        key: "retries",
+        kind: Kind::Number,
+        required: false,
+    },
+    KeyRow {
+        key: "fresh",
+        kind: Kind::Flag,
+        required: false,
+    },
+    KeyRow {
+        key: "output_bound",
+        kind: Kind::Number,
+        required: false,
+    },
 ];
 
-fn ensemble_table() -> KeyTable<5>
+fn ensemble_table() -> KeyTable<8>
     ensures { rows_of result.rows.now ≡ ensemble_rows }
 {
     KeyTable { rows: &ENSEMBLE }
@@ -64,13 +79,14 @@ impl FromTree for Ensemble {
         let cluster = cluster(alloc, value, path, "cluster")?;
         let cleanup = cleanup(alloc, value, path, "cleanup")?;
         let force = row!(alloc, value, path, "force", optional Flag);
+        let policy = policy(alloc, value, path)?;
         Ok(Ensemble {
             members: Items::new(members),
             execute: Items::new(execute),
             cluster,
             cleanup,
             force: force.unwrap_or(false),
-            policy: Policy::plain(),
+            policy,
         })
     }
 }

@@ -2,7 +2,6 @@
 use Rattle.std.proofs.Common.{◌≡◌, ℕ, ◌≤◌, Bool, true, List, [], refl, sym, ap, subst, ◌∙◌, inl, inr, arith}
 use Rattle.std.specs.Prelude.{Option, Some, None, IfSome, MatchOption, Ok, Err}
 use Rattle.std.specs.FinMap as files
-use Rattle.values.specs.Policy.{plain}
 use Rattle.values.specs.declared.numbers.TaskId.{TaskId}
 use Rattle.values.specs.declared.policy.Policy.{Policy}
 use Rattle.outside.specs.declared.store.Store.{Store}
@@ -18,6 +17,7 @@ use Rattle.lease_book.specs.Legal.{IsComplete, Legal}
 use Rattle.lease_book.specs.State.{now}
 use Rattle.run_record.specs.Events.{Event}
 use Rattle.run_record.specs.declared.run_fault.RunFault.TheVariants as run
+use Rattle.plan_request.specs.RunPolicy.{IsPolicyInRange}
 use Rattle.planner.specs.Deliveries.{DeliversRequests, IsNamed, IsRequested}
 use Rattle.planner.specs.Meaning.{MeansWorkflow}
 use Rattle.planner.specs.Planning.{CannotPlan, IsPlanOf}
@@ -89,9 +89,9 @@ shown_delivers w s p order r laws requests means shown = by w.before.told w.afte
 
 -- ---- the plan
 
-pub few_retries : (p : Plan) → p.policy ≡ plain → retries p ≤ 10
+pub few_retries : (p : Plan) (c : Policy) → p.policy ≡ c → IsPolicyInRange c → retries p ≤ 10
 unfolding retries
-few_retries p is = let none : p.policy.retries ≡ 0 = ap (λ (x : Policy). x.retries) is in omega (arith, none)
+few_retries p c is small = let same : p.policy.retries ≡ c.retries = ap (λ (x : Policy). x.retries) is in let few : c.retries ≤ 10 = small.retries in omega (arith, same, few)
 
 pub refused_as : (known : List ℕ → Bool) (s : Surveyed) (fault : PlanFault) → CannotPlan s.request s.survey task_limit fault → RefusedAs known s (plan_answer fault)
 refused_as known s plan_faults.Memory h = tt

@@ -14,7 +14,6 @@ use Rattle.planner.specs.Planning.{IsPlanOf}
 use Rattle.planner.specs.declared.inputs.Survey.{Survey}
 use Rattle.planner.specs.declared.plan_fault.PlanFault.{PlanFault}
 use Rattle.run_record.specs.Events.{Event}
-use Rattle.lease_book.specs.Reading.{IsPlain}
 use Rattle.site_yard.specs.Changes.{carries}
 use Rattle.site_yard.specs.Law.{IsDeliveryOf}
 use Rattle.site_yard.specs.Names.{file_name}
@@ -61,7 +60,7 @@ pub record IsReady (known : List ℕ → Bool) (s : Surveyed) (p : Plan) (order 
   pub planned : IsPlanOf s.request s.survey task_limit p
   pub order_is : IsOrder p at_start (task_numbers order)
   pub proper : IsProper p
-  pub plain : IsPlain p
+  pub policy : p.policy ≡ s.request.policy
   pub tools : unknown_tool known p.jobs ≡ None
 
 -- It was run by n workers, and this is the record that it hands out.

@@ -1,7 +1,6 @@
 //! The documents of a call, fetched one after the other.
 
 ghost use Rattle.std.specs.Prelude.{◌≡◌, IfOk, Ok, Err};
-ghost use Rattle.values.specs.Policy.{plain};
 ghost use Rattle.plan_request.specs.Limits.{IsWithinLimits};
 ghost use Rattle.plan_request.specs.Reader.{execute_checked};
 ghost use Rattle.pegasus_cli.specs.Course.{ButMemory, IsStep, doc_answer, document, documents, documents_with, if_named, named_documents, request_in_bytes, with_record};
@@ -76,7 +75,6 @@ fn request_in(alloc: Global, bytes: &Blob) -> Result<PlanRequest, CallFault>
     ensures answer { ButMemory result (result ≡ request_in_bytes bytes.now) }
     ensures sites { IfOk result (λ r. execute_checked r.execute ≡ Ok tt) }
     ensures limits { IfOk result (λ r. IsWithinLimits r) }
-    ensures policy { IfOk result (λ r. r.policy ≡ plain) }
 {
     match plan_request::read(alloc, bytes.as_slice()) {
         Ok(request) => Ok(request),
@@ -88,7 +86,6 @@ fn fetch_request<D: Docs>(alloc: Global, docs: &mut D, name: &str) -> Result<Pla
     ensures answer { IsStep (document name.now request_in_bytes) (docs_moment D.Docs docs.old) (docs_moment D.Docs docs.new) result }
     ensures sites { IfOk result (λ r. execute_checked r.execute ≡ Ok tt) }
     ensures limits { IfOk result (λ r. IsWithinLimits r) }
-    ensures policy { IfOk result (λ r. r.policy ≡ plain) }
 {
     match fetch(alloc, docs, name) {
         Ok(bytes) => request_in(alloc, &bytes),
@@ -140,7 +137,6 @@ pub(crate) fn fetch_documents<D: Docs>(
     ensures answer { IsStep (documents name.now) (docs_moment D.Docs docs.old) (docs_moment D.Docs docs.new) result }
     ensures sites { IfOk result (λ r. execute_checked r.request.execute ≡ Ok tt) }
     ensures limits { IfOk result (λ r. IsWithinLimits r.request) }
-    ensures policy { IfOk result (λ r. r.request.policy ≡ plain) }
 {
     match fetch_request(alloc, docs, name) {
         Ok(request) => fetch_named(alloc, docs, request),
@@ -174,7 +170,6 @@ pub(crate) fn fetch_with_record<D: Docs>(
     ensures answer { IsStep (documents_with name.now history.now) (docs_moment D.Docs docs.old) (docs_moment D.Docs docs.new) result }
     ensures sites { IfOk result (λ r. execute_checked r.requested.request.execute ≡ Ok tt) }
     ensures limits { IfOk result (λ r. IsWithinLimits r.requested.request) }
-    ensures policy { IfOk result (λ r. r.requested.request.policy ≡ plain) }
 {
     match fetch_documents(alloc, docs, name) {
         Ok(requested) => fetch_record(alloc, docs, history, requested),

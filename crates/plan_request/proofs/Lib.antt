@@ -4,4 +4,3 @@ pub mod IndexLemmas
 pub mod FileSizesLemmas
 pub mod StepLemmas
 pub mod LimitsLemmas
-pub mod PolicyLemmas

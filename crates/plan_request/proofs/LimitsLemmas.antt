@@ -4,6 +4,7 @@ use Rattle.std.specs.Prelude.{◌^◌, Option, Some, None, Ok, Err, codes, optio
 use Rattle.std.specs.List.{AllByRecursion}
 use Rattle.serde_json.specs.Data.{Data}
 use Rattle.serde_json.specs.Find as find
+use Rattle.values.specs.declared.policy.Policy.{Policy}
 use Rattle.peg_json.specs.Entries.{entries_in}
 use Rattle.peg_json.specs.Tree.{some_or, list_in}
 use Rattle.peg_json.specs.Table.{checks}
@@ -16,6 +17,7 @@ use Rattle.plan_request.specs.Execution.{execution_rows, execution_of}
 use Rattle.plan_request.specs.Known.{only_known}
 use Rattle.plan_request.specs.Limits.{IsRuntimeInRange, IsSmallDefault, IsWithinLimits}
 use Rattle.plan_request.specs.Modes.{cluster_at, cleanup_at}
+use Rattle.plan_request.specs.RunPolicy.{IsPolicyInRange, IsSmallBound, policy_of}
 use Rattle.plan_request.specs.Root.{request_rows, request_of}
 use Rattle.plan_request.specs.Selection.{selector_at, rate_given, rate_at, runtimes_or_none}
 use Rattle.plan_request.specs.Positive.{positive}
@@ -110,6 +112,25 @@ runtimes_in_range path d key ts h =
     by None there = tt
     by (Some xs) there = there
 
+few_retries : (o : Option ℕ) → IfThere (λ n. n ≤ 10) o → unwrap_or o 0 ≤ 10
+few_retries None there = omega arith
+few_retries (Some n) there = there
+
+small_bound : (o : Option ℕ) → IfThere (λ n. n ≤ 2 ^ 60) o → IsSmallBound o
+small_bound None there = tt
+small_bound (Some n) there = there
+
+pub policy_in_range : (path : List ℕ) (d : Data) (p : Policy) → policy_of path d ≡ Ok p → IsPolicyInRange p
+unfolding policy_of
+policy_in_range path d p h =
+    let one = passed (optional (number_of 10) path d (codes "retries")) _ p h in
+    let two = passed (optional flag_of path d (codes "fresh")) _ p one.rest in
+    let three = passed (optional (number_of (2 ^ 60)) path d (codes "output_bound")) _ p two.rest in
+    subst IsPolicyInRange (unwrapped _ p three.rest) (record {
+      retries = few_retries one.value (optional_has (number_of 10) (λ n. n ≤ 10) (number_of_small 10) path d (codes "retries") one.value one.is);
+      output = small_bound three.value (optional_has (number_of (2 ^ 60)) (λ n. n ≤ 2 ^ 60) (number_of_small (2 ^ 60)) path d (codes "output_bound") three.value three.is);
+    })
+
 pub request_small : (path : List ℕ) (d : Data) (r : PlanRequest) → request_of path d ≡ Ok r → IsWithinLimits r
 unfolding request_of
 request_small path d r h =
@@ -126,13 +147,15 @@ request_small path d r h =
     let j = passed (cleanup_at path d (codes "cleanup")) _ r i.rest in
     let k = passed (optional flag_of path d (codes "force")) _ r j.rest in
     let l = passed (tools_or_none path d (codes "tools")) _ r k.rest in
-    let m = passed (selector_at path d (codes "selector")) _ r l.rest in
+    let policy = passed (policy_of path d) _ r l.rest in
+    let m = passed (selector_at path d (codes "selector")) _ r policy.rest in
     let rate = passed (rate_at path d (codes "rate")) _ r m.rest in
     let runtimes = passed (runtimes_or_none path d (codes "runtimes")) _ r rate.rest in
     subst (λ (q : PlanRequest). IsWithinLimits q) (unwrapped _ r runtimes.rest) (record {
       bounds = required_has (list_in execution_of) (AllByRecursion (λ (x : Execution). x.bound ≤ 2 ^ 60)) (list_has execution_of (λ (x : Execution). x.bound ≤ 2 ^ 60) execution_small) path d (codes "execute") execute.value execute.is;
       sizes = sizes_or_none_small path d (codes "sizes") sizes.value sizes.is;
       default_size = default_small default.value (optional_has (number_of (2 ^ 40)) (λ n. n ≤ 2 ^ 40) (number_of_small (2 ^ 40)) path d (codes "default_size") default.value default.is);
+      policy = policy_in_range path d policy.value policy.is;
       rate = rate_in_range path d (codes "rate") rate.value rate.is;
       runtimes = runtimes_in_range path d (codes "runtimes") runtimes.value runtimes.is;
     })

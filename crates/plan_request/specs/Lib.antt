@@ -3,6 +3,7 @@ pub mod Execution
 pub mod SizeEntries
 pub mod ToolEntries
 pub mod Modes
+pub mod RunPolicy
 pub mod Positive
 pub mod Runtime
 pub mod Selection

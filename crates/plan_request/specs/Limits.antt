@@ -5,6 +5,7 @@ use Rattle.plan_request.specs.declared.request.Execution.{Execution}
 use Rattle.plan_request.specs.declared.request.PlanRequest.{PlanRequest}
 use Rattle.plan_request.specs.declared.request.Runtime.{Runtime}
 use Rattle.plan_request.specs.declared.request.SizeOf.{SizeOf}
+use Rattle.plan_request.specs.RunPolicy.{IsPolicyInRange}
 
 -- a size that is there is at most 2^40
 abbrev pub IsSmallDefault : Option ℕ → Type 0
@@ -15,10 +16,11 @@ IsSmallDefault (Some n) = n ≤ 2 ^ 40
 abbrev pub IsRuntimeInRange : Runtime → Type 0
 IsRuntimeInRange t = (1 ≤ t.seconds) × (t.seconds ≤ 2 ^ 32)
 
--- bounds are at most 2^60, sizes at most 2^40, the rate from 1 to 2^40, and runtimes in range
+-- bounds are at most 2^60, sizes at most 2^40, the rate from 1 to 2^40, and policy and runtimes in range
 pub record IsWithinLimits (r : PlanRequest) : Type 0 where
   pub bounds : AllByRecursion (λ (e : Execution). e.bound ≤ 2 ^ 60) r.execute
   pub sizes : AllByRecursion (λ (s : SizeOf). s.size ≤ 2 ^ 40) r.sizes
   pub default_size : IsSmallDefault r.default_size
+  pub policy : IsPolicyInRange r.policy
   pub rate : (1 ≤ r.rate) × (r.rate ≤ 2 ^ 40)
   pub runtimes : AllByRecursion IsRuntimeInRange r.runtimes

@@ -1,7 +1,6 @@
 -- What the tree of a request is.
 use Rattle.std.specs.Prelude.{ℕ, ◌^◌, List, [], ◌∷◌, codes, false, unwrap_or, Result, Ok}
 use Rattle.serde_json.specs.Data.{Data}
-use Rattle.values.specs.Policy.{plain}
 use Rattle.peg_json.specs.Tree.{◌>>=◌, list_in}
 use Rattle.peg_json.specs.Table.{Row, needs, may_have, checks}
 use Rattle.peg_json.specs.Typed.{required, optional, name_of, number_of, flag_of}
@@ -11,6 +10,7 @@ use Rattle.plan_request.specs.declared.request.PlanRequest.{PlanRequest}
 use Rattle.plan_request.specs.Execution.{execution_of}
 use Rattle.plan_request.specs.Known.{only_known}
 use Rattle.plan_request.specs.Modes.{cluster_at, cleanup_at}
+use Rattle.plan_request.specs.RunPolicy.{policy_of}
 use Rattle.plan_request.specs.Selection.{selector_at, rate_at, runtimes_or_none}
 use Rattle.plan_request.specs.SizeEntries.{sizes_or_none}
 use Rattle.plan_request.specs.ToolEntries.{tools_or_none}
@@ -28,6 +28,9 @@ request_rows =
     ∷ may_have (codes "cleanup") kinds.Text
     ∷ may_have (codes "force") kinds.Flag
     ∷ may_have (codes "tools") kinds.Object
+    ∷ may_have (codes "retries") kinds.Number
+    ∷ may_have (codes "fresh") kinds.Flag
+    ∷ may_have (codes "output_bound") kinds.Number
     ∷ may_have (codes "selector") kinds.Text
     ∷ may_have (codes "rate") kinds.Number
     ∷ may_have (codes "runtimes") kinds.List
@@ -49,6 +52,7 @@ request_of path d = do
   cleanup ← cleanup_at path d (codes "cleanup")
   force ← optional flag_of path d (codes "force")
   tools ← tools_or_none path d (codes "tools")
+  policy ← policy_of path d
   selector ← selector_at path d (codes "selector")
   rate ← rate_at path d (codes "rate")
   runtimes ← runtimes_or_none path d (codes "runtimes")
@@ -64,7 +68,7 @@ request_of path d = do
     cleanup = cleanup;
     force = unwrap_or force false;
     tools = tools;
-    policy = plain;
+    policy = policy;
     selector = selector;
     rate = rate;
     runtimes = runtimes;

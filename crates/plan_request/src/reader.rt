@@ -1,7 +1,6 @@
 //! The reader of whole requests.
 
 ghost use Rattle.std.specs.Prelude.{◌≡◌, Ok, IfOk};
-ghost use Rattle.values.specs.Policy.{plain};
 ghost use Rattle.peg_json.specs.ReadFault.{GivesRead};
 ghost use Rattle.plan_request.specs.Limits.{IsWithinLimits};
 ghost use Rattle.plan_request.specs.Reader.{execute_checked, sites_distinct, read_of};
@@ -29,12 +28,11 @@ fn with_distinct_sites(alloc: Global, request: PlanRequest) -> Result<PlanReques
 }
 
 /// Reads a request of at most 64 execution sites. A key that is in no table is a fault.
-#[tactic(auto, unfolding(crate::specs::Reader::read_of), using(crate::proofs::LimitsLemmas::request_small, crate::proofs::PolicyLemmas::request_plain))]
+#[tactic(auto, unfolding(crate::specs::Reader::read_of), using(crate::proofs::LimitsLemmas::request_small))]
 pub fn read(alloc: Global, bytes: &[u8]) -> Result<PlanRequest, ReadFault>
     ensures answer { GivesRead (λ r. r) result (read_of bytes.now) }
     ensures sites { IfOk result (λ r. execute_checked r.execute ≡ Ok tt) }
     ensures limits { IfOk result (λ r. IsWithinLimits r) }
-    ensures policy { IfOk result (λ r. r.policy ≡ plain) }
 {
     let value = parse(alloc, bytes)?;
     let start = root(alloc)?;

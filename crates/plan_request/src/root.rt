@@ -6,6 +6,7 @@ ghost use Rattle.plan_request.specs.Root.{request_rows};
 
 use crate::known::only_known;
 use crate::modes::{cleanup, cluster};
+use crate::run_policy::policy;
 use crate::request::{Execution, PlanRequest};
 use crate::selection::{rate, runtimes_or_none, selector};
 use crate::size_entries::sizes_or_none;
@@ -13,9 +14,9 @@ use crate::tool_entries::tools_or_none;
 use peg_json::{FromTree, KeyRow, KeyTable, Kind, TreeFault, checked, row};
 use serde_json::Value;
 use std::alloc::Global;
-use values::{Items, Policy, Text};
+use values::{Items, Text};
 
-const REQUEST: [KeyRow; 14] = [
+const REQUEST: [KeyRow; 17] = [
     KeyRow {
         key: "workflow",
         kind: Kind::Name,
@@ -72,6 +73,21 @@ const REQUEST: [KeyRow; 14] = [
         required: false,
     },
     KeyRow {
+        key: "retries",
+        kind: Kind::Number,
+        required: false,
+    },
+    KeyRow {
+        key: "fresh",
+        kind: Kind::Flag,
+        required: false,
+    },
+    KeyRow {
+        key: "output_bound",
+        kind: Kind::Number,
+        required: false,
+    },
+    KeyRow {
         key: "selector",
         kind: Kind::Text,
         required: false,
@@ -88,7 +104,7 @@ const REQUEST: [KeyRow; 14] = [
     },
 ];
 
-fn request_table() -> KeyTable<14>
+fn request_table() -> KeyTable<17>
     ensures { rows_of result.rows.now ≡ request_rows }
 {
     KeyTable { rows: &REQUEST }
@@ -119,6 +135,7 @@ impl FromTree for PlanRequest {
         let cleanup = cleanup(alloc, value, path, "cleanup")?;
         let force = row!(alloc, value, path, "force", optional Flag);
         let tools = tools_or_none(alloc, value, path, "tools")?;
+        let policy = policy(alloc, value, path)?;
         let selector = selector(alloc, value, path, "selector")?;
         let rate = rate(alloc, value, path, "rate")?;
         let runtimes = runtimes_or_none(alloc, value, path, "runtimes")?;
@@ -134,7 +151,7 @@ impl FromTree for PlanRequest {
             cleanup,
             force: force.unwrap_or(false),
             tools,
-            policy: Policy::plain(),
+            policy,
             selector,
             rate,
             runtimes,

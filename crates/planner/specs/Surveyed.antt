@@ -3,12 +3,14 @@ use Rattle.std.proofs.Props.{props}
 use Rattle.std.specs.Prelude.{◌≡◌, ℕ, ◌≤◌, List, [], ◌∷◌, MatchOption, Option, Some, None}
 use Rattle.std.specs.Coded.{Unit-prop, le_prop}
 use Rattle.values.specs.declared.numbers.JobId.{JobId}
+use Rattle.values.specs.declared.policy.Policy.{Policy}
 use Rattle.workflow_core.specs.WellFormed.{IsSmallSize, IsWellFormed}
 use Rattle.workflow_core.specs.declared.workflow.Workflow.{Workflow}
 use Rattle.digraph.specs.Adjacency.{IsRising-prop}
 use Rattle.dependency_graph.specs.Edges.{makers}
 use Rattle.dependency_graph.specs.Graph.{IsGraphOf, Links, made_at}
 use Rattle.plan_request.specs.Limits.{IsSmallDefault, IsWithinLimits}
+use Rattle.plan_request.specs.RunPolicy.{IsPolicyInRange, IsSmallBound}
 use Rattle.plan_request.specs.declared.request.PlanRequest.{PlanRequest}
 use Rattle.plan_core.specs.declared.plan.Plan.{Plan}
 use Rattle.planner.specs.declared.inputs.Survey.{Survey}
@@ -43,8 +45,15 @@ small_default-prop : (o : Option ℕ) → IsProp (IsSmallDefault o)
 small_default-prop None = Unit-prop
 small_default-prop (Some n) = le_prop
 
+small_bound-prop : (o : Option ℕ) → IsProp (IsSmallBound o)
+small_bound-prop None = Unit-prop
+small_bound-prop (Some n) = le_prop
+
+in_range-prop : (p : Policy) → IsProp (IsPolicyInRange p)
+in_range-prop p = Prim.hlevel (props, small_bound-prop)
+
 pub IsWithinLimits-prop : (r : PlanRequest) → IsProp (IsWithinLimits r)
-IsWithinLimits-prop r = Prim.hlevel (props, small_default-prop)
+IsWithinLimits-prop r = Prim.hlevel (props, small_default-prop, in_range-prop)
 
 pub PlansMeanWorkflow-prop : (r : PlanRequest) (s : Survey) → IsProp (PlansMeanWorkflow r s)
 PlansMeanWorkflow-prop r s = Prim.hlevel (props)

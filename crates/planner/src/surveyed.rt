@@ -1,7 +1,6 @@
 //! A request, and what its documents say.
 
 ghost use Rattle.std.specs.Prelude.{◌≡◌, IfErr, IfOk, Ok};
-ghost use Rattle.values.specs.Policy.{plain};
 ghost use Rattle.workflow_core.specs.WellFormed.{IsWellFormed};
 ghost use Rattle.dependency_graph.specs.Graph.{IsGraphOf};
 ghost use Rattle.plan_request.specs.Limits.{IsWithinLimits};
@@ -26,7 +25,6 @@ pub struct Surveyed {
     ghost graph: { IsGraphOf survey.workflow survey.graph } by { IsGraphOf-prop survey.workflow survey.graph },
     ghost sites: { execute_checked request.execute ≡ Ok tt },
     ghost limits: { IsWithinLimits request } by { IsWithinLimits-prop request },
-    ghost policy: { request.policy ≡ plain },
     ghost means: { PlansMeanWorkflow request survey } by { PlansMeanWorkflow-prop request survey },
 }
 
@@ -38,7 +36,6 @@ pub fn survey_request(
 ) -> Result<Surveyed, PlanFault>
     requires sites { execute_checked request.execute ≡ Ok tt }
     requires limits { IsWithinLimits request }
-    requires policy { request.policy ≡ plain }
     ensures request { IfOk result (λ s. s.request ≡ request) }
     ensures survey { IfOk result (λ s. IsSurvey request documents.now s.survey) }
     ensures fault { IfErr result (Refuses request documents.now) }

@@ -3,7 +3,6 @@
 ghost use Rattle.std.specs.Prelude.{◌≡◌, ◌≤◌, IfErr, IfOk, Ok, OnOk};
 ghost use Rattle.outside.specs.Counts.{no_calls};
 ghost use Rattle.outside.specs.MemoryHost.{host_counts, host_store};
-ghost use Rattle.values.specs.Policy.{plain};
 ghost use Rattle.outside.specs.Store.{blank};
 ghost use Rattle.plan_request.specs.Limits.{IsWithinLimits};
 ghost use Rattle.plan_request.specs.Reader.{execute_checked, read_of};
@@ -32,7 +31,6 @@ fn read_request(alloc: Global, text: &Blob) -> Result<PlanRequest, PlanFault>
     ensures answer { GivesPlan (λ r. r) result (answered Request (read_of text.now)) }
     ensures sites { IfOk result (λ r. execute_checked r.execute ≡ Ok tt) }
     ensures limits { IfOk result (λ r. IsWithinLimits r) }
-    ensures policy { IfOk result (λ r. r.policy ≡ plain) }
 {
     match plan_request::read(alloc, text.as_slice()) {
         Ok(request) => Ok(request),

@@ -11,6 +11,5 @@ invariant_of-result c =
       graph = c.in_ok-survey.ensures.joint.graph;
       sites = sites;
       limits = c.in_ok-request.ensures.limits;
-      policy = ap (λ (q : PlanRequest). q.policy) c.in_ok-request.ensures.joint ∙ c.requires.policy;
       means = λ limit p most is. c.plans_mean_the_workflow.ensures c.in_ok-request.request c.in_ok-survey.survey limit p sites most c.in_ok-survey.ensures.well_formed c.in_ok-survey.ensures.joint.graph is;
     }

@@ -1,4 +1,3 @@
-use Rattle.std.proofs.Common.{◌∙◌}
 use Rattle.pegasus_cli.specs.Commands.Plan.{task_limit}
 use Rattle.pegasus_cli.proofs.PlanRunLemmas.{few_retries}
 use Rattle.pegasus_cli.proofs.ready_plan.plan_request.Goals as goal
@@ -6,4 +5,4 @@ use Rattle.pegasus_cli.proofs.ready_plan.plan_request.Goals as goal
 pub returns-in-Ok-clause-retries : goal.returns-in-Ok-clause-retries
 returns-in-Ok-clause-retries c =
     let s = c.args.surveyed.now in
-    few_retries c.in-Ok.ordered.plan ((c.plans_deliver_requests.ensures s.request s.survey task_limit c.in-Ok.ordered.plan c.in-Ok.ensures.planned).policy ∙ s.policy)
+    few_retries c.in-Ok.ordered.plan s.request.policy (c.plans_deliver_requests.ensures s.request s.survey task_limit c.in-Ok.ordered.plan c.in-Ok.ensures.planned).policy s.limits.policy

@@ -9,6 +9,5 @@ invariant_of-result c =
       graph = answer.graph;
       sites = c.requires.sites;
       limits = c.requires.limits;
-      policy = c.requires.policy;
       means = λ limit p few planned. c.plans_mean_the_workflow.ensures c.args.request s limit p c.requires.sites few c.in-Ok.ensures.well_formed answer.graph planned;
     }
