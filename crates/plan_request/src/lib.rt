@@ -10,10 +10,10 @@ mod index;
 mod job_tools;
 mod known;
 mod modes;
-mod run_policy;
 mod reader;
 mod request;
 mod root;
+mod run_policy;
 mod runtime;
 mod selection;
 mod size_entries;
@@ -23,8 +23,8 @@ pub use file_sizes::declared_sizes;
 pub use job_tools::Tools;
 pub use known::only_known;
 pub use modes::{cleanup, cluster};
-pub use run_policy::policy;
 pub use reader::read;
 pub use request::{
     Cleanup, ClusterMode, Execution, PlanRequest, Runtime, Selector, SizeOf, ToolOf,
 };
+pub use run_policy::policy;

@@ -6,8 +6,8 @@ ghost use Rattle.plan_request.specs.Root.{request_rows};
 
 use crate::known::only_known;
 use crate::modes::{cleanup, cluster};
-use crate::run_policy::policy;
 use crate::request::{Execution, PlanRequest};
+use crate::run_policy::policy;
 use crate::selection::{rate, runtimes_or_none, selector};
 use crate::size_entries::sizes_or_none;
 use crate::tool_entries::tools_or_none;
