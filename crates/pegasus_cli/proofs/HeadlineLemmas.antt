@@ -43,6 +43,7 @@ headline_of w t n s text h = record {
   printed = subst (IsRunText w.apply h.plan h.ran.r w.before.told) (sym h.text_is) (ended_reports w h.plan h.ran.r h.report h.end h.answers h.ran.reports).text;
   operations = told_so w h.plan h.ran.r (DeliversRequested w s h.plan h.ran.r) (λ old new. new.trace ≡ old.trace ++ trace_of h.plan h.ran.r) h.ran.run.shown h.delivers (λ m new agrees d. agrees.trace);
   within = λ k q l. (h.ran.run.safe k).within q l;
+  output = h.ran.run.output;
   left = h.ran.run.left;
   safe = λ k. (h.ran.run.safe k).safe;
   carried = told_so w h.plan h.ran.r (DeliversRequested w s h.plan h.ran.r) (λ old new. AreSet s (IsDeliveryOf h.plan (carries w.apply h.plan old)) old.delivered new.delivered) h.ran.run.shown h.delivers (λ m new agrees d. set_carried w s h.plan h.ran.r m new h.complete d);

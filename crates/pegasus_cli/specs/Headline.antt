@@ -22,7 +22,7 @@ use Rattle.site_yard.specs.Leaving.{left_in}
 use Rattle.site_yard.specs.Trace.{trace_of}
 use Rattle.planner.specs.declared.surveyed.Surveyed.{Surveyed}
 use Rattle.plan_run.specs.Moments.{Work}
-use Rattle.plan_run.specs.Running.{IsRunText}
+use Rattle.plan_run.specs.Running.{AreWithinOutput, IsRunText}
 use Rattle.pegasus_cli.specs.Commands.Plan.{task_limit}
 use Rattle.pegasus_cli.specs.Moments.{Call}
 use Rattle.pegasus_cli.specs.Outcome.{line_of}
@@ -54,7 +54,9 @@ pub record Headline (w : Work) (workers : ℕ) (s : Surveyed) (text : List ℕ) 
   pub operations : ShownBy w (λ old new. new.trace ≡ old.trace ++ trace_of plan history)
   -- after every entry each place's reserved and stored bytes are within its bound
   pub within : (k q : ℕ) → q < places plan → let held = (now plan (task_numbers order) (take k history)).held in stored_at plan held q + reserved_at plan held q ≤ place_bound plan q
-  -- so are the bytes that the operations so far leave there
+  -- so are the bytes delivered so far within the bound of the output, where it has one
+  pub output : AreWithinOutput plan history
+  -- so are the bytes that the operations so far leave at a site
   pub left : (k q : ℕ) → let held = (now plan (task_numbers order) (take k history)).held in left_in plan (trace_of plan (take k history)) q ≤ stored_at plan held q + reserved_at plan held q
   -- and the kept order would finish all remaining tasks within every bound
   pub safe : (k : ℕ) → Safe plan (now plan (task_numbers order) (take k history))

@@ -1,4 +1,5 @@
 pub mod RecordCopyLemmas
+pub mod OutputLemmas
 pub mod RunningLemmas
 pub mod RunningManyLemmas
 pub mod MembersLemmas

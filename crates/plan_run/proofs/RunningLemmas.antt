@@ -32,16 +32,17 @@ use Rattle.site_yard.specs.declared.delivered.Delivered.{Delivered}
 use Rattle.run_record.specs.declared.run_fault.RunFault.{RunFault}
 use Rattle.run_record.specs.declared.run_fault.RunFault.TheVariants as faults
 use Rattle.site_yard.specs.declared.opening.OpenFault.{OpenFault}
-use Rattle.worker_gate.specs.Alone.{AllBy, IsOver, NoneOpen, WorksAlone, begun}
+use Rattle.worker_gate.specs.Alone.{AllBy, IsOver, NoneOpen, WorksAlone, tried}
 use Rattle.worker_gate.specs.Calls.{AddsCalls, AreAllCalls}
 use Rattle.worker_gate.specs.Inputs.{AddsOfInputs, AreOfInputs}
 use Rattle.plan_run.specs.Moments.{MemberMoment, Tools, Work, asked_of, count_of, first_tool, gateless}
-use Rattle.plan_run.specs.Running.{AreDeliveries, End, EndsAs, HasAsked, HasRun, HasRunAlone, IsEmptyReport, IsRefusal, IsReport, IsRun, IsRunText, IsShown, Report, Reports, ShowsFailures, TakesCalls, Tells, ended_by, marked_if}
+use Rattle.plan_run.specs.Running.{AreDeliveries, AreWithinOutput, End, EndsAs, HasAsked, HasRun, HasRunAlone, IsEmptyReport, IsRefusal, IsReport, IsRun, IsRunText, IsShown, Report, Reports, ShowsFailures, TakesCalls, Tells, ended_by, marked_if}
 use Rattle.plan_run.specs.RunText.{run_text}
 
 -- what the laws of lease_book and site_yard say of a record
 pub record HasLaws (p : Plan) (order : List ℕ) (r : List Event) : Type 0 where
   pub safe : (k : ℕ) → IsSafeState p (now p order (take k r))
+  pub output : AreWithinOutput p r
   pub left : (k s : ℕ) → left_in p (trace_of p (take k r)) s ≤ stored_at p (now p order (take k r)).held s + reserved_at p (now p order (take k r)).held s
 
 -- the state that a book shows
@@ -149,6 +150,7 @@ run_so w t n p order r told marked faults misses end laws legal agrees counted =
   over = end.over;
   none_open = end.none_open;
   safe = laws.safe;
+  output = laws.output;
   left = laws.left;
   shown = shown_so w p r marked told end.told_is end.tells end.marked_is agrees;
   inputs = end.inputs;
@@ -232,7 +234,7 @@ ran_alone w p order r told marked faults misses x a end laws legal agrees counte
     tells = tells_so w p order r a end.unused answers;
     reports = reports_so w p r told marked x a end.tells end.marked_is reports;
   };
-  in_order = λ none. subst (λ (es : List Event). begun es ≡ take (length (begun es)) order) (sym end.works.is) (end.works.in_order none);
+  in_order = subst (λ (es : List Event). tried es ≡ take (length (tried es)) order) (sym end.works.is) end.works.in_order;
   asked = inl (takes_calls w p order r told marked faults misses end);
 }
 
@@ -298,6 +300,7 @@ empty_run w t n p order laws told failures tools = record {
   over = inl refl;
   none_open = none_open order;
   safe = laws.safe;
+  output = laws.output;
   left = laws.left;
   shown = shown_at_start w p told;
   inputs = tt;
@@ -325,7 +328,7 @@ not_begun_alone w p order opening x a laws told tool refuses refusal = record {
     tells = refusal_tells w p order opening a refuses refusal.ends;
     reports = refusal_reports w p x a refusal.says;
   };
-  in_order = λ none. refl;
+  in_order = refl;
   asked = inr (refl, record { opening = opening; refuses = refuses });
 }
 

@@ -4,7 +4,7 @@ use Rattle.std.specs.Prelude.{◌≡◌, ◌⊎◌, ℕ, ◌+◌, ◌≤◌, ◌
 use Rattle.outside.specs.declared.store.Store.{Store}
 use Rattle.values.specs.Apply.{Apply}
 use Rattle.plan_core.specs.declared.plan.Plan.{Plan}
-use Rattle.plan_core.specs.Words.{retries}
+use Rattle.plan_core.specs.Words.{output_bound}
 use Rattle.lease_book.specs.Law.{IsSafeState, reserved_at, stored_at}
 use Rattle.lease_book.specs.Legal.{IsComplete, Legal}
 use Rattle.lease_book.specs.Owning.{entries_by}
@@ -12,7 +12,7 @@ use Rattle.lease_book.specs.State.{now}
 use Rattle.run_record.specs.Events.{Event, Log}
 use Rattle.run_record.specs.RecordText.{AreEntries}
 use Rattle.site_yard.specs.Changes.{carries}
-use Rattle.site_yard.specs.Delivered.{AreDigests, AreFiles, AreLengths, AreOfBytes, arrivals}
+use Rattle.site_yard.specs.Delivered.{AreDigests, AreFiles, AreLengths, AreOfBytes, Arrival, arrivals}
 use Rattle.site_yard.specs.Ending.{first_fault}
 use Rattle.site_yard.specs.Failures.{AreCounted, IsMore, RoseBy, tool_faults}
 use Rattle.site_yard.specs.Faults.{AllBelow}
@@ -24,7 +24,7 @@ use Rattle.site_yard.specs.declared.delivered.Delivered.{Delivered}
 use Rattle.run_record.specs.declared.run_fault.RunFault.{RunFault}
 use Rattle.run_record.specs.declared.run_fault.RunFault.TheVariants as faults
 use Rattle.site_yard.specs.declared.opening.OpenFault.{OpenFault}
-use Rattle.worker_gate.specs.Alone.{NoneOpen, begun}
+use Rattle.worker_gate.specs.Alone.{NoneOpen, tried}
 use Rattle.worker_gate.specs.Asking.{IsAskedFor}
 use Rattle.worker_gate.specs.Calls.{AreAllCalls}
 use Rattle.worker_gate.specs.Inputs.{AreOfInputs}
@@ -51,6 +51,18 @@ pub record WasRefused (w : Work) (p : Plan) : Type 0 where
 abbrev pub ShowsFailures : Work → Plan → List Event → Type 0
 ShowsFailures w p r = AreCounted w.before.told w.before.counts.faults w.before.counts.misses w.after.counts r ⊎ ((r ≡ []) × WasRefused w p)
 
+-- the bytes that were delivered
+abbrev pub sum_of_sizes : List Arrival → ℕ
+sum_of_sizes [] = 0
+sum_of_sizes (a ∷ as) = a.size + sum_of_sizes as
+
+abbrev pub delivered_bytes : Plan → List Event → ℕ
+delivered_bytes p r = sum_of_sizes (arrivals p r)
+
+-- after every entry they are within the bound of the output, where it has one
+abbrev pub AreWithinOutput : Plan → List Event → Type 0
+AreWithinOutput p r = (k : ℕ) → IfSome (output_bound p) (λ b. delivered_bytes p (take k r) ≤ b)
+
 -- for what a gate was asked by the entries of its worker, where one is asked
 abbrev pub HasAsked : List Event → Option (List ℕ) → Option (List ℕ) → Type 0
 HasAsked r (Some earlier) (Some later) = IsAskedFor r earlier later
@@ -69,11 +81,14 @@ pub record IsRun (w : Work) (t : Tools) (n : ℕ) (p : Plan) (order : List ℕ) 
   pub safe : (k : ℕ) → IsSafeState p (now p order (take k r))
   -- and what the operations have left at a site is no more than is stored and reserved there
   pub left : (k s : ℕ) → left_in p (trace_of p (take k r)) s ≤ stored_at p (now p order (take k r)).held s + reserved_at p (now p order (take k r)).held s
+  -- what was delivered is within the bound of the output
+  pub output : AreWithinOutput p r
   -- the operations are those that the record says, and no others
   pub shown : IsShown w p r
   -- told or not, what entries say of a Run's jobs and outputs is so of some bytes, one text for each of its reads
   pub inputs : AreOfInputs w.apply p r
-  -- the host failed exactly as often as entries lay a failure on it, and each worker's tool as often as that worker's do
+  -- the host failed exactly as often as entries lay a failure on it, and each worker's tool at least as often as that
+  -- worker's do
   pub counted : ShowsFailures w p r
   pub tools : (k : ℕ) → k < n → RoseBy (tool_faults k r) (count_of t.before k) (count_of t.after k)
   -- and each worker's gate was asked for what that worker's entries say, in their order
@@ -152,8 +167,8 @@ pub record TakesCalls (w : Work) (p : Plan) (r : List Event) : Type 0 where
 -- A run by one worker alone.
 pub record HasRunAlone (w : Work) (p : Plan) (order : List ℕ) (x : Report) (end : End) : Type 0 where
   pub ran : HasRun w (first_tool w) 1 p order x end
-  -- where nothing is tried again, tasks are begun in the kept order
-  pub in_order : retries p ≡ 0 → begun ran.r ≡ take (length (begun ran.r)) order
+  -- tasks are begun in the kept order, and one that is tried again at once
+  pub in_order : tried ran.r ≡ take (length (tried ran.r)) order
   -- the host was asked for nothing else
   pub asked : TakesCalls w p ran.r ⊎ ((ran.r ≡ []) × WasRefused w p)
 

@@ -3,11 +3,26 @@
 ghost use Rattle.std.specs.Prelude.{ℕ, List};
 ghost use Rattle.plan_core.specs.declared.plan.Plan.{Plan};
 ghost use Rattle.plan_core.specs.Proper.{IsProper};
+ghost use Rattle.run_record.specs.Events.{Event};
+ghost use Rattle.lease_book.specs.Law.{FitsFromStart};
+ghost use Rattle.lease_book.specs.Legal.{Legal};
 ghost use Rattle.plan_run.specs.Finishing.{CanEnd, IsDoneOrMemory, NoneFailed};
 ghost use Rattle.plan_run.specs.Moments.{Tools, Work};
-ghost use Rattle.plan_run.specs.Running.{End, HasRun, Report};
+ghost use Rattle.plan_run.specs.Running.{AreWithinOutput, End, HasRun, Report};
 
+use lease_book::{allowed_entries_keep_safe, legal_records_are_safe};
 use site_yard::nothing_else_fails;
+use storage_simulation::{proper_plans_keep_goods, usage_is_a_sum};
+
+/// Where the output has a bound, what is delivered is within it after every entry of a Legal record.
+pub fn deliveries_stay_within_the_output()
+    ensures { (p : Plan) (order : List ℕ) (r : List Event) → IsProper p → FitsFromStart p order → Legal p order r → AreWithinOutput p r }
+{
+    proper_plans_keep_goods();
+    usage_is_a_sum();
+    allowed_entries_keep_safe();
+    legal_records_are_safe();
+}
 
 /// Nothing but a counted failure, or want of memory, keeps a run that can be done from its end.
 pub fn runs_finish()

@@ -13,6 +13,6 @@ mod run_text;
 mod running;
 mod running_many;
 
-pub use law::runs_finish;
+pub use law::{deliveries_stay_within_the_output, runs_finish};
 pub use running::{Ran, run_plan};
 pub use running_many::run_plan_by;

@@ -8,6 +8,7 @@ ghost use Rattle.run_record.specs.declared.run_fault.RunFault.TheVariants as fau
 ghost use Rattle.plan_run.specs.Moments.{work_moment, working};
 ghost use Rattle.plan_run.specs.Running.{EndsAs, HasRunAlone, IsEmptyReport, IsRefusal, IsReport, Reports, ended_by, marked_if, reporting};
 
+use crate::law::deliveries_stay_within_the_output;
 use crate::record_copy::copy_of;
 use crate::run_text::run_text;
 use craft::{Crew, Gate};
@@ -164,6 +165,7 @@ pub fn run_plan<H: Host, T: Tool, G: Gate>(
     ordered_plans_fit();
     legal_records_are_safe();
     what_is_left_is_held();
+    deliveries_stay_within_the_output();
     match Yard::<H, T>::open(alloc, ordered, host) {
         Ok(yard) => {
             let yard = run_alone(alloc, yard, crew);

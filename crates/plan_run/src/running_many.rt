@@ -7,6 +7,7 @@ ghost use Rattle.lease_book.specs.Legal.{IsComplete};
 ghost use Rattle.plan_run.specs.Moments.{counting, crew_moment, first_count, work_moment, working};
 ghost use Rattle.plan_run.specs.Running.{EndsAs, HasRun, Reports, marked_if, reporting};
 
+use crate::law::deliveries_stay_within_the_output;
 use crate::members::{put_back, take_members};
 use crate::running::{Ran, end_run, out_of_memory, refuse_run};
 use craft::{Crew, Gate};
@@ -62,6 +63,7 @@ where
     ordered_plans_fit();
     legal_records_are_safe();
     what_is_left_is_held();
+    deliveries_stay_within_the_output();
     match Yard::<H, T>::open(alloc, ordered, host) {
         Ok(yard) => {
             let end = run_many(rt, alloc, yard, members);
@@ -109,6 +111,7 @@ where
     ordered_plans_fit();
     legal_records_are_safe();
     what_is_left_is_held();
+    deliveries_stay_within_the_output();
     match take_members(alloc, crew, workers as usize) {
         Ok(members) => {
             let RanBy { ran, members } = run_members(rt, alloc, ordered, host, members);

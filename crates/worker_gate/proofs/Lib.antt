@@ -1,5 +1,6 @@
 mod SmallLemmas
 mod StateLemmas
+mod OrderLemmas
 mod WorkLemmas
 mod RunLemmas
 mod LoanLemmas

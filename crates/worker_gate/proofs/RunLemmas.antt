@@ -18,9 +18,10 @@ use Rattle.lease_book.specs.Room.{entries_room}
 use Rattle.lease_book.specs.State.{State, after, now, now_from, opened, without}
 use Rattle.lease_book.proofs.ListLemmas.{without_head}
 use Rattle.site_yard.specs.Failures.{RoseBy, tool_faults}
-use Rattle.worker_gate.specs.Alone.{AllBy, BeginFirst, IsOver, NoneOpen, WorksAlone, begun, is_afresh}
+use Rattle.worker_gate.specs.Alone.{AllBy, IsOver, NoneOpen, TakeFirst, WorksAlone, tried}
 use Rattle.worker_gate.specs.Law.{HasLeaseLaws}
 use Rattle.worker_gate.specs.Stepping.{WorksOn}
+use Rattle.worker_gate.proofs.OrderLemmas.{at_first, in_order_from}
 use Rattle.worker_gate.proofs.StateLemmas.{first_append, legal_split, now_split, room_after}
 use Rattle.worker_gate.proofs.WorkLemmas.{IsOneRun, consistent_at, rose_both, rose_zero}
 
@@ -54,7 +55,6 @@ works_first b x none = record {
   is = nothing_more b.history.events;
   by_zero = tt;
   first = tt;
-  none_afresh = refl;
   none_open = none;
   counted = rose_zero _ x (no_faults 0);
 }
@@ -74,9 +74,8 @@ works_then a b c x y z same le u v = record {
   is = v.is ∙ ap (λ l. l ++ v.added) u.is ∙ append_assoc a.history.events u.added v.added;
   by_zero = all_append 0 u.added v.added u.by_zero v.by_zero;
   first = first_append a.plan (state_at a) u.added v.added u.first
-      (subst (λ s. BeginFirst a.plan s v.added) (state_over a b u.added same u.is)
-      (subst (λ p. BeginFirst p (state_at b) v.added) same.plan v.first));
-  none_afresh = list_any-append is_afresh u.added v.added ∙ ap (λ q. q || list_any is_afresh v.added) u.none_afresh ∙ v.none_afresh;
+      (subst (λ s. TakeFirst a.plan s v.added) (state_over a b u.added same u.is)
+      (subst (λ p. TakeFirst p (state_at b) v.added) same.plan v.first));
   none_open = v.none_open;
   counted = subst (λ n. RoseBy n x z) (sym (faults_append 0 u.added v.added)) (rose_both _ _ x y z le u.counted v.counted);
 }
@@ -104,40 +103,14 @@ room_falls_on a b x y laws same works longer =
     (room_after a.plan laws (state_at a) works.added (consistent_at a) (legal_here a b works.added same works.is legal))
     (some_added a.history.events works.added b.history.events works.is longer))))
 
--- where nothing is tried again, tasks begin in the order that was left
-first_is : (t : ℕ) (xs : List ℕ) → t ∷ [] ≡ take 1 xs → (ts : List ℕ) × (xs ≡ t ∷ ts)
-first_is t [] e = absurd cc
-first_is t (x ∷ xs) e = (xs, let same : t ≡ x = cc in ap (λ y. y ∷ xs) (sym same))
-
-begins_next : (rest left bs : List ℕ) (t : ℕ) → AreOnce rest → t ∷ [] ≡ take 1 rest → left ≡ without t rest → bs ≡ take (length bs) left → t ∷ bs ≡ take (length (t ∷ bs)) rest
-begins_next rest left bs t once first is so =
-    let cut = first_is t rest first in
-    let same : left ≡ cut.0 = is ∙ ap (without t) cut.1 ∙ without_head t cut.0 (subst AreOnce cut.1 once) in
-    ap (λ l. t ∷ l) (so ∙ ap (take (length bs)) same) ∙ ap (take (length (t ∷ bs))) (sym cut.1)
-
-none_less : (n r : ℕ) → r ≡ 0 → n < r → ⊥
-none_less n r e h = absurd (omega (arith, e, h))
-
-in_order_from : (p : Plan) (s : State) (xs : List Event) → HasLeaseLaws p → IsConsistent p s → retries p ≡ 0 → LegalFrom p s xs → BeginFirst p s xs → list_any is_afresh xs ≡ false → begun xs ≡ take (length (begun xs)) s.rest
-in_order_from p s [] laws consistent none legal first fresh = refl
-in_order_from p s (Grant w t ∷ xs) laws consistent none legal first fresh =
-    begins_next s.rest (without t s.rest) (begun xs) t consistent.sound.safe.once first.0 refl (in_order_from p (after p s (Grant w t)) xs laws (laws.consistent s (Grant w t) consistent legal.0) none legal.1 first.1 fresh)
-in_order_from p s (Clean w t ∷ xs) laws consistent none legal first fresh =
-    begins_next s.rest (without t s.rest) (begun xs) t consistent.sound.safe.once first.0 refl (in_order_from p (after p s (Clean w t)) xs laws (laws.consistent s (Clean w t) consistent legal.0) none legal.1 first.1 fresh)
-in_order_from p s (Regrant w t ∷ xs) laws consistent none legal first fresh = absurd cc
-in_order_from p s (Again w t c ns ∷ xs) laws consistent none legal first fresh = absurd (none_less (s.agains t) (retries p) none legal.0.5)
-in_order_from p s (Arrive w t n ∷ xs) laws consistent none legal first fresh = in_order_from p (after p s (Arrive w t n)) xs laws (laws.consistent s (Arrive w t n) consistent legal.0) none legal.1 first.1 fresh
-in_order_from p s (End w t ns ∷ xs) laws consistent none legal first fresh = in_order_from p (after p s (End w t ns)) xs laws (laws.consistent s (End w t ns) consistent legal.0) none legal.1 first.1 fresh
-in_order_from p s (Fail w t c ns ∷ xs) laws consistent none legal first fresh = in_order_from p (after p s (Fail w t c ns)) xs laws (laws.consistent s (Fail w t c ns) consistent legal.0) none legal.1 first.1 fresh
-
-pub in_order_of : (a b : Book) (xs : List Event) → HasLeaseLaws a.plan → IsOneRun a b → b.history.events ≡ a.history.events ++ xs → BeginFirst a.plan (state_at a) xs → list_any is_afresh xs ≡ false → retries a.plan ≡ 0 → begun xs ≡ take (length (begun xs)) (state_at a).rest
-in_order_of a b xs laws same is first fresh none =
-    ∥∥₁_elim b.kept.legal (hlevel props) (λ legal. in_order_from a.plan (state_at a) xs laws (consistent_at a) none (legal_here a b xs same is legal) first fresh)
+pub in_order_of : (a b : Book) (xs : List Event) → HasLeaseLaws a.plan → IsOneRun a b → NoneOpen (state_at a) → b.history.events ≡ a.history.events ++ xs → TakeFirst a.plan (state_at a) xs → tried xs ≡ take (length (tried xs)) (state_at a).rest
+in_order_of a b xs laws same none is first =
+    ∥∥₁_elim b.kept.legal (hlevel props) (λ legal. in_order_from a.plan (state_at a) xs None laws (consistent_at a) (legal_here a b xs same is legal) first (at_first (state_at a) none))
 
 -- the end: c's record is b's, and it is over
-pub works_alone : (a b c : Book) (p : Plan) (order : List ℕ) (x y : ℕ) → HasLeaseLaws a.plan → a.plan ≡ p → task_numbers a.order.items ≡ order → IsOneRun a b → WorksOn a.plan (state_at a) a.history.events b.history.events (state_at b) x y → c.history.events ≡ b.history.events → IsOver b.plan (state_at b)
+pub works_alone : (a b c : Book) (p : Plan) (order : List ℕ) (x y : ℕ) → HasLeaseLaws a.plan → a.plan ≡ p → task_numbers a.order.items ≡ order → IsOneRun a b → NoneOpen (state_at a) → WorksOn a.plan (state_at a) a.history.events b.history.events (state_at b) x y → c.history.events ≡ b.history.events → IsOver b.plan (state_at b)
     → WorksAlone p order a.history.events c.history.events x y
-works_alone a b c p order x y laws plan tasks same_b works is over =
+works_alone a b c p order x y laws plan tasks same_b none works is over =
     subst (λ o. WorksAlone p o a.history.events c.history.events x y) tasks
     (subst (λ q. WorksAlone q (task_numbers a.order.items) a.history.events c.history.events x y) plan (record {
       added = works.added;
@@ -146,8 +119,7 @@ works_alone a b c p order x y laws plan tasks same_b works is over =
       over = subst (λ s. IsOver a.plan s) here (subst (λ q. IsOver q (state_at b)) same_b.plan over);
       none_open = subst NoneOpen here works.none_open;
       first = works.first;
-      none_afresh = works.none_afresh;
-      in_order = in_order_of a b works.added laws same_b works.is works.first works.none_afresh;
+      in_order = in_order_of a b works.added laws same_b none works.is works.first;
       counted = works.counted;
     }))
   where

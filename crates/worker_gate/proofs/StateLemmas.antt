@@ -9,13 +9,14 @@ use Rattle.plan_core.specs.Words.{count_tasks, is_clean_kind, kind, kind_in}
 use Rattle.plan_core.proofs.TestLemmas.{by_bool}
 use Rattle.storage_simulation.specs.declared.standing.Phase.{Phase}
 use Rattle.storage_simulation.specs.declared.standing.Phase.TheVariants.{Ended, Runs, Waits}
+use Rattle.run_record.specs.declared.entry.Cause.{Cause}
 use Rattle.run_record.specs.Events.{Event, Grant, Arrive, End, Clean, Fail, Again, Regrant}
 use Rattle.lease_book.specs.Choice.{IsChoice, IsFresh, IsFreshAmong}
 use Rattle.lease_book.specs.Law.{IsConsistent, IsIdle, IsSafeState, IsSoundState}
 use Rattle.lease_book.specs.Legal.{IsOpen, LegalFrom}
 use Rattle.lease_book.specs.Room.{entries_room}
 use Rattle.lease_book.specs.State.{State, after, now_from, put}
-use Rattle.worker_gate.specs.Alone.{BeginFirst, NoneOpen}
+use Rattle.worker_gate.specs.Alone.{NoneOpen, TakeFirst}
 use Rattle.worker_gate.specs.Law.{HasLeaseLaws}
 use Rattle.worker_gate.specs.Tending.{HasLoan, IsDone}
 use Rattle.worker_gate.proofs.SmallLemmas.{not_none, not_true, put_at, put_off, true_false}
@@ -74,6 +75,19 @@ none_after p s t (Again w u c ns) only h = λ v x o.
 none_after p s t (Fail w u c ns) only h = λ v x o.
     let off = failed_off s.failed u x o.no_fail in
     not_that t u x h (only v x (record { runs = o.runs; holds = o.holds; no_fail = off.1 })) off.0
+
+-- no entry but a grant opens a task
+pub still_open_arrive : (p : Plan) (s : State) (w t n v x : ℕ) → IsOpen (after p s (Arrive w t n)) v x → IsOpen s v x
+still_open_arrive p s w t n v x o = record { runs = (runs_off s.phase t x Ended ended_no o.runs).1; holds = o.holds; no_fail = o.no_fail }
+
+pub still_open_end : (p : Plan) (s : State) (w t : ℕ) (ns : List ℕ) (v x : ℕ) → IsOpen (after p s (End w t ns)) v x → IsOpen s v x
+still_open_end p s w t ns v x o = record { runs = (runs_off s.phase t x Ended ended_no o.runs).1; holds = o.holds; no_fail = o.no_fail }
+
+pub still_open_again : (p : Plan) (s : State) (w t : ℕ) (c : Cause) (ns : List ℕ) (v x : ℕ) → IsOpen (after p s (Again w t c ns)) v x → IsOpen s v x
+still_open_again p s w t c ns v x o = record { runs = (runs_off s.phase t x Waits waits_no o.runs).1; holds = o.holds; no_fail = o.no_fail }
+
+pub still_open_fail : (p : Plan) (s : State) (w t : ℕ) (c : Cause) (ns : List ℕ) (v x : ℕ) → IsOpen (after p s (Fail w t c ns)) v x → IsOpen s v x
+still_open_fail p s w t c ns v x o = record { runs = o.runs; holds = o.holds; no_fail = (failed_off s.failed t x o.no_fail).1 }
 
 pub none_only : (s : State) (t : ℕ) → NoneOpen s → OnlyOpen t s
 none_only s t none w u o = absurd (none w u o)
@@ -178,6 +192,6 @@ room_after p laws s (e ∷ xs) consistent l =
     let rest = room_after p laws (after p s e) xs (laws.consistent s e consistent l.0) l.1 in
     omega (arith, one, rest)
 
-pub first_append : (p : Plan) (s : State) (xs ys : List Event) → BeginFirst p s xs → BeginFirst p (now_from p s xs) ys → BeginFirst p s (xs ++ ys)
+pub first_append : (p : Plan) (s : State) (xs ys : List Event) → TakeFirst p s xs → TakeFirst p (now_from p s xs) ys → TakeFirst p s (xs ++ ys)
 first_append p s [] ys a b = b
 first_append p s (e ∷ xs) ys a b = (a.0, first_append p (after p s e) xs ys a.1 b)

@@ -23,7 +23,7 @@ use Rattle.site_yard.specs.Failures.{RoseBy, tool_fault_in, tool_faults, tool_fa
 use Rattle.site_yard.specs.Yard.{IsAgain, IsFail, IsFailure, IsLending, IsSettled, IsStop, Leases}
 use Rattle.site_yard.specs.declared.leased.Leased.TheVariants as leased
 use Rattle.lease_book.specs.Owning.{worker}
-use Rattle.worker_gate.specs.Alone.{NoneOpen, begun_by, is_afresh}
+use Rattle.worker_gate.specs.Alone.{IsNext, NoneOpen, TakesFirst}
 use Rattle.worker_gate.specs.Law.{HasLeaseLaws}
 use Rattle.worker_gate.specs.Stepping.{DoesTask, WorksOn}
 use Rattle.worker_gate.specs.Tending.{IsDone}
@@ -139,14 +139,14 @@ unfolding tool_faults
 two_faults e f = omega arith
 
 -- an entry after a grant is worker 0's, and begins nothing
-done_by : (t : ℕ) (e : Event) → IsDone 0 t e → (worker e ≡ 0) × (is_afresh e ≡ false) × ((xs : List ℕ) → begun_by e ≡ take (length (begun_by e)) xs)
+done_by : (t : ℕ) (e : Event) → IsDone 0 t e → (worker e ≡ 0) × ((s : State) → IsOpen s 0 t → TakesFirst s e)
 done_by t (Grant w u) h = absurd h
 done_by t (Regrant w u) h = absurd h
 done_by t (Clean w u) h = absurd h
-done_by t (Arrive w u n) h = (h.0, refl, λ xs. refl)
-done_by t (End w u ns) h = (h.0, refl, λ xs. refl)
-done_by t (Fail w u c ns) h = (h.0, refl, λ xs. refl)
-done_by t (Again w u c ns) h = (h.0, refl, λ xs. refl)
+done_by t (Arrive w u n) h = (h.0, λ s open. tt)
+done_by t (End w u ns) h = (h.0, λ s open. tt)
+done_by t (Fail w u c ns) h = (h.0, λ s open. tt)
+done_by t (Again w u c ns) h = (h.0, λ s open. inl (subst (λ v. IsOpen s v u) (sym h.0) (subst (λ x. IsOpen s 0 x) (sym h.1) open)))
 
 -- what is granted is open
 pub granted_is_open : (a b : Book) (t : TaskId) (o : Option Store) (before now_ : Counts) → IsOneRun a b → IsSafeState a.plan (state_at a) → NoneOpen (state_at a) → Leases a.plan (state_at a) 0 a.history.events b.history.events o before now_ (leased.Granted t) → IsOpen (state_at b) 0 t.0
@@ -169,8 +169,7 @@ choice_works a b c t x y laws same_b same_c safe none choice is does =
         added = Grant 0 t ∷ e ∷ [];
         is = both;
         by_zero = (refl, (by.0, tt));
-        first = (choice_first a.plan laws (state_at a) t safe (consistent_at a) none choice, (by.2 _, tt));
-        none_afresh = ap (λ z. z || false) by.1;
+        first = ((none, choice_first a.plan laws (state_at a) t safe (consistent_at a) none choice), (by.1 _ (granted_open a.plan (state_at a) 0 t (consistent_at a) choice.no_fail), tt));
         none_open = subst NoneOpen (sym (state_next b c e same_c does.is)) (none_after b.plan (state_at b) t e only (done_closes 0 t e does.done));
         counted = λ h. let k = does.counted h in omega (arith, two_faults (Grant 0 t) e, k);
       },
@@ -185,15 +184,14 @@ granted_works a b c t x y o before now_ laws same_b same_c safe none leases does
 ]
 
 -- one entry that a lease adds by itself
-one_works : (a b : Book) (t x : ℕ) (e : Event) → IsOneRun a b → NoneOpen (state_at a) → b.history.events ≡ a.history.events ++ e ∷ [] → Closes t e → worker e ≡ 0 → is_afresh e ≡ false → begun_by e ≡ take (length (begun_by e)) (state_at a).rest → tool_faults_of 0 e ≡ 0
+one_works : (a b : Book) (t x : ℕ) (e : Event) → IsOneRun a b → NoneOpen (state_at a) → b.history.events ≡ a.history.events ++ e ∷ [] → Closes t e → worker e ≡ 0 → TakesFirst (state_at a) e → tool_faults_of 0 e ≡ 0
     → WorksOn a.plan (state_at a) a.history.events b.history.events (state_at b) x x × (length a.history.events < length b.history.events)
-one_works a b t x e same none is closes by fresh first zero_ = (
+one_works a b t x e same none is closes by first zero_ = (
   record {
     added = e ∷ [];
     is = is;
     by_zero = (by, tt);
     first = (first, tt);
-    none_afresh = ap (λ z. z || false) fresh;
     none_open = subst NoneOpen (sym (state_next a b e same is)) (none_after a.plan (state_at a) t e (none_only (state_at a) t none) closes);
     counted = rose_zero _ x (one_fault 0 e ∙ zero_);
   },
@@ -203,39 +201,39 @@ one_works a b t x e same none is closes by fresh first zero_ = (
 pub swept_works : (a b : Book) (t : TaskId) (x : ℕ) (o : Option Store) (before now_ : Counts) → HasLeaseLaws a.plan → IsOneRun a b → IsSafeState a.plan (state_at a) → NoneOpen (state_at a) → Leases a.plan (state_at a) 0 a.history.events b.history.events o before now_ (leased.Swept t)
     → WorksOn a.plan (state_at a) a.history.events b.history.events (state_at b) x x × (length a.history.events < length b.history.events)
 swept_works a b t x o before now_ laws same safe none leases =
-    one_works a b t.0 x (Clean 0 t.0) same none leases.2 refl refl refl (choice_first a.plan laws (state_at a) t.0 safe (consistent_at a) none leases.0) refl
+    one_works a b t.0 x (Clean 0 t.0) same none leases.2 refl refl (none, choice_first a.plan laws (state_at a) t.0 safe (consistent_at a) none leases.0) refl
 
-fail_is : (t : ℕ) (e : Event) → IsFail 0 t e → Closes t e × (worker e ≡ 0) × (is_afresh e ≡ false) × ((xs : List ℕ) → begun_by e ≡ take (length (begun_by e)) xs) × (tool_faults_of 0 e ≡ 0)
+fail_is : (t : ℕ) (e : Event) → IsFail 0 t e → Closes t e × (worker e ≡ 0) × ((s : State) → TakesFirst s e) × (tool_faults_of 0 e ≡ 0)
 fail_is t (Grant w u) h = absurd h
 fail_is t (Regrant w u) h = absurd h
 fail_is t (Clean w u) h = absurd h
 fail_is t (Arrive w u n) h = absurd h
 fail_is t (End w u ns) h = absurd h
 fail_is t (Again w u c ns) h = absurd h
-fail_is t (Fail w u c ns) h = (h.1, h.0, refl, λ xs. refl, if_zero _ (tool_fault_in c) (stop_zero c h.2))
+fail_is t (Fail w u c ns) h = (h.1, h.0, λ s. tt, if_zero _ (tool_fault_in c) (stop_zero c h.2))
 
-again_is : (t : ℕ) (e : Event) → IsAgain 0 t e → Closes t e × (worker e ≡ 0) × (is_afresh e ≡ false) × ((xs : List ℕ) → begun_by e ≡ take (length (begun_by e)) xs) × (tool_faults_of 0 e ≡ 0)
+again_is : (t : ℕ) (e : Event) → IsAgain 0 t e → Closes t e × (worker e ≡ 0) × ((s : State) → IsNext s t → TakesFirst s e) × (tool_faults_of 0 e ≡ 0)
 again_is t (Grant w u) h = absurd h
 again_is t (Regrant w u) h = absurd h
 again_is t (Clean w u) h = absurd h
 again_is t (Arrive w u n) h = absurd h
 again_is t (End w u ns) h = absurd h
 again_is t (Fail w u c ns) h = absurd h
-again_is t (Again w u c ns) h = (h.1, h.0, refl, λ xs. refl, if_zero _ (tool_fault_in c) (stop_zero c h.2))
+again_is t (Again w u c ns) h = (h.1, h.0, λ s next. inr (subst (IsNext s) (sym h.1) next), if_zero _ (tool_fault_in c) (stop_zero c h.2))
 
 pub failed_works : (a b : Book) (t : TaskId) (x : ℕ) (o : Option Store) (before now_ : Counts) → IsOneRun a b → NoneOpen (state_at a) → Leases a.plan (state_at a) 0 a.history.events b.history.events o before now_ (leased.Failed t)
     → WorksOn a.plan (state_at a) a.history.events b.history.events (state_at b) x x × (length a.history.events < length b.history.events)
 failed_works a b t x o before now_ same none leases =
     let adds = leases.2 in
     let is = fail_is t.0 adds.entry adds.kind in
-    one_works a b t.0 x adds.entry same none adds.is is.0 is.1 is.2 (is.3 (state_at a).rest) is.4
+    one_works a b t.0 x adds.entry same none adds.is is.0 is.1 (is.2 (state_at a)) is.3
 
-pub again_works : (a b : Book) (t : TaskId) (x : ℕ) (o : Option Store) (before now_ : Counts) → IsOneRun a b → NoneOpen (state_at a) → Leases a.plan (state_at a) 0 a.history.events b.history.events o before now_ (leased.Again t)
+pub again_works : (a b : Book) (t : TaskId) (x : ℕ) (o : Option Store) (before now_ : Counts) → HasLeaseLaws a.plan → IsOneRun a b → IsSafeState a.plan (state_at a) → NoneOpen (state_at a) → Leases a.plan (state_at a) 0 a.history.events b.history.events o before now_ (leased.Again t)
     → WorksOn a.plan (state_at a) a.history.events b.history.events (state_at b) x x × (length a.history.events < length b.history.events)
-again_works a b t x o before now_ same none leases =
+again_works a b t x o before now_ laws same safe none leases =
     let adds = leases.2 in
     let is = again_is t.0 adds.entry adds.kind in
-    one_works a b t.0 x adds.entry same none adds.is is.0 is.1 is.2 (is.3 (state_at a).rest) is.4
+    one_works a b t.0 x adds.entry same none adds.is is.0 is.1 (is.2 (state_at a) (none, choice_first a.plan laws (state_at a) t.0 safe (consistent_at a) none leases.0)) is.3
 
 -- where no task is open a lease needn't wait
 pub never_waits : (a b : Book) (o : Option Store) (before now_ : Counts) → NoneOpen (state_at a) → Leases a.plan (state_at a) 0 a.history.events b.history.events o before now_ leased.NotYet → ⊥

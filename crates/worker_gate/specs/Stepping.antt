@@ -1,11 +1,10 @@
 -- What one step of a worker adds to a record.
 use Rattle.std.specs.Prelude.{◌≡◌, ℕ, ◌<◌, Bool, true, false, List, [], ◌∷◌, ◌++◌, length}
-use Rattle.std.specs.List.{list_any}
 use Rattle.plan_core.specs.declared.plan.Plan.{Plan}
 use Rattle.run_record.specs.Events.{Event}
 use Rattle.lease_book.specs.State.{State}
 use Rattle.site_yard.specs.Failures.{RoseBy, tool_faults, tool_faults_of}
-use Rattle.worker_gate.specs.Alone.{AllBy, BeginFirst, IsOver, NoneOpen, is_afresh}
+use Rattle.worker_gate.specs.Alone.{AllBy, IsOver, NoneOpen, TakeFirst}
 use Rattle.worker_gate.specs.Tending.{IsDone}
 
 -- one entry more, which the tool's count shows
@@ -15,14 +14,13 @@ pub record DoesTask (r after : List Event) (t before later : ℕ) : Type 0 where
   pub done : IsDone 0 t entry
   pub counted : RoseBy (tool_faults_of 0 entry) before later
 
--- What is added after a record r, whose state is s: worker 0's entries, each of which begins what is left first, and no
--- fresh order. In the state that follows no task is open.
+-- What is added after a record r, whose state is s: worker 0's entries, each of which begins what is left first. In the
+-- state that follows no task is open.
 pub record WorksOn (p : Plan) (s : State) (r after : List Event) (next : State) (before later : ℕ) : Type 0 where
   pub added : List Event
   pub is : after ≡ r ++ added
   pub by_zero : AllBy 0 added
-  pub first : BeginFirst p s added
-  pub none_afresh : list_any is_afresh added ≡ false
+  pub first : TakeFirst p s added
   pub none_open : NoneOpen next
   pub counted : RoseBy (tool_faults 0 added) before later
 

@@ -3,8 +3,6 @@
 ghost use Rattle.std.specs.Prelude.{◌≡◌, ℕ, List, []};
 ghost use Rattle.plan_core.specs.declared.plan.Plan.{Plan};
 ghost use Rattle.plan_core.specs.Proper.{IsProper};
-ghost use Rattle.plan_core.specs.Words.{retries};
-ghost use Rattle.lease_book.specs.Reading.{IsPlain};
 ghost use Rattle.lease_book.specs.State.{now};
 ghost use Rattle.worker_gate.specs.Alone.{NoneOpen};
 ghost use Rattle.worker_gate.specs.Law.{HasLeaseLaws};
@@ -22,10 +20,4 @@ pub(crate) fn lease_laws()
 /// In a record without entries no task is open.
 pub fn empty_records_have_none_open()
     ensures { (p : Plan) (order : List ℕ) → NoneOpen (now p order []) }
-{}
-
-/// Under the plain policy nothing is tried again.
-#[tactic(auto, unfolding(plan_core::specs::Words::retries))]
-pub fn plain_policies_have_no_retries()
-    ensures { (p : Plan) → IsPlain p → retries p ≡ 0 }
 {}

@@ -18,6 +18,6 @@ mod turning;
 mod working;
 
 pub use alone::run_alone;
-pub use law::{empty_records_have_none_open, plain_policies_have_no_retries};
+pub use law::empty_records_have_none_open;
 pub use many::{ManyEnd, run_many};
 pub use working::work;

@@ -1,8 +1,8 @@
 -- `alone`: plans, and runs the plan with one worker. It prints the record of the run and what was delivered.
 use Rattle.std.specs.Prelude.{◌≡◌, ◌⊎◌, ℕ, List, length, take}
-use Rattle.plan_core.specs.Words.{retries, task_numbers}
+use Rattle.plan_core.specs.Words.{task_numbers}
 use Rattle.planner.specs.declared.surveyed.Surveyed.{Surveyed}
-use Rattle.worker_gate.specs.Alone.{begun}
+use Rattle.worker_gate.specs.Alone.{tried}
 use Rattle.plan_run.specs.Moments.{Tools, Work, first_tool}
 use Rattle.pegasus_cli.specs.CommandSpec.{CommandSpec}
 use Rattle.pegasus_cli.specs.Fault.{Answer}
@@ -12,8 +12,8 @@ use Rattle.pegasus_cli.specs.Survey.{over_survey}
 -- A plan was run by the first member of the crew.
 pub record HasRunFirst (w : Work) (s : Surveyed) (text : List ℕ) (answer : Answer) : Type 0 where
   pub planned : HasRunPlan w (first_tool w) 1 s text answer
-  -- where nothing is tried again, tasks are begun in the kept order
-  pub in_order : retries planned.plan ≡ 0 → begun planned.ran.r ≡ take (length (begun planned.ran.r)) (task_numbers planned.order)
+  -- tasks are begun in the kept order, and one that is tried again at once
+  pub in_order : tried planned.ran.r ≡ take (length (tried planned.ran.r)) (task_numbers planned.order)
 
 abbrev pub RunsAlone : Work → Tools → Surveyed → List ℕ → Answer → Type 0
 RunsAlone w t s text answer = IsUnrun w (first_tool w) s text answer ⊎ ∥ HasRunFirst w s text answer ∥₁

@@ -46,6 +46,7 @@ returns-in-Ok-clause-ran g c =
     })
     (record {
       safe = λ n. c.legal_records_are_safe.ensures.always p order r c.args.ordered.proper fits l n;
+      output = c.deliveries_stay_within_the_output.ensures p order r c.args.ordered.proper fits l;
       left = λ n site. c.what_is_left_is_held.ensures p order r c.args.ordered.proper fits l n site;
     })
     l s k ends reports))))
@@ -63,6 +64,7 @@ returns-in-Err-clause-ran g c =
     rw c.refuse_run.ensures.host (∣ not_begun_alone w p order c.in-Err.refused.fault (reporting c.refuse_run.result.history c.refuse_run.result.text.items c.refuse_run.result.delivered.items) c.refuse_run.result.end
     (record {
       safe = λ n. c.legal_records_are_safe.ensures.always p order [] c.args.ordered.proper fits tt n;
+      output = c.deliveries_stay_within_the_output.ensures p order [] c.args.ordered.proper fits tt;
       left = λ n site. c.what_is_left_is_held.ensures p order [] c.args.ordered.proper fits tt n site;
     })
     c.in-Err.ensures.back.1 refl c.in-Err.ensures.refused refusal ∣₁)

@@ -45,6 +45,7 @@ returns-in-Ok-clause-ran g c =
     ran w t n p order r (g.H.Host.told y.host) (g.H.Host.marked y.host) y.faults y.misses x end_ end
     (record {
       safe = λ j. c.legal_records_are_safe.ensures.always p order r c.args.ordered.proper fits l j;
+      output = c.deliveries_stay_within_the_output.ensures p order r c.args.ordered.proper fits l;
       left = λ j site. c.what_is_left_is_held.ensures p order r c.args.ordered.proper fits l j site;
     })
     l s k ends reports))))
@@ -62,6 +63,7 @@ returns-in-Err-clause-ran g c =
     rw c.refuse_run.ensures.host (∣ not_begun w (counting old old) (length c.args.members.items) p order c.in-Err.refused.fault (reporting c.refuse_run.result.history c.refuse_run.result.text.items c.refuse_run.result.delivered.items) c.refuse_run.result.end
     (record {
       safe = λ n. c.legal_records_are_safe.ensures.always p order [] c.args.ordered.proper fits tt n;
+      output = c.deliveries_stay_within_the_output.ensures p order [] c.args.ordered.proper fits tt;
       left = λ n site. c.what_is_left_is_held.ensures p order [] c.args.ordered.proper fits tt n site;
     })
     c.in-Err.ensures.back.1 refl c.in-Err.ensures.refused refusal ∣₁)

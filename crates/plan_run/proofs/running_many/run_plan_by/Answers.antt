@@ -45,6 +45,7 @@ returns-in-Err-clause-ran g c =
     (∣ no_room w (counting old old) c.args.workers o.plan order (reporting c.out_of_memory.result.history c.out_of_memory.result.text.items c.out_of_memory.result.delivered.items)
     (record {
       safe = λ n. c.legal_records_are_safe.ensures.always o.plan order [] o.proper fits tt n;
+      output = c.deliveries_stay_within_the_output.ensures o.plan order [] o.proper fits tt;
       left = λ n site. c.what_is_left_is_held.ensures o.plan order [] o.proper fits tt n site;
     })
     refl refl refl ∣₁)

@@ -63,7 +63,7 @@ returns-clause-works g c =
     let e = c.loop-alloc-test.ensures in
     let before = one_run_of a.book b.book a.ordered b.ordered a.same_plan a.same_order b.same_plan b.same_order i.2 in
     rw (e.steps.2)
-    (works_alone a.book b.book d.book a.ordered.plan (task_numbers a.ordered.tasks.items) x y (c.lease_laws.ensures a.book.plan a.book.proper) a.same_plan (ap task_numbers a.same_order) before i.0 e.steps.0
+    (works_alone a.book b.book d.book a.ordered.plan (task_numbers a.ordered.tasks.items) x y (c.lease_laws.ensures a.book.plan a.book.proper) a.same_plan (ap task_numbers a.same_order) before c.requires i.0 e.steps.0
     (subst (λ p. IsOver p (state_at b.book)) (sym b.same_plan) e.steps.1))
 
 pub returns-clause-inputs : goal.returns-clause-inputs

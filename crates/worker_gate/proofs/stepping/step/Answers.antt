@@ -59,10 +59,12 @@ pub returns-in-Again-clause-steps : goal.returns-in-Again-clause-steps
 returns-in-Again-clause-steps g c =
     let a = c.args.yard.now in
     let b = c.lease.new.self in
+    let safe = subst (λ (x : Book). IsSafeState x.plan (state_at x)) c.book.ensures c.record-record.ensures.safe in
+    let laws = c.lease_laws.ensures a.book.plan a.book.proper in
     let x = g.T.Tool.faults c.args.tool.now in
     let same = one_run_of a.book b.book a.ordered b.ordered a.same_plan a.same_order b.same_plan b.same_order c.lease.ensures.ordered in
     subst (λ p. WorksOn p (state_at a.book) a.book.history.events b.book.history.events (state_at b.book) x x × (length a.book.history.events < length b.book.history.events)) a.same_plan
-    (again_works a.book b.book c.in-Again.field-0 x (g.H.Host.told a.host) (g.H.Host.counts a.host) (g.H.Host.counts b.host) same c.requires
+    (again_works a.book b.book c.in-Again.field-0 x (g.H.Host.told a.host) (g.H.Host.counts a.host) (g.H.Host.counts b.host) laws same safe c.requires
     (subst (λ p. Leases p (state_at a.book) 0 a.book.history.events b.book.history.events (g.H.Host.told a.host) (g.H.Host.counts a.host) (g.H.Host.counts b.host) (leased.Again c.in-Again.field-0)) (sym a.same_plan) c.in-Again.ensures.leased))
 
 pub returns-in-Granted-clause-inputs : goal.returns-in-Granted-clause-inputs
