@@ -22,6 +22,7 @@ use storage_simulation::Ordered;
 pub(crate) fn plan_request(alloc: Global, surveyed: &Surveyed) -> Result<Ordered, CallFault>
     ensures planned { IfOk result (IsPlanned surveyed.now.request surveyed.now.survey task_limit) }
     ensures fault { IfErr result (IsRefusal surveyed.now) }
+    ensures policy { IfOk result (λ o. o.plan.policy ≡ surveyed.now.request.policy) }
     ensures retries { IfOk result (λ o. retries o.plan ≤ 10) }
 {
     // A law for the proof: it does nothing.

@@ -7,7 +7,7 @@ use Rattle.plan_core.specs.declared.plan.TaskKind.TheVariants.{Clean as Sweeps, 
 use Rattle.plan_core.specs.declared.plan.Target.TheVariants.{Delivery, Site}
 use Rattle.plan_core.specs.Numbers.{has}
 use Rattle.plan_core.specs.Proper.{IsProper}
-use Rattle.plan_core.specs.Words.{cleans, count_pairs, count_tasks, kind, output_bound, writes}
+use Rattle.plan_core.specs.Words.{bound, cleans, count_pairs, count_tasks, kind, output_bound, writes}
 use Rattle.plan_core.proofs.TestLemmas.{by_bool}
 use Rattle.storage_simulation.specs.declared.standing.Held.{Held}
 use Rattle.storage_simulation.specs.declared.standing.Held.TheVariants.{Nothing, Reserved, Stored}
@@ -30,7 +30,7 @@ same_number : (t : ℕ) → eqb t t ≡ true
 same_number t = grind arith
 
 clash : (b : Bool) → b ≡ true → b ≡ false → ⊥
-clash b yes no = (let e : true ≡ false = sym yes ∙ no in absurd cc)
+clash b on off = (let e : true ≡ false = sym on ∙ off in absurd cc)
 
 -- ---- what stands of the deliveries
 
@@ -229,10 +229,10 @@ goes p s (Fail w u c ns) keeps sound none a = record { more = nothing_arrives p 
 -- ---- the whole
 
 sizes_append : (xs ys : List Arrival) → sum_of_sizes (xs ++ ys) ≡ sum_of_sizes xs + sum_of_sizes ys
-sizes_append [] ys = refl
+sizes_append [] ys = omega arith
 sizes_append (x ∷ xs) ys = let rest = sizes_append xs ys in omega (arith, rest)
 
-abbrev KeepsSound : Plan → Type 0
+abbrev pub KeepsSound : Plan → Type 0
 KeepsSound p = (s : State) (e : Event) → IsSoundState p s → Allowed p s e → IsSoundState p (after p s e)
 
 stands_of : (p : Plan) (s : State) (xs : List Event) → KeepsGoods p → KeepsSound p → IsSoundState p s → NoneBefore p s → LegalFrom p s xs → sum_of_sizes (arrivals p xs) + standing p s.held ≤ standing p (now_from p s xs).held
@@ -250,7 +250,7 @@ legal_front p s [] (suc k) legal = tt
 legal_front p s (e ∷ xs) (suc k) legal = (legal.0, legal_front p (after p s e) xs k legal.1)
 
 -- the sum over the output's goods is the one over the deliveries
-abbrev IsOutputSum : Plan → Type 0
+abbrev pub IsOutputSum : Plan → Type 0
 IsOutputSum p = (size : ℕ → ℕ) (front : List ℕ) (b : ℕ) → output_bound p ≡ Some b → usage p size front (count_sites p) ≡ output_usage p size front
 
 stored_is : (p : Plan) (held : ℕ → Held) (b : ℕ) → IsOutputSum p → output_bound p ≡ Some b → stored_at p held (count_sites p) ≡ standing p held
@@ -258,13 +258,13 @@ stored_is p held b sums has_bound = sums (λ g. stored_size (held g)) [] b has_b
 
 is_place : (p : Plan) (b : ℕ) → output_bound p ≡ Some b → count_sites p < places p
 unfolding places
-is_place p b h = let e = ap (λ o. cond (is_some o) 1 0) h in omega (arith, e)
+is_place p b h = let e = ap {B = ℕ} (λ o. cond (is_some o) 1 0) h in omega (arith, e)
 
 its_bound : (p : Plan) (b : ℕ) → output_bound p ≡ Some b → place_bound p (count_sites p) ≡ b
 unfolding place_bound
 its_bound p b h = by_bool (nat_lt (count_sites p) (count_sites p))
     (λ less. let l : count_sites p < count_sites p = grind (arith, less) in absurd (omega (arith, l)))
-    (λ not_less. ap (λ c. cond c _ (or_zero (output_bound p))) not_less ∙ ap or_zero h)
+    (λ not_less. ap (λ c. cond c (bound p (count_sites p)) (or_zero (output_bound p))) not_less ∙ ap or_zero h)
 
 pub output_within : (p : Plan) (order : List ℕ) (r : List Event) → KeepsGoods p → KeepsSound p → IsOutputSum p → IsSoundState p (opened order) → Legal p order r → ((k : ℕ) → IsSafeState p (now p order (take k r)))
     → (k : ℕ) → IfSome (output_bound p) (λ b. delivered_bytes p (take k r) ≤ b)

@@ -54,7 +54,7 @@ ShowsFailures w p r = AreCounted w.before.told w.before.counts.faults w.before.c
 -- the bytes that were delivered
 abbrev pub sum_of_sizes : List Arrival → ℕ
 sum_of_sizes [] = 0
-sum_of_sizes (a ∷ as) = a.size + sum_of_sizes as
+sum_of_sizes (a ∷ rest) = a.size + sum_of_sizes rest
 
 abbrev pub delivered_bytes : Plan → List Event → ℕ
 delivered_bytes p r = sum_of_sizes (arrivals p r)

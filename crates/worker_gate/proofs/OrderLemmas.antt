@@ -15,14 +15,14 @@ use Rattle.worker_gate.specs.Law.{HasLeaseLaws}
 use Rattle.worker_gate.proofs.StateLemmas.{granted_only, none_after, none_only, same_number, still_open_arrive, still_open_end, still_open_fail, still_open_again}
 
 -- the tasks that are left without the one that was begun last
-abbrev left : Option ℕ → List ℕ → List ℕ
+abbrev pub left : Option ℕ → List ℕ → List ℕ
 left None ts = ts
 left (Some t) ts = without t ts
 
 -- Only the task that was begun last is open; it isn't left any more, or is the first that is.
-record IsLast (s : State) (last : Option ℕ) : Type 0 where
-  open_is : (w t : ℕ) → IsOpen s w t → last ≡ Some t
-  place : (u : ℕ) → last ≡ Some u → (without u s.rest ≡ s.rest) ⊎ (u ∷ [] ≡ take 1 s.rest)
+pub record IsLast (s : State) (last : Option ℕ) : Type 0 where
+  pub open_is : (w t : ℕ) → IsOpen s w t → last ≡ Some t
+  pub place : (u : ℕ) → last ≡ Some u → (without u s.rest ≡ s.rest) ⊎ (u ∷ [] ≡ take 1 s.rest)
 
 pub at_first : (s : State) → NoneOpen s → IsLast s None
 at_first s none = record { open_is = λ w t o. absurd (none w t o); place = λ u e. absurd cc }
