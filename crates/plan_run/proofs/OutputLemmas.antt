@@ -157,7 +157,7 @@ arrive_delivery : (p : Plan) (s : State) (w u n : ℕ) → KeepsGoods p → IsSo
 arrive_delivery p s w u n keeps sound runs d =
     let new = (after p s (Arrive w u n)).held in
     let change = total_change (stands p new) (stands p s.held) (count_tasks p) u (sound.running_kind u runs).1
-        (λ q off. if_same (is_delivery p q) _ _ (λ dq. ap stored_size (arrive_held p s u n q (other_good p q u keeps dq off)))) in
+    (λ q off. if_same (is_delivery p q) _ _ (λ dq. ap stored_size (arrive_held p s u n q (other_good p q u keeps dq off)))) in
     let old : stands p s.held u ≡ 0 = ap (λ b. cond b (stored_size (s.held (good_of p u))) 0) d ∙ running_none p s u (good_of p u) sound runs (makes_own p u d) in
     let now_ : stands p new u ≡ n = ap (λ b. cond b (stored_size (new (good_of p u))) 0) d ∙ ap (λ b. stored_size (cond b (Stored n) (s.held (good_of p u)))) (makes_own p u d) in
     omega (arith, change, old, now_)

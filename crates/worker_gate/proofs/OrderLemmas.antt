@@ -71,15 +71,15 @@ begins : (last : Option ℕ) (t : ℕ) (bs rest : List ℕ) → AreOnce rest →
     → without_repeats last (t ∷ bs) ≡ take (length (without_repeats last (t ∷ bs))) (left last rest)
 begins last t bs rest once place first so = by_bool (is_repeat last t)
     (λ on.
-      let same = repeated last t on in
-      subst (λ l. without_repeats l (t ∷ bs) ≡ take (length (without_repeats l (t ∷ bs))) (left l rest)) (sym same)
-      (subst (λ b. cond b (without_repeats (Some t) bs) (t ∷ without_repeats (Some t) bs) ≡ take (length (cond b (without_repeats (Some t) bs) (t ∷ without_repeats (Some t) bs))) (without t rest)) (sym (same_number t))
-      (so ∙ ap (take (length (without_repeats (Some t) bs))) (twice t rest))))
+    let same = repeated last t on in
+    subst (λ l. without_repeats l (t ∷ bs) ≡ take (length (without_repeats l (t ∷ bs))) (left l rest)) (sym same)
+    (subst (λ b. cond b (without_repeats (Some t) bs) (t ∷ without_repeats (Some t) bs) ≡ take (length (cond b (without_repeats (Some t) bs) (t ∷ without_repeats (Some t) bs))) (without t rest)) (sym (same_number t))
+    (so ∙ ap (take (length (without_repeats (Some t) bs))) (twice t rest))))
     (λ off.
-      let whole = left_all last t rest place first off ∙ next_is t rest once first in
-      let new = without_repeats (Some t) bs in
-      subst (λ b. cond b (without_repeats last bs) (t ∷ new) ≡ take (length (cond b (without_repeats last bs) (t ∷ new))) (left last rest)) (sym off)
-      (ap (λ l. t ∷ l) (so ∙ ap (take (length new)) (twice t rest)) ∙ ap (take (length (t ∷ new))) (sym whole)))
+    let whole = left_all last t rest place first off ∙ next_is t rest once first in
+    let new = without_repeats (Some t) bs in
+    subst (λ b. cond b (without_repeats last bs) (t ∷ new) ≡ take (length (cond b (without_repeats last bs) (t ∷ new))) (left last rest)) (sym off)
+    (ap (λ l. t ∷ l) (so ∙ ap (take (length new)) (twice t rest)) ∙ ap (take (length (t ∷ new))) (sym whole)))
 
 -- an entry that leaves what is left, and opens nothing
 settled : (s next : State) (last : Option ℕ) → next.rest ≡ s.rest → ((w u : ℕ) → IsOpen next w u → IsOpen s w u) → IsLast s last → IsLast next last
