@@ -143,10 +143,10 @@ done_by : (t : ℕ) (e : Event) → IsDone 0 t e → (worker e ≡ 0) × ((s : S
 done_by t (Grant w u) h = absurd h
 done_by t (Regrant w u) h = absurd h
 done_by t (Clean w u) h = absurd h
-done_by t (Arrive w u n) h = (h.0, λ s open. tt)
-done_by t (End w u ns) h = (h.0, λ s open. tt)
-done_by t (Fail w u c ns) h = (h.0, λ s open. tt)
-done_by t (Again w u c ns) h = (h.0, λ s open. inl (subst (λ v. IsOpen s v u) (sym h.0) (subst (λ x. IsOpen s 0 x) (sym h.1) open)))
+done_by t (Arrive w u n) h = (h.0, λ s runs. tt)
+done_by t (End w u ns) h = (h.0, λ s runs. tt)
+done_by t (Fail w u c ns) h = (h.0, λ s runs. tt)
+done_by t (Again w u c ns) h = (h.0, λ s runs. inl (subst (λ v. IsOpen s v u) (sym h.0) (subst (λ x. IsOpen s 0 x) (sym h.1) runs)))
 
 -- what is granted is open
 pub granted_is_open : (a b : Book) (t : TaskId) (o : Option Store) (before now_ : Counts) → IsOneRun a b → IsSafeState a.plan (state_at a) → NoneOpen (state_at a) → Leases a.plan (state_at a) 0 a.history.events b.history.events o before now_ (leased.Granted t) → IsOpen (state_at b) 0 t.0
