@@ -1,12 +1,11 @@
 -- What was delivered is what is stored at the output, so it is within the output's bound.
-use Rattle.std.proofs.Common.{◌≡◌, ◌≢◌, ℕ, zero, suc, ◌+◌, ◌≤◌, ◌<◌, ◌||◌, ◌⊎◌, Bool, true, false, cond, eqb, eqb-true, inl, inr, List, [], ◌∷◌, ◌++◌, take, refl, sym, ap, subst, ◌∙◌, arith}
+use Rattle.std.proofs.Common.{◌≡◌, ℕ, zero, suc, ◌+◌, ◌≤◌, ◌<◌, ◌||◌, Bool, true, false, cond, eqb, eqb-true, inl, inr, List, [], ◌∷◌, ◌++◌, take, refl, sym, ap, subst, ◌∙◌, arith}
 use Rattle.std.specs.Prelude.{Option, Some, None, IfSome, is_some, nat_lt}
 use Rattle.plan_core.specs.declared.plan.Plan.{Plan}
 use Rattle.plan_core.specs.declared.plan.TaskKind.{TaskKind}
 use Rattle.plan_core.specs.declared.plan.TaskKind.TheVariants.{Clean as Sweeps, Run, Transfer}
 use Rattle.plan_core.specs.declared.plan.Target.TheVariants.{Delivery, Site}
 use Rattle.plan_core.specs.Numbers.{has}
-use Rattle.plan_core.specs.Proper.{IsProper}
 use Rattle.plan_core.specs.Words.{bound, cleans, count_pairs, count_tasks, kind, output_bound, writes}
 use Rattle.plan_core.proofs.TestLemmas.{by_bool}
 use Rattle.storage_simulation.specs.declared.standing.Held.{Held}
@@ -18,8 +17,8 @@ use Rattle.storage_simulation.specs.Law.{KeepsGoods, output_usage}
 use Rattle.storage_simulation.specs.Usage.{total, usage}
 use Rattle.run_record.specs.Events.{Event, Grant, Arrive, End, Clean, Fail, Again, Regrant}
 use Rattle.lease_book.specs.Choice.{IsChoice}
-use Rattle.lease_book.specs.Law.{IsSafeState, IsSoundState, reserved_at, stored_at}
-use Rattle.lease_book.specs.Legal.{Allowed, IsOpen, Legal, LegalFrom, MayFail}
+use Rattle.lease_book.specs.Law.{IsSafeState, IsSoundState, stored_at}
+use Rattle.lease_book.specs.Legal.{Allowed, Legal, LegalFrom, MayFail}
 use Rattle.lease_book.specs.State.{State, after, ended, now, now_from, opened, put, reserved_for, stored_among, stored_size}
 use Rattle.lease_book.proofs.SoundLemmas.{choice_in, fresh_among, is_waiting}
 use Rattle.lease_book.proofs.TotalLemmas.{total_at_most, total_change}

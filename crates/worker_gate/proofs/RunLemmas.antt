@@ -1,22 +1,17 @@
 -- From one step to the end of the record.
 use Rattle.std.proofs.Common.{◌≡◌, ℕ, ◌+◌, ◌≤◌, ◌<◌, List, [], ◌∷◌, ◌++◌, length, take, refl, sym, ap, subst, ◌∙◌, arith, append_assoc, length-append, None}
-use Rattle.std.specs.List.{list_any}
-use Rattle.std.proofs.lemmas.List.Folds.{list_any-append}
 use Rattle.std.proofs.Math.Logic.{∥∥₁_elim}
 use Rattle.std.proofs.Props.{props}
 use Rattle.outside.specs.Counts.{IsLater}
 use Rattle.outside.specs.declared.counts.Counts.{Counts}
 use Rattle.plan_core.specs.declared.plan.Plan.{Plan}
-use Rattle.plan_core.specs.Words.{retries, task_numbers}
-use Rattle.run_record.specs.Events.{Event, Grant, Arrive, End, Clean, Fail, Again, Regrant}
-use Rattle.storage_simulation.specs.Following.{AreOnce}
+use Rattle.plan_core.specs.Words.{task_numbers}
+use Rattle.run_record.specs.Events.{Event}
 use Rattle.lease_book.specs.declared.book.Book.{Book}
 use Rattle.lease_book.specs.Book.{state_at}
-use Rattle.lease_book.specs.Law.{IsConsistent}
 use Rattle.lease_book.specs.Legal.{Legal, LegalFrom}
 use Rattle.lease_book.specs.Room.{entries_room}
-use Rattle.lease_book.specs.State.{State, after, now, now_from, opened, without}
-use Rattle.lease_book.proofs.ListLemmas.{without_head}
+use Rattle.lease_book.specs.State.{now, now_from, opened}
 use Rattle.site_yard.specs.Failures.{RoseBy, tool_faults}
 use Rattle.worker_gate.specs.Alone.{AllBy, IsOver, NoneOpen, TakeFirst, WorksAlone, tried}
 use Rattle.worker_gate.specs.Law.{HasLeaseLaws}
