@@ -1,6 +1,4 @@
 """Tests of tools/record-model: records of the diamond, right and wrong, those of the files of cases, and those on the pages."""
-import importlib.machinery
-import importlib.util
 import os
 import pathlib
 import re
@@ -13,10 +11,11 @@ import case_files
 import pages
 
 sys.dont_write_bytecode = True
-LOADER = importlib.machinery.SourceFileLoader("record_model", "tools/record-model")
-model = importlib.util.module_from_spec(importlib.util.spec_from_loader("record_model", LOADER))
-sys.modules["record_model"] = model
-LOADER.exec_module(model)
+sys.path.insert(0, "tools")
+import beside
+from documents import INLINED
+
+planner, model = beside.load("plan-model"), beside.load("record-model")
 
 PLAN = subprocess.run([sys.executable, "tools/plan-model", "examples/diamond/request.json"], capture_output=True, text=True, check=True).stdout
 PRINTED = re.search(r"    record 1\n(.*?)    closed\n", pathlib.Path("docs/COMMANDS.md").read_text(encoding="utf-8"), re.DOTALL)
@@ -84,30 +83,95 @@ VERDICTS = [
 for place, (verdict, expected) in enumerate(VERDICTS):
     assert verdict == expected, (place, verdict, expected)
 
+# A chain whose second file is large and a single task, of a site that holds one of the two, with fresh orders and a bound on
+# the output: by hand.
+CHAIN = """plan 1
+workflow chain
+policy 1 1 11
+site 0 pool 10
+file 0 a 2
+file 1 p 6
+file 2 t 5
+job 0 A site 0
+job 1 B site 0
+job 2 C site 0
+task 0 run 0 jobs 0 reads - writes 0 after -
+task 1 run 0 jobs 2 reads - writes 2 after -
+task 2 run 0 jobs 1 reads 0 writes 1 after 0
+task 3 transfer 1 from site 0 to out after 2
+task 4 transfer 2 from site 0 to out after 1
+task 5 clean site 0 file 0 after 0 2
+task 6 clean site 0 file 1 after 2 3
+task 7 clean site 0 file 2 after 1 4
+order 0 2 5 3 6 1 4 7
+peak 0 8
+closed
+"""
 
-def planned(folder, case):
-    """What tools/plan-model prints for the request that a case names, in a folder of its documents."""
-    for name, content in case.documents.items():
-        (folder / name).write_bytes(content)
-    request = case.words[0].split(" ")[2]
-    return subprocess.run([sys.executable, "tools/plan-model", request, str(folder)], capture_output=True, text=True, check=True).stdout
+
+def left(*entries, plan=CHAIN):
+    """What is left of the order after entries, each of which is allowed, and what is held."""
+    read = model.read_plan(plan)
+    state = model.State(read, rest=list(read.order))
+    assert all(state.enter(entry.split(" ")) for entry in entries), entries
+    return state.rest, state.held
+
+
+A, T, OUT_T = (0, 0), (0, 2), (model.OUT, 2)
+LEFT = [
+    (left(), ([0, 2, 5, 3, 6, 1, 4, 7], {})),
+    (left("grant 0 0"), ([2, 5, 3, 6, 1, 4, 7], {A: 2})),
+    (left("grant 0 0", "again 0 0 hostfailed"), ([0, 2, 5, 3, 6, 1, 4, 7], {A: 2})),
+    (left("grant 0 0", "again 0 0 hostfailed 1", "grant 3 0", "end 3 0 1"), ([2, 5, 3, 6, 1, 4, 7], {A: 1})),
+    (left("grant 0 0", "regrant 1 1"), ([4, 7, 2, 5, 3, 6], {A: 2, T: 5})),
+    (left("grant 0 0", "regrant 1 1", "again 1 1 toolfailed 2"), ([1, 4, 7, 2, 5, 3, 6], {A: 2, T: 5})),
+    (left("grant 0 0", "regrant 1 1", "end 1 1 4", "grant 1 4"), ([7, 2, 5, 3, 6], {A: 2, T: 4, OUT_T: 5})),
+    (left("grant 0 0", "regrant 1 1", "end 1 1 4", "grant 1 4", "arrive 1 4 4", "again 1 7 hostfailed"),
+     ([7, 2, 5, 3, 6], {A: 2, T: 4, OUT_T: 4})),
+    (left("grant 0 0", "regrant 1 1", "end 1 1 4", "grant 1 4", "arrive 1 4 4", "clean 1 7"), ([2, 5, 3, 6], {A: 2, OUT_T: 4})),
+]
+for place, (found, expected) in enumerate(LEFT):
+    assert found == expected, (place, found, expected)
+# Below the two files' sizes together the output has no room for what the order delivers, so nothing is allowed.
+assert judged(["grant 0 0"], CHAIN.replace("policy 1 1 11", "policy 1 1 10")) == "illegal 1"
+assert judged(["grant 0 0"], CHAIN) == "legal"
 
 
 def answers(case):
-    """What the model says of each record that a case names."""
-    with tempfile.TemporaryDirectory() as folder:
-        plan = planned(pathlib.Path(folder), case)
+    """What the model says of each record that a case names, under the plan of the request beside it."""
+    documents = {name: planner.parsed(content.decode()) for name, content in case.documents.items() if name.endswith(".json")}
     for line in case.words:
-        _, command, _, record = line.split(" ")
-        yield model.answer(command, plan, case.documents[record])
+        _, command, request, record = line.split(" ")
+        stated = documents[request]
+        found = {kind: catalogue(documents, stated, kind) for kind in ("replicas", "transformations")}
+        plan = planner.plan(stated, {"workflow": documents[stated["workflow"]], **found})
+        yield model.answer(command, "\n".join(plan) + "\n", case.documents[record])
 
 
-# A plan's text doesn't say which checksum is registered, and the other answers come before the record is looked at.
-cases = [case for case in case_files.read("crates/cases/data/records.cases") if case.status in (0, 8) and not case.name.startswith("checksum")]
+def catalogue(documents, request, kind):
+    """The one that the request names, else the workflow's own, else one without entries."""
+    inlined = documents[request["workflow"]].get(INLINED[kind], {kind: []})
+    return documents[request[kind]] if kind in request else inlined
+
+
+def is_judged(case):
+    """Whether its calls judge records. What a plan's text doesn't say is which checksum is registered, and the other answers
+    come before the record is looked at."""
+    is_judgement = all(line.startswith(("words audit ", "words stat ")) for line in case.words)
+    return is_judgement and case.status in (0, 8) and not case.name.startswith("checksum")
+
+
+def judged_cases(name, least):
+    found = [case for case in case_files.read(f"crates/cases/data/{name}.cases") if is_judged(case)]
+    assert len(found) >= least, (name, len(found))
+    return found
+
+
+counted = {"records": 35, "retries": 25, "fresh": 12}
+cases = [case for name, least in counted.items() for case in judged_cases(name, least)]
 for case in cases:
     for status, lines in answers(case):
         assert (status, "".join(line + "\n" for line in lines)) == (case.status, case.text), (case.name, status, lines)
-assert len(cases) >= 35, len(cases)
 # The commands of the pages that judge records, make texts for it, or join and run an ensemble, typed as they stand there, with
 # the three models in the program's place.
 MODELS = """#!/usr/bin/env bash
@@ -144,4 +208,4 @@ def page_holds(page, place):
 with tempfile.TemporaryDirectory() as work:
     judged_there = sum(page_holds(page, folder(pathlib.Path(work, page.replace("/", "_")))) for page in pages.PAGES)
 assert judged_there >= 6, judged_there
-print(f"record-model: ok, {len(VERDICTS)} records, {len(cases)} cases and {judged_there} on the pages")
+print(f"record-model: ok, {len(VERDICTS) + len(LEFT)} records, {len(cases)} cases and {judged_there} on the pages")

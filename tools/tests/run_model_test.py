@@ -53,9 +53,13 @@ def read(case, name):
     return made["request"], made
 
 
-def run(case):
-    """What the model says of a case: the store, the status, and the text as far as the output takes it."""
-    name = next(word for word in case.words[0].split(" ") if word.endswith(".json"))
+def requests(case):
+    """The requests that a case's calls name, each of them once."""
+    return dict.fromkeys(next(word for word in words.split(" ") if word.endswith(".json")) for words in case.words)
+
+
+def run(case, name):
+    """What the model says of a case's request: the store, the status, and the text as far as the output takes it."""
     request, documents = read(case, name)
     store = model.Store(case.replicas, scratch=dict(case.scratch), failing=case.failing("host"), failing_parts=case.failing_parts())
     status, lines = model.run(request, documents, store, case.failing("run"))
@@ -67,8 +71,8 @@ def run(case):
     return store, *((7, text[:taken]) if taken < len(text.encode()) else (status, text))
 
 
-def compare(path, case):
-    store, status, text = run(case)
+def compare(path, case, name):
+    store, status, text = run(case, name)
     if case.is_after_record:
         text = text.split("\nclosed\n", 1)[1]
     assert (case.status, case.text) == (status, text), (path, case.name, status, text)
@@ -97,9 +101,10 @@ count = 0
 for file in sorted(pathlib.Path("crates/cases/data").glob("*.cases")):
     if not file.name.startswith("unreadable"):
         for found in filter(is_told, case_files.read(file)):
-            compare(file.name, found)
+            for name in requests(found):
+                compare(file.name, found, name)
             count += 1
-assert count >= 80, count
+assert count >= 140, count
 runs = list(pages.texts("alone"))
 for found in runs:
     compare_page(*found)
