@@ -145,7 +145,14 @@ def answers(case):
         stated = documents[request]
         found = {kind: catalogue(documents, stated, kind) for kind in ("replicas", "transformations")}
         plan = planner.plan(stated, {"workflow": documents[stated["workflow"]], **found})
+        assert is_ordered("\n".join(plan)), (case.name, request)
         yield model.answer(command, "\n".join(plan) + "\n", case.documents[record])
+
+
+def is_ordered(text):
+    """Whether the judge, from the start, makes the order that the planner does."""
+    plan = model.read_plan(text)
+    return model.Order(model.State(plan, rest=[]), {}, plan.order).made() == plan.order
 
 
 def catalogue(documents, request, kind):
@@ -183,7 +190,7 @@ case $1 in
 esac
 """
 JUDGES = re.compile(r"\./pegasus (audit|stat) ")
-MAKES = re.compile(r" > \w+\.txt$|^tools/join |^\./pegasus ensemble examples/|^diff -s ")
+MAKES = re.compile(r" > \w+\.txt$|^sed .* > \w+\.json$|^tools/join |^\./pegasus ensemble examples/|^diff -s ")
 
 
 def folder(place):

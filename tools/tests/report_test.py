@@ -91,6 +91,16 @@ assert rows(broken, "Attempts")[1:] == [["7", "0", "task 1: run ID0000002", "ove
 assert rows(broken, "What was requested")[1:] == [["f.d", "10", "", "not told as delivered"]]
 assert f"The call ended with {failed[-1]}." in texts(broken) and count(broken, "failed") == 2
 
+# Attempts that were followed by another one; and what the policy allows, which most plans say nothing of.
+record("again.txt", "examples/trouble/unreadable.json")
+again = page("examples/trouble/unreadable.json", "again.txt")
+assert rows(again, "Attempts")[1:] == [[entry, "0", "task 4: transfer f.a", "hostfailed", ended] for entry, ended in (
+    ("2", "tried again"), ("4", "tried again"), ("6", "for good"))]
+assert "A task for which a store or a tool failed is tried again, 2 times at most." in texts(again)
+assert not any("tried again" in it for it in texts(two)), texts(two)
+fresh = page("examples/fresh/request.json", "examples/fresh/run.txt")
+assert "Where no task may begin by the order, a new one may be made." in texts(fresh) and count(fresh, "bar") == 5
+
 # An illegal record is shown up to its first entry that isn't allowed.
 for place in filter(None, (models, program)):
     (place / "swapped.txt").write_text("record 1\ngrant 0 4\narrive 0 4 8\ngrant 1 99\nclosed\n", encoding="utf-8")

@@ -1,6 +1,7 @@
 """Runs by several workers of the program that the gate built, on a disk: what each delivers, and each record judged by
 tools/record-model over the plan of tools/plan-model."""
 import concurrent.futures
+import dataclasses
 import importlib.machinery
 import importlib.util
 import json
@@ -11,8 +12,10 @@ import subprocess
 import sys
 import tempfile
 
+import failing_calls
 import workflows
 
+RETRIES = 3
 PROGRAM = pathlib.Path("crates/pegasus/out/pegasus").absolute()
 PLAN_MODEL = pathlib.Path("tools/plan-model").absolute()
 MAKE = pathlib.Path("examples/montage/make").absolute()
@@ -61,8 +64,8 @@ def declined(place):
     write(place, [("text", ["word"], [])] + [("text", ["12"], [])] * 38 + [("total", [], [0])], 1000)
 
 
-def mosaic(place):
-    subprocess.run([sys.executable, MAKE, "12", "."], cwd=place, check=True, stdout=subprocess.DEVNULL)
+def mosaic(place, images=12):
+    subprocess.run([sys.executable, MAKE, str(images), "."], cwd=place, check=True, stdout=subprocess.DEVNULL)
 
 
 def moving(place, bound):
@@ -96,15 +99,17 @@ def beside(record):
     return sum(it[0] == "arrive" for it in lines[begun:ended])
 
 
-def called(place, words):
-    """Status and text of a call, in a folder of its own with the same documents; what stands in `output` after it."""
+def called(place, words, surroundings=None):
+    """Status and text of a call, in a folder of its own with the same documents; what stands in `output` after it, and what
+    else it left: files of sites, and drafts."""
     with tempfile.TemporaryDirectory() as own:
         at = pathlib.Path(own, "at")
         shutil.copytree(place, at)
-        done = subprocess.run([PROGRAM, *words], cwd=at, capture_output=True, text=True, timeout=60)
+        done = subprocess.run([PROGRAM, *words], cwd=at, capture_output=True, text=True, timeout=300, env=surroundings)
         out = at / "output"
         files = {it.name: it.read_bytes() for it in out.iterdir()} if out.exists() else {}
         left = sorted(str(it) for it in (at / "sites").rglob("*") if it.is_file())
+        left += sorted(str(it) for it in at.glob(".pegasus.part.*"))
     return done.returncode, done.stdout, files, left
 
 
@@ -149,9 +154,118 @@ def stops():
     return 1
 
 
+@dataclasses.dataclass
+class Trial:
+    """A run in which calls of the store failed: so many, what it printed and left, and how its entries of them begin."""
+
+    failed: int
+    status: int
+    record: str
+    rest: str
+    files: dict
+    left: list
+
+    def entries(self, kind):
+        return [line for line in self.record.splitlines() if line.startswith(kind + " ")]
+
+
+class Trials:
+    """Runs of a mosaic in which calls of the store fail."""
+
+    def __init__(self, work, images):
+        self.work, self.place = work, work / f"mosaic{images}"
+        self.place.mkdir()
+        mosaic(self.place, images)
+        self.library = failing_calls.made_in(work)
+        request = json.loads((self.place / "request.json").read_text())
+        (self.place / "retried.json").write_text(json.dumps({**request, "retries": RETRIES}))
+        status, text, files, left = called(self.place, ["alone", "request.json"])
+        assert status == 0 and not left, text[-200:]
+        self.rest, self.files = text.split("closed\n", 1)[1], files
+
+    def run(self, number, words, **failing):
+        log = self.work / f"{self.place.name}.{number}.log"
+        around = failing_calls.surroundings(self.library, log, **failing)
+        status, text, files, left = called(self.place, words, around)
+        assert "closed\n" in text, (words, status, text)
+        record, rest = text.split("closed\n", 1)
+        failed = len(log.read_text().splitlines()) if log.exists() else 0
+        return Trial(failed, status, record + "closed\n", rest, files, left)
+
+    def is_whole(self, trial):
+        """Whether it delivered what a run without failures does, and left nothing."""
+        return (trial.status, trial.rest, trial.files, trial.left) == (0, self.rest, self.files, [])
+
+    def plan(self, request):
+        """The plan's text, by the program: tools/plan-model is compared with it elsewhere."""
+        status, text, _, _ = called(self.place, ["plan", request])
+        assert status == 0, text
+        return text
+
+
+def large_mosaic(work):
+    """Sixteen workers, and each fiftieth call that opens a replica, publishes or removes a file fails. As no file does twice,
+    each task ends within its retries."""
+    trials = Trials(work, 249)
+    kinds = ("replica", "publication", "removal")
+    trial = trials.run(0, ["run", "retried.json", "--workers", "16"], kinds=kinds, every=50, is_once=True)
+    again = trial.entries("again")
+    assert trials.is_whole(trial), (trial.status, trial.rest, trial.left)
+    assert len(again) == trial.failed >= 40 and not trial.entries("fail"), (len(again), trial.failed)
+    assert trial.record.startswith("record 2\n") and all(line.split(" ")[3] == "hostfailed" for line in again), again
+    assert record_model.judge(trials.plan("retried.json"), trial.record, 16) == "complete"
+    (trials.place / "run.txt").write_text(trial.record)
+    assert called(trials.place, ["audit", "retried.json", "run.txt"])[:2] == (0, "verdict complete\ndone\n")
+    return 1
+
+
+def tried(trials, plans, seed):
+    """Of runs in which each call of the store fails by chance: whether one by four workers was done after all."""
+    by_many = ["run", "retried.json", "--workers", "4"]
+    retried = trials.run(f"{seed}.retried", by_many, kinds=failing_calls.ALL, every=50, seed=seed)
+    many = trials.run(f"{seed}.many", ["run", "request.json", "--workers", "4"], kinds=failing_calls.ALL, every=50, seed=seed)
+    alone = trials.run(f"{seed}.alone", ["alone", "request.json"], kinds=failing_calls.ALL, every=50, seed=seed)
+    for trial, request in ((retried, "retried.json"), (many, "request.json"), (alone, "request.json")):
+        told = trial.entries("again") + trial.entries("fail")
+        assert len(told) == trial.failed and all(line.split(" ")[3] == "hostfailed" for line in told), (seed, request, told)
+        assert (trial.status == 0) == (not trial.entries("fail")), (seed, request, trial.status, trial.record)
+        if trial.status == 0:
+            assert trials.is_whole(trial), (seed, request, trial.rest, trial.left)
+        else:
+            task = trial.entries("fail")[0].split(" ")[2]
+            assert trial.status == 6 and trial.rest.splitlines()[-1] == f"failed host {task}", (seed, request, trial.rest)
+        wanted = "legal" if trial.status else "complete"
+        assert record_model.judge(plans[request], trial.record, 16) == wanted, (seed, request, trial.record)
+    # Where nothing is tried again, the first failure is the end: of a run by one worker the last entry.
+    assert not many.entries("again") and not alone.entries("again"), seed
+    is_last = alone.status == 0 or alone.record.splitlines()[-2] == alone.entries("fail")[0]
+    assert alone.failed <= 1 and is_last, (seed, alone.failed, alone.record)
+    return retried.status == 0, len(retried.entries("again"))
+
+
+def seeds(work, count):
+    """So many seeds of failures. Most of the runs are done, and so many attempts failed in all that it means something."""
+    trials = Trials(work, 4)
+    plans = {request: trials.plan(request) for request in ("request.json", "retried.json")}
+    with concurrent.futures.ThreadPoolExecutor(os.cpu_count()) as pool:
+        found = list(pool.map(lambda seed: tried(trials, plans, seed), range(1, count + 1)))
+    done, again = sum(is_done for is_done, _ in found), sum(attempts for _, attempts in found)
+    assert done >= count // 2 and again >= count, (done, again)
+    return 3 * count
+
+
+def failures():
+    """Runs of the mosaic whose store fails now and then, where there is a compiler to make it fail."""
+    if not failing_calls.can_be_made():
+        print("workers: no calls fail, without a C compiler")
+        return 0
+    with tempfile.TemporaryDirectory() as work:
+        return large_mosaic(pathlib.Path(work)) + seeds(pathlib.Path(work), 100)
+
+
 if not PROGRAM.exists():
     print("workers: skipped, no program is built")
     sys.exit()
 runs = holds(apart, [16]) + holds(chain, [4]) + holds(few, [16] * 300) + holds(mosaic, [1, 2, 4, 16]) + stops()
-runs += holds(wide, [16] * 6, 12) + holds(narrow, [16] * 6, 6)
+runs += holds(wide, [16] * 6, 12) + holds(narrow, [16] * 6, 6) + failures()
 print(f"workers: ok, {runs} runs")
