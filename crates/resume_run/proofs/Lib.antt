@@ -1,0 +1,3 @@
+pub mod FailsLemmas
+pub mod LostLemmas
+pub mod ReplayingLemmas

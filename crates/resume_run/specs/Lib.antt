@@ -1,0 +1,3 @@
+-- Definitions
+pub mod Lost
+pub mod Replaying

@@ -1,0 +1,13 @@
+//! How a run that stopped is gone on with, from its record.
+//!
+//! [`replay`] makes a book whose record is the given one without its Fails, and tells which tasks were lost: those that
+//! are open in it. What that is, and when a record is refused, is said in `specs/Replaying.antt` and `specs/Lost.antt`.
+#![tactic(auto)]
+
+mod law;
+mod lost;
+mod replaying;
+
+pub use law::records_without_fails_are_legal;
+pub use lost::Lost;
+pub use replaying::{ReplayFault, Replayed, replay};
