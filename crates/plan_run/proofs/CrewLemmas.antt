@@ -19,6 +19,7 @@ with_tools w t u n p order x a before after h = record {
     over = h.run.over;
     none_open = h.run.none_open;
     safe = h.run.safe;
+    output = h.run.output;
     left = h.run.left;
     shown = h.run.shown;
     inputs = h.run.inputs;
