@@ -1,10 +1,13 @@
-use Rattle.std.proofs.Common.{[], length, take, ◌∙◌, ap, refl}
+use Rattle.std.proofs.Common.{[], length, take, ◌∙◌, ap, refl, subst, sym}
 use Rattle.std.proofs.Math.Logic.{∥∥₁_elim, ∥∥₁_map, ∥∥₁_prop}
 use Rattle.std.specs.Prelude.{is_some}
 use Rattle.plan_core.specs.Words.{task_numbers}
+use Rattle.storage_simulation.specs.declared.ordered.Ordered.{Ordered}
+use Rattle.lease_book.specs.State.{now}
+use Rattle.worker_gate.specs.Alone.{IsOver}
 use Rattle.plan_run.specs.Moments.{counting, crew_moment, first_count, work_moment, working}
 use Rattle.plan_run.specs.Running.{reporting}
-use Rattle.plan_run.proofs.RunningLemmas.{marked_so, not_begun, ran}
+use Rattle.plan_run.proofs.RunningLemmas.{marked_so, not_begun, over_in, ran}
 use Rattle.plan_run.proofs.RunningManyLemmas.{gates_shown, many_end, tools_shown}
 use Rattle.plan_run.proofs.running_many.run_members.Goals as goal
 
@@ -70,3 +73,9 @@ returns-in-Err-clause-ran g c =
 
 pub end_many-ran-requires-clause-fresh : goal.end_many-ran-requires-clause-fresh
 end_many-ran-requires-clause-fresh g c = c.run_many-end.ensures.opened ∙ ap (λ n. take n c.in-Ok.yard.book.history.events) c.in-Ok.ensures.opened
+
+pub end_many-ran-requires-clause-over : goal.end_many-ran-requires-clause-over
+end_many-ran-requires-clause-over g c = λ begun.
+    let y = c.run_many-end.result.yard in
+    over_in y.book y.ordered.plan y.ordered.tasks.items y.same_plan y.same_order
+    (subst (λ (o : Ordered). IsOver o.plan (now o.plan (task_numbers o.tasks.items) y.book.history.events)) (sym c.run_many-end.ensures.ordered) (c.run_many-end.ensures.works.over begun))
