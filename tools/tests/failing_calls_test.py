@@ -1,0 +1,261 @@
+"""Each call of the system by which the program asks for a file, or writes its text, failing in turn: the program that the
+gate built runs under a small library, made here with the C compiler, that answers the Nth such call with an error of the
+device.
+
+What has to come each time: the name of the document that could not be read; or the task whose Fail stands in the record,
+which tools/record-model calls legal, while what was delivered is whole; or a front of the text, where a write of it failed; or
+just what comes where none fails. So it is by one worker and by several, whose calls come in another order each time."""
+import collections
+import concurrent.futures
+import importlib.machinery
+import importlib.util
+import os
+import pathlib
+import shutil
+import subprocess
+import sys
+import tempfile
+
+PROGRAM = pathlib.Path("crates/pegasus/out/pegasus").absolute()
+EXAMPLES = pathlib.Path("examples").absolute()
+REQUEST = "examples/diamond/request.json"
+DOCUMENTS = [REQUEST] + [f"examples/diamond/{it}.json" for it in ("diamond", "sites", "replicas", "transformations")]
+RECORD = "examples/record.txt"
+DELIVERED = b"c\nd\na\nb\n"
+sys.dont_write_bytecode = True
+SOURCE = r"""
+#define _GNU_SOURCE
+#include <dirent.h>
+#include <dlfcn.h>
+#include <errno.h>
+#include <fcntl.h>
+#include <stdarg.h>
+#include <stdio.h>
+#include <stdlib.h>
+#include <sys/stat.h>
+#include <sys/syscall.h>
+#include <unistd.h>
+
+static long calls, writes;
+
+static long asked(const char *name) {
+    const char *value = getenv(name);
+    return value == NULL ? 0 : atol(value);
+}
+
+/* Whether this call is the one that fails. */
+static int fails(void) {
+    long call = __atomic_add_fetch(&calls, 1, __ATOMIC_SEQ_CST);
+    if (asked("FAILING_CALL") != call) return 0;
+    errno = EIO;
+    return 1;
+}
+
+#define REAL(name) __typeof__(&name) real = (__typeof__(&name))dlsym(RTLD_NEXT, #name)
+
+int open(const char *path, int flags, ...) {
+    REAL(open);
+    va_list more;
+    va_start(more, flags);
+    int mode = va_arg(more, int);
+    va_end(more);
+    return fails() ? -1 : real(path, flags, mode);
+}
+
+ssize_t read(int file, void *into, size_t count) {
+    REAL(read);
+    return fails() ? -1 : real(file, into, count);
+}
+
+/* The text is taken a byte at a time, and its Nth write fails, where that is asked. */
+static ssize_t text_write(const void *from, size_t count) {
+    REAL(write);
+    if (++writes == asked("FAILING_WRITE")) {
+        errno = ENOSPC;
+        return -1;
+    }
+    return real(1, from, count == 0 ? 0 : 1);
+}
+
+ssize_t write(int file, const void *from, size_t count) {
+    REAL(write);
+    if (file == 1 && asked("FAILING_WRITE") != 0) return text_write(from, count);
+    return fails() ? -1 : real(file, from, count);
+}
+
+int statx(int folder, const char *path, int flags, unsigned mask, struct statx *into) {
+    REAL(statx);
+    return fails() ? -1 : real(folder, path, flags, mask, into);
+}
+
+ssize_t getdents64(int folder, void *into, size_t count) {
+    REAL(getdents64);
+    return fails() ? -1 : real(folder, into, count);
+}
+
+int mkdir(const char *path, mode_t mode) {
+    REAL(mkdir);
+    return fails() ? -1 : real(path, mode);
+}
+
+int rename(const char *from, const char *to) {
+    REAL(rename);
+    return fails() ? -1 : real(from, to);
+}
+
+int unlink(const char *path) {
+    REAL(unlink);
+    return fails() ? -1 : real(path);
+}
+
+static void tell(void) {
+    const char *place = getenv("CALLS_FILE");
+    FILE *out;
+    long counted = calls;
+    if (place == NULL || (out = fopen(place, "w")) == NULL) return;
+    fprintf(out, "%ld", counted);
+    fclose(out);
+}
+
+__attribute__((destructor)) static void at_end(void) { tell(); }
+
+/* A program that may start threads ends by this call, which no destructor outlives. */
+void _exit(int status) {
+    tell();
+    syscall(SYS_exit_group, status);
+    __builtin_unreachable();
+}
+"""
+
+
+def tool(name):
+    loader = importlib.machinery.SourceFileLoader(name.replace("-", "_"), f"tools/{name}")
+    made = importlib.util.module_from_spec(importlib.util.spec_from_loader(loader.name, loader))
+    sys.modules[loader.name] = made
+    loader.exec_module(made)
+    return made
+
+
+judge = tool("record-model").judge
+
+
+def made(*words):
+    return subprocess.run([sys.executable, *words], capture_output=True, text=True, check=True).stdout
+
+
+def made_library(folder):
+    source, library = (os.path.join(folder, name) for name in ("fail.c", "fail.so"))
+    pathlib.Path(source).write_text(SOURCE)
+    subprocess.run(["cc", "-shared", "-fPIC", "-O1", "-o", library, source, "-ldl"], check=True)
+    return library
+
+
+class Calls:
+    """Calls under the library, each in a folder of its own that has a copy of the examples and a record of the diamond."""
+
+    def __init__(self, work):
+        self.library = made_library(work)
+        self.counted = os.path.join(work, "calls")
+        self.record = made("tools/run-model", REQUEST)
+        self.plan = made("tools/plan-model", REQUEST)
+
+    def call(self, words, **more):
+        """Status, text, the files of `output` by their names, and the drafts that are left."""
+        with tempfile.TemporaryDirectory() as folder:
+            at = pathlib.Path(folder)
+            shutil.copytree(EXAMPLES / "diamond", at / "examples" / "diamond")
+            (at / RECORD).write_text(self.record)
+            environment = {**os.environ, "LD_PRELOAD": self.library, **more}
+            done = subprocess.run([PROGRAM, *words], cwd=at, capture_output=True, text=True, env=environment, timeout=60)
+            out = at / "output"
+            files = {it.name: it.read_bytes() for it in out.iterdir()} if out.exists() else {}
+            return done.returncode, done.stdout, files, list(at.glob(".pegasus.part.*"))
+
+    def whole(self, words):
+        """How the call ends where none fails, and how many calls of the system there are."""
+        found = self.call(words, CALLS_FILE=self.counted)
+        return found, int(pathlib.Path(self.counted).read_text())
+
+
+def after_record(text):
+    return text.split("closed\n", 1)[-1]
+
+
+def is_failed_run(plan, text, workers):
+    """Whether the record is legal and its first Fail is the one of which the last line tells."""
+    record, rest = text.split("closed\n", 1)
+    told = rest.splitlines()[-1].split(" ")
+    fails = [line.split(" ") for line in record.splitlines() if line.startswith("fail ")]
+    if told[:2] != ["failed", "host"]:
+        return False
+    if told[2] == "-":
+        return record == "record 1\n" and not fails
+    is_first = bool(fails) and fails[0][2:4] == [told[2], "hostfailed"]
+    return is_first and judge(plan, record + "closed\n", workers) == "legal"
+
+
+def kind_of(calls, words, wanted, found):
+    """In a word, how a call ended of which one call of the system failed; nothing where it ended as it may not."""
+    status, text, files, drafts = found
+    workers = int(words[-1]) if "--workers" in words else 1
+    if any(content != DELIVERED for content in files.values()) or len(drafts) > 1:
+        return None
+    if status == wanted[0] and after_record(text) == after_record(wanted[1]) and files == wanted[2]:
+        return "as where none fails"
+    if status == 3 and text in [f"document failed {it}\n" for it in (*DOCUMENTS, RECORD)] and not files:
+        return "document failed"
+    if status == 6 and (text == "failed host -\n" if words[0] == "eval" else is_failed_run(calls.plan, text, workers)):
+        return "failed host"
+    if status == 7 and (wanted[1].startswith(text) or workers > 1) and files == wanted[2]:
+        return "front of the text"
+    return None
+
+
+def each_call(calls, pool, words):
+    """Each call of the system failing in turn."""
+    wanted, count = calls.whole(words)
+    assert wanted[0] == 0 and count > 10, (words, wanted, count)
+
+    def end(number):
+        found = calls.call(words, FAILING_CALL=str(number))
+        kind = kind_of(calls, words, wanted, found)
+        assert kind is not None, (words, number, found)
+        return kind
+
+    kinds = collections.Counter(pool.map(end, range(1, count + 1)))
+    assert kinds["document failed"] >= 5 and kinds["front of the text"] >= 1, (words, kinds)
+    does = words[0] in ("alone", "run", "produce", "eval")
+    assert (kinds["failed host"] >= (2 if words[0] == "eval" else 28)) == does, (words, kinds)
+    return count
+
+
+def each_write(calls, pool, words):
+    """Each write of the text failing in turn, where each takes a byte."""
+    wanted = calls.call(words)
+    text = wanted[1]
+
+    def ends_right(number):
+        status, told, files, _ = calls.call(words, FAILING_WRITE=str(number))
+        return (status, told, files) == (7, text[: number - 1], wanted[2])
+
+    wrong = [number for number, is_right in enumerate(pool.map(ends_right, range(1, len(text) + 1)), 1) if not is_right]
+    assert not wrong, (words, wrong[:5])
+    assert calls.call(words, FAILING_WRITE=str(len(text) + 1))[:2] == (0, text), words
+    return len(text) + 1
+
+
+def main():
+    if not PROGRAM.exists() or shutil.which("cc") is None:
+        print("failing-calls: skipped, no program that is built, or no C compiler")
+        return
+    one = [[command, REQUEST] for command in ("check", "plan", "eval", "alone", "produce", "schedule")]
+    judges = [[command, REQUEST, RECORD] for command in ("audit", "stat")]
+    several = [["run", REQUEST, "--workers", str(workers)] for workers in (2, 16)]
+    with tempfile.TemporaryDirectory() as work, concurrent.futures.ThreadPoolExecutor(os.cpu_count()) as pool:
+        calls = Calls(work)
+        failed = sum(each_call(calls, pool, words) for words in one + judges + several)
+        cut = sum(each_write(calls, pool, words) for words in one + judges)
+    print(f"failing-calls: ok, {failed} calls of the system and {cut} writes failed in turn")
+
+
+main()
