@@ -1,0 +1,14 @@
+pub mod ValuesLemmas
+pub mod TreeLemmas
+pub mod UsageLemmas
+pub mod PlacesLemmas
+pub mod DecisionLemmas
+pub mod ChoosingLemmas
+pub mod SettleLemmas
+pub mod GrantingLemmas
+pub mod AgainLemmas
+pub mod SetLemmas
+pub mod CountLemmas
+pub mod CleaningLemmas
+pub mod WaitingLemmas
+pub mod GoodsLemmas
