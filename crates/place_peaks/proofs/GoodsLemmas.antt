@@ -1,5 +1,5 @@
 -- The values where all goods of a task are held at their actual sizes.
-use Rattle.std.proofs.Common.{◌≡◌, ℕ, ◌-◌, ◌≤◌, ◌<◌, ◌||◌, ◌⊎◌, inl, inr, Bool, true, false, cond, nat_eq, List, [], ◌∷◌, ◌++◌, length, Option, refl, sym, ap, ◌∙◌, arith}
+use Rattle.std.proofs.Common.{◌≡◌, ℕ, ◌-◌, ◌≤◌, ◌<◌, ◌||◌, ◌⊎◌, inl, inr, Bool, true, false, cond, nat_eq, List, [], ◌∷◌, ◌++◌, length, refl, sym, ap, ◌∙◌, arith}
 use Rattle.std.specs.Prelude.{filter}
 use Rattle.plan_core.specs.declared.plan.Plan.{Plan}
 use Rattle.plan_core.specs.Numbers.{has}
@@ -10,6 +10,7 @@ use Rattle.storage_simulation.proofs.FollowingLemmas.{once_parts, or_left, or_ri
 use Rattle.place_peaks.specs.Places.{held_by, there}
 use Rattle.place_peaks.specs.Tree.{front_changed}
 use Rattle.place_peaks.specs.Values.{values}
+use Rattle.place_peaks.specs.Settling.{settled}
 use Rattle.place_peaks.proofs.SettleLemmas.{Counts, resized, settle_always, settle_away, settle_until}
 use Rattle.place_peaks.proofs.ValuesLemmas.{OnFronts}
 
@@ -18,12 +19,6 @@ abbrev pub resized_all : List ℕ → List ℕ → (ℕ → ℕ) → ℕ → ℕ
 resized_all [] ns size = size
 resized_all (x ∷ xs) [] size = size
 resized_all (x ∷ xs) (n ∷ ns) size = resized x n (resized_all xs ns size)
-
--- the list in which each of them is lowered up to its count
-abbrev pub settled : Plan → ℕ → (ℕ → ℕ) → (ℕ → ℕ) → List ℕ → List ℕ → List (Option ℕ) → List (Option ℕ)
-settled p s count size [] ns vs = vs
-settled p s count size (x ∷ xs) [] vs = vs
-settled p s count size (x ∷ xs) (n ∷ ns) vs = cond (lies_at p x s) (front_changed (count x) (λ m. m - (size x - n)) (settled p s count size xs ns vs)) (settled p s count size xs ns vs)
 
 -- where the values of a good at a place are lowered: up to its Clean, which is left; or all, and no front of the line cleans it
 pub record IsUntil (p : Plan) (left : ℕ → Bool) (front line : List ℕ) (g s count : ℕ) : Type 0 where

@@ -12,3 +12,10 @@ pub mod CountLemmas
 pub mod CleaningLemmas
 pub mod WaitingLemmas
 pub mod GoodsLemmas
+pub mod LinksLemmas
+pub mod StackLemmas
+pub mod FirstLemmas
+pub mod PossibleLemmas
+pub mod SettlingLemmas
+pub mod LoweringLemmas
+pub mod EndingLemmas

@@ -6,19 +6,19 @@ use Rattle.plan_core.specs.Numbers.{has}
 use Rattle.plan_core.specs.Words.{cleans, parents}
 use Rattle.storage_simulation.specs.declared.standing.Phase.{Phase}
 use Rattle.storage_simulation.specs.Change.{held_part}
-use Rattle.storage_simulation.specs.Goods.{good_size, goods, lies_at, makes, places}
+use Rattle.storage_simulation.specs.Goods.{good_size, goods, lies_at, makes, place, places}
 use Rattle.storage_simulation.specs.Law.{KeepsGoods}
 use Rattle.storage_simulation.specs.Standings.{waits}
 use Rattle.storage_simulation.specs.Usage.{cleaned, made, part, usage, weight}
 use Rattle.storage_simulation.proofs.FollowingLemmas.{by_bool, is_itself}
 use Rattle.storage_simulation.proofs.GoodsLemmas.{lies_below}
 use Rattle.storage_simulation.proofs.SumsLemmas.{one_changed, total_same}
-use Rattle.place_peaks.specs.Places.{held_by, there}
+use Rattle.place_peaks.specs.Places.{ChangesOnePlace, held_by, there}
 use Rattle.place_peaks.specs.Tree.{front_changed}
 use Rattle.place_peaks.specs.Values.{values}
-use Rattle.place_peaks.proofs.PlacesLemmas.{IsOrderOf}
-use Rattle.place_peaks.proofs.UsageLemmas.{any_last, sweep_takes, usage_same, usage_swap}
-use Rattle.place_peaks.proofs.ValuesLemmas.{AreSame, OnFronts, values_changed, values_kept, values_taken, values_until}
+use Rattle.place_peaks.proofs.PlacesLemmas.{IsOrderOf, not_there}
+use Rattle.place_peaks.proofs.UsageLemmas.{any_last, sweep_takes, usage_away, usage_same, usage_swap}
+use Rattle.place_peaks.proofs.ValuesLemmas.{AreSame, OnFronts, values_changed, values_kept, values_passed, values_taken, values_until}
 
 -- a good is held at another size
 abbrev pub resized : ℕ → ℕ → (ℕ → ℕ) → ℕ → ℕ
@@ -131,4 +131,14 @@ again_clean_here p phase size left new xs t ys s g keeps l cleans_g f ready is g
     (λ k. let takes = sweep_takes p phase size (filter left xs) (filter left ys) t s k g keeps l cleans_g f ready in
     let same = front_last p size (take k (filter left xs)) t s in
     omega (arith, takes, same))
+    (λ k. front_last p size (filter left xs ++ take k (filter left ys)) t s ∙ usage_swap p size (filter left xs) (take k (filter left ys)) t s)
+
+-- elsewhere nothing changes
+pub again_clean_there : (p : Plan) (size : ℕ → ℕ) (left new : ℕ → Bool) (xs : List ℕ) (t : ℕ) (ys : List ℕ) (s : ℕ)
+    → ChangesOnePlace p → s < places p → left t ≡ true → new t ≡ false → AreSame left new xs → AreSame left new ys → there p s t ≡ false
+    → values (there p s) new (held_by p size s) (t ∷ []) (xs ++ t ∷ ys) ≡ values (there p s) left (held_by p size s) [] (xs ++ t ∷ ys)
+again_clean_there p size left new xs t ys s one l is gone same_x same_y away =
+    sym (values_kept (there p s) new (held_by p size s) (λ zs. usage p size (t ∷ zs) s) (t ∷ []) [] (xs ++ t ∷ ys) (λ k. refl))
+    ∙ values_passed (there p s) left new (held_by p size s) (λ zs. usage p size (t ∷ zs) s) [] xs t ys is gone same_x same_y away
+    (λ k. front_last p size (take k (filter left xs)) t s ∙ usage_away p size (take k (filter left xs)) t s one l (not_there s (place p t) away))
     (λ k. front_last p size (filter left xs ++ take k (filter left ys)) t s ∙ usage_swap p size (filter left xs) (take k (filter left ys)) t s)

@@ -1,4 +1,4 @@
--- What the grant of a task of the line does, and what it takes.
+-- What the grant of a task does, and what it takes.
 use Rattle.std.specs.Prelude.{◌≡◌, ℕ, ◌+◌, ◌^◌, ◌==◌, ◌&&◌, ◌<◌, ◌≤◌, cond, not, [], length, get_or, set, None}
 use Rattle.place_peaks.specs.declared.peaks.Peaks.{Peaks}
 use Rattle.place_peaks.specs.Peaks.{left_of}
@@ -29,3 +29,21 @@ pub record CanGrant (b : Peaks) (t q : ℕ) : Type 0 where
   pub need_small : get_or b.needs.items t 0 ≤ 2 ^ 62
   pub base_small : get_or b.base.items q 0 + get_or b.needs.items t 0 ≤ 2 ^ 62
   pub can_rise : AllFirst (get_or b.seats.items t 0) (CanRise (get_or b.needs.items t 0)) (get_or b.trees.items q [])
+
+-- The first task of the stack has started: it stands there no more, and its place holds so much more.
+pub record IsGrantedAgain (old new : Peaks) (t : ℕ) : Type 0 where
+  pub line : new.line.items ≡ old.line.items
+  pub left : new.left.items ≡ old.left.items
+  pub homes : new.homes.items ≡ old.homes.items
+  pub widths : new.widths.items ≡ old.widths.items
+  pub seats : new.seats.items ≡ old.seats.items
+  pub needs : new.needs.items ≡ old.needs.items
+  pub missing : new.missing.items ≡ old.missing.items
+  pub trees : new.trees.items ≡ old.trees.items
+  pub bases_long : length new.base.items ≡ length old.base.items
+  pub base : (q : ℕ) → get_or new.base.items q 0 ≡ cond (is_place q (get_or old.homes.items t None)) (get_or old.base.items q 0 + get_or old.needs.items t 0) (get_or old.base.items q 0)
+
+-- a place can hold so much more
+pub record CanHold (b : Peaks) (t q : ℕ) : Type 0 where
+  pub base_in : q < length b.base.items
+  pub base_small : get_or b.base.items q 0 + get_or b.needs.items t 0 ≤ 2 ^ 62

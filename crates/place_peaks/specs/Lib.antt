@@ -13,3 +13,5 @@ pub mod Choosing
 pub mod Granting
 pub mod Cleaning
 pub mod Waiting
+pub mod Links
+pub mod Settling

@@ -9,6 +9,7 @@ ghost use Rattle.place_peaks.specs.Peaks.{AreBehind, ArePeaks, AreSeated, is_lef
 ghost use Rattle.place_peaks.specs.Choosing.{HasRoomAt};
 
 use crate::peaks::Peaks;
+use crate::stack::last_of;
 use crate::tree::{greatest_before, has_room};
 use plan_core::Plan;
 use storage_simulation::place_bound;
@@ -16,7 +17,7 @@ use values::TaskId;
 
 /// The task at a position.
 #[tactic(auto, using(lease_book::proofs::NumbersLemmas::task_at))]
-fn task_at(line: &[TaskId], k: usize) -> u32
+pub(crate) fn task_at(line: &[TaskId], k: usize) -> u32
     requires { k < length line.now }
     ensures { result ≡ get_or (task_numbers line.now) k 0 }
 {
@@ -24,7 +25,8 @@ fn task_at(line: &[TaskId], k: usize) -> u32
 }
 
 impl Peaks {
-    fn is_left(&self, task: u32) -> bool
+    /// Whether a task is left in the line.
+    pub(crate) fn is_left(&self, task: u32) -> bool
         ensures { result ≡ is_left self.now.left.items task }
     {
         match self.left.get(task as usize) {
@@ -159,14 +161,4 @@ impl Peaks {
             None => self.choose_line(plan),
         }
     }
-}
-
-/// The last task of a stack.
-fn last_of(stack: &[TaskId]) -> Option<u32>
-    ensures { MatchOption result (stack.now ≡ []) (λ t. slice_get (task_numbers stack.now) (length (task_numbers stack.now) - 1) ≡ Some t) }
-{
-    if stack.is_empty() {
-        return None;
-    }
-    Some(task_at(stack, stack.len() - 1))
 }

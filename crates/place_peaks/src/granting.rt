@@ -1,17 +1,19 @@
 //! The grant of a task of the line.
 
-ghost use Rattle.std.specs.Prelude.{◌≡◌, ◌≤◌, ◌<◌, ◌+◌, ◌==◌, ◌&&◌, ◌^◌, ℕ, [], true, false, cond, not, length, get_or, set, None, Some};
-ghost use Rattle.place_peaks.specs.Granting.{CanGrant, IsGranted};
-ghost use Rattle.place_peaks.specs.Peaks.{is_left};
+ghost use Rattle.std.specs.Prelude.{◌≡◌, ◌≤◌, ◌<◌, ◌+◌, ◌==◌, ◌&&◌, ◌^◌, ℕ, [], true, false, cond, not, length, get_or, set, None, Some, ◌∷◌, vec_capacity};
+ghost use Rattle.place_peaks.specs.Granting.{CanGrant, CanHold, IsGranted, IsGrantedAgain};
+ghost use Rattle.place_peaks.specs.Peaks.{is_left, stack_of};
+ghost use Rattle.place_peaks.specs.Stack.{IsFirstOf};
 ghost use Rattle.place_peaks.specs.Tree.{AllFirst, CanRise, front_changed};
 
 use crate::peaks::Peaks;
+use crate::stack::pop;
 use crate::tree::start;
 use peak_tree::PeakTree;
 
 /// Takes the mark of a task away.
 #[tactic(auto, using(crate::proofs::SetLemmas::get_set))]
-fn unmark(left: &mut Vec<bool>, task: u32)
+pub(crate) fn unmark(left: &mut Vec<bool>, task: u32)
     requires { task < length left.old.items }
     ensures long { length left.new.items ≡ length left.old.items }
     ensures each { (u : ℕ) → is_left left.new.items u ≡ cond (task == u) false (is_left left.old.items u) }
@@ -58,6 +60,24 @@ impl Peaks {
                 let seat = self.seat(task);
                 add_base(&mut self.base, place, need);
                 start_at(&mut self.trees, place, seat, need);
+            }
+        }
+    }
+
+    /// The first task of the stack has started.
+    pub fn grant_again(&mut self, task: u32)
+        requires first { IsFirstOf (stack_of self.old) task }
+        requires room { (q : ℕ) → get_or self.old.homes.items task None ≡ Some q → CanHold self.old task q }
+        ensures granted { IsGrantedAgain self.old self.new task }
+        ensures stack { stack_of self.old ≡ task ∷ stack_of self.new }
+        ensures stack_room { vec_capacity self.new.again ≡ vec_capacity self.old.again }
+    {
+        pop(&mut self.again, task);
+        match self.home(task) {
+            None => {}
+            Some(place) => {
+                let need = self.need(task);
+                add_base(&mut self.base, place, need);
             }
         }
     }

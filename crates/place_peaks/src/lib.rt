@@ -10,13 +10,20 @@
 #![tactic(auto)]
 
 mod choosing;
+mod cleaning;
+mod goods;
 mod granting;
 mod law;
+mod links;
 mod peaks;
+mod settling;
+mod stack;
 mod tree;
+mod waiting;
 
 pub use law::{
     agains_keep_peaks, cleans_keep_peaks, grants_are_possible, grants_keep_peaks, peaks_are_seated,
     started_counts, tasks_change_one_place, values_append,
 };
+pub use links::Links;
 pub use peaks::Peaks;

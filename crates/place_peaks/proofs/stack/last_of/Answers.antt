@@ -3,7 +3,7 @@ use Rattle.std.specs.Prelude.{slice_get}
 use Rattle.std.proofs.lemmas.Bool.{eqb-false}
 use Rattle.lease_book.proofs.NumbersLemmas.{count_tasks_in}
 use Rattle.plan_core.specs.Words.{task_numbers}
-use Rattle.place_peaks.proofs.choosing.last_of.Goals as goal
+use Rattle.place_peaks.proofs.stack.last_of.Goals as goal
 
 got : (xs : List ℕ) (k : ℕ) → k < length xs → slice_get xs k ≡ Some (get_or xs k 0)
 got [] k l = absurd (omega (arith, l))
