@@ -33,7 +33,7 @@ split [] i h = absurd (omega arith)
 split (x ∷ xs) zero h = refl
 split (x ∷ xs) (suc i) h = ap (λ (l : List ℕ). x ∷ l) (split xs i (omega arith))
 
-filter_both : (f : ℕ → Bool) (xs ys : List ℕ) → filter f (xs ++ ys) ≡ filter f xs ++ filter f ys
+pub filter_both : (f : ℕ → Bool) (xs ys : List ℕ) → filter f (xs ++ ys) ≡ filter f xs ++ filter f ys
 filter_both f [] ys = refl
 filter_both f (x ∷ xs) ys = by (f x) (filter_both f xs ys)
   where

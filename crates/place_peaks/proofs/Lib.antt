@@ -19,3 +19,5 @@ pub mod PossibleLemmas
 pub mod SettlingLemmas
 pub mod LoweringLemmas
 pub mod EndingLemmas
+pub mod SizingLemmas
+pub mod OpeningLemmas

@@ -15,3 +15,5 @@ pub mod Cleaning
 pub mod Waiting
 pub mod Links
 pub mod Settling
+-- The order before the first entry
+pub mod Opening

@@ -135,3 +135,9 @@ pub fn calls_are_possible()
     ensures end { (p : Plan) (s : State) (b : Peaks) (front : List ℕ) (t : ℕ) → AreBehind p s b front → ended (s.phase t) ≡ false → CanEnd p b.missing.items t }
     ensures room { (p : Plan) (s : State) (b : Peaks) (t : ℕ) → HasStackRoom p b → AreBehind p s b (stack_of b) → t < count_tasks p → has (stack_of b) t ≡ false → length b.again.items < vec_capacity b.again }
 {}
+
+/// In a proper plan no task stands twice among a task's parents.
+#[tactic(auto, using(crate::proofs::OpeningLemmas::parents_once))]
+pub fn parents_stand_once()
+    ensures { (p : Plan) → IsProper p → (t : ℕ) → AreOnce (parents p t) }
+{}

@@ -15,15 +15,20 @@ mod goods;
 mod granting;
 mod law;
 mod links;
+mod opening;
 mod peaks;
 mod settling;
+mod sizing;
 mod stack;
 mod tree;
 mod waiting;
 
 pub use law::{
-    agains_keep_peaks, cleans_keep_peaks, grants_are_possible, grants_keep_peaks, peaks_are_seated,
-    started_counts, tasks_change_one_place, values_append,
+    agains_keep_peaks, calls_are_possible, cleans_are_possible, cleans_keep_peaks, ends_keep_peaks,
+    fails_keep_peaks, first_agains_keep_peaks, first_cleans_are_possible, first_cleans_keep_peaks,
+    first_grants_are_possible, first_grants_keep_peaks, grants_are_possible, grants_keep_peaks,
+    moved_cleans_keep_peaks, parents_stand_once, peaks_are_seated, started_counts,
+    tasks_change_one_place, values_append,
 };
 pub use links::Links;
 pub use peaks::Peaks;
