@@ -1,5 +1,5 @@
 -- The trees of an order before the first entry.
-use Rattle.std.proofs.Common.{◌≡◌, ℕ, zero, suc, ◌+◌, ◌-◌, ◌*◌, ◌≤◌, ◌<◌, ◌^◌, ◌||◌, ◌⊎◌, inl, inr, Bool, true, false, cond, nat_eq, eqb-true, List, [], ◌∷◌, ◌++◌, length, length-append, take, map, get_or, Option, Some, None, refl, sym, ap, subst, ◌∙◌, arith}
+use Rattle.std.proofs.Common.{◌≡◌, ℕ, zero, suc, ◌+◌, ◌*◌, ◌≤◌, ◌<◌, ◌^◌, ◌⊎◌, inl, inr, Bool, true, false, cond, nat_eq, eqb-true, List, [], ◌∷◌, ◌++◌, length, length-append, take, map, get_or, Option, Some, None, refl, sym, ap, subst, ◌∙◌, arith}
 use Rattle.std.specs.Prelude.{Vec, filter, replicate, set}
 use Rattle.std.specs.declared.alloc.Global.{Global}
 use Rattle.std.proofs.lemmas.Bool.{cases_lt}
@@ -12,7 +12,7 @@ use Rattle.lease_book.specs.State.{ended, opened}
 use Rattle.plan_core.specs.declared.plan.Plan.{Plan}
 use Rattle.plan_core.specs.Numbers.{below, has}
 use Rattle.plan_core.specs.Proper.{IsProper}
-use Rattle.plan_core.specs.Words.{cleans, count_tasks, is_clean, parents, task_numbers}
+use Rattle.plan_core.specs.Words.{cleans, count_tasks, parents}
 use Rattle.storage_simulation.specs.declared.standing.Phase.TheVariants.{Waits}
 use Rattle.storage_simulation.specs.Change.{cleaned_part, held_part, size_part}
 use Rattle.storage_simulation.specs.Following.{AreOnce, Follows}
@@ -20,7 +20,7 @@ use Rattle.storage_simulation.specs.Goods.{IsWithinLimits, good_size, goods, lie
 use Rattle.storage_simulation.specs.Law.{KeepsGoods}
 use Rattle.storage_simulation.specs.Usage.{sum_of, total, usage}
 use Rattle.storage_simulation.proofs.ChangeLemmas.{Making, cleaning, making}
-use Rattle.storage_simulation.proofs.FollowingLemmas.{by_bool, front_more, is_itself, once_at, or_left, or_right, place_of}
+use Rattle.storage_simulation.proofs.FollowingLemmas.{by_bool, front_more, is_itself, once_at, or_left, or_right}
 use Rattle.storage_simulation.proofs.GoodsLemmas.{lies_below}
 use Rattle.storage_simulation.proofs.LawLemmas.{below_rises}
 use Rattle.storage_simulation.proofs.RisingLemmas.{rises_once}
@@ -29,8 +29,8 @@ use Rattle.storage_simulation.proofs.UsageLemmas.{good_small}
 use Rattle.place_peaks.specs.declared.peaks.Peaks.{Peaks}
 use Rattle.place_peaks.specs.Opening.{AreLevels, AreSeats, all_left, nothing}
 use Rattle.place_peaks.specs.Peaks.{ArePeaks, left_of, line_of}
-use Rattle.place_peaks.specs.Places.{ChangesOnePlace, brings, held_by, is_place, there}
-use Rattle.place_peaks.specs.Values.{value, values}
+use Rattle.place_peaks.specs.Places.{ChangesOnePlace, held_by, is_place, there}
+use Rattle.place_peaks.specs.Values.{values}
 use Rattle.place_peaks.proofs.ChoosingLemmas.{filter_both}
 use Rattle.place_peaks.proofs.GrantingLemmas.{SumsAreSmall}
 use Rattle.place_peaks.proofs.SetLemmas.{get_set}

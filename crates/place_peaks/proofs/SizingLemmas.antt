@@ -1,7 +1,5 @@
 -- Sums of the first goods of a list.
-use Rattle.std.proofs.Common.{◌≡◌, ℕ, zero, suc, ◌+◌, ◌≤◌, ◌<◌, ◌||◌, Bool, true, false, nat_eq, List, [], ◌∷◌, ◌++◌, length, take, get_or, refl, sym, ap, ◌∙◌, arith}
-use Rattle.plan_core.specs.declared.plan.Plan.{Plan}
-use Rattle.plan_core.specs.Numbers.{has}
+use Rattle.std.proofs.Common.{◌≡◌, ℕ, zero, suc, ◌+◌, ◌≤◌, ◌<◌, List, [], ◌∷◌, length, take, get_or, refl, ap, ◌∙◌, arith}
 use Rattle.storage_simulation.specs.Usage.{sum_of}
 
 pub sum_take : (w : ℕ → ℕ) (xs : List ℕ) (k : ℕ) → k < length xs → sum_of w (take (suc k) xs) ≡ sum_of w (take k xs) + w (get_or xs k 0)

@@ -11,7 +11,7 @@ ghost use Rattle.storage_simulation.specs.Following.{AreOnce, Follows};
 ghost use Rattle.storage_simulation.specs.Goods.{IsWithinLimits, makes, place, places};
 ghost use Rattle.storage_simulation.specs.Law.{KeepsGoods};
 ghost use Rattle.storage_simulation.specs.Usage.{sum_of};
-ghost use Rattle.lease_book.specs.Law.{FitsFromStart, HasStorageLaws};
+ghost use Rattle.lease_book.specs.Law.{FitsFromStart};
 ghost use Rattle.lease_book.specs.State.{opened};
 ghost use Rattle.place_peaks.specs.Opening.{AreLevels, AreSeats};
 ghost use Rattle.place_peaks.specs.Peaks.{ArePeaks};
@@ -23,9 +23,9 @@ use crate::law::tasks_change_one_place;
 use crate::peaks::Peaks;
 use crate::sizing::{level_next, made_size, place_of};
 use peak_tree::PeakTree;
-use plan_core::{Plan, parents_come_before};
+use plan_core::{Plan, files_are_listed_by_pair, parents_come_before};
 use std::alloc::Global;
-use storage_simulation::{places, proper_plans_keep_goods, sums_are_small};
+use storage_simulation::{places, proper_plans_keep_goods, steps_fit, sums_are_small};
 use values::{Memory, TaskId};
 
 /// The seats of the tasks of the order, and how many each place has.
@@ -222,7 +222,6 @@ impl Peaks {
     pub fn open(alloc: Global, plan: &Plan, order: &[TaskId]) -> Result<Peaks, Memory>
         requires proper { IsProper plan.now }
         requires limits { IsWithinLimits plan.now }
-        requires laws { HasStorageLaws plan.now }
         requires fits { FitsFromStart plan.now (task_numbers order.now) }
         ensures tied { IfOk result (λ b. ArePeaks plan.now (opened (task_numbers order.now)) b) }
         ensures stack { IfOk result (λ b. b.again.items ≡ []) }
@@ -231,6 +230,8 @@ impl Peaks {
         sums_are_small();
         parents_come_before();
         proper_plans_keep_goods();
+        files_are_listed_by_pair();
+        steps_fit();
         tasks_change_one_place();
         let tasks = plan.tasks.as_slice().len();
         let seating = seating_of(alloc, plan, order)?;

@@ -1,4 +1,4 @@
-use Rattle.std.proofs.Common.{◌≡◌, ◌<◌, ◌+◌, ℕ, List, length, take, get_or, sym, ap, ◌∙◌, arith}
+use Rattle.std.proofs.Common.{◌<◌, length, sym, arith}
 use Rattle.digraph.specs.Adjacency.{lists_of}
 use Rattle.lease_book.proofs.NumbersLemmas.{count_tasks_in}
 use Rattle.plan_core.specs.Words.{task_numbers}

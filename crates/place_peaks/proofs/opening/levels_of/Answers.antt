@@ -1,4 +1,4 @@
-use Rattle.std.proofs.Common.{sym, ap, refl, subst, ◌∙◌, List, ℕ}
+use Rattle.std.proofs.Common.{sym, refl, subst, ◌∙◌, List, ℕ}
 use Rattle.digraph.specs.Adjacency.{lists_of}
 use Rattle.plan_core.specs.Words.{task_numbers}
 use Rattle.place_peaks.specs.Opening.{AreLevels}

@@ -1,8 +1,10 @@
-use Rattle.std.proofs.Common.{◌≡◌, [], ℕ, List, Some, length, map, true, get_or, refl, sym, ap, subst, ◌∙◌, arith}
+use Rattle.std.proofs.Common.{[], ℕ, List, Some, length, map, true, get_or, ap, ◌∙◌, arith}
 use Rattle.std.specs.Prelude.{Vec, replicate}
 use Rattle.std.specs.declared.alloc.Global.{Global}
 use Rattle.digraph.specs.Adjacency.{lists_of}
 use Rattle.plan_core.specs.Words.{task_numbers}
+use Rattle.storage_simulation.specs.OrderLaw.{less_by_score}
+use Rattle.lease_book.proofs.GoodsLemmas.{storage_laws}
 use Rattle.place_peaks.proofs.OpeningLemmas.{made_small, opened_by, parents_few}
 use Rattle.place_peaks.proofs.peaks.Peaks.open.Goals as goal
 
@@ -13,7 +15,7 @@ pub missing_of-requires-clause-few : goal.missing_of-requires-clause-few
 missing_of-requires-clause-few c = parents_few c.args.plan.now c.requires.proper (λ t u. c.parents_come_before.ensures.in_range c.args.plan.now c.requires.proper t u)
 
 pub returns-clause-tied : goal.returns-clause-tied
-returns-clause-tied c = opened_by c.args.plan.now (task_numbers c.args.order.now) _ c.requires.laws (c.proper_plans_keep_goods.ensures c.args.plan.now c.requires.proper) (c.tasks_change_one_place.ensures c.args.plan.now c.requires.proper) c.requires.fits (record {
+returns-clause-tied c = opened_by c.args.plan.now (task_numbers c.args.order.now) _ (storage_laws c.args.plan.now (c.proper_plans_keep_goods.ensures c.args.plan.now c.requires.proper) (c.files_are_listed_by_pair.ensures.in_range c.args.plan.now c.requires.proper) (λ st ts within is. c.steps_fit.ensures.fits c.args.plan.now st (less_by_score c.args.plan.now st) ts (c.proper_plans_keep_goods.ensures c.args.plan.now c.requires.proper) within is) (λ st ts is. c.steps_fit.ensures.all c.args.plan.now st (less_by_score c.args.plan.now st) ts is)) (c.proper_plans_keep_goods.ensures c.args.plan.now c.requires.proper) (c.tasks_change_one_place.ensures c.args.plan.now c.requires.proper) c.requires.fits (record {
   line = ap task_numbers c.in_ok-copied.ensures;
   left = c.in_ok-vec.ensures.items_if_clones_equal (λ y h. h) ∙ ap (λ (n : ℕ). replicate n true) (ap length c.as_slice-tasks.ensures);
   homes = c.in_ok-homes_of.ensures;
