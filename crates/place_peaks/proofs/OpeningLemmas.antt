@@ -1,0 +1,356 @@
+-- The trees of an order before the first entry.
+use Rattle.std.proofs.Common.{◌≡◌, ℕ, zero, suc, ◌+◌, ◌*◌, ◌≤◌, ◌<◌, ◌^◌, ◌⊎◌, inl, inr, Bool, true, false, cond, nat_eq, eqb-true, List, [], ◌∷◌, ◌++◌, length, length-append, take, map, get_or, Option, Some, None, refl, sym, ap, subst, ◌∙◌, arith}
+use Rattle.std.specs.Prelude.{Vec, filter, replicate, set}
+use Rattle.std.specs.declared.alloc.Global.{Global}
+use Rattle.std.proofs.lemmas.Bool.{cases_lt}
+use Rattle.std.proofs.lemmas.List.{get_or-replicate, get_or_past, length-replicate, length-set}
+use Rattle.digraph.specs.Adjacency.{lists_of}
+use Rattle.lease_book.proofs.ArrayLemmas.{few_once}
+use Rattle.lease_book.proofs.SoundLemmas.{sound_opened}
+use Rattle.lease_book.specs.Law.{FitsFromStart, HasStorageLaws}
+use Rattle.lease_book.specs.State.{ended, opened}
+use Rattle.plan_core.specs.declared.plan.Plan.{Plan}
+use Rattle.plan_core.specs.Numbers.{below, has}
+use Rattle.plan_core.specs.Proper.{IsProper}
+use Rattle.plan_core.specs.Words.{cleans, count_tasks, parents}
+use Rattle.storage_simulation.specs.declared.standing.Phase.TheVariants.{Waits}
+use Rattle.storage_simulation.specs.Change.{cleaned_part, held_part, size_part}
+use Rattle.storage_simulation.specs.Following.{AreOnce, Follows}
+use Rattle.storage_simulation.specs.Goods.{IsWithinLimits, good_size, goods, lies_at, makes, place, places}
+use Rattle.storage_simulation.specs.Law.{KeepsGoods}
+use Rattle.storage_simulation.specs.Usage.{sum_of, total, usage}
+use Rattle.storage_simulation.proofs.ChangeLemmas.{Making, cleaning, making}
+use Rattle.storage_simulation.proofs.FollowingLemmas.{by_bool, front_more, is_itself, once_at, or_left, or_right}
+use Rattle.storage_simulation.proofs.GoodsLemmas.{lies_below}
+use Rattle.storage_simulation.proofs.LawLemmas.{below_rises}
+use Rattle.storage_simulation.proofs.RisingLemmas.{rises_once}
+use Rattle.storage_simulation.proofs.SumsLemmas.{sum_at_most, total_bound}
+use Rattle.storage_simulation.proofs.UsageLemmas.{good_small}
+use Rattle.place_peaks.specs.declared.peaks.Peaks.{Peaks}
+use Rattle.place_peaks.specs.Opening.{AreLevels, AreSeats, all_left, nothing}
+use Rattle.place_peaks.specs.Peaks.{ArePeaks, left_of, line_of}
+use Rattle.place_peaks.specs.Places.{ChangesOnePlace, held_by, is_place, there}
+use Rattle.place_peaks.specs.Values.{values}
+use Rattle.place_peaks.proofs.ChoosingLemmas.{filter_both}
+use Rattle.place_peaks.proofs.GrantingLemmas.{SumsAreSmall}
+use Rattle.place_peaks.proofs.SetLemmas.{get_set}
+use Rattle.place_peaks.proofs.UsageLemmas.{usage_away}
+use Rattle.place_peaks.proofs.ValuesLemmas.{AreSame, filter_same, values_append, values_same}
+
+-- sizes where nothing is held
+sum_none : (p : Plan) (q : ℕ) (xs : List ℕ) → sum_of (held_part p nothing q) xs ≡ 0
+sum_none p q [] = refl
+sum_none p q (x ∷ xs) = let here = by (lies_at p x q) in let rest = sum_none p q xs in omega (arith, here, rest)
+  where
+    by : (b : Bool) → cond b zero zero ≡ zero
+    by true = refl
+    by false = refl
+
+pub usage_none : (p : Plan) (q : ℕ) → usage p nothing [] q ≡ 0
+usage_none p q = let most = total_bound (λ g. cond (lies_at p g q) zero zero) 0 (goods p) (λ g. by (lies_at p g q)) in let no : goods p * 0 ≡ 0 = omega arith in omega (arith, most, no)
+  where
+    by : (b : Bool) → cond b zero zero ≤ 0
+    by true = omega arith
+    by false = omega arith
+
+pub made_small : (p : Plan) → IsWithinLimits p → SumsAreSmall p → KeepsGoods p → (t q : ℕ) → q < places p → sum_of (size_part p q) (makes p t) < 2 ^ 62
+made_small p limits sums keeps t q low =
+    let few : usage p (good_size p) [] q < 2 ^ 62 = sums (good_size p) [] q (λ g. good_small p g limits) in
+    let same : usage p (good_size p) [] q ≡ total (goods p) (size_part p q) = refl in
+    let less = sum_at_most (size_part p q) (goods p) (makes p t) (rises_once 0 (makes p t) (keeps.rises t)) (λ g past. by_bool (lies_at p g q) (λ at. absurd (let l = lies_below p g q low at in omega (arith, l, past))) (λ off. ap (λ (b : Bool). cond b (good_size p g) 0) off)) in
+    omega (arith, few, same, less)
+
+pub parents_once : (p : Plan) → IsProper p → (t : ℕ) → AreOnce (parents p t)
+parents_once p proper t = subst AreOnce (sym (proper.flow.parents t).listed) (rises_once 0 (below (count_tasks p) (has (parents p t))) (below_rises (count_tasks p) (has (parents p t))))
+
+pub parents_few : (p : Plan) → IsProper p → ((t u : ℕ) → has (parents p t) u ≡ true → u < count_tasks p) → (t : ℕ) → length (parents p t) ≤ count_tasks p
+parents_few p proper low t = few_once (count_tasks p) (parents p t) (parents_once p proper t) (low t)
+
+-- one task more of the order
+width_more : (p : Plan) (q : ℕ) (line : List ℕ) (k : ℕ) → k < length line → length (filter (there p q) (take (k + 1) line)) ≡ length (filter (there p q) (take k line)) + cond (there p q (get_or line k 0)) 1 0
+width_more p q line k l =
+    let all = ap (λ (zs : List ℕ). length (filter (there p q) zs)) (front_more line k l) in
+    let parts = ap length (filter_both (there p q) (take k line) (get_or line k 0 ∷ [])) in
+    let sum = length-append (filter (there p q) (take k line)) (filter (there p q) (get_or line k 0 ∷ [])) in
+    let one = by (there p q (get_or line k 0)) in
+    omega (arith, all, parts, sum, one)
+  where
+    by : (b : Bool) → length (cond b (get_or line k 0 ∷ []) []) ≡ cond b 1 0
+    by true = refl
+    by false = refl
+
+has_before : (xs : List ℕ) (j k : ℕ) → j < k → k < length xs → has (take k xs) (get_or xs j 0) ≡ true
+has_before [] j k l m = absurd (omega (arith, m))
+has_before (x ∷ xs) j zero l m = absurd (omega (arith, l))
+has_before (x ∷ xs) zero (suc k) l m = or_left (nat_eq x x) (has (take k xs) x) (is_itself x)
+has_before (x ∷ xs) (suc j) (suc k) l m = or_right (nat_eq x (get_or xs j 0)) (has (take k xs) (get_or xs j 0)) (has_before xs j k (omega (arith, l)) (omega (arith, m)))
+
+filter_short : (f : ℕ → Bool) (xs : List ℕ) → length (filter f xs) ≤ length xs
+filter_short f [] = omega arith
+filter_short f (x ∷ xs) = by (f x) (filter_short f xs)
+  where
+    by : (b : Bool) → length (filter f xs) ≤ length xs → length (cond b (x ∷ filter f xs) (filter f xs)) ≤ length (x ∷ xs)
+    by true h = omega (arith, h)
+    by false h = omega (arith, h)
+
+take_short : (k : ℕ) (xs : List ℕ) → length (take k xs) ≤ k
+take_short zero [] = omega arith
+take_short zero (x ∷ xs) = omega arith
+take_short (suc k) [] = omega arith
+take_short (suc k) (x ∷ xs) = let e = take_short k xs in omega (arith, e)
+
+pub width_few : (p : Plan) (line seats widths : List ℕ) (k a : ℕ) → AreSeats p line seats widths k → a < places p → get_or widths a 0 ≤ k
+width_few p line seats widths k a so_far low = let is = so_far.width a low in let few = filter_short (there p a) (take k line) in let short = take_short k line in omega (arith, is, few, short)
+
+some_same : (a b : ℕ) → Some a ≡ Some b → a ≡ b
+some_same a b e = cc
+
+pub seats_first : (p : Plan) (line : List ℕ) (n m k : ℕ) → n ≡ count_tasks p → m ≡ places p → k ≡ 0 → AreSeats p line (replicate n 0) (replicate m 0) k
+seats_first p line n m k e f z = record {
+  seats_long = length-replicate n 0 ∙ e;
+  widths_long = length-replicate m 0 ∙ f;
+  width = λ q l. get_or-replicate m q 0 0 (omega (arith, l, f)) ∙ sym (ap (λ (j : ℕ). length (filter (there p q) (take j line))) z ∙ none line q);
+  seat = λ j q l at. absurd (omega (arith, l, z));
+}
+  where
+    none : (xs : List ℕ) (q : ℕ) → length (filter (there p q) (take 0 xs)) ≡ 0
+    none [] q = refl
+    none (x ∷ xs) q = refl
+
+pub seats_none : (p : Plan) (line seats widths : List ℕ) (k t : ℕ) → AreSeats p line seats widths k → k < length line → t ≡ get_or line k 0 → place p t ≡ None → AreSeats p line seats widths (k + 1)
+seats_none p line seats widths k t so_far l is home = record {
+  seats_long = so_far.seats_long;
+  widths_long = so_far.widths_long;
+  width = λ q m. let was = so_far.width q m in let more = width_more p q line k l in let off : cond (there p q (get_or line k 0)) 1 zero ≡ zero = ap (λ (o : Option ℕ). cond (is_place q o) 1 zero) here in omega (arith, was, more, off);
+  seat = λ j q m at. by j q (cases_lt j k) m at;
+}
+  where
+    here : place p (get_or line k 0) ≡ None
+    here = ap (place p) (sym is) ∙ home
+
+    by : (j q : ℕ) → (j < k) ⊎ (k ≤ j) → j < k + 1 → place p (get_or line j 0) ≡ Some q → get_or seats (get_or line j 0) 0 ≡ length (filter (there p q) (take j line))
+    by j q (inl n) m at = so_far.seat j q n at
+    by j q (inr n) m at = absurd (let e : j ≡ k = omega (arith, m, n) in let no : None ≡ Some q = sym here ∙ ap (λ (i : ℕ). place p (get_or line i 0)) (sym e) ∙ at in cc)
+
+pub seats_some : (p : Plan) (line seats widths : List ℕ) (k t a seat : ℕ) → AreSeats p line seats widths k → AreOnce line → k < length line → t ≡ get_or line k 0 → place p t ≡ Some a → t < count_tasks p → a < places p → seat ≡ get_or widths a 0
+    → AreSeats p line (set seats t seat) (set widths a (seat + 1)) (k + 1)
+seats_some p line seats widths k t a seat so_far once l is home low_task low seat_is = record {
+  seats_long = length-set seats t seat ∙ so_far.seats_long;
+  widths_long = length-set widths a (seat + 1) ∙ so_far.widths_long;
+  width = λ q m. get_set widths a q (seat + 1) 0 (let long = so_far.widths_long in omega (arith, long, low)) ∙ wide q m (nat_eq a q) refl;
+  seat = λ j q m at. by j q (cases_lt j k) m at;
+}
+  where
+    here : place p (get_or line k 0) ≡ Some a
+    here = ap (place p) (sym is) ∙ home
+
+    in_seats : t < length seats
+    in_seats = let long = so_far.seats_long in omega (arith, long, low_task)
+
+    wide : (q : ℕ) → q < places p → (b : Bool) → nat_eq a q ≡ b → cond b (seat + 1) (get_or widths q 0) ≡ length (filter (there p q) (take (k + 1) line))
+    wide q m true e =
+        let same : a ≡ q = eqb-true a q e in
+        let was = so_far.width q m in
+        let mine = ap (λ (n : ℕ). get_or widths n 0) same in
+        let more = width_more p q line k l in
+        let on : cond (there p q (get_or line k 0)) 1 zero ≡ 1 = ap (λ (o : Option ℕ). cond (is_place q o) 1 zero) here ∙ ap (λ (b : Bool). cond b 1 zero) e in
+        omega (arith, was, mine, more, on, seat_is)
+    wide q m false e =
+        let was = so_far.width q m in
+        let more = width_more p q line k l in
+        let off : cond (there p q (get_or line k 0)) 1 zero ≡ zero = ap (λ (o : Option ℕ). cond (is_place q o) 1 zero) here ∙ ap (λ (b : Bool). cond b 1 zero) e in
+        omega (arith, was, more, off)
+
+    other : (j : ℕ) → j < k → nat_eq t (get_or line j 0) ≡ false
+    other j m = by_bool (nat_eq t (get_or line j 0))
+        (λ e. absurd (let same : get_or line k 0 ≡ get_or line j 0 = sym is ∙ eqb-true t (get_or line j 0) e in let yes : has (take k line) (get_or line k 0) ≡ true = ap (has (take k line)) same ∙ has_before line j k m l in let no = once_at line k once l in cc))
+        (λ e. e)
+
+    by : (j q : ℕ) → (j < k) ⊎ (k ≤ j) → j < k + 1 → place p (get_or line j 0) ≡ Some q → get_or (set seats t seat) (get_or line j 0) 0 ≡ length (filter (there p q) (take j line))
+    by j q (inl n) m at = get_set seats t (get_or line j 0) seat 0 in_seats ∙ ap (λ (b : Bool). cond b seat (get_or seats (get_or line j 0) 0)) (other j n) ∙ so_far.seat j q n at
+    by j q (inr n) m at =
+        let e : j ≡ k = omega (arith, m, n) in
+        let same : a ≡ q = some_same a q (sym here ∙ ap (λ (i : ℕ). place p (get_or line i 0)) (sym e) ∙ at) in
+        get_set seats t (get_or line j 0) seat 0 in_seats
+        ∙ ap (λ (b : Bool). cond b seat (get_or seats (get_or line j 0) 0)) (ap (nat_eq t) (ap (λ (i : ℕ). get_or line i 0) e ∙ sym is) ∙ is_itself t)
+        ∙ seat_is ∙ ap (λ (n : ℕ). get_or widths n 0) same ∙ so_far.width q (subst (λ (n : ℕ). n < places p) same low) ∙ ap (λ (i : ℕ). length (filter (there p q) (take i line))) (sym e)
+
+-- what a place holds after it
+pub level_made : (p : Plan) (line : List ℕ) (k q before : ℕ) → KeepsGoods p → Follows p (λ t. Waits) line → k < length line → q < places p → ((g : ℕ) → cleans p (get_or line k 0) g ≡ false) → before ≡ usage p nothing (take k line) q
+    → before + sum_of (size_part p q) (makes p (get_or line k 0)) ≡ usage p nothing (take (k + 1) line) q
+level_made p line k q before keeps follows l low off is =
+    let m : Making p nothing line k q (get_or line k 0) = making p (λ t. Waits) nothing line k q keeps follows l low off in
+    let first = m.0 in
+    let none = sum_none p q (makes p (get_or line k 0)) in
+    omega (arith, first, none, is)
+
+pub level_cleaned : (p : Plan) (line : List ℕ) (k q g before : ℕ) → KeepsGoods p → Follows p (λ t. Waits) line → k < length line → q < places p → ((x : ℕ) → cleans p (get_or line k 0) x ≡ nat_eq g x) → before ≡ usage p nothing (take k line) q
+    → usage p nothing (take (k + 1) line) q + cleaned_part p (λ t. Waits) nothing (get_or line k 0) q g ≡ before
+level_cleaned p line k q g before keeps follows l low its is =
+    let c = cleaning p (λ t. Waits) nothing line k q g keeps follows l low its in
+    omega (arith, c, is)
+
+filter_all : (xs : List ℕ) → filter all_left xs ≡ xs
+filter_all [] = refl
+filter_all (x ∷ xs) = ap (λ (ys : List ℕ). x ∷ ys) (filter_all xs)
+
+list_more : (p : Plan) (q : ℕ) (line : List ℕ) (k : ℕ) → k < length line → values (there p q) all_left (held_by p nothing q) [] (take (k + 1) line)
+    ≡ values (there p q) all_left (held_by p nothing q) [] (take k line) ++ cond (there p q (get_or line k 0)) (Some (usage p nothing (take (k + 1) line) q) ∷ []) []
+list_more p q line k l =
+    ap (values (there p q) all_left (held_by p nothing q) []) (front_more line k l)
+    ∙ values_append (there p q) all_left (held_by p nothing q) [] (take k line) (get_or line k 0 ∷ [])
+    ∙ ap (λ (front : List ℕ). values (there p q) all_left (held_by p nothing q) [] (take k line) ++ values (there p q) all_left (held_by p nothing q) front (get_or line k 0 ∷ [])) (filter_all (take k line))
+    ∙ ap (λ (front : List ℕ). values (there p q) all_left (held_by p nothing q) [] (take k line) ++ cond (there p q (get_or line k 0)) (Some (usage p nothing front q) ∷ []) []) (sym (front_more line k l))
+
+append_none : (xs : List (Option ℕ)) → xs ++ [] ≡ xs
+append_none [] = refl
+append_none (x ∷ xs) = ap (λ (ys : List (Option ℕ)). x ∷ ys) (append_none xs)
+
+some_last : (xs : List ℕ) (y : ℕ) → map Some (xs ++ y ∷ []) ≡ map Some xs ++ Some y ∷ []
+some_last [] y = refl
+some_last (x ∷ xs) y = ap (λ (ys : List (Option ℕ)). Some x ∷ ys) (some_last xs y)
+
+pub levels_first : (p : Plan) (line : List ℕ) (m k : ℕ) (lists : List (List ℕ)) → m ≡ places p → k ≡ 0 → length lists ≡ places p → ((q : ℕ) → get_or lists q [] ≡ []) → AreLevels p line (replicate m 0) lists k
+levels_first p line m k lists e z long empty = record {
+  used_long = length-replicate m 0 ∙ e;
+  lists_long = long;
+  level = λ q l. get_or-replicate m q 0 0 (omega (arith, l, e)) ∙ sym (ap (λ (j : ℕ). usage p nothing (take j line) q) z ∙ ap (λ (xs : List ℕ). usage p nothing xs q) (none line) ∙ usage_none p q);
+  list = λ q l. ap (map Some) (empty q) ∙ sym (ap (λ (j : ℕ). values (there p q) all_left (held_by p nothing q) [] (take j line)) z ∙ ap (values (there p q) all_left (held_by p nothing q) []) (none line));
+}
+  where
+    none : (xs : List ℕ) → take 0 xs ≡ []
+    none [] = refl
+    none (x ∷ xs) = refl
+
+-- a place that the task doesn't change
+level_stays : (p : Plan) (line : List ℕ) (k q : ℕ) → ChangesOnePlace p → k < length line → q < places p → (place p (get_or line k 0) ≡ Some q → ⊥) → usage p nothing (take (k + 1) line) q ≡ usage p nothing (take k line) q
+level_stays p line k q one l low away = ap (λ (xs : List ℕ). usage p nothing xs q) (front_more line k l) ∙ usage_away p nothing (take k line) (get_or line k 0) q one low away
+
+list_stays : (p : Plan) (line : List ℕ) (k q : ℕ) → k < length line → there p q (get_or line k 0) ≡ false → values (there p q) all_left (held_by p nothing q) [] (take (k + 1) line) ≡ values (there p q) all_left (held_by p nothing q) [] (take k line)
+list_stays p line k q l off = list_more p q line k l ∙ ap (λ (b : Bool). values (there p q) all_left (held_by p nothing q) [] (take k line) ++ cond b (Some (usage p nothing (take (k + 1) line) q) ∷ []) []) off ∙ append_none (values (there p q) all_left (held_by p nothing q) [] (take k line))
+
+pub levels_none : (p : Plan) (line used : List ℕ) (lists : List (List ℕ)) (k t : ℕ) → ChangesOnePlace p → AreLevels p line used lists k → k < length line → t ≡ get_or line k 0 → place p t ≡ None → AreLevels p line used lists (k + 1)
+levels_none p line used lists k t one so_far l is home = record {
+  used_long = so_far.used_long;
+  lists_long = so_far.lists_long;
+  level = λ q m. so_far.level q m ∙ sym (level_stays p line k q one l m (λ at. absurd (let no : None ≡ Some q = sym here ∙ at in cc)));
+  list = λ q m. so_far.list q m ∙ sym (list_stays p line k q l (ap (is_place q) here));
+}
+  where
+    here : place p (get_or line k 0) ≡ None
+    here = ap (place p) (sym is) ∙ home
+
+pub levels_some : (p : Plan) (line used : List ℕ) (lists after : List (List ℕ)) (k t a level : ℕ) → ChangesOnePlace p → AreLevels p line used lists k → k < length line → t ≡ get_or line k 0 → place p t ≡ Some a → a < places p → level ≡ usage p nothing (take (k + 1) line) a
+    → length after ≡ length lists → ((q : ℕ) → get_or after q [] ≡ cond (nat_eq a q) (get_or lists a [] ++ level ∷ []) (get_or lists q [])) → AreLevels p line (set used a level) after (k + 1)
+levels_some p line used lists after k t a level one so_far l is home low level_is long each = record {
+  used_long = length-set used a level ∙ so_far.used_long;
+  lists_long = long ∙ so_far.lists_long;
+  level = λ q m. get_set used a q level 0 (let n = so_far.used_long in omega (arith, n, low)) ∙ level_then q m (nat_eq a q) refl;
+  list = λ q m. ap (map Some) (each q) ∙ list_then q m (nat_eq a q) refl;
+}
+  where
+    here : place p (get_or line k 0) ≡ Some a
+    here = ap (place p) (sym is) ∙ home
+
+    not_there : (q : ℕ) → nat_eq a q ≡ false → place p (get_or line k 0) ≡ Some q → ⊥
+    not_there q e at = absurd (let same : a ≡ q = some_same a q (sym here ∙ at) in let yes : nat_eq a q ≡ true = ap (nat_eq a) (sym same) ∙ is_itself a in cc)
+
+    level_then : (q : ℕ) → q < places p → (b : Bool) → nat_eq a q ≡ b → cond b level (get_or used q 0) ≡ usage p nothing (take (k + 1) line) q
+    level_then q m true e = level_is ∙ ap (usage p nothing (take (k + 1) line)) (eqb-true a q e)
+    level_then q m false e = so_far.level q m ∙ sym (level_stays p line k q one l m (not_there q e))
+
+    list_then : (q : ℕ) → q < places p → (b : Bool) → nat_eq a q ≡ b → map Some (cond b (get_or lists a [] ++ level ∷ []) (get_or lists q [])) ≡ values (there p q) all_left (held_by p nothing q) [] (take (k + 1) line)
+    list_then q m true e =
+        some_last (get_or lists a []) level
+        ∙ ap (λ (n : ℕ). map Some (get_or lists n []) ++ Some level ∷ []) (eqb-true a q e)
+        ∙ ap (λ (vs : List (Option ℕ)). vs ++ Some level ∷ []) (so_far.list q m)
+        ∙ ap (λ (n : ℕ). values (there p q) all_left (held_by p nothing q) [] (take k line) ++ Some n ∷ []) (level_then q m true e)
+        ∙ sym (list_more p q line k l ∙ ap (λ (o : Option ℕ). values (there p q) all_left (held_by p nothing q) [] (take k line) ++ cond (is_place q o) (Some (usage p nothing (take (k + 1) line) q) ∷ []) []) here
+        ∙ ap (λ (b : Bool). values (there p q) all_left (held_by p nothing q) [] (take k line) ++ cond b (Some (usage p nothing (take (k + 1) line) q) ∷ []) []) e)
+    list_then q m false e = so_far.list q m ∙ sym (list_stays p line k q l (ap (is_place q) here ∙ e))
+
+-- one number more in a list of lists
+pub lists_set : (vs : List (Vec ℕ Global)) (i q : ℕ) (v : Vec ℕ Global) → i < length vs → get_or (lists_of (set vs i v)) q [] ≡ cond (nat_eq i q) v.items (get_or (lists_of vs) q [])
+lists_set [] i q v l = absurd (omega (arith, l))
+lists_set (w ∷ vs) zero zero v l = refl
+lists_set (w ∷ vs) zero (suc q) v l = let e : nat_eq 0 (suc q) ≡ false = grind arith in ap (λ (b : Bool). cond b v.items (get_or (lists_of vs) q [])) (sym e)
+lists_set (w ∷ vs) (suc i) zero v l = let e : nat_eq (suc i) 0 ≡ false = grind arith in ap (λ (b : Bool). cond b v.items w.items) (sym e)
+lists_set (w ∷ vs) (suc i) (suc q) v l = lists_set vs i q v (omega (arith, l)) ∙ ap (λ (b : Bool). cond b v.items (get_or (lists_of vs) q [])) (let e : nat_eq i q ≡ nat_eq (suc i) (suc q) = grind arith in e)
+
+pub lists_long : (vs : List (Vec ℕ Global)) → length (lists_of vs) ≡ length vs
+lists_long [] = refl
+lists_long (v ∷ vs) = ap suc (lists_long vs)
+
+pub lists_at : (vs : List (Vec ℕ Global)) (i : ℕ) (d : Vec ℕ Global) → i < length vs → get_or (lists_of vs) i [] ≡ (get_or vs i d).items
+lists_at [] i d l = absurd (omega (arith, l))
+lists_at (v ∷ vs) zero d l = refl
+lists_at (v ∷ vs) (suc i) d l = lists_at vs i d (omega (arith, l))
+
+pub empty_more : (vs : List (Vec ℕ Global)) (v : Vec ℕ Global) (q : ℕ) → v.items ≡ [] → ((r : ℕ) → get_or (lists_of vs) r [] ≡ []) → get_or (lists_of (vs ++ v ∷ [])) q [] ≡ []
+empty_more [] v zero e h = e
+empty_more [] v (suc q) e h = refl
+empty_more (w ∷ vs) v zero e h = h 0
+empty_more (w ∷ vs) v (suc q) e h = empty_more vs v q e (λ r. h (suc r))
+
+pub long_more : (vs : List (Vec ℕ Global)) (v : Vec ℕ Global) → length (lists_of (vs ++ v ∷ [])) ≡ length (lists_of vs) + 1
+long_more [] v = refl
+long_more (w ∷ vs) v = let e = long_more vs v in omega (arith, e)
+
+-- the parts that are made of an order
+pub record IsOpened (p : Plan) (order : List ℕ) (b : Peaks) : Type 0 where
+  pub line : line_of b ≡ order
+  pub left : b.left.items ≡ replicate (count_tasks p) true
+  pub homes : (t : ℕ) → t < count_tasks p → get_or b.homes.items t None ≡ place p t
+  pub needs : (t q : ℕ) → t < count_tasks p → place p t ≡ Some q → get_or b.needs.items t 0 ≡ sum_of (size_part p q) (makes p t)
+  pub missing_long : length b.missing.items ≡ count_tasks p
+  pub missing : (t : ℕ) → t < count_tasks p → get_or b.missing.items t 1 ≡ length (parents p t)
+  pub seats : AreSeats p order b.seats.items b.widths.items (length order)
+  pub base : b.base.items ≡ replicate (places p) 0
+  pub trees_long : length b.trees.items ≡ places p
+  pub trees : (q : ℕ) → q < places p → get_or b.trees.items q [] ≡ values (there p q) all_left (held_by p nothing q) [] (take (length order) order)
+
+sum_ones : (us : List ℕ) → sum_of (λ u. cond (ended Waits) 0 1) us ≡ length us
+sum_ones [] = refl
+sum_ones (u ∷ us) = let e = sum_ones us in omega (arith, e)
+
+all_taken : (xs : List ℕ) → take (length xs) xs ≡ xs
+all_taken [] = refl
+all_taken (x ∷ xs) = ap (λ (ys : List ℕ). x ∷ ys) (all_taken xs)
+
+same_on : (f : ℕ → Bool) (xs : List ℕ) → ((x : ℕ) → has xs x ≡ true → f x ≡ true) → AreSame f all_left xs
+same_on f [] h = tt
+same_on f (x ∷ xs) h = (h x (or_left (nat_eq x x) (has xs x) (is_itself x)), same_on f xs (λ y m. h y (or_right (nat_eq x y) (has xs y) m)))
+
+pub opened_by : (p : Plan) (order : List ℕ) (b : Peaks) → HasStorageLaws p → KeepsGoods p → ChangesOnePlace p → FitsFromStart p order → IsOpened p order b → ArePeaks p (opened order) b
+opened_by p order b laws keeps one fits is = record {
+  laws = laws;
+  keeps = keeps;
+  one = one;
+  sound = sound_opened p order fits;
+  once = subst AreOnce (sym is.line) fits.fits.once;
+  in_plan = λ t m. fits.fits.tasks t (ap (λ (zs : List ℕ). has zs t) (sym is.line) ∙ m);
+  marked = λ t on. ap (λ (zs : List ℕ). has zs t) is.line ∙ fits.all t (low_of t (cases_lt t (count_tasks p)) on);
+  marks_long = ap length is.left ∙ length-replicate (count_tasks p) true;
+  bases_long = ap length is.base ∙ length-replicate (places p) 0;
+  trees_long = is.trees_long;
+  rest = sym (filter_same (left_of b) all_left (line_of b) all_on ∙ filter_all (line_of b) ∙ is.line);
+  waiting = λ t m. absurd cc;
+  homes = is.homes;
+  needs = λ t q m kind at. is.needs t q (fits.fits.tasks t m) at ∙ (let none = sum_none p q (makes p t) in omega (arith, none));
+  missing_long = is.missing_long;
+  counts = λ t l. is.missing t l ∙ sym (sum_ones (parents p t));
+  bases = λ q l. ap (λ (v : List ℕ). get_or v q 0) is.base ∙ get_or-replicate (places p) q 0 0 l ∙ sym (usage_none p q);
+  trees = λ q l. is.trees q l ∙ ap (values (there p q) all_left (held_by p nothing q) []) (all_taken order ∙ sym is.line) ∙ sym (values_same (there p q) (left_of b) all_left (held_by p nothing q) [] (line_of b) all_on);
+  widths = λ q l. is.seats.width q l ∙ ap (λ (zs : List ℕ). length (filter (there p q) zs)) (all_taken order ∙ sym is.line);
+  seats = subst (λ (zs : List ℕ). (j q : ℕ) → j < length zs → place p (get_or zs j 0) ≡ Some q → get_or b.seats.items (get_or zs j 0) 0 ≡ length (filter (there p q) (take j zs))) (sym is.line) (λ j q l at. is.seats.seat j q l at);
+}
+  where
+    on_below : (t : ℕ) → t < count_tasks p → left_of b t ≡ true
+    on_below t l = ap (λ (marks : List Bool). get_or marks t false) is.left ∙ get_or-replicate (count_tasks p) t true false l
+
+    low_of : (t : ℕ) → (t < count_tasks p) ⊎ (count_tasks p ≤ t) → left_of b t ≡ true → t < count_tasks p
+    low_of t (inl l) on = l
+    low_of t (inr l) on = absurd (let off : left_of b t ≡ false = ap (λ (marks : List Bool). get_or marks t false) is.left ∙ get_or_past (replicate (count_tasks p) true) t false (let e = length-replicate (count_tasks p) true in omega (arith, e, l)) in cc)
+
+    all_on : AreSame (left_of b) all_left (line_of b)
+    all_on = same_on (left_of b) (line_of b) (λ t m. on_below t (fits.fits.tasks t (ap (λ (zs : List ℕ). has zs t) (sym is.line) ∙ m)))

@@ -1,0 +1,164 @@
+//! The Choice, by trees.
+
+ghost use Rattle.std.specs.Prelude.{◌≡◌, ◌≤◌, ◌<◌, ◌-◌, ℕ, [], true, false, take, length, get_or, slice_get, None, Some, Decides, MatchOption};
+ghost use Rattle.lease_book.specs.Choice.{CanStart, HasNoChoice, IsChoice};
+ghost use Rattle.lease_book.specs.State.{State};
+ghost use Rattle.peak_tree.specs.Numbers.{greatest};
+ghost use Rattle.plan_core.specs.Words.{task_numbers};
+ghost use Rattle.place_peaks.specs.Peaks.{AreBehind, ArePeaks, AreSeated, is_left, left_of, line_of, stack_of};
+ghost use Rattle.place_peaks.specs.Choosing.{HasRoomAt};
+
+use crate::peaks::Peaks;
+use crate::stack::last_of;
+use crate::tree::{greatest_before, has_room};
+use plan_core::Plan;
+use storage_simulation::place_bound;
+use values::TaskId;
+
+/// The task at a position.
+#[tactic(auto, using(lease_book::proofs::NumbersLemmas::task_at))]
+pub(crate) fn task_at(line: &[TaskId], k: usize) -> u32
+    requires { k < length line.now }
+    ensures { result ≡ get_or (task_numbers line.now) k 0 }
+{
+    line[k].0
+}
+
+impl Peaks {
+    /// Whether a task is left in the line.
+    pub(crate) fn is_left(&self, task: u32) -> bool
+        ensures { result ≡ is_left self.now.left.items task }
+    {
+        match self.left.get(task as usize) {
+            Some(left) => *left,
+            None => false,
+        }
+    }
+
+    pub(crate) fn home(&self, task: u32) -> Option<u32>
+        ensures { result ≡ get_or self.now.homes.items task None }
+    {
+        match self.homes.get(task as usize) {
+            Some(home) => *home,
+            None => None,
+        }
+    }
+
+    pub(crate) fn seat(&self, task: u32) -> usize
+        ensures { result ≡ get_or self.now.seats.items task 0 }
+    {
+        match self.seats.get(task as usize) {
+            Some(seat) => *seat,
+            None => 0,
+        }
+    }
+
+    pub(crate) fn need(&self, task: u32) -> u64
+        ensures { result ≡ get_or self.now.needs.items task 0 }
+    {
+        match self.needs.get(task as usize) {
+            Some(need) => *need,
+            None => 0,
+        }
+    }
+
+    fn missing(&self, task: u32) -> u32
+        ensures { result ≡ get_or self.now.missing.items task 1 }
+    {
+        match self.missing.get(task as usize) {
+            Some(missing) => *missing,
+            None => 1,
+        }
+    }
+
+    fn base(&self, place: u32) -> u64
+        ensures { result ≡ get_or self.now.base.items place 0 }
+    {
+        match self.base.get(place as usize) {
+            Some(base) => *base,
+            None => 0,
+        }
+    }
+
+    /// The greatest value before a seat.
+    #[tactic(auto, using(crate::proofs::ChoosingLemmas::take_none))]
+    fn top(&self, place: u32, seat: usize) -> Option<u64>
+        requires { seat ≤ length (get_or self.now.trees.items place []) }
+        ensures { result ≡ greatest (take seat (get_or self.now.trees.items place [])) }
+    {
+        match self.trees.get(place as usize) {
+            Some(tree) => greatest_before(tree, seat),
+            None => None,
+        }
+    }
+
+    /// Whether a task has room at its place.
+    fn has_room_at(&self, place: u32, task: u32, bound: u64) -> bool
+        requires { get_or self.now.seats.items task 0 ≤ length (get_or self.now.trees.items place []) }
+        ensures { Decides result (HasRoomAt self.now task place bound) }
+    {
+        let seat = self.seat(task);
+        has_room(
+            self.top(place, seat),
+            self.base(place),
+            self.need(task),
+            bound,
+        )
+    }
+
+    /// Whether the task at a position of the line can start.
+    fn can_start_at(&self, plan: &Plan, k: usize) -> bool
+        requires within { k < length self.now.line.items }
+        requires seated { AreSeated self.now }
+        ensures { (s : State) → ArePeaks plan.now s self.now → left_of self.now (get_or (line_of self.now) k 0) ≡ true → Decides result (CanStart plan.now s (get_or (line_of self.now) k 0)) }
+    {
+        let task = task_at(self.line.as_slice(), k);
+        if self.missing(task) > 0 {
+            return false;
+        }
+        if plan.is_clean(TaskId(task)) {
+            return true;
+        }
+        match self.home(task) {
+            None => true,
+            Some(place) => self.has_room_at(place, task, place_bound(plan, place)),
+        }
+    }
+
+    /// Whether the task at a position of the line is left and can start.
+    fn can_begin_at(&self, plan: &Plan, k: usize) -> bool
+        requires within { k < length self.now.line.items }
+        requires seated { AreSeated self.now }
+        ensures { (s : State) → ArePeaks plan.now s self.now → Decides result ((left_of self.now (get_or (line_of self.now) k 0) ≡ true) × CanStart plan.now s (get_or (line_of self.now) k 0)) }
+    {
+        if !self.is_left(task_at(self.line.as_slice(), k)) {
+            return false;
+        }
+        self.can_start_at(plan, k)
+    }
+
+    /// The first task of the line that is left and can start: the Choice where no task waits again.
+    fn choose_line(&self, plan: &Plan) -> Option<u32>
+        requires { AreSeated self.now }
+        ensures { (s : State) → ArePeaks plan.now s self.now → s.failing ≡ false → MatchOption result (HasNoChoice plan.now s) (λ t. IsChoice plan.now s t) }
+    {
+        let line = self.line.as_slice();
+        for k in 0..line.len() {
+            if self.can_begin_at(plan, k) {
+                return Some(task_at(line, k));
+            }
+        }
+        None
+    }
+
+    /// The Choice: the first task that waits again, else the first of the line that is left and can start.
+    pub fn choose(&self, plan: &Plan) -> Option<u32>
+        requires { AreSeated self.now }
+        ensures { (s : State) → AreBehind plan.now s self.now (stack_of self.now) → s.failing ≡ false → MatchOption result (HasNoChoice plan.now s) (λ t. IsChoice plan.now s t) }
+    {
+        match last_of(self.again.as_slice()) {
+            Some(task) => Some(task),
+            None => self.choose_line(plan),
+        }
+    }
+}

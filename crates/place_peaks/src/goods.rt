@@ -1,0 +1,32 @@
+//! The goods that a task makes, one by one.
+
+ghost use Rattle.std.specs.Prelude.{◌≡◌, ◌<◌, length, get_or};
+ghost use Rattle.storage_simulation.specs.Goods.{IsWithinLimits, makes};
+
+use plan_core::Plan;
+use storage_simulation::is_delivery;
+use values::TaskId;
+
+/// How many goods a task makes.
+#[tactic(auto, using(lease_book::proofs::NumbersLemmas::count_pairs_in), unfolding(storage_simulation::specs::Goods::makes))]
+pub(crate) fn count_made(plan: &Plan, task: TaskId) -> usize
+    ensures { result ≡ length (makes plan.now task.0) }
+{
+    if is_delivery(plan, task) {
+        return 1;
+    }
+    plan.writes(task).len()
+}
+
+/// One of the goods that a task makes.
+#[tactic(auto, using(lease_book::proofs::NumbersLemmas::pair_at, lease_book::proofs::GoodsLemmas::delivery_below), unfolding(storage_simulation::specs::Goods::makes))]
+pub(crate) fn made_at(plan: &Plan, task: TaskId, k: usize) -> u32
+    requires limits { IsWithinLimits plan.now }
+    requires within { k < length (makes plan.now task.0) }
+    ensures { result ≡ get_or (makes plan.now task.0) k 0 }
+{
+    if is_delivery(plan, task) {
+        return (plan.pairs.as_slice().len() + task.0 as usize) as u32;
+    }
+    plan.writes(task)[k].0
+}

@@ -1,0 +1,135 @@
+//! What follows from a plan once for all: the children of each task, and the Clean of each pair.
+
+ghost use Rattle.std.specs.Prelude.{◌≡◌, ◌<◌, ◌+◌, ◌^◌, ℕ, true, cond, get_or, length, None, IfOk};
+ghost use Rattle.digraph.specs.Adjacency.{lists_of, neighbours};
+ghost use Rattle.digraph.specs.Digraph.{count, edge};
+ghost use Rattle.plan_core.specs.Numbers.{RisesFrom, has};
+ghost use Rattle.plan_core.specs.Proper.{IsProper};
+ghost use Rattle.plan_core.specs.Words.{count_pairs, count_tasks, parents, task_numbers};
+ghost use Rattle.storage_simulation.specs.Law.{KeepsGoods};
+ghost use Rattle.place_peaks.specs.Links.{AreCleanersBefore, AreLinks, IsCleaner};
+
+use digraph::Digraph;
+use plan_core::{Plan, parents_come_before};
+use std::alloc::Global;
+use storage_simulation::{cleaned_by, proper_plans_keep_goods};
+use values::{Memory, TaskId};
+
+/// A graph that leads from each parent to its children, and by good the Clean of it.
+#[derive(Drop)]
+pub struct Links {
+    pub(crate) children: Digraph,
+    pub(crate) cleaners: Vec<Option<u32>>,
+}
+
+fn numbers_of(alloc: Global, tasks: &[TaskId]) -> Result<Vec<u32>, Memory>
+    ensures { IfOk result (λ v. v.items ≡ task_numbers tasks.now) }
+{
+    let numbers: Vec<u32> = tasks.iter().map(|task| task.0).collect(alloc)?;
+    Ok(numbers)
+}
+
+/// The parents of each task.
+fn parent_lists(alloc: Global, plan: &Plan) -> Result<Vec<Vec<u32>>, Memory>
+    requires few { count_tasks plan.now < 2 ^ 32 }
+    ensures long { IfOk result (λ v. length v.items ≡ count_tasks plan.now) }
+    ensures each { IfOk result (λ v. (t : ℕ) → t < count_tasks plan.now → neighbours (lists_of v.items) t ≡ parents plan.now t) }
+{
+    let mut lists = Vec::new(alloc);
+    for task in 0..plan.tasks.as_slice().len() {
+        lists.push(numbers_of(alloc, plan.parents(TaskId(task as u32)))?)?;
+    }
+    Ok(lists)
+}
+
+fn parent_graph(alloc: Global, plan: &Plan) -> Result<Digraph, Memory>
+    requires proper { IsProper plan.now }
+    ensures nodes { IfOk result (λ g. count g ≡ count_tasks plan.now) }
+    ensures edges { IfOk result (λ g. (u t : ℕ) → edge g u t ≡ has (parents plan.now t) u) }
+{
+    parents_come_before();
+    let lists = parent_lists(alloc, plan)?;
+    let graph = Digraph::new(alloc, &lists)?;
+    Ok(graph)
+}
+
+fn list_at(lists: &[Vec<u32>], at: u32) -> &[u32]
+    ensures { result.now ≡ neighbours (lists_of lists.now) at }
+{
+    match lists.get(at as usize) {
+        Some(found) => found,
+        None => &[],
+    }
+}
+
+/// Notes the good that a task cleans.
+fn note_clean(plan: &Plan, cleaners: &mut Vec<Option<u32>>, task: u32)
+    requires goods { KeepsGoods plan.now }
+    requires long { length cleaners.old.items ≡ count_pairs plan.now }
+    requires so_far { AreCleanersBefore plan.now task cleaners.old.items }
+    ensures long { length cleaners.new.items ≡ count_pairs plan.now }
+    ensures next { AreCleanersBefore plan.now (task + 1) cleaners.new.items }
+{
+    if let Some(good) = cleaned_by(plan, TaskId(task)) {
+        cleaners[good as usize] = Some(task);
+    }
+}
+
+/// The Clean of each good.
+fn cleaners_of(alloc: Global, plan: &Plan) -> Result<Vec<Option<u32>>, Memory>
+    requires proper { IsProper plan.now }
+    requires few { count_tasks plan.now < 2 ^ 32 }
+    ensures { IfOk result (λ v. (g : ℕ) → IsCleaner plan.now g (get_or v.items g None)) }
+{
+    proper_plans_keep_goods();
+    let mut cleaners = vec![in alloc; None; plan.pairs.as_slice().len()]?;
+    for task in 0..plan.tasks.as_slice().len() {
+        note_clean(plan, &mut cleaners, task as u32);
+    }
+    Ok(cleaners)
+}
+
+impl Links {
+    /// The links of a plan.
+    pub fn new(alloc: Global, plan: &Plan) -> Result<Links, Memory>
+        requires proper { IsProper plan.now }
+        ensures { IfOk result (λ links. AreLinks plan.now links) }
+    {
+        Ok(Links {
+            children: parent_graph(alloc, plan)?,
+            cleaners: cleaners_of(alloc, plan)?,
+        })
+    }
+
+    /// The Clean of a good.
+    pub(crate) fn cleaner_of(&self, good: u32) -> Option<u32>
+        ensures { result ≡ get_or self.now.cleaners.items good None }
+    {
+        match self.cleaners.get(good as usize) {
+            Some(clean) => *clean,
+            None => None,
+        }
+    }
+
+    /// The children of a task.
+    pub(crate) fn children_of(&self, task: u32) -> &[u32]
+        ensures rises { RisesFrom 0 result.now }
+        ensures same { (c : ℕ) → has result.now c ≡ edge self.now.children task c }
+        ensures in_range { (c : ℕ) → has result.now c ≡ true → c < count self.now.children }
+    {
+        list_at(self.children.successors(), task)
+    }
+}
+
+/// One open parent less for each of some tasks.
+pub(crate) fn count_down(counts: &mut Vec<u32>, tasks: &[u32])
+    requires rises { RisesFrom 0 tasks.now }
+    requires in_range { (c : ℕ) → has tasks.now c ≡ true → c < length counts.old.items }
+    requires enough { (c : ℕ) → has tasks.now c ≡ true → 0 < get_or counts.old.items c 0 }
+    ensures long { length counts.new.items ≡ length counts.old.items }
+    ensures each { (c : ℕ) → get_or counts.new.items c 0 + cond (has tasks.now c) 1 0 ≡ get_or counts.old.items c 0 }
+{
+    for task in tasks {
+        counts[*task as usize] -= 1;
+    }
+}

@@ -1,0 +1,21 @@
+//! The trees of a plan's places over a line of tasks.
+
+use peak_tree::PeakTree;
+use values::TaskId;
+
+/// The order that is kept, and the tasks that wait again.
+/// By task: whether it is left in the order, its place, its seat among the tasks of its place, what it brings there, and
+/// how many parents haven't ended. By place: how many tasks of the line change it, what is held, and the tree of the line.
+#[derive(Debug, Drop)]
+pub struct Peaks {
+    pub(crate) line: Vec<TaskId>,
+    pub(crate) left: Vec<bool>,
+    pub(crate) homes: Vec<Option<u32>>,
+    pub(crate) seats: Vec<usize>,
+    pub(crate) needs: Vec<u64>,
+    pub(crate) missing: Vec<u32>,
+    pub(crate) again: Vec<TaskId>,
+    pub(crate) widths: Vec<usize>,
+    pub(crate) base: Vec<u64>,
+    pub(crate) trees: Vec<PeakTree>,
+}
