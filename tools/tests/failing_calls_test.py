@@ -7,8 +7,6 @@ which tools/record-model calls legal, while what was delivered is whole; or a fr
 just what comes where none fails. So it is by one worker and by several, whose calls come in another order each time."""
 import collections
 import concurrent.futures
-import importlib.machinery
-import importlib.util
 import os
 import pathlib
 import shutil
@@ -16,13 +14,16 @@ import subprocess
 import sys
 import tempfile
 
+sys.dont_write_bytecode = True
+sys.path.insert(0, "tools")
+import beside
+
 PROGRAM = pathlib.Path("crates/pegasus/out/pegasus").absolute()
 EXAMPLES = pathlib.Path("examples").absolute()
 REQUEST = "examples/diamond/request.json"
 DOCUMENTS = [REQUEST] + [f"examples/diamond/{it}.json" for it in ("diamond", "sites", "replicas", "transformations")]
 RECORD = "examples/record.txt"
 DELIVERED = b"c\nd\na\nb\n"
-sys.dont_write_bytecode = True
 SOURCE = r"""
 #define _GNU_SOURCE
 #include <dirent.h>
@@ -128,15 +129,7 @@ void _exit(int status) {
 """
 
 
-def tool(name):
-    loader = importlib.machinery.SourceFileLoader(name.replace("-", "_"), f"tools/{name}")
-    made = importlib.util.module_from_spec(importlib.util.spec_from_loader(loader.name, loader))
-    sys.modules[loader.name] = made
-    loader.exec_module(made)
-    return made
-
-
-judge = tool("record-model").judge
+judge = beside.load("record-model").judge
 
 
 def made(*words):

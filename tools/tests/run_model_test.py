@@ -1,6 +1,4 @@
 """Tests of tools/run-model: against the runs printed on the pages, and those of the files of cases."""
-import importlib.machinery
-import importlib.util
 import json
 import pathlib
 import re
@@ -10,19 +8,10 @@ import case_files
 import pages
 
 sys.dont_write_bytecode = True
-
-
-def tool(name):
-    """A tool as a module."""
-    loader = importlib.machinery.SourceFileLoader(name.replace("-", "_"), f"tools/{name}")
-    made = importlib.util.module_from_spec(importlib.util.spec_from_loader(loader.name, loader))
-    sys.modules[loader.name] = made
-    loader.exec_module(made)
-    return made
-
-
 sys.path.insert(0, "tools")
-model, join = tool("run-model"), tool("join")
+import beside
+
+model, join = beside.load("run-model"), beside.load("join")
 printed = model.printed
 WHOLE = 65536
 CATALOGUES = {"replicas": "replicaCatalog", "transformations": "transformationCatalog"}

@@ -12,7 +12,7 @@ import subprocess
 import sys
 import tempfile
 
-import failing_calls
+import calls_failing_by_chance
 import workflows
 
 RETRIES = 3
@@ -176,7 +176,7 @@ class Trials:
         self.work, self.place = work, work / f"mosaic{images}"
         self.place.mkdir()
         mosaic(self.place, images)
-        self.library = failing_calls.made_in(work)
+        self.library = calls_failing_by_chance.made_in(work)
         request = json.loads((self.place / "request.json").read_text())
         (self.place / "retried.json").write_text(json.dumps({**request, "retries": RETRIES}))
         status, text, files, left = called(self.place, ["alone", "request.json"])
@@ -185,7 +185,7 @@ class Trials:
 
     def run(self, number, words, **failing):
         log = self.work / f"{self.place.name}.{number}.log"
-        around = failing_calls.surroundings(self.library, log, **failing)
+        around = calls_failing_by_chance.surroundings(self.library, log, **failing)
         status, text, files, left = called(self.place, words, around)
         assert "closed\n" in text, (words, status, text)
         record, rest = text.split("closed\n", 1)
@@ -222,9 +222,9 @@ def large_mosaic(work):
 def tried(trials, plans, seed):
     """Of runs in which each call of the store fails by chance: whether one by four workers was done after all."""
     by_many = ["run", "retried.json", "--workers", "4"]
-    retried = trials.run(f"{seed}.retried", by_many, kinds=failing_calls.ALL, every=50, seed=seed)
-    many = trials.run(f"{seed}.many", ["run", "request.json", "--workers", "4"], kinds=failing_calls.ALL, every=50, seed=seed)
-    alone = trials.run(f"{seed}.alone", ["alone", "request.json"], kinds=failing_calls.ALL, every=50, seed=seed)
+    retried = trials.run(f"{seed}.retried", by_many, kinds=calls_failing_by_chance.ALL, every=50, seed=seed)
+    many = trials.run(f"{seed}.many", ["run", "request.json", "--workers", "4"], kinds=calls_failing_by_chance.ALL, every=50, seed=seed)
+    alone = trials.run(f"{seed}.alone", ["alone", "request.json"], kinds=calls_failing_by_chance.ALL, every=50, seed=seed)
     for trial, request in ((retried, "retried.json"), (many, "request.json"), (alone, "request.json")):
         told = trial.entries("again") + trial.entries("fail")
         assert len(told) == trial.failed and all(line.split(" ")[3] == "hostfailed" for line in told), (seed, request, told)
@@ -256,7 +256,7 @@ def seeds(work, count):
 
 def failures():
     """Runs of the mosaic whose store fails now and then, where there is a compiler to make it fail."""
-    if not failing_calls.can_be_made():
+    if not calls_failing_by_chance.can_be_made():
         print("workers: no calls fail, without a C compiler")
         return 0
     with tempfile.TemporaryDirectory() as work:
