@@ -4,7 +4,7 @@ use Rattle.std.specs.Fmt.{decimal}
 use Rattle.hex.specs.Hex.{encode_lower}
 use Rattle.values.specs.Printed.{printed_name}
 use Rattle.run_record.specs.declared.run_fault.RunFault.{RunFault}
-use Rattle.run_record.specs.declared.run_fault.RunFault.TheVariants.{ReplicaAbsent, ReplicaTooLong, ChecksumDiffers, Oversize, Declined, ToolFailed, HostFailed, ScratchInUse, Memory}
+use Rattle.run_record.specs.declared.run_fault.RunFault.TheVariants.{ReplicaAbsent, ReplicaTooLong, ChecksumDiffers, Oversize, Declined, ToolFailed, HostFailed, ScratchInUse, PairAbsent, LengthDiffers, Memory}
 
 -- a space and a word
 abbrev pub spaced_name : List ℕ → List ℕ
@@ -23,4 +23,6 @@ failed_line (ToolFailed id) = codes "failed tool " ++ printed_name id ++ codes "
 failed_line (HostFailed None) = codes "failed host -\n"
 failed_line (HostFailed (Some task)) = codes "failed host " ++ decimal task.0 ++ codes "\n"
 failed_line (ScratchInUse site) = codes "failed scratch " ++ printed_name site ++ codes "\n"
+failed_line (PairAbsent site lfn) = codes "failed pair " ++ printed_name site ++ codes " " ++ printed_name lfn ++ codes "\n"
+failed_line (LengthDiffers site lfn recorded found) = codes "failed length" ++ spaced_name site ++ spaced_name lfn ++ spaced_number recorded ++ spaced_number found ++ codes "\n"
 failed_line Memory = []

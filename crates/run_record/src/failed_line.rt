@@ -1,7 +1,7 @@
 //! The line of a failed run.
 
 ghost use Rattle.std.specs.Prelude.{◌≡◌, ◌++◌, OnOk};
-ghost use Rattle.run_record.specs.declared.run_fault.RunFault.TheVariants.{ChecksumDiffers, Oversize};
+ghost use Rattle.run_record.specs.declared.run_fault.RunFault.TheVariants.{ChecksumDiffers, LengthDiffers, Oversize};
 ghost use Rattle.run_record.specs.FailedLine.{failed_line};
 
 use crate::run_fault::RunFault;
@@ -41,6 +41,23 @@ fn push_oversize<'a>(
     let declared = Word::Number(declared);
     let length = Word::Number(length);
     push_line(alloc, text, "failed oversize", &[id, lfn, declared, length])
+}
+
+fn push_length<'a>(
+    alloc: Global,
+    text: &mut Vec<u8>,
+    site: &'a Text,
+    lfn: &'a Text,
+    recorded: u64,
+    found: u64,
+) -> Result<(), Memory>
+    ensures { OnOk result (text.new.items ≡ text.old.items ++ failed_line (LengthDiffers site.now lfn.now recorded found)) }
+{
+    let site = Word::Name(site.as_bytes());
+    let lfn = Word::Name(lfn.as_bytes());
+    let recorded = Word::Number(recorded);
+    let found = Word::Number(found);
+    push_line(alloc, text, "failed length", &[site, lfn, recorded, found])
 }
 
 /// Adds the line of a failed run.
@@ -93,6 +110,15 @@ pub fn push_failed(alloc: Global, text: &mut Vec<u8>, fault: &RunFault) -> Resul
             "failed scratch",
             &[Word::Name(site.as_bytes())],
         ),
+        RunFault::PairAbsent(site, lfn) => push_line(
+            alloc,
+            text,
+            "failed pair",
+            &[Word::Name(site.as_bytes()), Word::Name(lfn.as_bytes())],
+        ),
+        RunFault::LengthDiffers(site, lfn, recorded, found) => {
+            push_length(alloc, text, site, lfn, *recorded, *found)
+        }
         RunFault::Memory => Ok(()),
     }
 }

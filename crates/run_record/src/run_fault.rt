@@ -21,5 +21,9 @@ pub enum RunFault {
     HostFailed(Option<TaskId>),
     /// A site that was not empty.
     ScratchInUse(Text),
+    /// A site, and the name of a file that a record says is stored there, where it isn't.
+    PairAbsent(Text, Text),
+    /// The same, with the size that the record says, and the length of the file that is there.
+    LengthDiffers(Text, Text, u64, u64),
     Memory,
 }
