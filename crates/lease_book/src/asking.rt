@@ -10,7 +10,8 @@ ghost use Rattle.lease_book.specs.Legal.{IsOpen, Legal};
 use crate::book::Book;
 use crate::sums;
 use run_record::Record;
-use values::{SiteId, TaskId};
+use storage_simulation::Held;
+use values::{PairId, SiteId, TaskId};
 
 impl Book {
     /// Whether a task is open for a worker.
@@ -40,6 +41,20 @@ impl Book {
         ensures { result ≡ reserved_at self.now.plan (state_at self.now).held site.0 }
     {
         sums::reserved_at(&self.plan, &self.state.standing, site.0)
+    }
+
+    /// What is held of a pair.
+    pub fn held(&self, pair: PairId) -> Held
+        ensures { result ≡ (state_at self.now).held pair.0 }
+    {
+        sums::held_of(&self.state.standing, pair.0)
+    }
+
+    /// Whether a Fail stands.
+    pub fn is_failing(&self) -> bool
+        ensures { result ≡ (state_at self.now).failing }
+    {
+        self.state.failing
     }
 
     /// The record, which is Legal.

@@ -24,7 +24,7 @@ fn count_goods(plan: &Plan) -> usize
 }
 
 /// What is held of a good.
-fn held_of(standing: &Standing, good: u32) -> Held
+pub(crate) fn held_of(standing: &Standing, good: u32) -> Held
     ensures { result ≡ held_of standing.now good }
 {
     let pairs = standing.held.as_slice().len();

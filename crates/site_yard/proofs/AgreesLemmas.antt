@@ -1,6 +1,7 @@
 -- What a store shows of a record.
 use Rattle.std.proofs.Common.{◌≡◌, ℕ, zero, suc, true, List, [], ◌∷◌, ◌++◌, drop, take, refl, sym, ap, ◌∙◌, subst, length}
 use Rattle.std.specs.Prelude.{Option, Some, None, option_map, is_some, IfSome}
+use Rattle.std.proofs.lemmas.List.{append-nil}
 use Rattle.std.proofs.Math.Logic.{∥∥₁_map, ∥∥₁_elim, ∥∥₁_prop}
 use Rattle.values.specs.Apply.{Apply}
 use Rattle.outside.specs.declared.counts.Counts.{Counts}
@@ -18,7 +19,7 @@ use Rattle.site_yard.specs.Failures.{AreCounted}
 use Rattle.site_yard.specs.Kept.{IsKept, IsOpening, IsTruthful}
 use Rattle.site_yard.specs.Law.{Agrees, AgreesSince, HasPlanLaws, HasRecordLaws, Holds}
 use Rattle.site_yard.specs.Names.{pair_file}
-use Rattle.site_yard.specs.Places.{is_delivered}
+use Rattle.site_yard.specs.Places.{is_delivered, is_published, is_swept}
 use Rattle.site_yard.specs.Truthful.{Truthful}
 use Rattle.site_yard.proofs.DeliveredLemmas.{delivered_kept, undelivered_kept}
 use Rattle.site_yard.proofs.GoneLemmas.{swept_gone}
@@ -35,11 +36,11 @@ there x None n e h = absurd cc
 there x (Some b) n e h = ap is_some e
 
 -- the entries of the opening, and those since
-legal_parts : (p : Plan) (s : State) (first r : List Event) → LegalFrom p s (first ++ r) → LegalFrom p s first × LegalFrom p (now_from p s first) r
+pub legal_parts : (p : Plan) (s : State) (first r : List Event) → LegalFrom p s (first ++ r) → LegalFrom p s first × LegalFrom p (now_from p s first) r
 legal_parts p s [] r l = (tt, l)
 legal_parts p s (e ∷ first) r l = let more = legal_parts p (after p s e) first r l.1 in ((l.0, more.0), more.1)
 
-truthful_since : (apply : Apply) (told : List ℕ → Option (List ℕ)) (p : Plan) (c : ℕ → ℕ → Option (List ℕ)) (first r : List Event) → Truthful apply told p c (first ++ r) → Truthful apply told p c r
+pub truthful_since : (apply : Apply) (told : List ℕ → Option (List ℕ)) (p : Plan) (c : ℕ → ℕ → Option (List ℕ)) (first r : List Event) → Truthful apply told p c (first ++ r) → Truthful apply told p c r
 truthful_since apply told p c [] r h = h
 truthful_since apply told p c (e ∷ first) r h = truthful_since apply told p c first r h.1
 
@@ -107,3 +108,19 @@ fresh_agrees apply p k h o m since none = ∥∥₁_map since (told_from_start a
 
 pub fresh_counted : (k : ℕ) (h : List Event) (o : Option Store) (f0 m0 : ℕ) (counts : Counts) → ∥ AreCounted o f0 m0 counts (drop k h) ∥₁ → take k h ≡ [] → ∥ AreCounted o f0 m0 counts h ∥₁
 fresh_counted k h o f0 m0 counts counted none = subst (λ l. ∥ AreCounted o f0 m0 counts l ∥₁) (all_since k h none) counted
+
+-- a store shows no entries of itself
+pub none_agrees : (apply : Apply) (p : Plan) (first : List Event) (m : Store) → AgreesSince apply p first [] m m
+unfolding is_delivered is_published is_swept
+none_agrees apply p first m = record {
+  replicas = refl;
+  trace = sym (append-nil m.trace);
+  holds = λ opening. record {
+    truthful = subst (IsTruthful apply p m) (sym (append-nil first)) opening.truthful;
+    published = λ q put free. absurd cc;
+    swept = λ q h. absurd cc;
+    untouched = λ site name none. refl;
+    delivered = λ f h. absurd cc;
+    undelivered = λ name none. refl;
+  };
+}

@@ -25,6 +25,7 @@ mod LentLemmas
 mod SizedLemmas
 mod StandsLemmas
 mod OpenLemmas
+mod ReopenLemmas
 mod ListLemmas
 mod NextLemmas
 mod LoanLemmas

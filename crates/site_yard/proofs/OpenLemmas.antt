@@ -15,7 +15,7 @@ use Rattle.site_yard.specs.Kept.{HoldsSizes, IsKept}
 use Rattle.site_yard.specs.Names.{is_used, site_name}
 use Rattle.site_yard.specs.Opening.{AreUnusedBelow, IsInUse, IsUnusedAt, Looked, LookedAt, Refuses, looks_at, looks_below}
 use Rattle.site_yard.specs.declared.opening.OpenFault.{OpenFault}
-use Rattle.site_yard.specs.declared.opening.OpenFault.TheVariants.{ScratchInUse, HostFailed, Memory}
+use Rattle.site_yard.specs.declared.opening.OpenFault.TheVariants.{ScratchInUse, HostFailed, Memory, PairAbsent, LengthDiffers}
 use Rattle.site_yard.proofs.CountingLemmas.{done_before, done_once, missed_once, same_more}
 
 in_use_told : (o : Option Store) (site : List ℕ) (b : Bool) → b ≡ false → IfSome o (λ s. Decides b (IsEmptyAt s.scratch site)) → IfSome o (λ s. IsEmptyAt s.scratch site → ⊥)
@@ -79,6 +79,8 @@ look_stops p o n k first before now_ HostFailed less same below done at later =
 look_stops p o n k first before now_ Memory less same below done at later =
     let plus : looks_below p k ≡ looks_below p k + 0 = omega arith in
     record { site = k; below = omega (arith, less); empty = below; asked = subst (λ z. AreMore z 0 0 first now_) (sym plus) (done_before (looks_below p k) 0 0 0 first before now_ done at later) }
+look_stops p o n k first before now_ (PairAbsent x) less same below done at later = at
+look_stops p o n k first before now_ (LengthDiffers x recorded found) less same below done at later = at
 
 -- want of memory before the first look, or after the last
 none_below : (p : Plan) (o : Option Store) → AreUnusedBelow p o 0

@@ -16,6 +16,7 @@ pub mod Storing
 pub mod Loan
 pub mod Lending
 pub mod Opening
+pub mod Reopening
 pub mod Ending
 pub mod Leased
 pub mod Yard

@@ -5,11 +5,11 @@ use Rattle.outside.specs.declared.counts.Counts.{Counts}
 use Rattle.outside.specs.declared.store.Store.{Store}
 use Rattle.plan_core.specs.declared.plan.Plan.{Plan}
 use Rattle.site_yard.specs.Failures.{AreMore}
-use Rattle.site_yard.specs.Names.{is_used, site_name}
+use Rattle.site_yard.specs.Names.{is_used, pair_file_name, pair_site_name, site_name}
 use Rattle.run_record.specs.declared.run_fault.RunFault.{RunFault}
 use Rattle.run_record.specs.declared.run_fault.RunFault.TheVariants as run
 use Rattle.site_yard.specs.declared.opening.OpenFault.{OpenFault}
-use Rattle.site_yard.specs.declared.opening.OpenFault.TheVariants.{ScratchInUse, HostFailed, Memory}
+use Rattle.site_yard.specs.declared.opening.OpenFault.TheVariants.{ScratchInUse, HostFailed, Memory, PairAbsent, LengthDiffers}
 
 -- a site that has a pair holds no file, where it is told; it holds one
 abbrev pub IsUnusedAt : Plan → Option Store → ℕ → Type 0
@@ -34,6 +34,7 @@ LookedAt p x told before now (Ok u) = IsUnusedAt p told x × AreMore (looks_at p
 LookedAt p x told before now (Err (ScratchInUse y)) = (y.0 ≡ x) × IsInUse p told y.0 × AreMore 0 0 1 before now
 LookedAt p x told before now (Err HostFailed) = (is_used p x ≡ true) × AreMore 0 1 0 before now
 LookedAt p x told before now (Err Memory) = AreMore 0 0 0 before now
+LookedAt p x told before now (Err _) = ⊥
 
 abbrev pub AreUnusedBelow : Plan → Option Store → ℕ → Type 0
 AreUnusedBelow p told n = (x : ℕ) → x < n → IsUnusedAt p told x
@@ -61,13 +62,16 @@ abbrev pub Refuses : Plan → Option Store → Counts → Counts → OpenFault �
 Refuses p told before now (ScratchInUse x) = (x.0 < length p.sites) × IsInUse p told x.0 × AreUnusedBelow p told x.0 × AreMore (looks_below p x.0) 0 1 before now
 Refuses p told before now HostFailed = HasFailedAt p told before now
 Refuses p told before now Memory = HasWantedAt p told before now
+Refuses p told before now _ = ⊥
 
 abbrev pub Looked : Plan → Option Store → Counts → Counts → Result (Unit {0}) OpenFault → Type 0
 Looked p told before now (Ok u) = AreUnused p told × AreMore (looks p) 0 0 before now
 Looked p told before now (Err fault) = Refuses p told before now fault
 
--- the fault of a run that wasn't opened, with the name of a site in use
+-- the fault of a run that wasn't opened, with the names of a site or a pair
 abbrev pub fault_of_opening : Plan → OpenFault → RunFault
 fault_of_opening p (ScratchInUse x) = run.ScratchInUse (site_name p x.0)
+fault_of_opening p (PairAbsent x) = run.PairAbsent (pair_site_name p x.0) (pair_file_name p x.0)
+fault_of_opening p (LengthDiffers x recorded found) = run.LengthDiffers (pair_site_name p x.0) (pair_file_name p x.0) recorded found
 fault_of_opening p HostFailed = run.HostFailed None
 fault_of_opening p Memory = run.Memory

@@ -12,6 +12,7 @@ ghost use Rattle.lease_book.specs.Legal.{IsComplete, IsOpen, Legal};
 ghost use Rattle.lease_book.specs.State.{now};
 ghost use Rattle.site_yard.specs.Failures.{host_faults, host_misses, tool_faults};
 ghost use Rattle.site_yard.specs.Kept.{IsOpening};
+ghost use Rattle.site_yard.specs.Law.{AgreesSince};
 ghost use Rattle.site_yard.specs.Places.{is_delivered, is_published, is_swept};
 
 use crate::law::record_laws;
@@ -24,7 +25,8 @@ pub fn complete_records_deliver()
     record_laws();
 }
 
-/// In a record without entries no task is open, nothing stands, and nothing was counted.
+/// In a record without entries no task is open, nothing stands, and nothing was counted; a store shows them of itself,
+/// whatever entries stood before.
 pub fn empty_records()
     ensures none_open { (p : Plan) (order : List ℕ) (w t : ℕ) → IsOpen (now p order []) w t → ⊥ }
     ensures none_published { (p : Plan) (q : ℕ) → is_published p [] q ≡ false }
@@ -33,5 +35,6 @@ pub fn empty_records()
     ensures faults { host_faults [] ≡ 0 }
     ensures misses { host_misses [] ≡ 0 }
     ensures tools { (w : ℕ) → tool_faults w [] ≡ 0 }
+    ensures agrees { (apply : Apply) (p : Plan) (first : List Event) (m : Store) → AgreesSince apply p first [] m m }
     ensures opening { (apply : Apply) (p : Plan) (m : Store) → IsOpening apply p [] m }
 {}

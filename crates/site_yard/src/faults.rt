@@ -1,6 +1,6 @@
 //! Why a run may fail.
 
-ghost use Rattle.std.specs.Prelude.{◌≡◌, ◌≤◌, ℕ, true, false, List, Option, Some, None, is_some};
+ghost use Rattle.std.specs.Prelude.{◌≡◌, ◌≤◌, ◌++◌, ℕ, true, false, List, Option, Some, None, is_some};
 ghost use Rattle.values.specs.Apply.{Apply};
 ghost use Rattle.plan_core.specs.declared.plan.Plan.{Plan};
 ghost use Rattle.plan_core.specs.Carried.{Bytes, carried};
@@ -17,10 +17,11 @@ ghost use Rattle.site_yard.specs.Truthful.{Truthful};
 use crate::law::plan_laws;
 
 /// Where all that tasks carry is there and fits, a run fails by a counted failure of the host or of a worker's tool, or
-/// for want of memory. In every Legal record the workers are below 16.
+/// for want of memory; so does one that goes on from a record. In every Legal record the workers are below 16.
 pub fn nothing_else_fails()
     ensures below { (apply : Apply) (told : Bytes → Option Bytes) (p : Plan) (order : List ℕ) (r : List Event) (fault : RunFault) (n : ℕ) → IsProper p → Legal p order r → Truthful apply told p (carried apply told p) r → AllCarried apply told p → AllBelow n r → first_fault p r ≡ Some fault → IsCountedFault (HasToolFault n r) r fault }
     ensures alone { (apply : Apply) (told : Bytes → Option Bytes) (p : Plan) (order : List ℕ) (r : List Event) (fault : RunFault) → IsProper p → Legal p order r → Truthful apply told p (carried apply told p) r → AllCarried apply told p → AllBelow 1 r → first_fault p r ≡ Some fault → IsCountedFault (1 ≤ tool_faults 0 r) r fault }
+    ensures since { (apply : Apply) (told : Bytes → Option Bytes) (p : Plan) (order : List ℕ) (first r : List Event) (fault : RunFault) (n : ℕ) → IsProper p → Legal p order (first ++ r) → Truthful apply told p (carried apply told p) (first ++ r) → AllCarried apply told p → AllBelow n r → first_fault p r ≡ Some fault → IsCountedFault (HasToolFault n r) r fault }
     ensures workers { (p : Plan) (order : List ℕ) (r : List Event) → Legal p order r → AllBelow 16 r }
 {
     plan_laws();

@@ -26,6 +26,7 @@ mod loans;
 mod moving;
 mod names;
 mod opening;
+mod reopening;
 mod returning;
 mod yard;
 

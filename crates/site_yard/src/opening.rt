@@ -1,12 +1,13 @@
 //! Whether the sites of a plan are free, and why a run wasn't opened.
 
-ghost use Rattle.std.specs.Prelude.{◌≡◌, ◌≤◌, ◌<◌, ◌^◌, ◌⊎◌, length};
+ghost use Rattle.std.specs.Prelude.{◌≡◌, ◌≤◌, ◌<◌, ◌^◌, ◌⊎◌, IfOk, length};
 ghost use Rattle.outside.specs.Counts.{IsLater};
 ghost use Rattle.site_yard.specs.Opening.{Looked, LookedAt, fault_of_opening};
 ghost use Rattle.run_record.specs.declared.run_fault.RunFault.TheVariants as run;
+ghost use Rattle.site_yard.specs.declared.opening.OpenFault.TheVariants as openings;
 
-use crate::names::{is_used, site_name};
-use outside::{Host, HostFault, SiteId, Text};
+use crate::names::{is_used, pair_file_name, pair_site_name, site_name};
+use outside::{Host, HostFault, Memory, PairId, SiteId, Text};
 use plan_core::Plan;
 use run_record::RunFault;
 use std::alloc::Global;
@@ -18,6 +19,10 @@ pub enum OpenFault {
     ScratchInUse(SiteId),
     HostFailed,
     Memory,
+    /// A pair that is stored by the record, and isn't there.
+    PairAbsent(PairId),
+    /// A pair that is stored, its size by the record, and the length of the file that is there.
+    LengthDiffers(PairId, u64, u64),
 }
 
 /// Why nothing was opened, with what was handed in.
@@ -63,16 +68,53 @@ pub(crate) fn look<H: Host>(plan: &Plan, host: &mut H, alloc: Global) -> Result<
     Ok(())
 }
 
-/// Why a run failed that wasn't opened, or want of memory for the site's name.
+/// The name of a site in use.
+fn in_use(plan: &Plan, alloc: Global, site: SiteId) -> Result<RunFault, Memory>
+    ensures { IfOk result (λ f. f ≡ fault_of_opening plan.now (openings.ScratchInUse site)) }
+{
+    let name = Text::copy_of(alloc, site_name(plan, site))?;
+    Ok(RunFault::ScratchInUse(name))
+}
+
+/// The names of a pair that isn't there.
+fn absent_pair(plan: &Plan, alloc: Global, pair: PairId) -> Result<RunFault, Memory>
+    ensures { IfOk result (λ f. f ≡ fault_of_opening plan.now (openings.PairAbsent pair)) }
+{
+    let site = Text::copy_of(alloc, pair_site_name(plan, pair))?;
+    let name = Text::copy_of(alloc, pair_file_name(plan, pair))?;
+    Ok(RunFault::PairAbsent(site, name))
+}
+
+/// The names of a pair of another length.
+fn other_length(
+    plan: &Plan,
+    alloc: Global,
+    pair: PairId,
+    recorded: u64,
+    found: u64,
+) -> Result<RunFault, Memory>
+    ensures { IfOk result (λ f. f ≡ fault_of_opening plan.now (openings.LengthDiffers pair recorded found)) }
+{
+    let site = Text::copy_of(alloc, pair_site_name(plan, pair))?;
+    let name = Text::copy_of(alloc, pair_file_name(plan, pair))?;
+    Ok(RunFault::LengthDiffers(site, name, recorded, found))
+}
+
+/// Why a run failed that wasn't opened, or want of memory for the names in it.
 pub fn opening_fault(plan: &Plan, alloc: Global, fault: OpenFault) -> RunFault
     ensures { (result ≡ fault_of_opening plan.now fault) ⊎ (result ≡ run.Memory) }
 {
-    match fault {
-        OpenFault::ScratchInUse(site) => match Text::copy_of(alloc, site_name(plan, site)) {
-            Ok(name) => RunFault::ScratchInUse(name),
-            Err(_) => RunFault::Memory,
-        },
-        OpenFault::HostFailed => RunFault::HostFailed(None),
-        OpenFault::Memory => RunFault::Memory,
+    let named = match fault {
+        OpenFault::ScratchInUse(site) => in_use(plan, alloc, site),
+        OpenFault::PairAbsent(pair) => absent_pair(plan, alloc, pair),
+        OpenFault::LengthDiffers(pair, recorded, found) => {
+            other_length(plan, alloc, pair, recorded, found)
+        }
+        OpenFault::HostFailed => Ok(RunFault::HostFailed(None)),
+        OpenFault::Memory => Err(Memory),
+    };
+    match named {
+        Ok(fault) => fault,
+        Err(Memory) => RunFault::Memory,
     }
 }

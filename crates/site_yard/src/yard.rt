@@ -25,7 +25,7 @@ pub struct Yard<H: Host, T: Tool> {
     pub(crate) misses: u64,
     pub(crate) opened: usize,
     pub(crate) delivered: Vec<Delivered>,
-    tool: PhantomData<T>,
+    pub(crate) tool: PhantomData<T>,
     ghost same_plan: { book.plan ≡ ordered.plan },
     ghost same_order: { book.order.items ≡ ordered.tasks.items },
     ghost begun: { opened ≤ length book.history.events },

@@ -1,4 +1,4 @@
-use Rattle.site_yard.proofs.AgreesLemmas.{opening_of_none}
+use Rattle.site_yard.proofs.AgreesLemmas.{none_agrees, opening_of_none}
 use Rattle.site_yard.proofs.CompletingLemmas.{no_faults, no_misses, no_tool_faults, none_delivered, none_open, none_published, none_swept}
 use Rattle.site_yard.proofs.completing.empty_records.Goals as goal
 
@@ -25,3 +25,6 @@ returns-clause-tools c = no_tool_faults
 
 pub returns-clause-opening : goal.returns-clause-opening
 returns-clause-opening c = opening_of_none
+
+pub returns-clause-agrees : goal.returns-clause-agrees
+returns-clause-agrees c = none_agrees
