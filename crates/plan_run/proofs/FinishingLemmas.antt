@@ -58,6 +58,8 @@ no_refusal w p fault can still h = by h.opening h.refuses h.fault_is
         absurd (used unused)
     by openings.HostFailed refuses is = absurd (still (more_rose 1 _ _ (omega arith) refuses.asked.faults_is))
     by openings.Memory refuses is = is
+    by (openings.PairAbsent x) refuses is = absurd refuses
+    by (openings.LengthDiffers x recorded found) refuses is = absurd refuses
 
 none_host : (r : List Event) → r ≡ [] → 1 ≤ host_faults r → ⊥
 unfolding host_faults

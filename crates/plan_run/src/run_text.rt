@@ -75,7 +75,7 @@ fn push_lines(
 }
 
 /// The record, and then a line for each delivered file, by file number.
-pub(crate) fn run_text(
+pub fn print_run(
     alloc: Global,
     plan: &Plan,
     history: &Record,

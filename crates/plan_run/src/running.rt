@@ -10,7 +10,7 @@ ghost use Rattle.plan_run.specs.Running.{EndsAs, HasRunAlone, IsEmptyReport, IsR
 
 use crate::law::deliveries_stay_within_the_output;
 use crate::record_copy::copy_of;
-use crate::run_text::run_text;
+use crate::run_text::print_run;
 use craft::{Crew, Gate};
 use lease_book::{legal_records_are_safe, ordered_plans_fit};
 use outside::{Host, Memory, Tool};
@@ -78,7 +78,7 @@ fn report_of<H: Host, T: Tool>(alloc: Global, yard: &Yard<H, T>) -> Result<Repor
     // What holds of every record, for the proof.
     record.has_entries();
     let arrived = yard.delivered();
-    let text = run_text(alloc, yard.plan(), record, arrived)?;
+    let text = print_run(alloc, yard.plan(), record, arrived)?;
     let history = copy_of(alloc, record)?;
     let mut delivered = Vec::new(alloc);
     delivered.extend_from_slice(arrived)?;
@@ -122,7 +122,7 @@ fn empty_report(alloc: Global, plan: &Plan) -> Result<Report, Memory>
     ensures { IfOk result (λ x. IsEmptyReport plan.now (reporting (Some x.history) x.text.items x.delivered.items)) }
 {
     let history = Record::with_room(alloc, 0, 0)?;
-    let text = run_text(alloc, plan, &history, &[])?;
+    let text = print_run(alloc, plan, &history, &[])?;
     let delivered = Vec::new(alloc);
     Ok(Report {
         history,

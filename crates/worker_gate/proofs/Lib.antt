@@ -7,8 +7,8 @@ mod LoanLemmas
 mod MadeLemmas
 mod MovedLemmas
 mod FillingLemmas
-mod InputsLemmas
-mod CallsLemmas
+pub mod InputsLemmas
+pub mod CallsLemmas
 mod TurningLemmas
 mod TendingLemmas
 mod AskingLemmas

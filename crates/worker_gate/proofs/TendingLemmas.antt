@@ -32,8 +32,8 @@ abandoned_ends p s w t c r new is = record {
 pub ends_finishes : (w t n : ℕ) (r new : List Event) → EndsTask w t n r new → Finishes w t n r new
 ends_finishes w t n r new ends = record { entry = ends.entry; is = ends.is; last = done_last w t ends.entry ends.done; failures = ends.failures }
 
-pub ends_does : (t n a b : ℕ) (r new : List Event) → EndsTask 0 t n r new → RoseBy n a b → DoesTask r new t a b
-ends_does t n a b r new ends rose = record { entry = ends.entry; is = ends.is; done = ends.done; counted = subst (λ k. RoseBy k a b) (sym ends.failures) rose }
+pub ends_does : (w t n a b : ℕ) (r new : List Event) → EndsTask w t n r new → RoseBy n a b → DoesTask w r new t a b
+ends_does w t n a b r new ends rose = record { entry = ends.entry; is = ends.is; done = ends.done; counted = subst (λ k. RoseBy k a b) (sym ends.failures) rose }
 
-pub none_does : {Takes : Event → ℕ → Type 0} (t a : ℕ) (r new : List Event) (o : Option Store) (before now_ : Counts) → Adds r new (IsFailure 0 t) Takes o before now_ → DoesTask r new t a a
-none_does t a r new o before now_ adds = ends_does t 0 a a r new (failure_ends 0 t r new o before now_ adds) (rose_zero 0 a refl)
+pub none_does : {Takes : Event → ℕ → Type 0} (w t a : ℕ) (r new : List Event) (o : Option Store) (before now_ : Counts) → Adds r new (IsFailure w t) Takes o before now_ → DoesTask w r new t a a
+none_does w t a r new o before now_ adds = ends_does w t 0 a a r new (failure_ends w t r new o before now_ adds) (rose_zero 0 a refl)

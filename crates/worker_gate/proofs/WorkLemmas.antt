@@ -155,7 +155,7 @@ granted_is_open a b t o before now_ same safe none leases = elim leases.1 [
   | inr fresh ↦ absurd (no_fresh a.plan (state_at a) t.0 safe (consistent_at a) none fresh.0)
 ]
 
-choice_works : (a b c : Book) (t x y : ℕ) → HasLeaseLaws a.plan → IsOneRun a b → IsOneRun b c → IsSafeState a.plan (state_at a) → NoneOpen (state_at a) → IsChoice a.plan (state_at a) t → b.history.events ≡ a.history.events ++ Grant 0 t ∷ [] → DoesTask b.history.events c.history.events t x y
+choice_works : (a b c : Book) (t x y : ℕ) → HasLeaseLaws a.plan → IsOneRun a b → IsOneRun b c → IsSafeState a.plan (state_at a) → NoneOpen (state_at a) → IsChoice a.plan (state_at a) t → b.history.events ≡ a.history.events ++ Grant 0 t ∷ [] → DoesTask 0 b.history.events c.history.events t x y
     → WorksOn a.plan (state_at a) a.history.events c.history.events (state_at c) x y × (length a.history.events < length c.history.events)
 choice_works a b c t x y laws same_b same_c safe none choice is does =
     let e = does.entry in
@@ -176,7 +176,7 @@ choice_works a b c t x y laws same_b same_c safe none choice is does =
       omega (arith, one, two),
     )
 
-pub granted_works : (a b c : Book) (t : TaskId) (x y : ℕ) (o : Option Store) (before now_ : Counts) → HasLeaseLaws a.plan → IsOneRun a b → IsOneRun b c → IsSafeState a.plan (state_at a) → NoneOpen (state_at a) → Leases a.plan (state_at a) 0 a.history.events b.history.events o before now_ (leased.Granted t) → DoesTask b.history.events c.history.events t.0 x y
+pub granted_works : (a b c : Book) (t : TaskId) (x y : ℕ) (o : Option Store) (before now_ : Counts) → HasLeaseLaws a.plan → IsOneRun a b → IsOneRun b c → IsSafeState a.plan (state_at a) → NoneOpen (state_at a) → Leases a.plan (state_at a) 0 a.history.events b.history.events o before now_ (leased.Granted t) → DoesTask 0 b.history.events c.history.events t.0 x y
     → WorksOn a.plan (state_at a) a.history.events c.history.events (state_at c) x y × (length a.history.events < length c.history.events)
 granted_works a b c t x y o before now_ laws same_b same_c safe none leases does = elim leases.1 [
   | inl choice ↦ choice_works a b c t.0 x y laws same_b same_c safe none choice.0 choice.1 does

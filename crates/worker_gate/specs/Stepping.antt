@@ -7,12 +7,12 @@ use Rattle.site_yard.specs.Failures.{RoseBy, tool_faults, tool_faults_of}
 use Rattle.worker_gate.specs.Alone.{AllBy, IsOver, NoneOpen, TakeFirst}
 use Rattle.worker_gate.specs.Tending.{IsDone}
 
--- one entry more, which the tool's count shows
-pub record DoesTask (r after : List Event) (t before later : ℕ) : Type 0 where
+-- one entry of the worker more, by which it is done with the task, and which the tool's count shows
+pub record DoesTask (w : ℕ) (r after : List Event) (t before later : ℕ) : Type 0 where
   pub entry : Event
   pub is : after ≡ r ++ entry ∷ []
-  pub done : IsDone 0 t entry
-  pub counted : RoseBy (tool_faults_of 0 entry) before later
+  pub done : IsDone w t entry
+  pub counted : RoseBy (tool_faults_of w entry) before later
 
 -- What is added after a record r, whose state is s: worker 0's entries, each of which begins what is left first. In the
 -- state that follows no task is open.

@@ -3,9 +3,10 @@
 //! [`run_many`] lets up to sixteen workers share a yard by a `RuledLock`, each in a thread of its own, and joins them all
 //! (`specs/Many.antt`); [`work`] is one of them (`specs/Working.antt`), and does each of its steps in a turn of the lock
 //! (`specs/Turning.antt`). [`run_alone`] is one worker that has the yard to itself and waits for nobody
-//! (`specs/Alone.antt`). A task's bytes move between two turns: the first makes a loan of readings and drafts, `task_work`
-//! fills the drafts, and the second settles the loan or abandons it (`specs/Tending.antt`). What an entry says of the
-//! bytes that were read, told or not, is in `specs/Inputs.antt`.
+//! (`specs/Alone.antt`), and [`do_task`] does one task that is open (`specs/Stepping.antt`). A task's bytes move between
+//! two turns: the first makes a loan of readings and drafts, `task_work` fills the drafts, and the second settles the
+//! loan or abandons it (`specs/Tending.antt`). What an entry says of the bytes that were read, told or not, is in
+//! `specs/Inputs.antt`.
 #![tactic(auto)]
 
 mod alone;
@@ -20,4 +21,5 @@ mod working;
 pub use alone::run_alone;
 pub use law::empty_records_have_none_open;
 pub use many::{ManyEnd, run_many};
+pub use stepping::do_task;
 pub use working::work;

@@ -1,4 +1,4 @@
-//! One task of a worker alone, from its lease to its end.
+//! One task of a worker alone, from its lease to its end, or from its loan if it is open already.
 
 ghost use Rattle.std.specs.Prelude.{◌≡◌, ◌≤◌, is_some};
 ghost use Rattle.outside.specs.Counts.{IsLater};
@@ -16,10 +16,16 @@ use site_yard::{Leased, Yard, plan_laws};
 use std::alloc::Global;
 use task_work::runs_carry_what_they_compute;
 
-/// Does what a task says that is open.
-fn do_task<H: Host, T: Tool>(alloc: Global, yard: &mut Yard<H, T>, tool: &mut T, task: TaskId)
-    requires { IsOpen (state_at yard.old.book) 0 task.0 }
-    ensures does { DoesTask yard.old.book.history.events yard.new.book.history.events task.0 (T.faults tool.old) (T.faults tool.new) }
+/// Does what a task says that is open for the worker. It asks no gate.
+pub fn do_task<H: Host, T: Tool>(
+    alloc: Global,
+    yard: &mut Yard<H, T>,
+    tool: &mut T,
+    worker: u32,
+    task: TaskId,
+)
+    requires { IsOpen (state_at yard.old.book) worker task.0 }
+    ensures does { DoesTask worker yard.old.book.history.events yard.new.book.history.events task.0 (T.faults tool.old) (T.faults tool.new) }
     ensures calls { AddsCalls yard.old.ordered.plan yard.old.book.history.events yard.new.book.history.events (H.counts yard.old.host) (H.counts yard.new.host) }
     ensures inputs { AddsOfInputs T.apply yard.old.ordered.plan yard.old.book.history.events yard.new.book.history.events }
     ensures tool { T.faults tool.old ≤ T.faults tool.new }
@@ -34,9 +40,9 @@ fn do_task<H: Host, T: Tool>(alloc: Global, yard: &mut Yard<H, T>, tool: &mut T,
     // Laws for the proof: they do nothing.
     plan_laws();
     runs_carry_what_they_compute();
-    if let Some(mut loan) = yard.lend(alloc, 0, task) {
+    if let Some(mut loan) = yard.lend(alloc, worker, task) {
         let filled = fill_loan(alloc, yard.plan(), task, &mut loan, tool);
-        finish_at(alloc, yard, 0, task, loan, filled);
+        finish_at(alloc, yard, worker, task, loan, filled);
     }
 }
 
@@ -60,7 +66,7 @@ pub(crate) fn step<H: Host, T: Tool>(alloc: Global, yard: &mut Yard<H, T>, tool:
     let _record = yard.book().record();
     match yard.lease(alloc, 0) {
         Leased::Granted(task) => {
-            do_task(alloc, yard, tool, task);
+            do_task(alloc, yard, tool, 0, task);
             true
         }
         Leased::Swept(_) => true,
