@@ -18,7 +18,7 @@ runs_is Waits h = absurd cc
 runs_is Runs h = refl
 runs_is Ended h = absurd cc
 
-opened_for : (s : State) (t : ℕ) → runs (s.phase t) ≡ true → s.failed t ≡ false → IsOpen s (s.holder t) t
+pub opened_for : (s : State) (t : ℕ) → runs (s.phase t) ≡ true → s.failed t ≡ false → IsOpen s (s.holder t) t
 opened_for s t on fine = record { runs = runs_is (s.phase t) on; holds = refl; no_fail = fine }
 
 pub owner_found : (s : State) (w t : ℕ) → IsOpen s w t → Some w ≡ owner s t

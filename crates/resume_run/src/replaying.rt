@@ -35,7 +35,7 @@ pub struct Replayed {
 }
 
 /// Whether an entry is a Fail.
-fn is_fail(entry: &Entry<'_>) -> bool
+pub(crate) fn is_fail(entry: &Entry<'_>) -> bool
     ensures { result ≡ is_fail (event entry.now) }
 {
     matches!(entry, Entry::Fail { .. })

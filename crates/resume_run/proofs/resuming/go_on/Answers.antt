@@ -1,0 +1,110 @@
+use Rattle.std.proofs.Common.{◌∙◌, ap, refl, subst, sym}
+use Rattle.std.specs.Prelude.{is_some}
+use Rattle.std.proofs.Math.Logic.{∥∥₁_elim, ∥∥₁_map, ∥∥₁_prop}
+use Rattle.plan_core.specs.Words.{task_numbers}
+use Rattle.lease_book.specs.Book.{state_at}
+use Rattle.run_record.specs.Events.{Log}
+use Rattle.run_record.specs.RecordText.{AreEntries}
+use Rattle.site_yard.specs.Failures.{AreMore}
+use Rattle.site_yard.specs.Reopening.{AreRecorded, RefusesAgain, measures}
+use Rattle.plan_run.specs.Moments.{counting, crew_moment, first_count, work_moment, working}
+use Rattle.resume_run.specs.Resuming.{held_after}
+use Rattle.resume_run.proofs.ResumingLemmas.{asked_same, below_by, held_in, inputs_added, marked_so, over_since, takes_calls, wants_memory, was_refused, went_on_from}
+use Rattle.resume_run.proofs.resuming.go_on.Goals as goal
+
+pub returns-in_default-clause-gone_on : goal.returns-in_default-clause-gone_on
+returns-in_default-clause-gone_on g c =
+    let p = c.args.ordered.plan in
+    let order = task_numbers c.args.ordered.tasks.items in
+    let first = c.args.replayed.book.history.events in
+    let fits = c.ordered_plans_fit.ensures c.args.ordered in
+    let moments = crew_moment g.T.Tool g.G.Gate c.args.crew.now.items in
+    let before = work_moment g.H.Host c.args.host (first_count moments) in
+    let w = working g.T.Tool.apply g.T.Tool.known before (work_moment g.H.Host c.unresumed.result.host (first_count moments)) in
+    let legal = rw (c.record-record.ensures.value, c.requires.plan, c.requires.order) at c.record-record.ensures.legal in
+    ∥∥₁_map legal (λ l. wants_memory w (counting moments moments) p order first c.unresumed.result.text.items c.unresumed.result.end
+    (record {
+      safe = λ n. c.legal_records_are_safe.ensures.always p order first c.args.ordered.proper fits l n;
+      output = c.deliveries_stay_within_the_output.ensures p order first c.args.ordered.proper fits l;
+      left = λ n site. c.what_is_left_is_held.ensures p order first c.args.ordered.proper fits l n site;
+    })
+    l (c.empty_records.ensures.agrees g.T.Tool.apply p first) (ap (λ h. work_moment g.H.Host h (first_count moments)) c.unresumed.ensures.host) refl c.unresumed.ensures.end)
+
+pub returns-in-Ok-reopen-clause-gone_on : goal.returns-in-Ok-reopen-clause-gone_on
+returns-in-Ok-reopen-clause-gone_on g c =
+    let p = c.args.ordered.plan in
+    let ts = c.args.ordered.tasks.items in
+    let order = task_numbers ts in
+    let b = c.args.replayed.book in
+    let first = b.history.events in
+    let x = c.in-Ok-reopen.yard in
+    let y = c.work_on-yard.result in
+    let whole = y.book.history.events in
+    let e = c.in-Ok-reopen.ensures in
+    let f = c.work_on-yard.ensures in
+    let old = crew_moment g.T.Tool g.G.Gate c.args.crew.now.items in
+    let new = crew_moment g.T.Tool g.G.Gate c.work_on-yard.new.crew.items in
+    let before = work_moment g.H.Host c.args.host (first_count old) in
+    let after = work_moment g.H.Host y.host (first_count new) in
+    let w = working g.T.Tool.apply g.T.Tool.known before after in
+    let same = f.ordered ∙ e.ordered in
+    let all = f.opened ∙ e.opened in
+    let works = rw (e.ordered, e.book) at f.works in
+    let inputs = rw (e.ordered, e.book) at f.inputs in
+    let calls = rw (e.ordered, e.book) at f.calls in
+    let legal = rw same at c.agrees.ensures.legal in
+    let shows = rw same at c.agrees.ensures.shows in
+    let ends = rw same at c.end_resumed.ensures.ends in
+    let reports = rw same at c.end_resumed.ensures.reports in
+    let held = held_in b p ts c.requires.plan c.requires.order in
+    let recorded = subst (λ h. AreRecorded p h (g.H.Host.told c.args.host)) held e.recorded in
+    let looked = subst (λ h. AreMore (measures p h) 0 0 (g.H.Host.counts c.args.host) (g.H.Host.counts x.host)) held e.asked in
+    let fits = c.ordered_plans_fit.ensures c.args.ordered in
+    rw c.end_resumed.ensures.host (∥∥₁_elim legal ∥∥₁_prop (λ l. ∥∥₁_elim shows ∥∥₁_prop (λ s. ∥∥₁_map c.agrees.ensures.counted (λ k.
+    went_on_from w (counting old new) p order first works.added whole y.opened (g.H.Host.told y.host) (g.H.Host.marked y.host) y.faults y.misses c.end_resumed.result.text.items c.end_resumed.result.end works.is all
+    (record {
+      told_is = refl;
+      tells = f.tells ∙ ap is_some e.told;
+      marked_is = marked_so (g.H.Host.told c.args.host) _ _ f.marked e.marked;
+      faults_are = f.faults ∙ e.faults;
+      misses_are = f.misses ∙ e.misses;
+      reopened = recorded;
+      below = below_by first works.added whole works.is (c.nothing_else_fails.ensures.workers p order whole l);
+      over = over_since p order first works.added whole works.is works.over;
+      inputs = inputs_added g.T.Tool.apply p first works.added whole works.is inputs;
+      tools = works.tools;
+      gates = asked_same g.T.Tool g.G.Gate c.args.crew.now.items c.work_on-yard.new.crew.items f.gates;
+      asked = takes_calls w p (held_after p order first) first works.added whole (g.H.Host.counts x.host) (g.H.Host.counts y.host) works.is f.later.done looked calls refl;
+    })
+    (record {
+      safe = λ n. c.legal_records_are_safe.ensures.always p order whole c.args.ordered.proper fits l n;
+      output = c.deliveries_stay_within_the_output.ensures p order whole c.args.ordered.proper fits l;
+      left = λ n site. c.what_is_left_is_held.ensures p order whole c.args.ordered.proper fits l n site;
+    })
+    l s k ends reports))))
+
+pub returns-clause-gone_on : goal.returns-clause-gone_on
+returns-clause-gone_on g c =
+    let p = c.args.ordered.plan in
+    let ts = c.args.ordered.tasks.items in
+    let order = task_numbers ts in
+    let b = c.args.replayed.book in
+    let first = b.history.events in
+    let e = c.in-Err.ensures in
+    let fits = c.ordered_plans_fit.ensures c.args.ordered in
+    let moments = crew_moment g.T.Tool g.G.Gate c.args.crew.now.items in
+    let before = work_moment g.H.Host c.args.host (first_count moments) in
+    let w = working g.T.Tool.apply g.T.Tool.known before (work_moment g.H.Host c.in-Err.refused.host (first_count moments)) in
+    let legal = rw (c.record-record.ensures.value, c.requires.plan, c.requires.order) at c.record-record.ensures.legal in
+    let entries = rw c.record-record.ensures.value at c.has_entries.ensures in
+    let printed = rw (c.plan.ensures, c.record-record.ensures.value) at c.in-Ok.ensures in
+    let held = held_in b p ts c.requires.plan c.requires.order in
+    let refuses = subst (λ h. RefusesAgain p h (g.H.Host.told c.args.host) (g.H.Host.counts c.args.host) (g.H.Host.counts c.in-Err.refused.host) c.in-Err.refused.fault) held e.refused in
+    let refusal = rw e.back.0 at c.refuse.ensures.refusal in
+    rw c.refuse.ensures.host (∥∥₁_map legal (λ l. was_refused w (counting moments moments) p order first c.in-Err.refused.fault c.in-Ok.text.items c.refuse.result.text.items c.refuse.result.end
+    (record {
+      safe = λ n. c.legal_records_are_safe.ensures.always p order first c.args.ordered.proper fits l n;
+      output = c.deliveries_stay_within_the_output.ensures p order first c.args.ordered.proper fits l;
+      left = λ n site. c.what_is_left_is_held.ensures p order first c.args.ordered.proper fits l n site;
+    })
+    l (c.empty_records.ensures.agrees g.T.Tool.apply p first) e.back.1 refl refuses entries printed refusal))
