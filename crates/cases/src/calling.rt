@@ -14,7 +14,10 @@ use std::thread::Threads;
 
 /// The status for how a call ended.
 fn code_of(outcome: Outcome) -> u8 {
-    outcome.code()
+    let code = outcome.code();
+    // By a call: where a large enum is dropped in place, the prover runs out of memory.
+    drop(outcome);
+    code
 }
 
 /// A call over any objects, since the clauses of `pegasus` are long, and longer where the objects are known.

@@ -1,7 +1,7 @@
 -- Which command words are.
-use Rattle.std.proofs.Common.{◌≡◌, ℕ, Bool, true, false, List, refl, sym, ap, ◌∙◌}
-use Rattle.std.specs.Prelude.{Option, Some, None, option_map}
-use Rattle.command_words.specs.Words.{InThreads, Quick, Quickly, Threaded, command, command_if, is_threaded, members_of, quick_command, threaded_command}
+use Rattle.std.proofs.Common.{◌≡◌, ℕ, Bool, true, false, List, sym, ap, ◌∙◌}
+use Rattle.std.specs.Prelude.{Some, None, option_map}
+use Rattle.command_words.specs.Words.{InThreads, Quick, Quickly, Threaded, command, command_if, is_threaded, quick_command, threaded_command}
 
 pub is_quick : (words : List (List ℕ)) → is_threaded words ≡ false → command words ≡ option_map Quickly (quick_command words)
 is_quick words e = ap (λ (b : Bool). command_if b words) e
@@ -21,11 +21,3 @@ quick_is_none words e is = is_quick words e ∙ ap (option_map Quickly) (sym is)
 
 pub threaded_is_none : (words : List (List ℕ)) → is_threaded words ≡ true → None ≡ threaded_command words → command words ≡ None
 threaded_is_none words e is = is_in_threads words e ∙ ap (option_map InThreads) (sym is)
-
--- words that start no thread use the first member
-pub one_member : (words : List (List ℕ)) → is_threaded words ≡ false → members_of (command words) ≡ 1
-one_member words e = ap members_of (is_quick words e) ∙ by (quick_command words)
-  where
-    by : (o : Option Quick) → members_of (option_map Quickly o) ≡ 1
-    by None = refl
-    by (Some q) = refl

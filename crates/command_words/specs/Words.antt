@@ -25,6 +25,7 @@ pub data Quick : Type 0 where
   Alone : List ℕ → Quick
   Audit : List ℕ → List ℕ → Quick
   Stat : List ℕ → List ℕ → Quick
+  Resume : List ℕ → List ℕ → Quick
   Produce : List ℕ → Quick
   Schedule : List ℕ → Quick
   Ensemble : List ℕ → Quick
@@ -48,6 +49,7 @@ quick_of (quick_words.Eval name) = Eval name.now
 quick_of (quick_words.Alone name) = Alone name.now
 quick_of (quick_words.Audit name file) = Audit name.now file.now
 quick_of (quick_words.Stat name file) = Stat name.now file.now
+quick_of (quick_words.Resume name file) = Resume name.now file.now
 quick_of (quick_words.Produce name) = Produce name.now
 quick_of (quick_words.Schedule name) = Schedule name.now
 quick_of (quick_words.Ensemble name) = Ensemble name.now
@@ -150,6 +152,7 @@ abbrev pub two_words : List ℕ → List ℕ → List ℕ → Option Quick
 two_words word a b =
     if bytes_eq word (codes "audit") then Some (Audit a b)
     else if bytes_eq word (codes "stat") then Some (Stat a b)
+    else if bytes_eq word (codes "resume") then Some (Resume a b)
     else None
 
 abbrev pub by_workers : List ℕ → List ℕ → ℕ → Option Threaded
@@ -188,15 +191,21 @@ command_if false words = option_map Quickly (quick_command words)
 abbrev pub command : List (List ℕ) → Option Command
 command words = command_if (is_threaded words) words
 
--- how many members of a crew a command may use: a member for each worker, else the first one
+-- how many members of a crew a command may use: each member where a record names the workers, else the first one; in
+-- threads a member for each worker
+abbrev pub quick_members : Quick → ℕ
+quick_members (Resume name file) = 16
+quick_members _ = 1
+
 abbrev pub threaded_members : Threaded → ℕ
 threaded_members (Run name n) = n
 threaded_members (EnsembleBy name n) = n
 threaded_members (RehearseBy images n) = n
 
 abbrev pub members_of : Option Command → ℕ
+members_of (Some (Quickly q)) = quick_members q
 members_of (Some (InThreads t)) = threaded_members t
-members_of _ = 1
+members_of None = 1
 
 -- from 1 to 16 workers
 abbrev pub AreFew : ℕ → Type 0

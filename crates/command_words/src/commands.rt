@@ -21,6 +21,8 @@ pub enum Quick<'a> {
     Audit(&'a str, &'a str),
     /// Sums up a record by the plan of a request.
     Stat(&'a str, &'a str),
+    /// Goes on with the run of a request's plan from its record, with one worker.
+    Resume(&'a str, &'a str),
     /// Runs the plan of a request with one worker, and catalogues what it delivers.
     Produce(&'a str),
     /// Schedules the workflow of a request.
@@ -69,6 +71,7 @@ fn two_words<'a>(word: &str, a: &'a str, b: &'a str) -> Option<Quick<'a>>
     match word {
         "audit" => Some(Quick::Audit(a, b)),
         "stat" => Some(Quick::Stat(a, b)),
+        "resume" => Some(Quick::Resume(a, b)),
         _ => None,
     }
 }

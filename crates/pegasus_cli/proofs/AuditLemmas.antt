@@ -23,7 +23,7 @@ use Rattle.record_audit.specs.Verdict.{IsJudged}
 use Rattle.record_audit.specs.declared.verdict.Verdict.{Verdict}
 use Rattle.record_audit.specs.declared.verdict.Verdict.TheVariants as verdict
 use Rattle.pegasus_cli.specs.declared.fault.CallFault.{CallFault}
-use Rattle.pegasus_cli.specs.declared.fault.CallFault.TheVariants.{BadRecord, Memory}
+use Rattle.pegasus_cli.specs.declared.fault.CallFault.TheVariants.{BadRecord, IllegalRecord, Memory}
 use Rattle.pegasus_cli.specs.declared.recorded.Recorded.{Recorded}
 use Rattle.pegasus_cli.specs.Commands.Audit.{CanJudge, IsBad, IsJudgment, IsOrdered, IsUnjudged, IsUnread, Judges, PrintsVerdict, SaysOf, audit}
 use Rattle.pegasus_cli.specs.Commands.Plan.{IsRefusal, IsUnplanned}
@@ -35,10 +35,16 @@ use Rattle.pegasus_cli.proofs.PlanRunLemmas.{ended_reports, ended_tells}
 use Rattle.pegasus_cli.proofs.RecordedLemmas.{record_finishes}
 
 -- no fault of planning is a bad record
-no_bad_record : (k : ℕ) (fault : PlanFault) → BadRecord k ≡ plan_answer fault → ⊥
+pub no_bad_record : (k : ℕ) (fault : PlanFault) → BadRecord k ≡ plan_answer fault → ⊥
 no_bad_record k plan_faults.Memory e = (let clash : ◌≡◌ {A = CallFault} (BadRecord k) Memory = e in absurd cc)
 no_bad_record k (plan_faults.Exceeds site task needed bound) e = absurd cc
 no_bad_record k fault e = absurd cc
+
+-- nor an illegal one
+pub no_illegal_record : (k : ℕ) (fault : PlanFault) → IllegalRecord k ≡ plan_answer fault → ⊥
+no_illegal_record k plan_faults.Memory e = (let clash : ◌≡◌ {A = CallFault} (IllegalRecord k) Memory = e in absurd cc)
+no_illegal_record k (plan_faults.Exceeds site task needed bound) e = absurd cc
+no_illegal_record k fault e = absurd cc
 
 pub refusal_unjudged : (i : Recorded) (fault : CallFault) → IsRefusal i.surveyed fault → IsUnjudged i fault
 refusal_unjudged i Memory h = tt
@@ -77,27 +83,27 @@ prints_complete p order r v front text is f h = rw is (subst (λ (z : List ℕ).
 abbrev pub NoneMalformed : Type 0
 NoneMalformed = (es : List Event) (k : ℕ) → AreEntries es → IsMalformedAt (record_text es) k → ⊥
 
-not_bad : (law : NoneMalformed) (i : Recorded) (k : ℕ) → CanJudge i → IsBad i k → ⊥
-not_bad law i k can bad = law can.history k can.is_record.entries (subst (λ (text : List ℕ). IsMalformedAt text k) (sym can.is_record.text) bad.malformed)
+not_bad : (law : NoneMalformed) (w : Work) (i : Recorded) (k : ℕ) → CanJudge w i → IsBad i k → ⊥
+not_bad law w i k can bad = law can.history k can.is_record.entries (subst (λ (text : List ℕ). IsMalformedAt text k) (sym can.is_record.text) bad.malformed)
 
-unplanned_short : (i : Recorded) (fault : CallFault) → CanJudge i → IsUnplanned i.surveyed fault → IsDoneOrMemory (not_for fault)
-unplanned_short i fault can h = subst (λ (f : CallFault). IsDoneOrMemory (not_for f)) (sym (h.answers ∙ ap plan_answer (can.no_fault h.fault h.comes))) tt
+unplanned_short : (w : Work) (i : Recorded) (fault : CallFault) → CanJudge w i → IsUnplanned i.surveyed fault → IsDoneOrMemory (not_for fault)
+unplanned_short w i fault can h = subst (λ (f : CallFault). IsDoneOrMemory (not_for f)) (sym (h.answers ∙ ap plan_answer (can.no_fault h.fault h.comes))) tt
 
-unjudged_short : (law : NoneMalformed) (i : Recorded) (fault : CallFault) → CanJudge i → IsUnjudged i fault → IsDoneOrMemory (not_for fault)
-unjudged_short law i Memory can h = tt
-unjudged_short law i (BadRecord k) can h = absurd (not_bad law i k can h)
-unjudged_short law i fault can h = unplanned_short i fault can h
+unjudged_short : (law : NoneMalformed) (w : Work) (i : Recorded) (fault : CallFault) → CanJudge w i → IsUnjudged i fault → IsDoneOrMemory (not_for fault)
+unjudged_short law w i Memory can h = tt
+unjudged_short law w i (BadRecord k) can h = absurd (not_bad law w i k can h)
+unjudged_short law w i fault can h = unplanned_short w i fault can h
 
-says_done : (law : NoneMalformed) (Prints : Plan → List ℕ → List Event → Verdict → List ℕ → Type 0) (i : Recorded) (text : List ℕ) (a : Answer) → SaysOf Prints i text a → CanJudge i → IsDoneOrMemory a
-says_done law Prints i text (Ok given) h can = tt
-says_done law Prints i text (Err Memory) h can = tt
-says_done law Prints i text (Err fault) h can = unjudged_short law i fault can h.0
+says_done : (law : NoneMalformed) (Prints : Plan → List ℕ → List Event → Verdict → List ℕ → Type 0) (w : Work) (i : Recorded) (text : List ℕ) (a : Answer) → SaysOf Prints i text a → CanJudge w i → IsDoneOrMemory a
+says_done law Prints w i text (Ok given) h can = tt
+says_done law Prints w i text (Err Memory) h can = tt
+says_done law Prints w i text (Err fault) h can = unjudged_short law w i fault can h.0
 
 pub audit_finishes : NoneMalformed → (name history : List ℕ) → Finishes (audit name history)
-audit_finishes law name history = record_finishes name history (Judges PrintsVerdict) CanJudge (λ w i text a works can. says_done law PrintsVerdict i text a works.says can)
+audit_finishes law name history = record_finishes name history (Judges PrintsVerdict) CanJudge (λ w t i text a works can still. says_done law PrintsVerdict w i text a works.says can)
 
 pub stat_finishes : NoneMalformed → (name history : List ℕ) → Finishes (stat name history)
-stat_finishes law name history = record_finishes name history (Judges PrintsSums) CanJudge (λ w i text a works can. says_done law PrintsSums i text a works.says can)
+stat_finishes law name history = record_finishes name history (Judges PrintsSums) CanJudge (λ w t i text a works can still. says_done law PrintsSums w i text a works.says can)
 
 -- ---- the record that a run has printed
 

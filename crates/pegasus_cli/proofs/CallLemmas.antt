@@ -1,5 +1,6 @@
 -- The clause of a call.
-use Rattle.std.proofs.Common.{◌≡◌, true, ℕ, ◌++◌, List, [], ◌∷◌, length, map, get_or, take, refl, sym, ap, subst, ◌∙◌, inl, inr, arith}
+use Rattle.std.proofs.Common.{◌≡◌, true, ℕ, ◌++◌, List, [], ◌∷◌, length, map, get_or, drop, take, refl, sym, ap, subst, ◌∙◌, inl, inr, arith}
+use Rattle.std.proofs.lemmas.List.{drop_all}
 use Rattle.std.specs.Prelude.{◌⊎◌, Option, Some, None, Err, is_some, option_map, slice_set}
 use Rattle.std.specs.Io.KnownBytes.{Appends, Keeps}
 use Rattle.craft.specs.declared.crew.Crew.{Crew}
@@ -19,7 +20,9 @@ use Rattle.pegasus_cli.specs.Fault.{Answer, not_for}
 use Rattle.pegasus_cli.specs.declared.fault.CallFault.TheVariants.{Memory}
 use Rattle.pegasus_cli.specs.Moments.{Call, DocsMoment, Output}
 use Rattle.pegasus_cli.specs.Outcome.{IsAnswer, closing, line_of, outcome_of}
-use Rattle.command_words.specs.Words.{Command, command as command_of}
+use Rattle.command_words.specs.declared.commands.Quick.{Quick as QuickWords}
+use Rattle.command_words.specs.declared.commands.Quick.TheVariants as quick_words
+use Rattle.command_words.specs.Words.{Command, command as command_of, quick_members, quick_of}
 use Rattle.pegasus_cli.proofs.CommandsLemmas.{Laws, finishes, unbegun}
 use Rattle.pegasus_cli.proofs.FaultLemmas.{no_usage, outcome_done}
 
@@ -119,3 +122,17 @@ all_stay part (m ∷ ms) first last is same = ap (λ x. x ∷ map part ms) (same
 -- where the first member's count and gate stayed, all members show the same
 pub members_stay : {T G : Type 0} (t : tool.Ghosts T) (g : gate.Ghosts G) (crew : List (Crew T G)) (first last : Crew T G) → first ≡ get_or crew 0 first → last.gate ≡ first.gate → t.faults last.tool ≡ t.faults first.tool → crew_moment t g (slice_set crew 0 last) ≡ crew_moment t g crew
 members_stay t g crew first last is gate_same same = all_stay (member_moment t g) crew first last is (λ i. record { faults = same i; asked = Some (g.asked (gate_same i)) })
+
+-- what stands behind the first member stays
+pub rest_stays : {A : Type 0} (crew : List A) (last : A) → drop 1 (slice_set crew 0 last) ≡ drop 1 crew
+rest_stays [] last = refl
+rest_stays (m ∷ ms) last = refl
+
+-- nothing is left behind sixteen members
+pub none_left : {A : Type 0} (new old : List A) → length new ≡ 16 → length old ≡ 16 → drop 16 new ≡ drop 16 old
+none_left new old a b = drop_all 16 new (omega (arith, a)) ∙ sym (drop_all 16 old (omega (arith, b)))
+
+-- every command but the one that goes on from a record works with the first member alone
+pub first_alone : (c : QuickWords) → ((request record_name : _) → c ≡ quick_words.Resume request record_name → ⊥) → quick_members (quick_of c) ≡ 1
+first_alone (quick_words.Resume request record_name) other = absurd (other request record_name refl)
+first_alone c other = refl

@@ -7,9 +7,9 @@ use Rattle.pegasus_cli.specs.Ensembles.{ensemble_document}
 use Rattle.pegasus_cli.specs.Moments.{DocsMoment}
 use Rattle.pegasus_cli.specs.Commands.{quick_spec, spec_of, threaded_spec}
 use Rattle.pegasus_cli.specs.CommandSpec.{Finishes}
-use Rattle.command_words.specs.Words.{Command, Quick, Threaded, Check, Plan, Eval, Alone, Audit, Stat, Produce, Schedule, Run, Ensemble, EnsembleBy, Rehearse, RehearseBy, Quickly, InThreads}
+use Rattle.command_words.specs.Words.{Command, Quick, Threaded, Check, Plan, Eval, Alone, Audit, Stat, Resume, Produce, Schedule, Run, Ensemble, EnsembleBy, Rehearse, RehearseBy, Quickly, InThreads}
 use Rattle.pegasus_cli.proofs.AloneLemmas.{alone_finishes}
-use Rattle.pegasus_cli.proofs.AuditLemmas.{NoneMalformed, audit_finishes, stat_finishes}
+use Rattle.pegasus_cli.proofs.AuditLemmas.{NoneMalformed, OneRecord, audit_finishes, stat_finishes}
 use Rattle.pegasus_cli.proofs.CheckLemmas.{check_finishes}
 use Rattle.pegasus_cli.proofs.EnsembleRunLemmas.{ensemble_by_finishes, ensemble_finishes}
 use Rattle.pegasus_cli.proofs.EvalLemmas.{EvaluationsFinish, eval_finishes}
@@ -17,6 +17,7 @@ use Rattle.pegasus_cli.proofs.PlanLemmas.{plan_finishes}
 use Rattle.pegasus_cli.proofs.PlanRunLemmas.{RunsFinish}
 use Rattle.pegasus_cli.proofs.ProduceLemmas.{produce_finishes}
 use Rattle.pegasus_cli.proofs.RehearseLemmas.{rehearse_by_finishes, rehearse_finishes, unmade}
+use Rattle.pegasus_cli.proofs.ResumeLemmas.{ResumesFinish, resume_finishes}
 use Rattle.pegasus_cli.proofs.RunLemmas.{run_finishes}
 use Rattle.pegasus_cli.proofs.ScheduleLemmas.{schedule_finishes}
 
@@ -25,6 +26,8 @@ pub record Laws : Type 0 where
   pub runs : RunsFinish
   pub evaluations : EvaluationsFinish
   pub records : NoneMalformed
+  pub one_record : OneRecord
+  pub resumed : ResumesFinish
 
 quick_finishes : Laws → (q : Quick) → Finishes (quick_spec q)
 quick_finishes law (Check name) = check_finishes name
@@ -33,6 +36,7 @@ quick_finishes law (Eval name) = eval_finishes law.evaluations name
 quick_finishes law (Alone name) = alone_finishes law.runs name
 quick_finishes law (Audit name history) = audit_finishes law.records name history
 quick_finishes law (Stat name history) = stat_finishes law.records name history
+quick_finishes law (Resume name history) = resume_finishes law.resumed law.records law.one_record name history
 quick_finishes law (Produce name) = produce_finishes law.runs name
 quick_finishes law (Schedule name) = schedule_finishes name
 quick_finishes law (Ensemble name) = ensemble_finishes law.runs name
@@ -58,6 +62,7 @@ quick_unbegun (Eval name) m = inl (still_stops (documents name) m)
 quick_unbegun (Alone name) m = inl (still_stops (documents name) m)
 quick_unbegun (Audit name history) m = inl (still_stops (documents_with name history) m)
 quick_unbegun (Stat name history) m = inl (still_stops (documents_with name history) m)
+quick_unbegun (Resume name history) m = inl (still_stops (documents_with name history) m)
 quick_unbegun (Produce name) m = inl (still_stops (documents name) m)
 quick_unbegun (Schedule name) m = inl (still_stops (documents name) m)
 quick_unbegun (Ensemble name) m = inl (still_stops (ensemble_document name) m)

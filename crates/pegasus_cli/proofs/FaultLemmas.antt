@@ -6,7 +6,7 @@ use Rattle.planner.specs.declared.plan_fault.PlanFault.TheVariants as plan
 use Rattle.run_record.specs.declared.run_fault.RunFault.{RunFault}
 use Rattle.run_record.specs.declared.run_fault.RunFault.TheVariants as run
 use Rattle.pegasus_cli.specs.declared.fault.CallFault.{CallFault}
-use Rattle.pegasus_cli.specs.declared.fault.CallFault.TheVariants.{Memory, DocAbsent, DocTooLong, DocFailed, Refused, Exceeds, Failed, BadRecord, RefusedEnsemble, RefusedMember}
+use Rattle.pegasus_cli.specs.declared.fault.CallFault.TheVariants.{Memory, DocAbsent, DocTooLong, DocFailed, Refused, Exceeds, Failed, BadRecord, IllegalRecord, RefusedEnsemble, RefusedMember}
 use Rattle.pegasus_cli.specs.declared.outcome.Outcome.{Outcome}
 use Rattle.pegasus_cli.specs.declared.outcome.Outcome.TheVariants as outcomes
 use Rattle.pegasus_cli.specs.Call.{IsDoneOrMemory as IsDone}
@@ -40,6 +40,7 @@ no_usage (Err (Refused f)) h = (let clash : ◌≡◌ {A = Outcome} outcomes.Usa
 no_usage (Err (Exceeds s t n b)) h = (let clash : ◌≡◌ {A = Outcome} outcomes.Usage (outcomes.Exceeds s t n b) = h in absurd cc)
 no_usage (Err (Failed f)) h = (let clash : ◌≡◌ {A = Outcome} outcomes.Usage (outcomes.Failed f) = h in absurd cc)
 no_usage (Err (BadRecord k)) h = (let clash : ◌≡◌ {A = Outcome} outcomes.Usage (outcomes.BadRecord k) = h in absurd cc)
+no_usage (Err (IllegalRecord k)) h = (let clash : ◌≡◌ {A = Outcome} outcomes.Usage (outcomes.IllegalRecord k) = h in absurd cc)
 no_usage (Err (RefusedEnsemble f)) h = (let clash : ◌≡◌ {A = Outcome} outcomes.Usage (outcomes.RefusedEnsemble f) = h in absurd cc)
 no_usage (Err (RefusedMember n f)) h = (let clash : ◌≡◌ {A = Outcome} outcomes.Usage (outcomes.RefusedMember n f) = h in absurd cc)
 
@@ -55,6 +56,7 @@ done_is (Err (Refused f)) h = (let clash : ◌≡◌ {A = Outcome} (outcomes.Don
 done_is (Err (Exceeds s t n b)) h = (let clash : ◌≡◌ {A = Outcome} (outcomes.Done None) (outcomes.Exceeds s t n b) = h in absurd cc)
 done_is (Err (Failed f)) h = (let clash : ◌≡◌ {A = Outcome} (outcomes.Done None) (outcomes.Failed f) = h in absurd cc)
 done_is (Err (BadRecord k)) h = (let clash : ◌≡◌ {A = Outcome} (outcomes.Done None) (outcomes.BadRecord k) = h in absurd cc)
+done_is (Err (IllegalRecord k)) h = (let clash : ◌≡◌ {A = Outcome} (outcomes.Done None) (outcomes.IllegalRecord k) = h in absurd cc)
 done_is (Err (RefusedEnsemble f)) h = (let clash : ◌≡◌ {A = Outcome} (outcomes.Done None) (outcomes.RefusedEnsemble f) = h in absurd cc)
 done_is (Err (RefusedMember n f)) h = (let clash : ◌≡◌ {A = Outcome} (outcomes.Done None) (outcomes.RefusedMember n f) = h in absurd cc)
 

@@ -14,6 +14,7 @@ pub mod DeliveryLemmas
 pub mod AuditLemmas
 pub mod NamesLemmas
 pub mod AloneLemmas
+pub mod ResumeLemmas
 pub mod ProduceLemmas
 pub mod RunLemmas
 pub mod EnsembleRunLemmas

@@ -27,7 +27,7 @@ use Rattle.planner.specs.declared.surveyed.Surveyed.{Surveyed}
 use Rattle.site_yard.specs.Changes.{carries}
 use Rattle.site_yard.specs.Law.{Agrees, IsDeliveryOf}
 use Rattle.site_yard.specs.Names.{file_name, lfn_in}
-use Rattle.site_yard.specs.Places.{is_delivered}
+use Rattle.site_yard.specs.Places.{IsUndelivered, is_delivered}
 use Rattle.plan_run.specs.Finishing.{CanEnd, IsDoneOrMemory as EndsOrMemory, NoneFailed, replicas_of}
 use Rattle.plan_run.specs.Moments.{Tools, Work}
 use Rattle.plan_run.specs.Running.{End, HasRun, IsOpened, IsReport, IsShown, Report, Reports, Tells}
@@ -36,7 +36,7 @@ use Rattle.pegasus_cli.specs.declared.fault.CallFault.TheVariants.{Memory}
 use Rattle.pegasus_cli.specs.Commands.Plan.{HasNoFault, task_limit}
 use Rattle.pegasus_cli.specs.Fault.{Answer, IsDoneOrMemory, done, end_answer, not_for, plan_answer, run_answer}
 use Rattle.pegasus_cli.specs.KeptTools.{unknown_tool}
-use Rattle.pegasus_cli.specs.PlanRun.{AllDelivered, CanRun, DeliversRequested, HasRunPlan, IsReady, IsUnrun, RefusedAs, lfn}
+use Rattle.pegasus_cli.specs.PlanRun.{AllDelivered, CanRun, DeliversRequested, HasRunPlan, IsReady, IsUndone, IsUnrun, RefusedAs, lfn}
 use Rattle.pegasus_cli.proofs.FaultLemmas.{no_fault_is_done}
 
 -- ---- what is delivered
@@ -50,19 +50,24 @@ pub named_in : (s : Surveyed) (p : Plan) (f : ℕ) → IsNamed s.survey p f → 
 unfolding file_name
 named_in s p f named = ap lfn_in named.is ∙ named.named
 
-carried_if_delivered : (jobs : List PlanJob) (k : Option TaskKind) (f : ℕ) → kind_delivers k f ≡ true → kind_carries jobs k f ≡ true
+pub carried_if_delivered : (jobs : List PlanJob) (k : Option TaskKind) (f : ℕ) → kind_delivers k f ≡ true → kind_carries jobs k f ≡ true
 carried_if_delivered jobs None f h = absurd cc
 carried_if_delivered jobs (Some (Transfer g from Delivery)) f h = h
 carried_if_delivered jobs (Some (Transfer g from (Site a))) f h = absurd cc
 carried_if_delivered jobs (Some (Run a js)) f h = absurd cc
 carried_if_delivered jobs (Some (Clean q)) f h = absurd cc
 
-delivered_so : (w : Work) (s : Surveyed) (p : Plan) (order : List ℕ) (r : List Event) (m new : Store) → HasDeliveryLaws p order → DeliversRequests s.request s.survey p → MeansWorkflow s.request s.survey p → Agrees w.apply p r m new → DeliversRequested w s p r m new
-delivered_so w s p order r m new laws requests means agrees = record {
+-- what a store shows of the deliveries of some entries
+pub record ShowsDeliveries (w : Work) (p : Plan) (r : List Event) (m new : Store) : Type 0 where
+  pub delivered : (f : ℕ) → is_delivered p r f ≡ true → IsDeliveryOf p (carries w.apply p m) f (files.get new.delivered (file_name p f))
+  pub undelivered : (name : List ℕ) → IsUndelivered p r name → files.get new.delivered name ≡ files.get m.delivered name
+
+pub delivered_so : (w : Work) (s : Surveyed) (p : Plan) (order : List ℕ) (r : List Event) (m new : Store) → HasDeliveryLaws p order → DeliversRequests s.request s.survey p → MeansWorkflow s.request s.survey p → ShowsDeliveries w p r m new → DeliversRequested w s p r m new
+delivered_so w s p order r m new laws requests means shows = record {
   requested = λ f h. (asked f h, name_is f h);
   carried = λ f h. at f h;
   valued = λ honest f h. let d = at f h in d.2 ∙ means w.apply (replicas_of m) honest d.0 f (carried_if_delivered p.jobs (kind p d.0) f d.1);
-  others = λ name none. agrees.undelivered name (λ f h e. none f h (sym (name_is f h) ∙ e));
+  others = λ name none. shows.undelivered name (λ f h e. none f h (sym (name_is f h) ∙ e));
 }
   where
     asked : (f : ℕ) → is_delivered p r f ≡ true → IsRequested s.survey f
@@ -72,7 +77,7 @@ delivered_so w s p order r m new laws requests means agrees = record {
     name_is f h = named_in s p f (requests.named f (asked f h).in_range)
 
     at : (f : ℕ) → is_delivered p r f ≡ true → IsDeliveryOf p (carries w.apply p m) f (files.get new.delivered (lfn s.survey f))
-    at f h = subst (λ (n : List ℕ). IsDeliveryOf p (carries w.apply p m) f (files.get new.delivered n)) (name_is f h) (agrees.delivered f h)
+    at f h = subst (λ (n : List ℕ). IsDeliveryOf p (carries w.apply p m) f (files.get new.delivered n)) (name_is f h) (shows.delivered f h)
 
 pub all_delivered : (w : Work) (s : Surveyed) (p : Plan) (order : List ℕ) (r : List Event) (e : End) → HasDeliveryLaws p order → DeliversRequests s.request s.survey p → Legal p order r → Tells w p order r e → AllDelivered s p r (end_answer e)
 all_delivered w s p order r (Ok ended) laws requests legal tells = λ f asked. let task = requests.delivered f asked in laws.complete r legal tells.1 task.0 f task.1
@@ -85,7 +90,7 @@ shown_delivers w s p order r laws requests means shown = by w.before.told w.afte
     by : (old new : Option Store) → IfSome old (λ m. MatchOption new ⊥ (λ x. Agrees w.apply p r m x)) → IfSome old (λ m. IfSome new (λ x. DeliversRequested w s p r m x))
     by None new h = tt
     by (Some m) None h = tt
-    by (Some m) (Some x) h = delivered_so w s p order r m x laws requests means h
+    by (Some m) (Some x) h = delivered_so w s p order r m x laws requests means (record { delivered = h.delivered; undelivered = h.undelivered })
 
 -- ---- the plan
 
@@ -125,9 +130,13 @@ pub ended_reports : (w : Work) (p : Plan) (r : List Event) (x : Report) (e : End
 ended_reports w p r x (Ok ended) is reports = reports
 ended_reports w p r x (Err fault) is reports = absurd (no_fault_is_done (run_answer fault) is)
 
+-- Nothing was done.
+pub undone_is : (Refuses : CallFault → Type 0) (w : Work) (t : Tools) (text : List ℕ) (a : Answer) (fault : CallFault) → Refuses fault → a ≡ not_for fault → w.after ≡ w.before → t.after ≡ t.before → text ≡ [] → IsUndone Refuses w t text a
+undone_is Refuses w t text a fault refused is same unused none = record { fault = fault; refused = refused; answers = is; untouched = same; unused = unused; no_text = none }
+
 -- Nothing was run.
 pub unrun_is : (w : Work) (t : Tools) (s : Surveyed) (text : List ℕ) (a : Answer) (fault : CallFault) → RefusedAs w.known s fault → a ≡ not_for fault → w.after ≡ w.before → t.after ≡ t.before → text ≡ [] → IsUnrun w t s text a
-unrun_is w t s text a fault refused is same unused none = record { fault = fault; refused = refused; answers = is; untouched = same; unused = unused; no_text = none }
+unrun_is w t s text a fault refused is same unused none = undone_is (RefusedAs w.known s) w t text a fault refused is same unused none
 
 -- ---- what keeps it from Done
 

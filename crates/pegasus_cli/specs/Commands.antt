@@ -9,6 +9,7 @@ use Rattle.pegasus_cli.specs.Commands.Eval.{eval}
 use Rattle.pegasus_cli.specs.Commands.Alone.{alone}
 use Rattle.pegasus_cli.specs.Commands.Audit.{audit}
 use Rattle.pegasus_cli.specs.Commands.Stat.{stat}
+use Rattle.pegasus_cli.specs.Commands.Resume.{resume}
 use Rattle.pegasus_cli.specs.Commands.Produce.{produce}
 use Rattle.pegasus_cli.specs.Commands.Schedule.{schedule}
 use Rattle.pegasus_cli.specs.Commands.Run.{run}
@@ -20,6 +21,7 @@ pub mod Eval
 pub mod Alone
 pub mod Audit
 pub mod Stat
+pub mod Resume
 pub mod Produce
 pub mod Schedule
 pub mod Run
@@ -33,6 +35,7 @@ quick_spec (words.Eval name) = eval name
 quick_spec (words.Alone name) = alone name
 quick_spec (words.Audit name history) = audit name history
 quick_spec (words.Stat name history) = stat name history
+quick_spec (words.Resume name history) = resume name history
 quick_spec (words.Produce name) = produce name
 quick_spec (words.Schedule name) = schedule name
 quick_spec (words.Ensemble name) = ensemble name

@@ -11,10 +11,12 @@ use Rattle.evaluation.specs.declared.fault.EvaluationFault.TheVariants as unvalu
 use Rattle.planner.specs.declared.plan_fault.PlanFault.{PlanFault}
 use Rattle.planner.specs.declared.plan_fault.PlanFault.TheVariants as plan
 use Rattle.rehearsal.specs.declared.rehearsal.Rehearsal.{Rehearsal}
+use Rattle.resume_run.specs.declared.resuming.ResumeFault.{ResumeFault}
+use Rattle.resume_run.specs.declared.resuming.ResumeFault.TheVariants as resumed
 use Rattle.run_record.specs.declared.run_fault.RunFault.{RunFault}
 use Rattle.run_record.specs.declared.run_fault.RunFault.TheVariants as run
 use Rattle.pegasus_cli.specs.declared.fault.CallFault.{CallFault}
-use Rattle.pegasus_cli.specs.declared.fault.CallFault.TheVariants.{Memory, Refused, Exceeds, Failed, RefusedEnsemble, RefusedMember}
+use Rattle.pegasus_cli.specs.declared.fault.CallFault.TheVariants.{Memory, Refused, Exceeds, Failed, IllegalRecord, RefusedEnsemble, RefusedMember}
 
 abbrev pub Answer : Type 0
 Answer = Result (Option Rehearsal) CallFault
@@ -56,6 +58,15 @@ run_answer fault = Failed fault
 abbrev pub end_answer : Result (Unit {0}) RunFault → Answer
 end_answer (Ok ended) = done
 end_answer (Err fault) = Err (run_answer fault)
+
+-- why a run wasn't gone on with, or failed, as an answer; the answer for the end of a run that was gone on with
+abbrev pub resume_answer : ResumeFault → CallFault
+resume_answer (resumed.Illegal k) = IllegalRecord k
+resume_answer (resumed.Failed fault) = run_answer fault
+
+abbrev pub resumed_answer : Result (Unit {0}) ResumeFault → Answer
+resumed_answer (Ok ended) = done
+resumed_answer (Err fault) = Err (resume_answer fault)
 
 -- the answer for a fault of an evaluation
 abbrev pub value_answer : EvaluationFault → CallFault

@@ -3,7 +3,7 @@ use Rattle.std.specs.Prelude.{ℕ, ◌++◌, Bool, false, List, [], codes, Ok, E
 use Rattle.values.specs.Printed.{printed_name}
 use Rattle.pegasus_cli.specs.declared.fault.CallFault.TheVariants as faults
 use Rattle.pegasus_cli.specs.declared.outcome.Outcome.{Outcome}
-use Rattle.pegasus_cli.specs.declared.outcome.Outcome.TheVariants.{Done, Memory, Usage, DocAbsent, DocTooLong, DocFailed, Refused, Exceeds, Failed, BadRecord, RefusedEnsemble, RefusedMember, SinkFailed}
+use Rattle.pegasus_cli.specs.declared.outcome.Outcome.TheVariants.{Done, Memory, Usage, DocAbsent, DocTooLong, DocFailed, Refused, Exceeds, Failed, BadRecord, IllegalRecord, RefusedEnsemble, RefusedMember, SinkFailed}
 use Rattle.values.specs.declared.numbers.TaskId.{TaskId}
 use Rattle.planner.specs.Refused.{and_name, and_number, refused_line}
 use Rattle.run_record.specs.FailedLine.{failed_line}
@@ -17,7 +17,7 @@ exceeds_line site task needed bound = codes "exceeds" ++ and_name site ++ and_nu
 abbrev pub line_of : Outcome → List ℕ
 line_of (Done given) = codes "done\n"
 line_of Memory = []
-line_of Usage = codes "usage: pegasus check|plan|eval|alone REQ, run REQ --workers N, audit|stat REQ RECORD, produce REQ, ensemble ENS [--workers N], schedule REQ, rehearse N [--workers N]\n"
+line_of Usage = codes "usage: pegasus check|plan|eval|alone REQ, run REQ --workers N, audit|stat REQ RECORD, resume REQ RECORD, produce REQ, ensemble ENS [--workers N], schedule REQ, rehearse N [--workers N]\n"
 line_of (DocAbsent name) = codes "no document " ++ printed_name name ++ codes "\n"
 line_of (DocTooLong name limit) = codes "document too long " ++ printed_name name ++ and_number limit ++ codes "\n"
 line_of (DocFailed name) = codes "document failed " ++ printed_name name ++ codes "\n"
@@ -25,6 +25,7 @@ line_of (Refused fault) = refused_line fault
 line_of (Exceeds site task needed bound) = exceeds_line site task needed bound
 line_of (Failed fault) = failed_line fault
 line_of (BadRecord line) = codes "bad record" ++ and_number line ++ codes "\n"
+line_of (IllegalRecord entry) = codes "illegal record" ++ and_number entry ++ codes "\n"
 line_of (RefusedEnsemble fault) = ensemble_line fault
 line_of (RefusedMember name fault) = member_line name fault
 line_of SinkFailed = []
@@ -47,6 +48,7 @@ status_of (Exceeds site task needed bound) = 5
 status_of (Failed fault) = 6
 status_of SinkFailed = 7
 status_of (BadRecord line) = 8
+status_of (IllegalRecord entry) = 8
 status_of (RefusedEnsemble fault) = 4
 status_of (RefusedMember name fault) = 4
 
@@ -61,6 +63,7 @@ outcome_of (Err (faults.Refused fault)) = Refused fault
 outcome_of (Err (faults.Exceeds site task needed bound)) = Exceeds site task needed bound
 outcome_of (Err (faults.Failed fault)) = Failed fault
 outcome_of (Err (faults.BadRecord line)) = BadRecord line
+outcome_of (Err (faults.IllegalRecord entry)) = IllegalRecord entry
 outcome_of (Err (faults.RefusedEnsemble fault)) = RefusedEnsemble fault
 outcome_of (Err (faults.RefusedMember name fault)) = RefusedMember name fault
 

@@ -96,14 +96,18 @@ abbrev pub Readies : (List ℕ → Bool) → Surveyed → Result Ordered CallFau
 Readies known s (Ok o) = IsReady known s o.plan o.tasks.items
 Readies known s (Err answer) = RefusedAs known s answer
 
--- Nothing was run.
-pub record IsUnrun (w : Work) (t : Tools) (s : Surveyed) (text : List ℕ) (answer : Answer) : Type 0 where
+-- Nothing was done, for this reason.
+pub record IsUndone (Refuses : CallFault → Type 0) (w : Work) (t : Tools) (text : List ℕ) (answer : Answer) : Type 0 where
   pub fault : CallFault
-  pub refused : RefusedAs w.known s fault
+  pub refused : Refuses fault
   pub answers : answer ≡ not_for fault
   pub untouched : w.after ≡ w.before
   pub unused : t.after ≡ t.before
   pub no_text : text ≡ []
+
+-- Nothing was run.
+abbrev pub IsUnrun : Work → Tools → Surveyed → List ℕ → Answer → Type 0
+IsUnrun w t s text answer = IsUndone (RefusedAs w.known s) w t text answer
 
 -- Nothing that a plan asks for is missing: its kept jobs' tools are known, the host tells that its sites are empty, and
 -- all that its tasks carry is there and fits.

@@ -6,7 +6,7 @@ use Rattle.workflow_core.specs.declared.workflow.Workflow.{Workflow}
 use Rattle.dependency_graph.specs.Graph.{IsSound}
 use Rattle.planner.specs.Course.{Refuses, SurveyEntry, surveyed}
 use Rattle.planner.specs.declared.plan_fault.PlanFault.{PlanFault}
-use Rattle.plan_run.specs.Moments.{Work}
+use Rattle.plan_run.specs.Moments.{Tools, Work}
 use Rattle.pegasus_cli.specs.declared.course.WithRecord.{WithRecord}
 use Rattle.pegasus_cli.specs.declared.fault.CallFault.{CallFault}
 use Rattle.pegasus_cli.specs.declared.recorded.Recorded.{Recorded}
@@ -39,7 +39,7 @@ Surveys name history before after (Ok i) = GoesOn name history before after i
 Surveys name history before after (Err e) = IsStep (documents_with name history) before after (Err e) ⊎ IsUnsurveyed name history before after e
 
 -- Told documents go on with a sound workflow, and nothing in it or in the record keeps the command from Done.
-pub record MayJudge (name history : List ℕ) (CanWork : Recorded → Type 0) (told : Option Files) : Type 0 where
+pub record MayGoOn (name history : List ℕ) (CanWork : Work → Recorded → Type 0) (told : Option Files) (w : Work) : Type 0 where
   pub files : Files
   pub told_is : told ≡ Some files
   pub given : WithRecord
@@ -47,8 +47,8 @@ pub record MayJudge (name history : List ℕ) (CanWork : Recorded → Type 0) (t
   pub said : SurveyEntry
   pub says : surveyed given.requested.request given.requested.documents ≡ Ok said
   pub sound : (x : Workflow) → view x ≡ said.workflow → IsSound x
-  pub can_work : (i : Recorded) → IsRecorded given i → CanWork i
+  pub can_work : (i : Recorded) → IsRecorded given i → CanWork w i
 
 -- a command over the documents of one request and a record
-abbrev pub over_record : List ℕ → List ℕ → (Work → Recorded → List ℕ → Answer → Type 0) → (Recorded → Type 0) → CommandSpec
-over_record name history Works CanWork = record { Inputs = Recorded; Comes = Surveys name history; Works = λ w t. Works w; CanFinish = λ told w. MayJudge name history CanWork told }
+abbrev pub over_record : List ℕ → List ℕ → (Work → Tools → Recorded → List ℕ → Answer → Type 0) → (Work → Recorded → Type 0) → CommandSpec
+over_record name history Works CanWork = record { Inputs = Recorded; Comes = Surveys name history; Works = Works; CanFinish = MayGoOn name history CanWork }

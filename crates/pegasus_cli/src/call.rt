@@ -6,7 +6,7 @@ ghost use Rattle.pegasus_cli.specs.declared.outcome.Outcome.TheVariants.{Usage a
 ghost use Rattle.pegasus_cli.specs.Call.{Ends, IsAnswered};
 ghost use Rattle.pegasus_cli.specs.Moments.{call_of, objects, sink_moment, writing};
 ghost use Rattle.pegasus_cli.specs.Outcome.{IsAnswer, closing, line_of, outcome_of};
-ghost use Rattle.command_words.specs.Words.{is_threaded};
+ghost use Rattle.command_words.specs.Words.{command, is_threaded, members_of};
 
 use crate::commands::{Told, has_line, work};
 use crate::outcome::{Outcome, of_answer, push_closing};
@@ -15,7 +15,8 @@ use craft::{Crew, Gate};
 use evaluation::evaluations_finish;
 use outside::{Docs, Host, Memory, Sink, SinkFault, Tool, write_all};
 use plan_run::runs_finish;
-use run_record::malformed_line_is_one;
+use resume_run::resumes_finish;
+use run_record::{malformed_line_is_one, text_is_of_one_record};
 use std::alloc::Global;
 
 /// Writes the text and the line that closes it, and tells how the call ends.
@@ -67,7 +68,7 @@ pub(crate) fn refuse_words<K: Sink>(alloc: Global, out: &mut K) -> Outcome
 }
 
 /// Does what words say that start no thread, and writes what came of it; it waits for nobody, and asks no gate. It
-/// works with the first member of the crew.
+/// works with the first member of the crew, and with each of them where it goes on from a record.
 pub fn quick<D: Docs, K: Sink, H: Host, T: Tool, G: Gate>(
     alloc: Global,
     words: &[String],
@@ -82,17 +83,20 @@ pub fn quick<D: Docs, K: Sink, H: Host, T: Tool, G: Gate>(
         (objects docs.old out.old host crew.items)
         (objects docs.new out.new result.1 result.2.items)) result.0 }
     ensures crew { length result.2.items ≡ 16 }
-    ensures others { drop 1 result.2.items ≡ drop 1 crew.items }
+    ensures others { let used = members_of (command (list_map string_bytes words.now)) in
+        drop used result.2.items ≡ drop used crew.items }
     ensures gates { list_map (λ (c : Crew T G). c.gate) result.2.items ≡ list_map (λ (c : Crew T G). c.gate) crew.items }
 {
     // Laws for the proof: they do nothing.
     runs_finish();
+    resumes_finish();
     evaluations_finish();
     malformed_line_is_one();
+    text_is_of_one_record();
     let mut crew = crew;
     match quick_command(alloc, words) {
         Ok(Some(command)) => {
-            let worked = work(alloc, command, docs, host, &mut crew[0]);
+            let worked = work(alloc, command, docs, host, &mut crew);
             let outcome = answer(alloc, out, worked.told, has_line(command));
             (outcome, worked.host, crew)
         }

@@ -1,12 +1,13 @@
 //! The commands.
 
-ghost use Rattle.std.specs.Prelude.{◌≡◌, [], drop, length};
+ghost use Rattle.std.specs.Prelude.{◌≡◌, [], drop, length, map};
+ghost use Rattle.craft.specs.declared.crew.Crew.{Crew};
 ghost use Rattle.plan_run.specs.Moments.{Tools, counting, crew_moment, first_count, work_moment, working};
 ghost use Rattle.pegasus_cli.specs.Commands.{has_line, quick_spec, threaded_spec};
 ghost use Rattle.pegasus_cli.specs.CommandSpec.{Does, OfFirst, doing};
 ghost use Rattle.pegasus_cli.specs.Fault.{not_for};
 ghost use Rattle.pegasus_cli.specs.Moments.{docs_moment};
-ghost use Rattle.command_words.specs.Words.{AreFew, HasImages, HasImagesBy, Quickly, quick_of, threaded_members, threaded_of};
+ghost use Rattle.command_words.specs.Words.{AreFew, HasImages, HasImagesBy, Quickly, quick_members, quick_of, threaded_members, threaded_of};
 
 mod alone;
 mod audit;
@@ -16,6 +17,7 @@ mod eval;
 mod plan;
 mod produce;
 mod rehearse;
+mod resume;
 mod run;
 mod schedule;
 mod stat;
@@ -67,14 +69,15 @@ pub(crate) fn has_line(command: Quick<'_>) -> bool
     }
 }
 
-/// Does a command that starts no thread.
-pub(crate) fn work<D: Docs, H: Host, T: Tool, G: Gate>(
+/// Does a command that works with the first member of the crew alone.
+fn work_by_first<D: Docs, H: Host, T: Tool, G: Gate>(
     alloc: Global,
     command: Quick<'_>,
     docs: &mut D,
     host: H,
     crew: &mut Crew<T, G>,
 ) -> Worked<H>
+    requires first { quick_members (quick_of command) ≡ 1 }
     requires images { HasImages (quick_of command) }
     ensures does { let w = working T.apply T.known (work_moment H.Host host (T.faults crew.old.tool)) (work_moment H.Host result.host (T.faults crew.new.tool)) in
         (t : Tools) → OfFirst w t → Does (quick_spec (quick_of command.entry)) (doing (docs_moment D.Docs docs.old) (docs_moment D.Docs docs.new) w t) result.told.text.items result.told.answer }
@@ -103,6 +106,7 @@ pub(crate) fn work<D: Docs, H: Host, T: Tool, G: Gate>(
             let told = stat::work(alloc, name, history, docs);
             Worked { told, host }
         }
+        Quick::Resume(_, _) => unreachable!(),
         Quick::Produce(name) => produce::work(alloc, name, docs, host, crew),
         Quick::Schedule(name) => {
             let told = schedule::work(alloc, name, docs);
@@ -113,6 +117,31 @@ pub(crate) fn work<D: Docs, H: Host, T: Tool, G: Gate>(
             let told = rehearse::work(alloc, images, crew);
             Worked { told, host }
         }
+    }
+}
+
+/// Does a command that starts no thread.
+pub(crate) fn work<D: Docs, H: Host, T: Tool, G: Gate>(
+    alloc: Global,
+    command: Quick<'_>,
+    docs: &mut D,
+    host: H,
+    crew: &mut Vec<Crew<T, G>>,
+) -> Worked<H>
+    requires images { HasImages (quick_of command) }
+    requires crew { length crew.old.items ≡ 16 }
+    ensures does { let before = crew_moment T.Tool G.Gate crew.old.items in
+        let after = crew_moment T.Tool G.Gate crew.new.items in
+        Does (quick_spec (quick_of command.entry)) (doing (docs_moment D.Docs docs.old) (docs_moment D.Docs docs.new)
+        (working T.apply T.known (work_moment H.Host host (first_count before)) (work_moment H.Host result.host (first_count after)))
+        (counting before after)) result.told.text.items result.told.answer }
+    ensures crew { length crew.new.items ≡ 16 }
+    ensures others { let used = quick_members (quick_of command.entry) in drop used crew.new.items ≡ drop used crew.old.items }
+    ensures gates { map (λ (c : Crew T G). c.gate) crew.new.items ≡ map (λ (c : Crew T G). c.gate) crew.old.items }
+{
+    match command {
+        Quick::Resume(name, history) => resume::work(alloc, name, history, docs, host, crew),
+        command => work_by_first(alloc, command, docs, host, &mut crew[0]),
     }
 }
 

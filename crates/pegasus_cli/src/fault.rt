@@ -3,13 +3,14 @@
 ghost use Rattle.std.specs.Prelude.{◌≡◌};
 ghost use Rattle.evaluation.specs.declared.fault.EvaluationFault.{EvaluationFault as Unvalued};
 ghost use Rattle.pegasus_cli.specs.declared.fault.CallFault.TheVariants as faults;
-ghost use Rattle.pegasus_cli.specs.Fault.{ensemble_answer, join_answer, member_answer, plan_answer, run_answer, value_answer};
+ghost use Rattle.pegasus_cli.specs.Fault.{ensemble_answer, join_answer, member_answer, plan_answer, resume_answer, run_answer, value_answer};
 
 use ensemble::{EnsembleFault, JoinFault};
 use evaluation::EvaluationFault;
 use outside::{Memory, TaskId, Text};
 use peg_json::{ReadFault, TreeFault};
 use planner::PlanFault;
+use resume_run::ResumeFault;
 use run_record::RunFault;
 use std::alloc::AllocFailed;
 
@@ -33,6 +34,8 @@ pub enum CallFault {
     Failed(RunFault),
     /// The first line of a record that stands in no record's text.
     BadRecord(u64),
+    /// The first entry of a record that isn't allowed after those before it.
+    IllegalRecord(u64),
     RefusedEnsemble(EnsembleFault),
     /// A member of an ensemble, and why its request's documents are refused.
     RefusedMember(Text, PlanFault),
@@ -114,6 +117,16 @@ pub(crate) fn of_run_fault(fault: RunFault) -> CallFault
     match fault {
         RunFault::Memory => CallFault::Memory,
         fault => CallFault::Failed(fault),
+    }
+}
+
+/// Why a run wasn't gone on with, or failed, as an answer.
+pub(crate) fn of_resume_fault(fault: ResumeFault) -> CallFault
+    ensures { result ≡ resume_answer fault }
+{
+    match fault {
+        ResumeFault::Illegal(entry) => CallFault::IllegalRecord(entry),
+        ResumeFault::Failed(fault) => of_run_fault(fault),
     }
 }
 

@@ -23,7 +23,7 @@ pub(crate) struct Judged {
 }
 
 /// The record at the front of some bytes.
-fn record_in(alloc: Global, bytes: &Blob) -> Result<Record, CallFault>
+pub(crate) fn record_in(alloc: Global, bytes: &Blob) -> Result<Record, CallFault>
     ensures is { IfOk result (λ r. IsRecordOf bytes.now r.events) }
     ensures fault { IfErr result (IsUnread bytes.now) }
 {

@@ -13,7 +13,7 @@ use run_record::{RunFault, push_failed};
 use std::alloc::Global;
 
 const USAGE: &str =
-    "usage: pegasus check|plan|eval|alone REQ, run REQ --workers N, audit|stat REQ RECORD, produce REQ, ensemble ENS [--workers N], schedule REQ, rehearse N [--workers N]";
+    "usage: pegasus check|plan|eval|alone REQ, run REQ --workers N, audit|stat REQ RECORD, resume REQ RECORD, produce REQ, ensemble ENS [--workers N], schedule REQ, rehearse N [--workers N]";
 
 /// How a call ended.
 #[derive(Debug, Drop)]
@@ -39,6 +39,8 @@ pub enum Outcome {
     Failed(RunFault),
     /// The first line of a record that stands in no record's text, from 1.
     BadRecord(u64),
+    /// The first entry of a record that isn't allowed after those before it, from 1.
+    IllegalRecord(u64),
     RefusedEnsemble(EnsembleFault),
     /// A member of an ensemble, and why its request's documents are refused.
     RefusedMember(Text, PlanFault),
@@ -62,7 +64,7 @@ impl Outcome {
             Outcome::Exceeds { .. } => 5,
             Outcome::Failed(_) => 6,
             Outcome::SinkFailed => 7,
-            Outcome::BadRecord(_) => 8,
+            Outcome::BadRecord(_) | Outcome::IllegalRecord(_) => 8,
         }
     }
 }
@@ -95,6 +97,7 @@ pub(crate) fn of_answer(answer: Result<Option<Rehearsal>, CallFault>) -> Outcome
         },
         CallFault::Failed(fault) => Outcome::Failed(fault),
         CallFault::BadRecord(line) => Outcome::BadRecord(line),
+        CallFault::IllegalRecord(entry) => Outcome::IllegalRecord(entry),
         CallFault::RefusedEnsemble(fault) => Outcome::RefusedEnsemble(fault),
         CallFault::RefusedMember(name, fault) => Outcome::RefusedMember(name, fault),
     }
@@ -152,6 +155,9 @@ fn push_outcome(alloc: Global, text: &mut Vec<u8>, outcome: &Outcome) -> Result<
         } => push_exceeds(alloc, text, site, *task, *needed, *bound),
         Outcome::Failed(fault) => push_failed(alloc, text, fault),
         Outcome::BadRecord(line) => { push_line(alloc, text, "bad record", &[Word::Number(*line)]) }
+        Outcome::IllegalRecord(entry) => {
+            push_line(alloc, text, "illegal record", &[Word::Number(*entry)])
+        }
         Outcome::RefusedEnsemble(fault) => push_ensemble(alloc, text, fault),
         Outcome::RefusedMember(name, fault) => push_member(alloc, text, name, fault),
     }

@@ -15,7 +15,8 @@ use craft::{Crew, Gate};
 use evaluation::evaluations_finish;
 use outside::{Docs, Host, Memory, Sink, Tool};
 use plan_run::runs_finish;
-use run_record::malformed_line_is_one;
+use resume_run::resumes_finish;
+use run_record::{malformed_line_is_one, text_is_of_one_record};
 use std::alloc::Global;
 use std::sync::Wait;
 use std::thread::Threads;
@@ -51,8 +52,10 @@ where
 {
     // Laws for the proof: they do nothing.
     runs_finish();
+    resumes_finish();
     evaluations_finish();
     malformed_line_is_one();
+    text_is_of_one_record();
     let mut crew = crew;
     match threaded_command(alloc, words) {
         Ok(Some(command)) => {

@@ -11,7 +11,7 @@ use Rattle.record_audit.specs.Part.{record_part}
 use Rattle.record_audit.specs.Text.{verdict_line}
 use Rattle.record_audit.specs.Verdict.{IsJudged}
 use Rattle.record_audit.specs.declared.verdict.Verdict.{Verdict}
-use Rattle.plan_run.specs.Moments.{Work}
+use Rattle.plan_run.specs.Moments.{Tools, Work}
 use Rattle.pegasus_cli.specs.declared.fault.CallFault.{CallFault}
 use Rattle.pegasus_cli.specs.declared.fault.CallFault.TheVariants.{BadRecord, Memory}
 use Rattle.pegasus_cli.specs.declared.recorded.Recorded.{Recorded}
@@ -71,12 +71,12 @@ SaysOf Prints i text (Ok (Some given)) = ⊥
 SaysOf Prints i text (Err Memory) = Unit {0}
 SaysOf Prints i text (Err fault) = IsUnjudged i fault × (text ≡ [])
 
-pub record Judges (Prints : Plan → List ℕ → List Event → Verdict → List ℕ → Type 0) (w : Work) (i : Recorded) (text : List ℕ) (answer : Answer) : Type 0 where
+pub record Judges (Prints : Plan → List ℕ → List Event → Verdict → List ℕ → Type 0) (w : Work) (t : Tools) (i : Recorded) (text : List ℕ) (answer : Answer) : Type 0 where
   pub untouched : w.after ≡ w.before
   pub says : SaysOf Prints i text answer
 
 -- planning has no fault, and the bytes are a record's
-pub record CanJudge (i : Recorded) : Type 0 where
+pub record CanJudge (w : Work) (i : Recorded) : Type 0 where
   pub no_fault : HasNoFault i.surveyed
   pub history : List Event
   pub is_record : IsRecordOf i.bytes history

@@ -1,33 +1,31 @@
-use Rattle.std.proofs.Common.{refl}
-use Rattle.plan_run.specs.Moments.{work_moment}
+use Rattle.craft.specs.declared.crew.Crew.{Crew}
+use Rattle.plan_run.specs.Moments.{member_moment}
+use Rattle.pegasus_cli.proofs.CallLemmas.{all_stay, first_alone, first_is, first_set, members_stay, none_left, rest_stays}
 use Rattle.pegasus_cli.proofs.commands.work.Goals as goal
 
-pub returns-in-Check-clause-does : goal.returns-in-Check-clause-does
-returns-in-Check-clause-does g c = λ t first. rw c.in-Check.is (c.work-told.ensures _ t refl (first refl))
+pub returns-in-Resume-clause-does : goal.returns-in-Resume-clause-does
+returns-in-Resume-clause-does g c = rw c.in-Resume.is c.work.ensures.does
 
-pub returns-in-Plan-clause-does : goal.returns-in-Plan-clause-does
-returns-in-Plan-clause-does g c = λ t first. rw c.in-Plan.is (c.work-told-in-Plan.ensures _ t refl (first refl))
+pub returns-in-Resume-clause-others : goal.returns-in-Resume-clause-others
+returns-in-Resume-clause-others g c = rw c.in-Resume.is (none_left c.work.new.crew.items c.args.crew.now.items c.work.ensures.crew c.requires.crew)
 
-pub returns-in-Eval-clause-does : goal.returns-in-Eval-clause-does
-returns-in-Eval-clause-does g c = λ t first. rw c.in-Eval.is (c.work-told-in-Eval.ensures t first)
+pub returns-in_default-clause-does : goal.returns-in_default-clause-does
+returns-in_default-clause-does g c =
+    let shown = member_moment g.T.Tool g.G.Gate in
+    let old = c.args.crew.now.items in
+    let first = c.index_mut.result.now in
+    let last = c.work_by_first.new.crew in
+    let before = first_is shown old first c.requires.crew c.index_mut.ensures.value in
+    let after = first_set shown old last c.requires.crew in
+    rw (before, after) (c.work_by_first.ensures.does _ (λ e. members_stay g.T.Tool g.G.Gate old first last c.index_mut.ensures.value c.work_by_first.ensures.gate e))
 
-pub returns-in-Alone-clause-does : goal.returns-in-Alone-clause-does
-returns-in-Alone-clause-does g c = λ t first. rw c.in-Alone.is (c.work.ensures.does t first)
+pub returns-in_default-clause-others : goal.returns-in_default-clause-others
+returns-in_default-clause-others g c =
+    rw (first_alone c.args.command (λ request history e. c.in_default.not-Resume request history e)) (rest_stays c.args.crew.now.items c.work_by_first.new.crew)
 
-pub returns-in-Audit-clause-does : goal.returns-in-Audit-clause-does
-returns-in-Audit-clause-does g c = λ t first. rw c.in-Audit.is (c.work-told-in-Audit.ensures _ t refl (first refl))
+pub returns-in_default-clause-gates : goal.returns-in_default-clause-gates
+returns-in_default-clause-gates g c =
+    all_stay (λ (m : Crew g.row.T.Denot g.row.G.Denot). m.gate) c.args.crew.now.items c.index_mut.result.now c.work_by_first.new.crew c.index_mut.ensures.value c.work_by_first.ensures.gate
 
-pub returns-in-Stat-clause-does : goal.returns-in-Stat-clause-does
-returns-in-Stat-clause-does g c = λ t first. rw c.in-Stat.is (c.work-told-in-Stat.ensures _ t refl (first refl))
-
-pub returns-in-Produce-clause-does : goal.returns-in-Produce-clause-does
-returns-in-Produce-clause-does g c = λ t first. rw c.in-Produce.is (c.work-in-Produce.ensures.does t first)
-
-pub returns-in-Schedule-clause-does : goal.returns-in-Schedule-clause-does
-returns-in-Schedule-clause-does g c = λ t first. rw c.in-Schedule.is (c.work-told-in-Schedule.ensures _ t refl (first refl))
-
-pub returns-in-Ensemble-clause-does : goal.returns-in-Ensemble-clause-does
-returns-in-Ensemble-clause-does g c = λ t first. rw c.in-Ensemble.is (c.work-in-Ensemble.ensures.does t first)
-
-pub returns-in-Rehearse-clause-does : goal.returns-in-Rehearse-clause-does
-returns-in-Rehearse-clause-does g c = λ t first. rw c.in-Rehearse.is (c.work-told-in-Rehearse.ensures.does _ (work_moment g.H.Host c.args.host 0) t first)
+pub work_by_first-requires-clause-first : goal.work_by_first-requires-clause-first
+work_by_first-requires-clause-first g c = first_alone c.args.command (λ request history e. c.in_default.not-Resume request history e)

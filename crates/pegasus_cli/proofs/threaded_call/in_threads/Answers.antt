@@ -13,7 +13,7 @@ returns-in-Ok-Some-clause-answered g c =
     let t = threaded_of c.in-Ok-Some.command in
     let is = threaded_is words t c.requires.words (rw c.in-Ok-Some.field-0-is at c.in-Ok-Some.ensures.is) in
     let told = c.work_in_threads-worked.result.told in
-    command_answered (record { runs = c.runs_finish.ensures; evaluations = c.evaluations_finish.ensures; records = c.malformed_line_is_one.ensures.none })
+    command_answered (record { runs = c.runs_finish.ensures; evaluations = c.evaluations_finish.ensures; records = c.malformed_line_is_one.ensures.none; one_record = c.text_is_of_one_record.ensures; resumed = c.resumes_finish.ensures })
     _ (InThreads t) told.answer c.answer-outcome.result told.text.items is c.work_in_threads-worked.ensures.does c.answer-outcome.ensures
 
 pub returns-in-Ok-Some-clause-others : goal.returns-in-Ok-Some-clause-others
@@ -32,5 +32,5 @@ pub returns-in-Err-clause-answered : goal.returns-in-Err-clause-answered
 unfolding call_of
 returns-in-Err-clause-answered g c =
     let words = map string_bytes c.args.words.now in
-    unread_answered (record { runs = c.runs_finish.ensures; evaluations = c.evaluations_finish.ensures; records = c.malformed_line_is_one.ensures.none })
+    unread_answered (record { runs = c.runs_finish.ensures; evaluations = c.evaluations_finish.ensures; records = c.malformed_line_is_one.ensures.none; one_record = c.text_is_of_one_record.ensures; resumed = c.resumes_finish.ensures })
     _ (option_map InThreads (threaded_command words)) (is_in_threads words c.requires.words) (some_mapped InThreads (threaded_command words) c.in-Err.ensures.memory) refl refl refl (keeps_same _)
