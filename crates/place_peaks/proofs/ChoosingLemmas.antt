@@ -194,7 +194,7 @@ waiting_is_choice p s b t peaks unfailed e =
     let f = last_first (task_numbers b.again.items) [] t e in
     first_is_choice p s t (f.0 ++ filter (left_of b) (line_of b)) peaks.laws peaks.sound unfailed (peaks.rest ∙ ap (λ (xs : List ℕ). xs ++ filter (left_of b) (line_of b)) f.1) (peaks.waiting t (ap (λ (xs : List ℕ). has xs t) f.1 ∙ has_middle [] t f.0))
 
-none_stacked : (xs : List TaskId) → xs ≡ [] → stacked (task_numbers xs) [] ≡ []
+pub none_stacked : (xs : List TaskId) → xs ≡ [] → stacked (task_numbers xs) [] ≡ []
 none_stacked xs e = ap (λ (ys : List TaskId). stacked (task_numbers ys) []) e
 
 pub behind_none : (p : Plan) (s : State) (b : Peaks) → b.again.items ≡ [] → AreBehind p s b (stack_of b) → ArePeaks p s b

@@ -21,3 +21,5 @@ pub mod LoweringLemmas
 pub mod EndingLemmas
 pub mod SizingLemmas
 pub mod OpeningLemmas
+pub mod EntryLemmas
+pub mod RenewingLemmas

@@ -85,7 +85,7 @@ has_before (x ∷ xs) j zero l m = absurd (omega (arith, l))
 has_before (x ∷ xs) zero (suc k) l m = or_left (nat_eq x x) (has (take k xs) x) (is_itself x)
 has_before (x ∷ xs) (suc j) (suc k) l m = or_right (nat_eq x (get_or xs j 0)) (has (take k xs) (get_or xs j 0)) (has_before xs j k (omega (arith, l)) (omega (arith, m)))
 
-filter_short : (f : ℕ → Bool) (xs : List ℕ) → length (filter f xs) ≤ length xs
+pub filter_short : (f : ℕ → Bool) (xs : List ℕ) → length (filter f xs) ≤ length xs
 filter_short f [] = omega arith
 filter_short f (x ∷ xs) = by (f x) (filter_short f xs)
   where
@@ -93,7 +93,7 @@ filter_short f (x ∷ xs) = by (f x) (filter_short f xs)
     by true h = omega (arith, h)
     by false h = omega (arith, h)
 
-take_short : (k : ℕ) (xs : List ℕ) → length (take k xs) ≤ k
+pub take_short : (k : ℕ) (xs : List ℕ) → length (take k xs) ≤ k
 take_short zero [] = omega arith
 take_short zero (x ∷ xs) = omega arith
 take_short (suc k) [] = omega arith
@@ -190,23 +190,23 @@ level_cleaned p line k q g before keeps follows l low its is =
     let c = cleaning p (λ t. Waits) nothing line k q g keeps follows l low its in
     omega (arith, c, is)
 
-filter_all : (xs : List ℕ) → filter all_left xs ≡ xs
+pub filter_all : (xs : List ℕ) → filter all_left xs ≡ xs
 filter_all [] = refl
 filter_all (x ∷ xs) = ap (λ (ys : List ℕ). x ∷ ys) (filter_all xs)
 
-list_more : (p : Plan) (q : ℕ) (line : List ℕ) (k : ℕ) → k < length line → values (there p q) all_left (held_by p nothing q) [] (take (k + 1) line)
-    ≡ values (there p q) all_left (held_by p nothing q) [] (take k line) ++ cond (there p q (get_or line k 0)) (Some (usage p nothing (take (k + 1) line) q) ∷ []) []
-list_more p q line k l =
-    ap (values (there p q) all_left (held_by p nothing q) []) (front_more line k l)
-    ∙ values_append (there p q) all_left (held_by p nothing q) [] (take k line) (get_or line k 0 ∷ [])
-    ∙ ap (λ (front : List ℕ). values (there p q) all_left (held_by p nothing q) [] (take k line) ++ values (there p q) all_left (held_by p nothing q) front (get_or line k 0 ∷ [])) (filter_all (take k line))
-    ∙ ap (λ (front : List ℕ). values (there p q) all_left (held_by p nothing q) [] (take k line) ++ cond (there p q (get_or line k 0)) (Some (usage p nothing front q) ∷ []) []) (sym (front_more line k l))
+pub list_more : (p : Plan) (size : ℕ → ℕ) (q : ℕ) (line : List ℕ) (k : ℕ) → k < length line → values (there p q) all_left (held_by p size q) [] (take (k + 1) line)
+    ≡ values (there p q) all_left (held_by p size q) [] (take k line) ++ cond (there p q (get_or line k 0)) (Some (usage p size (take (k + 1) line) q) ∷ []) []
+list_more p size q line k l =
+    ap (values (there p q) all_left (held_by p size q) []) (front_more line k l)
+    ∙ values_append (there p q) all_left (held_by p size q) [] (take k line) (get_or line k 0 ∷ [])
+    ∙ ap (λ (front : List ℕ). values (there p q) all_left (held_by p size q) [] (take k line) ++ values (there p q) all_left (held_by p size q) front (get_or line k 0 ∷ [])) (filter_all (take k line))
+    ∙ ap (λ (front : List ℕ). values (there p q) all_left (held_by p size q) [] (take k line) ++ cond (there p q (get_or line k 0)) (Some (usage p size front q) ∷ []) []) (sym (front_more line k l))
 
 append_none : (xs : List (Option ℕ)) → xs ++ [] ≡ xs
 append_none [] = refl
 append_none (x ∷ xs) = ap (λ (ys : List (Option ℕ)). x ∷ ys) (append_none xs)
 
-some_last : (xs : List ℕ) (y : ℕ) → map Some (xs ++ y ∷ []) ≡ map Some xs ++ Some y ∷ []
+pub some_last : (xs : List ℕ) (y : ℕ) → map Some (xs ++ y ∷ []) ≡ map Some xs ++ Some y ∷ []
 some_last [] y = refl
 some_last (x ∷ xs) y = ap (λ (ys : List (Option ℕ)). Some x ∷ ys) (some_last xs y)
 
@@ -223,18 +223,18 @@ levels_first p line m k lists e z long empty = record {
     none (x ∷ xs) = refl
 
 -- a place that the task doesn't change
-level_stays : (p : Plan) (line : List ℕ) (k q : ℕ) → ChangesOnePlace p → k < length line → q < places p → (place p (get_or line k 0) ≡ Some q → ⊥) → usage p nothing (take (k + 1) line) q ≡ usage p nothing (take k line) q
-level_stays p line k q one l low away = ap (λ (xs : List ℕ). usage p nothing xs q) (front_more line k l) ∙ usage_away p nothing (take k line) (get_or line k 0) q one low away
+pub level_stays : (p : Plan) (size : ℕ → ℕ) (line : List ℕ) (k q : ℕ) → ChangesOnePlace p → k < length line → q < places p → (place p (get_or line k 0) ≡ Some q → ⊥) → usage p size (take (k + 1) line) q ≡ usage p size (take k line) q
+level_stays p size line k q one l low away = ap (λ (xs : List ℕ). usage p size xs q) (front_more line k l) ∙ usage_away p size (take k line) (get_or line k 0) q one low away
 
-list_stays : (p : Plan) (line : List ℕ) (k q : ℕ) → k < length line → there p q (get_or line k 0) ≡ false → values (there p q) all_left (held_by p nothing q) [] (take (k + 1) line) ≡ values (there p q) all_left (held_by p nothing q) [] (take k line)
-list_stays p line k q l off = list_more p q line k l ∙ ap (λ (b : Bool). values (there p q) all_left (held_by p nothing q) [] (take k line) ++ cond b (Some (usage p nothing (take (k + 1) line) q) ∷ []) []) off ∙ append_none (values (there p q) all_left (held_by p nothing q) [] (take k line))
+pub list_stays : (p : Plan) (size : ℕ → ℕ) (line : List ℕ) (k q : ℕ) → k < length line → there p q (get_or line k 0) ≡ false → values (there p q) all_left (held_by p size q) [] (take (k + 1) line) ≡ values (there p q) all_left (held_by p size q) [] (take k line)
+list_stays p size line k q l off = list_more p size q line k l ∙ ap (λ (b : Bool). values (there p q) all_left (held_by p size q) [] (take k line) ++ cond b (Some (usage p size (take (k + 1) line) q) ∷ []) []) off ∙ append_none (values (there p q) all_left (held_by p size q) [] (take k line))
 
 pub levels_none : (p : Plan) (line used : List ℕ) (lists : List (List ℕ)) (k t : ℕ) → ChangesOnePlace p → AreLevels p line used lists k → k < length line → t ≡ get_or line k 0 → place p t ≡ None → AreLevels p line used lists (k + 1)
 levels_none p line used lists k t one so_far l is home = record {
   used_long = so_far.used_long;
   lists_long = so_far.lists_long;
-  level = λ q m. so_far.level q m ∙ sym (level_stays p line k q one l m (λ at. absurd (let no : None ≡ Some q = sym here ∙ at in cc)));
-  list = λ q m. so_far.list q m ∙ sym (list_stays p line k q l (ap (is_place q) here));
+  level = λ q m. so_far.level q m ∙ sym (level_stays p nothing line k q one l m (λ at. absurd (let no : None ≡ Some q = sym here ∙ at in cc)));
+  list = λ q m. so_far.list q m ∙ sym (list_stays p nothing line k q l (ap (is_place q) here));
 }
   where
     here : place p (get_or line k 0) ≡ None
@@ -257,7 +257,7 @@ levels_some p line used lists after k t a level one so_far l is home low level_i
 
     level_then : (q : ℕ) → q < places p → (b : Bool) → nat_eq a q ≡ b → cond b level (get_or used q 0) ≡ usage p nothing (take (k + 1) line) q
     level_then q m true e = level_is ∙ ap (usage p nothing (take (k + 1) line)) (eqb-true a q e)
-    level_then q m false e = so_far.level q m ∙ sym (level_stays p line k q one l m (not_there q e))
+    level_then q m false e = so_far.level q m ∙ sym (level_stays p nothing line k q one l m (not_there q e))
 
     list_then : (q : ℕ) → q < places p → (b : Bool) → nat_eq a q ≡ b → map Some (cond b (get_or lists a [] ++ level ∷ []) (get_or lists q [])) ≡ values (there p q) all_left (held_by p nothing q) [] (take (k + 1) line)
     list_then q m true e =
@@ -265,9 +265,9 @@ levels_some p line used lists after k t a level one so_far l is home low level_i
         ∙ ap (λ (n : ℕ). map Some (get_or lists n []) ++ Some level ∷ []) (eqb-true a q e)
         ∙ ap (λ (vs : List (Option ℕ)). vs ++ Some level ∷ []) (so_far.list q m)
         ∙ ap (λ (n : ℕ). values (there p q) all_left (held_by p nothing q) [] (take k line) ++ Some n ∷ []) (level_then q m true e)
-        ∙ sym (list_more p q line k l ∙ ap (λ (o : Option ℕ). values (there p q) all_left (held_by p nothing q) [] (take k line) ++ cond (is_place q o) (Some (usage p nothing (take (k + 1) line) q) ∷ []) []) here
+        ∙ sym (list_more p nothing q line k l ∙ ap (λ (o : Option ℕ). values (there p q) all_left (held_by p nothing q) [] (take k line) ++ cond (is_place q o) (Some (usage p nothing (take (k + 1) line) q) ∷ []) []) here
         ∙ ap (λ (b : Bool). values (there p q) all_left (held_by p nothing q) [] (take k line) ++ cond b (Some (usage p nothing (take (k + 1) line) q) ∷ []) []) e)
-    list_then q m false e = so_far.list q m ∙ sym (list_stays p line k q l (ap (is_place q) here ∙ e))
+    list_then q m false e = so_far.list q m ∙ sym (list_stays p nothing line k q l (ap (is_place q) here ∙ e))
 
 -- one number more in a list of lists
 pub lists_set : (vs : List (Vec ℕ Global)) (i q : ℕ) (v : Vec ℕ Global) → i < length vs → get_or (lists_of (set vs i v)) q [] ≡ cond (nat_eq i q) v.items (get_or (lists_of vs) q [])
@@ -317,7 +317,7 @@ all_taken : (xs : List ℕ) → take (length xs) xs ≡ xs
 all_taken [] = refl
 all_taken (x ∷ xs) = ap (λ (ys : List ℕ). x ∷ ys) (all_taken xs)
 
-same_on : (f : ℕ → Bool) (xs : List ℕ) → ((x : ℕ) → has xs x ≡ true → f x ≡ true) → AreSame f all_left xs
+pub same_on : (f : ℕ → Bool) (xs : List ℕ) → ((x : ℕ) → has xs x ≡ true → f x ≡ true) → AreSame f all_left xs
 same_on f [] h = tt
 same_on f (x ∷ xs) h = (h x (or_left (nat_eq x x) (has xs x) (is_itself x)), same_on f xs (λ y m. h y (or_right (nat_eq x y) (has xs y) m)))
 

@@ -24,7 +24,7 @@ use Rattle.place_peaks.specs.Cleaning.{CanEnd, CanFreeFirst}
 use Rattle.place_peaks.specs.Granting.{CanHold}
 use Rattle.place_peaks.specs.Peaks.{AreBehind, ArePeaks, AreSeated, left_of, line_of, stack_of}
 use Rattle.place_peaks.specs.Places.{held_by, there}
-use Rattle.place_peaks.specs.Stack.{stacked}
+use Rattle.place_peaks.specs.Stack.{IsFirstOf, stacked}
 use Rattle.place_peaks.specs.Tree.{AllFirst, CanFall}
 use Rattle.place_peaks.specs.Values.{values}
 use Rattle.place_peaks.specs.Waiting.{CanFree, HasStackRoom}
@@ -69,6 +69,9 @@ can_hold p s b front t q limits sums peaks kind home = record {
 
     low : q < places p
     low = peaks.one.place_below t q at
+
+pub can_hold_first : (p : Plan) (s : State) (b : Peaks) (t q : ℕ) → IsWithinLimits p → SumsAreSmall p → AreBehind p s b (stack_of b) → IsFirstOf (stack_of b) t → is_clean p t ≡ false → get_or b.homes.items t None ≡ Some q → CanHold b t q
+can_hold_first p s b t q limits sums behind first kind home = can_hold p s b first.0 t q limits sums (subst (AreBehind p s b) first.1 behind) kind home
 
 -- the Clean that is the first task of rest
 pub can_free_first : (p : Plan) (s : State) (b : Peaks) (front : List ℕ) (t q g frees : ℕ) → AreBehind p s b (t ∷ front) → is_clean p t ≡ true → ((x : ℕ) → cleans p t x ≡ nat_eq g x)

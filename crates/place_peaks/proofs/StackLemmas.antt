@@ -9,7 +9,7 @@ stacked_last : (xs more : List ℕ) (t : ℕ) → stacked (xs ++ t ∷ []) more 
 stacked_last [] more t = refl
 stacked_last (x ∷ xs) more t = stacked_last xs (x ∷ more) t
 
-numbers_last : (xs : List TaskId) (t : TaskId) → task_numbers (xs ++ t ∷ []) ≡ task_numbers xs ++ t.0 ∷ []
+pub numbers_last : (xs : List TaskId) (t : TaskId) → task_numbers (xs ++ t ∷ []) ≡ task_numbers xs ++ t.0 ∷ []
 numbers_last [] t = refl
 numbers_last (x ∷ xs) t = ap (λ (ys : List ℕ). x.0 ∷ ys) (numbers_last xs t)
 

@@ -203,7 +203,7 @@ moved_by p s old new w t g frees c ns xs ys peaks line allowed parents_ended its
     tree_then q l false e = old_tree q l ∙ sym (again_clean_there p (sizes s.held) (left_of old) (left_of new) xs t ys q peaks.one l on gone (same_but (left_of old) (left_of new) t is.left xs apart.0) (same_but (left_of old) (left_of new) t is.left ys apart.1) e)
 
 -- a Clean that may fail is the Choice
-clean_choice : (p : Plan) (s : State) (w t : ℕ) → IsSoundState p s → is_clean p t ≡ true → MayFail p s w t → IsChoice p s t
+pub clean_choice : (p : Plan) (s : State) (w t : ℕ) → IsSoundState p s → is_clean p t ≡ true → MayFail p s w t → IsChoice p s t
 clean_choice p s w t sound kind (inl o) = absurd (let no = (sound.running_kind t o.runs).0 in cc)
 clean_choice p s w t sound kind (inr k) = k.1
 

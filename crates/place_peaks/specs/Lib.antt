@@ -17,3 +17,6 @@ pub mod Links
 pub mod Settling
 -- The order before the first entry
 pub mod Opening
+-- Each entry of a record
+pub mod Entries
+pub mod Renewing

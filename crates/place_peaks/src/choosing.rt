@@ -71,7 +71,7 @@ impl Peaks {
         }
     }
 
-    fn base(&self, place: u32) -> u64
+    pub(crate) fn base(&self, place: u32) -> u64
         ensures { result ≡ get_or self.now.base.items place 0 }
     {
         match self.base.get(place as usize) {

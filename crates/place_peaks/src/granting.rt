@@ -23,7 +23,7 @@ pub(crate) fn unmark(left: &mut Vec<bool>, task: u32)
 
 /// Adds to what a place holds.
 #[tactic(auto, using(crate::proofs::SetLemmas::get_set))]
-fn add_base(base: &mut Vec<u64>, place: u32, need: u64)
+pub(crate) fn add_base(base: &mut Vec<u64>, place: u32, need: u64)
     requires place { place < length base.old.items }
     requires small { get_or base.old.items place 0 + need ≤ 2 ^ 62 }
     ensures long { length base.new.items ≡ length base.old.items }
@@ -47,7 +47,7 @@ fn start_at(trees: &mut Vec<PeakTree>, place: u32, seat: usize, need: u64)
 
 impl Peaks {
     /// A task of the line has started.
-    pub fn grant(&mut self, task: u32)
+    pub(crate) fn grant(&mut self, task: u32)
         requires task { task < length self.old.left.items }
         requires room { (q : ℕ) → get_or self.old.homes.items task None ≡ Some q → CanGrant self.old task q }
         ensures { IsGranted self.old self.new task }
@@ -65,7 +65,7 @@ impl Peaks {
     }
 
     /// The first task of the stack has started.
-    pub fn grant_again(&mut self, task: u32)
+    pub(crate) fn grant_again(&mut self, task: u32)
         requires first { IsFirstOf (stack_of self.old) task }
         requires room { (q : ℕ) → get_or self.old.homes.items task None ≡ Some q → CanHold self.old task q }
         ensures granted { IsGrantedAgain self.old self.new task }

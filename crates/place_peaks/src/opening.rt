@@ -13,8 +13,9 @@ ghost use Rattle.storage_simulation.specs.Law.{KeepsGoods};
 ghost use Rattle.storage_simulation.specs.Usage.{sum_of};
 ghost use Rattle.lease_book.specs.Law.{FitsFromStart};
 ghost use Rattle.lease_book.specs.State.{opened};
+ghost use Rattle.place_peaks.specs.Entries.{AreTied};
 ghost use Rattle.place_peaks.specs.Opening.{AreLevels, AreSeats};
-ghost use Rattle.place_peaks.specs.Peaks.{ArePeaks};
+ghost use Rattle.place_peaks.specs.Peaks.{ArePeaks, line_of};
 ghost use Rattle.place_peaks.specs.Places.{ChangesOnePlace};
 ghost use Rattle.place_peaks.specs.Waiting.{HasStackRoom};
 
@@ -100,22 +101,28 @@ fn needs_of(alloc: Global, plan: &Plan) -> Result<Vec<u64>, Memory>
 }
 
 /// The task at a position of the order takes its seat.
-fn seat_next(plan: &Plan, line: &[TaskId], seating: &mut Seating, k: usize)
+pub(crate) fn seat_next(
+    plan: &Plan,
+    line: &[TaskId],
+    seats: &mut Vec<usize>,
+    widths: &mut Vec<usize>,
+    k: usize,
+)
     requires limits { IsWithinLimits plan.now }
     requires once { AreOnce (task_numbers line.now) }
     requires tasks { (t : ℕ) → has (task_numbers line.now) t ≡ true → t < count_tasks plan.now }
     requires one { ChangesOnePlace plan.now }
     requires within { k < length line.now }
-    requires so_far { AreSeats plan.now (task_numbers line.now) seating.old.seats.items seating.old.widths.items k }
-    ensures { AreSeats plan.now (task_numbers line.now) seating.new.seats.items seating.new.widths.items (k + 1) }
+    requires so_far { AreSeats plan.now (task_numbers line.now) seats.old.items widths.old.items k }
+    ensures { AreSeats plan.now (task_numbers line.now) seats.new.items widths.new.items (k + 1) }
 {
     let task = task_at(line, k);
     match place_of(plan, TaskId(task)) {
         None => {}
         Some(at) => {
-            let seat = seating.widths[at as usize];
-            seating.seats[task as usize] = seat;
-            seating.widths[at as usize] = seat + 1;
+            let seat = widths[at as usize];
+            seats[task as usize] = seat;
+            widths[at as usize] = seat + 1;
         }
     }
 }
@@ -132,7 +139,7 @@ fn seating_of(alloc: Global, plan: &Plan, line: &[TaskId]) -> Result<Seating, Me
         widths: vec![in alloc; 0; places(plan)]?,
     };
     for k in 0..line.len() {
-        seat_next(plan, line, &mut seating, k);
+        seat_next(plan, line, &mut seating.seats, &mut seating.widths, k);
     }
     Ok(seating)
 }
@@ -223,7 +230,22 @@ impl Peaks {
         requires proper { IsProper plan.now }
         requires limits { IsWithinLimits plan.now }
         requires fits { FitsFromStart plan.now (task_numbers order.now) }
+        ensures tied { IfOk result (λ b. AreTied plan.now (opened (task_numbers order.now)) b) }
+        ensures stack { IfOk result (λ b. b.again.items ≡ []) }
+    {
+        let peaks = Peaks::make(alloc, plan, order)?;
+        Ok(peaks)
+    }
+
+    /// The same, part by part.
+    fn make(alloc: Global, plan: &Plan, order: &[TaskId]) -> Result<Peaks, Memory>
+        requires proper { IsProper plan.now }
+        requires limits { IsWithinLimits plan.now }
+        requires fits { FitsFromStart plan.now (task_numbers order.now) }
         ensures tied { IfOk result (λ b. ArePeaks plan.now (opened (task_numbers order.now)) b) }
+        ensures line { IfOk result (λ b. line_of b ≡ task_numbers order.now) }
+        ensures seats { IfOk result (λ b. length b.seats.items ≡ count_tasks plan.now) }
+        ensures widths { IfOk result (λ b. length b.widths.items ≡ places plan.now) }
         ensures stack { IfOk result (λ b. b.again.items ≡ []) }
         ensures room { IfOk result (λ b. HasStackRoom plan.now b) }
     {

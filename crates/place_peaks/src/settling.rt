@@ -137,7 +137,7 @@ impl Peaks {
     }
 
     /// A Transfer has moved its file, of this size.
-    pub fn arrive(&mut self, plan: &Plan, links: &Links, task: u32, size: u64)
+    pub(crate) fn arrive(&mut self, plan: &Plan, links: &Links, task: u32, size: u64)
         requires limits { IsWithinLimits plan.now }
         requires links { AreLinks plan.now links.now }
         requires settles { CanSettle plan.now links.now self.old task (replicate (length (makes plan.now task)) size) }
@@ -148,7 +148,7 @@ impl Peaks {
     }
 
     /// A Run has made its files, of these sizes.
-    pub fn end(&mut self, plan: &Plan, links: &Links, task: u32, sizes: &[u64])
+    pub(crate) fn end(&mut self, plan: &Plan, links: &Links, task: u32, sizes: &[u64])
         requires limits { IsWithinLimits plan.now }
         requires links { AreLinks plan.now links.now }
         requires settles { CanSettle plan.now links.now self.old task sizes.now }

@@ -91,7 +91,7 @@ fn is_among_rising(pairs: &[PairId], good: u32) -> bool
 
 /// Whether a task of a plan that lists goods in rising order makes a good.
 #[tactic(auto, unfolding(storage_simulation::specs::Goods::makes))]
-fn makes_good(plan: &Plan, task: TaskId, good: u32) -> bool
+pub(crate) fn makes_good(plan: &Plan, task: TaskId, good: u32) -> bool
     requires limits { IsWithinLimits plan.now }
     requires rises { RisesFrom 0 (makes plan.now task.0) }
     ensures { result ≡ has (makes plan.now task.0) good }

@@ -2,7 +2,7 @@
 
 ghost use Rattle.std.specs.Prelude.{◌≡◌, ◌≤◌, ◌<◌, ◌+◌, ◌-◌, ◌^◌, ℕ, take, set, length, None, Decides};
 ghost use Rattle.std.specs.List.{All};
-ghost use Rattle.peak_tree.specs.Numbers.{StaysInRange, add_front, greatest};
+ghost use Rattle.peak_tree.specs.Numbers.{StaysInRange, add_front, filled, greatest};
 ghost use Rattle.place_peaks.specs.Tree.{AllFirst, CanFall, CanRise, HasRoom, IsUpTo, front_changed};
 
 use peak_tree::{PeakTree, Steps};
@@ -123,4 +123,23 @@ pub(crate) fn has_room(top: Option<u64>, base: u64, brings: u64, bound: u64) -> 
         return false;
     }
     is_up_to(most, top)
+}
+
+fn fill<L: Ledger>(tree: &mut PeakTree, levels: &[u64], blank: Blank)
+    requires name { blank.name ≡ L.name }
+    requires parts { blank.parts ≡ L.parts }
+    requires some { 0 < blank.parts }
+    requires few { length levels.now ≤ length tree.old }
+    ensures { tree.new ≡ filled levels.now (length tree.old) }
+{
+    let mut steps = Steps::<L>::new(blank);
+    tree.refill(levels, &mut steps);
+}
+
+/// The first positions have these numbers, and the others aren't live.
+pub(crate) fn refill(tree: &mut PeakTree, levels: &[u64])
+    requires { length levels.now ≤ length tree.old }
+    ensures { tree.new ≡ filled levels.now (length tree.old) }
+{
+    fill::<Brand>(tree, levels, Blank::new(1));
 }
