@@ -4,7 +4,7 @@ device.
 
 What has to come each time: the name of the document that could not be read; or the task whose Fail stands in the record,
 which tools/record-model calls legal, while what was delivered is whole; or a front of the text, where a write of it failed; or
-just what comes where none fails. So it is by one worker and by several, whose calls come in another order each time."""
+just what comes where none fails. `resume` is handed a whole record. So it is by one worker and by several, whose calls come in another order each time."""
 import collections
 import concurrent.futures
 import os
@@ -17,6 +17,7 @@ import tempfile
 sys.dont_write_bytecode = True
 sys.path.insert(0, "tools")
 import beside
+import each_call_failing
 
 PROGRAM = pathlib.Path("crates/pegasus/out/pegasus").absolute()
 EXAMPLES = pathlib.Path("examples").absolute()
@@ -24,111 +25,6 @@ REQUEST = "examples/diamond/request.json"
 DOCUMENTS = [REQUEST] + [f"examples/diamond/{it}.json" for it in ("diamond", "sites", "replicas", "transformations")]
 RECORD = "examples/record.txt"
 DELIVERED = b"c\nd\na\nb\n"
-SOURCE = r"""
-#define _GNU_SOURCE
-#include <dirent.h>
-#include <dlfcn.h>
-#include <errno.h>
-#include <fcntl.h>
-#include <stdarg.h>
-#include <stdio.h>
-#include <stdlib.h>
-#include <sys/stat.h>
-#include <sys/syscall.h>
-#include <unistd.h>
-
-static long calls, writes;
-
-static long asked(const char *name) {
-    const char *value = getenv(name);
-    return value == NULL ? 0 : atol(value);
-}
-
-/* Whether this call is the one that fails. */
-static int fails(void) {
-    long call = __atomic_add_fetch(&calls, 1, __ATOMIC_SEQ_CST);
-    if (asked("FAILING_CALL") != call) return 0;
-    errno = EIO;
-    return 1;
-}
-
-#define REAL(name) __typeof__(&name) real = (__typeof__(&name))dlsym(RTLD_NEXT, #name)
-
-int open(const char *path, int flags, ...) {
-    REAL(open);
-    va_list more;
-    va_start(more, flags);
-    int mode = va_arg(more, int);
-    va_end(more);
-    return fails() ? -1 : real(path, flags, mode);
-}
-
-ssize_t read(int file, void *into, size_t count) {
-    REAL(read);
-    return fails() ? -1 : real(file, into, count);
-}
-
-/* The text is taken a byte at a time, and its Nth write fails, where that is asked. */
-static ssize_t text_write(const void *from, size_t count) {
-    REAL(write);
-    if (++writes == asked("FAILING_WRITE")) {
-        errno = ENOSPC;
-        return -1;
-    }
-    return real(1, from, count == 0 ? 0 : 1);
-}
-
-ssize_t write(int file, const void *from, size_t count) {
-    REAL(write);
-    if (file == 1 && asked("FAILING_WRITE") != 0) return text_write(from, count);
-    return fails() ? -1 : real(file, from, count);
-}
-
-int statx(int folder, const char *path, int flags, unsigned mask, struct statx *into) {
-    REAL(statx);
-    return fails() ? -1 : real(folder, path, flags, mask, into);
-}
-
-ssize_t getdents64(int folder, void *into, size_t count) {
-    REAL(getdents64);
-    return fails() ? -1 : real(folder, into, count);
-}
-
-int mkdir(const char *path, mode_t mode) {
-    REAL(mkdir);
-    return fails() ? -1 : real(path, mode);
-}
-
-int rename(const char *from, const char *to) {
-    REAL(rename);
-    return fails() ? -1 : real(from, to);
-}
-
-int unlink(const char *path) {
-    REAL(unlink);
-    return fails() ? -1 : real(path);
-}
-
-static void tell(void) {
-    const char *place = getenv("CALLS_FILE");
-    FILE *out;
-    long counted = calls;
-    if (place == NULL || (out = fopen(place, "w")) == NULL) return;
-    fprintf(out, "%ld", counted);
-    fclose(out);
-}
-
-__attribute__((destructor)) static void at_end(void) { tell(); }
-
-/* A program that may start threads ends by this call, which no destructor outlives. */
-void _exit(int status) {
-    tell();
-    syscall(SYS_exit_group, status);
-    __builtin_unreachable();
-}
-"""
-
-
 judge = beside.load("record-model").judge
 
 
@@ -136,18 +32,11 @@ def made(*words):
     return subprocess.run([sys.executable, *words], capture_output=True, text=True, check=True).stdout
 
 
-def made_library(folder):
-    source, library = (os.path.join(folder, name) for name in ("fail.c", "fail.so"))
-    pathlib.Path(source).write_text(SOURCE)
-    subprocess.run(["cc", "-shared", "-fPIC", "-O1", "-o", library, source, "-ldl"], check=True)
-    return library
-
-
 class Calls:
     """Calls under the library, each in a folder of its own that has a copy of the examples and a record of the diamond."""
 
     def __init__(self, work):
-        self.library = made_library(work)
+        self.library = each_call_failing.made_library(work)
         self.counted = os.path.join(work, "calls")
         self.record = made("tools/run-model", REQUEST)
         self.plan = made("tools/plan-model", REQUEST)
@@ -242,7 +131,7 @@ def main():
         print("failing-calls: skipped, no program that is built, or no C compiler")
         return
     one = [[command, REQUEST] for command in ("check", "plan", "eval", "alone", "produce", "schedule")]
-    judges = [[command, REQUEST, RECORD] for command in ("audit", "stat")]
+    judges = [[command, REQUEST, RECORD] for command in ("audit", "stat", "resume")]
     several = [["run", REQUEST, "--workers", str(workers)] for workers in (2, 16)]
     with tempfile.TemporaryDirectory() as work, concurrent.futures.ThreadPoolExecutor(os.cpu_count()) as pool:
         calls = Calls(work)

@@ -13,7 +13,7 @@ import pages
 PROGRAM = pathlib.Path("crates/pegasus/out/pegasus").absolute()
 TOOLS = pathlib.Path("tools").absolute()
 EXAMPLES = pathlib.Path("examples").absolute()
-STATUS = {"done": 0, "usage:": 2, "no": 3, "document": 3, "refused": 4, "exceeds": 5, "failed": 6, "bad": 8}
+STATUS = {"done": 0, "usage:": 2, "no": 3, "document": 3, "refused": 4, "exceeds": 5, "failed": 6, "bad": 8, "illegal": 8}
 CYCLE = """{
   "pegasus": "5.0", "name": "wait for each other",
   "siteCatalog": {"sites": [{"name": "local"}]},
