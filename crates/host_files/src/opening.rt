@@ -14,7 +14,7 @@ use outside::{Blob, Counts, HostFault, ReadPart};
 use std::alloc::Global;
 use std::fs;
 use std::fs::OpenFile;
-use std::io::ErrorKind;
+use std::io::{ErrorKind, Read};
 use std::rt::Files;
 
 /// An open file, and its length, if it has one: a folder or a pipe has none.
@@ -91,7 +91,14 @@ pub fn read_file<R: Files>(
     }
 }
 
-/// Opens a file of the machine to be read in pieces, and counts the call. What has no length fails.
+/// Whether a file of length 0 has no bytes. One of `/proc` has that length, and gives some.
+fn has_none<F: Read>(file: &mut F) -> bool {
+    let mut piece = [0u8; 1];
+    matches!(file.read(&mut piece), Ok(0))
+}
+
+/// Opens a file of the machine to be read in pieces, and counts the call. What has no length, or another than it tells,
+/// fails.
 pub fn open_file<R: Files>(
     rt: &R,
     counts: &mut Counts,
@@ -101,17 +108,17 @@ pub fn open_file<R: Files>(
     ensures answer { Opens ⟦<FolderReading<R::File> as ReadPart>⟧.state None limit counts.old counts.new result }
     ensures later { IsLater counts.old counts.new }
 {
-    let opened = open_within(rt, counts, path, limit)?;
-    match opened.length {
-        Some(length) => {
-            counts.add_done();
-            Ok(FolderReading::new(opened.file, length))
-        }
-        None => {
-            counts.add_fault();
-            Err(HostFault::Failed)
-        }
+    let mut opened = open_within(rt, counts, path, limit)?;
+    let Some(length) = opened.length else {
+        counts.add_fault();
+        return Err(HostFault::Failed);
+    };
+    if length == 0 && !has_none(&mut opened.file) {
+        counts.add_fault();
+        return Err(HostFault::Failed);
     }
+    counts.add_done();
+    Ok(FolderReading::new(opened.file, length))
 }
 
 /// Whether a file stands in a site's folder. A refusal counts itself.

@@ -1,5 +1,5 @@
 -- Parts of a store's files, outside the store: what they are at one time, and what their calls answer.
-use Rattle.std.specs.Prelude.{◌≡◌, ℕ, ◌+◌, ◌≤◌, ◌<◌, ◌++◌, List, length, take, drop, Option, option_map, Result, Ok, Err, IfSome}
+use Rattle.std.specs.Prelude.{◌≡◌, ℕ, ◌+◌, ◌≤◌, ◌<◌, ◌++◌, List, [], ◌∷◌, length, take, drop, Option, option_map, Result, Ok, Err, IfSome}
 use Rattle.outside.specs.Counts.{next_count}
 use Rattle.outside.specs.declared.host.HostFault.{HostFault}
 use Rattle.outside.specs.declared.host.HostFault.TheVariants.{Absent, Failed, Over, Memory}
@@ -55,3 +55,15 @@ AppendsOn before after piece (Err (Over l n)) = (l ≡ before.limit) × (before.
 AppendsOn before after piece (Err Failed) = (after ≡ record before { faults = next_count before.faults }) × (before.faults ≤ after.faults)
 AppendsOn before after piece (Err Memory) = after ≡ before
 AppendsOn before after piece (Err Absent) = ⊥
+
+-- how often calls of some parts failed
+abbrev pub reading_faults : List ReadState → ℕ
+reading_faults [] = 0
+reading_faults (s ∷ ss) = s.faults + reading_faults ss
+
+abbrev pub draft_faults : List DraftState → ℕ
+draft_faults [] = 0
+draft_faults (s ∷ ss) = s.faults + draft_faults ss
+
+abbrev pub part_faults : List ReadState → List DraftState → ℕ
+part_faults rs ds = reading_faults rs + draft_faults ds

@@ -6,6 +6,8 @@ pub mod Proper
 pub mod Files
 pub mod Printing
 pub mod Carried
+pub mod Declined
+pub mod Names
 pub mod Grounded
 -- Steps of the check
 pub mod Rising
