@@ -2,7 +2,7 @@
 use Rattle.std.proofs.Common.{◌≡◌, ℕ, zero, suc, ◌+◌, ◌≤◌, ◌<◌, ◌||◌, Bool, true, false, cond, nat_eq, eqb-true, List, [], ◌∷◌, length, take, drop, set, get_or, refl, sym, ap, ◌∙◌, arith}
 use Rattle.std.proofs.lemmas.List.{take_more}
 use Rattle.std.proofs.lemmas.List.Folds.{list_any-append}
-use Rattle.std.specs.Prelude.{not}
+use Rattle.std.specs.Prelude.{not, replicate}
 use Rattle.std.proofs.Math.Path.{fun_ext}
 use Rattle.std.proofs.lemmas.Bool.{eqb-false}
 use Rattle.storage_simulation.specs.declared.standing.Held.{Held}
@@ -14,12 +14,21 @@ use Rattle.plan_core.specs.declared.plan.Plan.{Plan}
 use Rattle.plan_core.specs.Words.{cleans}
 use Rattle.storage_simulation.specs.declared.standing.Standing.{Standing}
 use Rattle.storage_simulation.specs.Goods.{makes}
-use Rattle.lease_book.specs.Law.{HasStorageLaws}
+use Rattle.lease_rules.specs.Law.{HasStorageLaws}
 use Rattle.lease_book.specs.RunState.{HasLengths, IsSame}
-use Rattle.lease_book.specs.State.{State, put, stored_among, without}
-use Rattle.lease_book.proofs.ListLemmas.{has_head, once_parts, once_without, or_right, without_absent, without_has}
+use Rattle.lease_rules.specs.State.{State, put, stored_among, without}
+use Rattle.lease_rules.proofs.ListLemmas.{has_head, once_parts, once_without, or_right, without_absent, without_has}
 
 -- one place written
+-- a list of one value has it everywhere, and where it ends
+pub at_same : {X : Type 0} (d : X) (n t : ℕ) (xs : List X) → xs ≡ replicate n d → at_in d xs t ≡ d
+at_same {X = X} d n t xs is = ap (λ (ys : List X). at_in d ys t) is ∙ each n t
+  where
+    each : (m u : ℕ) → at_in d (replicate m d) u ≡ d
+    each zero u = refl
+    each (suc m) zero = refl
+    each (suc m) (suc u) = each m u
+
 pub at_set : {X : Type 0} (d : X) (xs : List X) (i : ℕ) (x : X) (u : ℕ) → i < length xs → at_in d (set xs i x) u ≡ put (at_in d xs) i x u
 at_set d [] i x u l = absurd (omega arith)
 at_set d (y ∷ ys) zero x zero l = refl
@@ -113,22 +122,3 @@ same_state a b same = λ i. record {
   failing = same.failing i;
   rest = same.rest i;
 }
-
--- numbers below n, each once, are at most n
-without_shorter : (t : ℕ) (xs : List ℕ) → AreOnce xs → length xs ≤ suc (length (without t xs))
-without_shorter t [] o = omega arith
-without_shorter t (x ∷ xs) o = by_test (nat_eq t x) refl (without_shorter t xs (once_parts x xs o).1)
-  where
-    by_test : (b : Bool) → nat_eq t x ≡ b → length xs ≤ suc (length (without t xs)) → length (x ∷ xs) ≤ suc (length (cond (not b) (x ∷ without t xs) (without t xs)))
-    by_test true e less =
-        let parts = once_parts x xs o in
-        let gone : has xs t ≡ false = ap (has xs) (eqb-true t x e) ∙ parts.0 in
-        let same = ap length (without_absent t xs gone) in omega (arith, same)
-    by_test false e less = omega (arith, less)
-
-pub few_once : (n : ℕ) (xs : List ℕ) → AreOnce xs → ((u : ℕ) → has xs u ≡ true → u < n) → length xs ≤ n
-few_once zero [] o h = omega arith
-few_once zero (x ∷ xs) o h = absurd (let l = h x (has_head x xs) in omega (arith, l))
-few_once (suc n) xs o h =
-    let less = few_once n (without n xs) (once_without n xs o) (λ u m. let k = without_has n u xs m in let ne = eqb-false n u k.1 in let l = h u k.0 in omega (arith, ne, l)) in
-    omega (arith, less, without_shorter n xs o)

@@ -1,26 +1,24 @@
 -- One entry more in a book.
 use Rattle.std.proofs.Common.{◌≡◌, ℕ, zero, suc, ◌+◌, ◌-◌, ◌*◌, ◌≤◌, ◌<◌, ◌||◌, ◌&&◌, Bool, true, false, inl, inr, List, [], ◌∷◌, ◌++◌, length, ltb, refl, sym, ap, subst, ◌∙◌, arith, ltb-true, ltb-false}
-use Rattle.std.specs.Prelude.{◌⊎◌, not, Option, Some}
+use Rattle.std.specs.Prelude.{◌⊎◌, not, Option, Some, slice_get}
 use Rattle.std.specs.List.{list_any}
-use Rattle.std.proofs.Math.Logic.{∥∥₁_elim, ∥∥₁_map}
+use Rattle.std.proofs.Math.Logic.{∥∥₁_map}
 use Rattle.storage_simulation.specs.Fitting.{Fits}
-use mathlib.Core.Bool.{Bool-set}
-use Rattle.storage_simulation.specs.Ordering.{IsOrder, all_wait, at_start, nothing_held}
-use Rattle.lease_book.proofs.ArrayLemmas.{few_once, same_state}
-use Rattle.lease_book.proofs.GoodsLemmas.{good_small}
-use Rattle.lease_book.proofs.ListLemmas.{both, un_not}
-use Rattle.lease_book.proofs.RoomLemmas.{consistent_more, room_falls}
-use Rattle.lease_book.proofs.SizesRoomLemmas.{sizes_fall}
-use Rattle.lease_book.proofs.SoundLemmas.{fresh_among, sound_more, sound_opened}
-use Rattle.lease_book.proofs.SafeLemmas.{choice_exists, complete_of, safe_state}
+use Rattle.lease_book.proofs.ArrayLemmas.{same_state}
+use Rattle.lease_rules.proofs.GoodsLemmas.{good_small}
+use Rattle.lease_rules.proofs.ListLemmas.{both, by_bool, un_not}
+use Rattle.lease_rules.proofs.RoomLemmas.{consistent_more, room_falls}
+use Rattle.lease_rules.proofs.SizesRoomLemmas.{sizes_fall}
+use Rattle.lease_rules.proofs.SoundLemmas.{fresh_among, sound_more, sound_opened}
+use Rattle.lease_rules.proofs.SafeLemmas.{choice_exists, complete_of, safe_state}
 use Rattle.lease_book.specs.Book.{is_tried_again, state_at}
-use Rattle.lease_book.specs.Choice.{IsChoice}
+use Rattle.lease_rules.specs.Choice.{IsChoice}
 use Rattle.lease_book.specs.Kept.{IsBook}
-use Rattle.lease_book.specs.Law.{FitsFromStart, HasStorageLaws, IsConsistent, IsSafeState, IsSoundState}
-use Rattle.lease_book.specs.Legal.{Allowed, CauseFits, IsComplete, Legal, LegalFrom, MayFail}
-use Rattle.lease_book.specs.Room.{listed, entries_room, sizes_left, sizes_room}
-use Rattle.lease_book.specs.RunState.{HasRoom, IsSame, state_of}
-use Rattle.lease_book.specs.State.{State, after, now, now_from, opened, order_or, order_with, runs, without}
+use Rattle.lease_rules.specs.Law.{FitsFromStart, HasStorageLaws, IsConsistent, IsSafeState, IsSoundState}
+use Rattle.lease_rules.specs.Legal.{Allowed, CauseFits, IsComplete, Legal, LegalFrom, MayFail}
+use Rattle.lease_rules.specs.Room.{listed, entries_room, sizes_left, sizes_room}
+use Rattle.lease_book.specs.RunState.{HasPeaks, HasRoom, IsSame, state_of}
+use Rattle.lease_rules.specs.State.{State, after, now, now_from, opened, order_or, order_with, runs, without}
 use Rattle.lease_book.specs.declared.book.Book.{Book}
 use Rattle.lease_book.specs.declared.state.RunState.{RunState}
 use Rattle.plan_core.specs.Words.{count_tasks, retries, task_numbers}
@@ -82,13 +80,14 @@ book_safe b = subst (IsSafeState b.plan) (seen b) (safe_state b.plan (state_of b
 -- an entry more
 pub kept_more : (b : Book) (e : Event) (new : Log) (s : RunState) → Allowed b.plan (state_of b.state) e
     → new.events ≡ b.history.events ++ e ∷ [] → b.history.room ≤ new.room + 1 → b.history.sizes_room ≤ new.sizes_room + length (listed e)
-    → state_of s ≡ after b.plan (state_of b.state) e → HasRoom b.plan s → IsBook b.plan (task_numbers b.order.items) new s
-kept_more b e new s allowed items room_left sizes_left is long = record {
+    → state_of s ≡ after b.plan (state_of b.state) e → HasRoom b.plan s → HasPeaks b.plan s → IsBook b.plan (task_numbers b.order.items) new s
+kept_more b e new s allowed items room_left sizes_left is long peaks = record {
   limits = b.kept.limits;
   laws = b.kept.laws;
   few = b.kept.few;
   fits = b.kept.fits;
   room = long;
+  peaks = peaks;
   consistent = subst (IsConsistent b.plan) (sym is) (consistent_more b.plan (state_of b.state) e b.kept.laws b.kept.consistent allowed);
   legal = subst (λ (r : List Event). ∥ Legal b.plan order r ∥₁) (sym items) (∥∥₁_map b.kept.legal (λ l. legal_more b.plan (opened order) b.history.events e l (subst (λ (x : State). Allowed b.plan x e) (seen b) allowed)));
   same = same_of (state_of s) (now b.plan order new.events) (is ∙ ap (λ (x : State). after b.plan x e) (seen b) ∙ sym (now_more b.plan (opened order) b.history.events e) ∙ ap (now b.plan order) (sym items));
@@ -99,22 +98,9 @@ kept_more b e new s allowed items room_left sizes_left is long = record {
     order : List ℕ
     order = task_numbers b.order.items
 
--- of an Again and of a Regrant there is room in rest
-pub again_short : (p : Plan) (s : State) (w t : ℕ) (c : Cause) (ns : List ℕ) → HasStorageLaws p → IsSoundState p s → Allowed p s (Again w t c ns) → length (without t s.rest) < count_tasks p
-again_short p s w t c ns proper sound allowed =
-    let next = sound_more p s (Again w t c ns) proper sound allowed in
-    let few : length (t ∷ without t s.rest) ≤ count_tasks p = few_once (count_tasks p) (t ∷ without t s.rest) next.safe.once next.safe.tasks in
-    omega (arith, few)
-
+-- the task of an entry
 pub regrant_task : (p : Plan) (s : State) (w t : ℕ) → IsSoundState p s → Allowed p s (Regrant w t) → t < count_tasks p
 regrant_task p s w t sound allowed = sound.safe.tasks t (fresh_among p s 4 s.rest t allowed.1.among).2
-
-pub regrant_short : (p : Plan) (s : State) (w t : ℕ) (ts : List ℕ) → HasStorageLaws p → IsSoundState p s → Allowed p s (Regrant w t) → order_with p s t ≡ Some ts → length ts ≤ count_tasks p
-regrant_short p s w t ts proper sound allowed e =
-    let next = sound_more p s (Regrant w t) proper sound allowed in
-    let few : length (order_or (order_with p s t) s.rest) ≤ count_tasks p = few_once (count_tasks p) (order_or (order_with p s t) s.rest) next.safe.once next.safe.tasks in
-    let is : length (order_or (order_with p s t) s.rest) ≡ length ts = ap (λ (o : Option (List ℕ)). length (order_or o s.rest)) e in
-    omega (arith, few, is)
 
 -- a failure
 none_published : (ns : List ℕ) → ns ≡ [] → is_empty ns ≡ true
@@ -156,6 +142,15 @@ all_done p s proper sound unfailed none idle = complete_of p s sound unfailed id
     by_rest [] e = e
     by_rest (x ∷ xs) e = absurd (none x (choice_exists p s x xs proper sound unfailed idle e))
 
+-- and while a task is left, one runs
+pub left_runs : (p : Plan) (s : State) (xs : List Phase) (t : ℕ) → HasStorageLaws p → IsSoundState p s → s.failing ≡ false → ((u : ℕ) → IsChoice p s u → ⊥) → Some t ≡ slice_get s.rest 0
+    → (list_any runs xs ≡ false → (u : ℕ) → s.phase u ≡ Runs → ⊥) → true ≡ list_any runs xs
+left_runs p s xs t laws sound unfailed none first idle = by_bool (list_any runs xs) (λ on. sym on) (λ off. absurd (by_rest (idle off) s.rest refl (sym first)))
+  where
+    by_rest : ((u : ℕ) → s.phase u ≡ Runs → ⊥) → (ys : List ℕ) → s.rest ≡ ys → slice_get ys 0 ≡ Some t → ⊥
+    by_rest quiet [] e k = cc
+    by_rest quiet (x ∷ ys) e k = none x (choice_exists p s x ys laws sound unfailed quiet e)
+
 pub one_runs : (xs : List Phase) → list_any runs xs ≡ true → (u : ℕ) × (at_in Waits xs u ≡ Runs)
 one_runs [] h = absurd cc
 one_runs (x ∷ xs) h = by_first x refl h (one_runs xs)
@@ -180,13 +175,14 @@ total_times zero c w = omega arith
 total_times (suc n) c w = grind (arith, total_times n c w)
 
 pub kept_open : (p : Plan) (order : List ℕ) (history : Log) (s : RunState) → HasStorageLaws p → IsWithinLimits p → retries p ≤ 10 → FitsFromStart p order → history.events ≡ []
-    → count_tasks p * (2 * (retries p + 1)) ≤ history.room → (retries p + 1) * total (count_tasks p) (λ t. length (makes p t)) ≤ history.sizes_room → IsSame (state_of s) (opened order) → HasRoom p s → IsBook p order history s
-kept_open p order history s laws limits few fit none entries sizes same long = record {
+    → count_tasks p * (2 * (retries p + 1)) ≤ history.room → (retries p + 1) * total (count_tasks p) (λ t. length (makes p t)) ≤ history.sizes_room → IsSame (state_of s) (opened order) → HasRoom p s → HasPeaks p s → IsBook p order history s
+kept_open p order history s laws limits few fit none entries sizes same long peaks = record {
   limits = limits;
   laws = laws;
   few = few;
   fits = fit;
   room = long;
+  peaks = peaks;
   consistent = subst (IsConsistent p) (sym at) (record { sound = sound_opened p order fit; failed_fails = λ t h. absurd cc; few_agains = λ t. omega arith });
   legal = legal_none p order history.events none;
   same = subst (λ (r : List Event). IsSame (state_of s) (now p order r)) (sym none) same;
@@ -208,7 +204,3 @@ kept_open p order history s laws limits few fit none entries sizes same long = r
 
     at : state_of s ≡ opened order
     at = same_state (state_of s) (opened order) same
-
--- an order has all tasks
-pub order_all : (p : Plan) (order : List ℕ) → Fits p all_wait nothing_held order → ∥ IsOrder p at_start order ∥₁ → FitsFromStart p order
-order_all p order fits is = record { fits = fits; all = λ t l. ∥∥₁_elim is (Bool-set _ _) (λ o. o.all t l) }

@@ -1,7 +1,7 @@
 -- Sums of what is stored, and of what is reserved.
 use Rattle.std.proofs.Common.{◌≡◌, ℕ, ◌+◌, ◌^◌, ◌≤◌, cond, arith}
-use Rattle.lease_book.proofs.TotalLemmas.{total_more}
-use Rattle.lease_book.specs.State.{reserved_size, stored_size}
+use Rattle.lease_rules.proofs.TotalLemmas.{total_more}
+use Rattle.lease_rules.specs.State.{reserved_size, stored_size}
 use Rattle.plan_core.specs.declared.plan.Plan.{Plan}
 use Rattle.storage_simulation.specs.Goods.{lies_at}
 use Rattle.storage_simulation.specs.Standings.{IsStanding, held_of, held_size}

@@ -3,15 +3,14 @@ use Rattle.std.proofs.Common.{◌≡◌, ℕ, zero, suc, ◌≤◌, ◌<◌, ◌
 use Rattle.std.specs.Prelude.{Decides, MatchOption, Option, Some, None}
 use Rattle.std.specs.List.{list_all, list_any}
 use Rattle.std.proofs.Math.Path.{fun_ext}
-use Rattle.lease_book.proofs.ArrayLemmas.{few_once}
-use Rattle.lease_book.proofs.GoodsLemmas.{good_small}
-use Rattle.lease_book.proofs.ListLemmas.{all_have, have_all}
-use Rattle.lease_book.proofs.SoundLemmas.{choice_in, put_at, put_off}
-use Rattle.lease_book.proofs.SafeLemmas.{choice_exists}
-use Rattle.lease_book.proofs.StartLemmas.{follows_of, follows_without}
-use Rattle.lease_book.specs.Choice.{CanStart, HasNoChoice, HaveParentsEnded, IsCandidate, IsChoice, Safe, start}
-use Rattle.lease_book.specs.Law.{HasStorageLaws, IsIdle, IsSoundState}
-use Rattle.lease_book.specs.State.{State, after, ended, held_after, phase_after, put, reserved_for, runs, started, without}
+use Rattle.lease_rules.proofs.GoodsLemmas.{good_small}
+use Rattle.lease_rules.proofs.ListLemmas.{all_have, few_once, have_all}
+use Rattle.lease_rules.proofs.SoundLemmas.{choice_in, put_at, put_off}
+use Rattle.lease_rules.proofs.SafeLemmas.{choice_exists}
+use Rattle.lease_rules.proofs.StartLemmas.{follows_of, follows_without}
+use Rattle.lease_rules.specs.Choice.{CanStart, HasNoChoice, HaveParentsEnded, IsCandidate, IsChoice, Safe, start}
+use Rattle.lease_rules.specs.Law.{HasStorageLaws, IsIdle, IsSoundState}
+use Rattle.lease_rules.specs.State.{State, after, ended, held_after, phase_after, put, reserved_for, runs, started, without}
 use Rattle.lease_book.specs.Trial.{HasPlace, IsTrial}
 use Rattle.lease_book.specs.declared.trial.Trial.{Trial}
 use Rattle.plan_core.specs.Numbers.{has}
@@ -52,7 +51,7 @@ start_small p f t g small = by_kind (is_clean p t)
         by_test true = omega arith
         by_test false = small
 
--- the trial is a standing, and its tasks are an order
+-- the trial is a standing
 pub trial_standing : (p : Plan) (s : State) (t : ℕ) (x : Trial) → IsWithinLimits p → IsSoundState p s → HasPlace p x → IsTrial p s t x → IsStanding p x.standing
 trial_standing p s t x limits sound place tried = record {
   pairs = place.standing.pairs;
@@ -65,53 +64,13 @@ trial_standing p s t x limits sound place tried = record {
       omega (arith, is, few, size);
 }
 
-pub trial_follows : (p : Plan) (s : State) (t : ℕ) (x : Trial) → IsSoundState p s → IsTrial p s t x → Follows p (phase_of x.standing) (task_numbers x.rest.items)
-trial_follows p s t x sound tried = subst (Follows p (phase_of x.standing)) (sym tried.rest)
-    (follows_without p s.phase (phase_of x.standing) t s.rest
-    (λ u off. ap waits (tried.phase u ∙ start_phase p s.phase t u ∙ put_off s.phase t (cond (is_clean p t) Ended Runs) u off))
-    (ap waits (tried.phase t ∙ start_phase p s.phase t t ∙ put_at s.phase t (cond (is_clean p t) Ended Runs)) ∙ by_kind (is_clean p t))
-    (follows_of p s.phase s.held s.rest sound.safe))
-  where
-    by_kind : (b : Bool) → waits (cond b Ended Runs) ≡ false
-    by_kind true = refl
-    by_kind false = refl
-
--- what the trial shows is the state after the start
-fit_trial : (p : Plan) (s : State) (t : ℕ) (x : Trial) → IsTrial p s t x → Fits p (phase_of x.standing) (held_of x.standing) (task_numbers x.rest.items) → Fits p (phase_after (start p 0 t) s.phase) (held_after p (start p 0 t) s.held) (without t s.rest)
-fit_trial p s t x tried fit =
-    subst (λ (f : ℕ → Phase). Fits p f (held_after p (start p 0 t) s.held) (without t s.rest)) (fun_ext tried.phase)
-    (subst (λ (f : ℕ → Held). Fits p (phase_of x.standing) f (without t s.rest)) (fun_ext tried.held)
-    (subst (λ (ts : List ℕ). Fits p (phase_of x.standing) (held_of x.standing) ts) tried.rest fit))
-
-trial_fit : (p : Plan) (s : State) (t : ℕ) (x : Trial) → IsTrial p s t x → Fits p (phase_after (start p 0 t) s.phase) (held_after p (start p 0 t) s.held) (without t s.rest) → Fits p (phase_of x.standing) (held_of x.standing) (task_numbers x.rest.items)
-trial_fit p s t x tried fit =
-    subst (λ (ts : List ℕ). Fits p (phase_of x.standing) (held_of x.standing) ts) (sym tried.rest)
-    (subst (λ (f : ℕ → Held). Fits p (phase_of x.standing) f (without t s.rest)) (sym (fun_ext tried.held))
-    (subst (λ (f : ℕ → Phase). Fits p f (held_after p (start p 0 t) s.held) (without t s.rest)) (sym (fun_ext tried.phase)) fit))
-
--- whoever starts it
-any_worker : (p : Plan) (s : State) (t w : ℕ) (b : Bool) → Fits p (phase_after (cond b (Clean 0 t) (Grant 0 t)) s.phase) (held_after p (cond b (Clean 0 t) (Grant 0 t)) s.held) (without t s.rest) → Safe p (after p s (cond b (Clean w t) (Grant w t)))
-any_worker p s t w true fit = fit
-any_worker p s t w false fit = fit
-
-no_worker : (p : Plan) (s : State) (t : ℕ) (b : Bool) → Safe p (after p s (cond b (Clean 0 t) (Grant 0 t))) → Fits p (phase_after (cond b (Clean 0 t) (Grant 0 t)) s.phase) (held_after p (cond b (Clean 0 t) (Grant 0 t)) s.held) (without t s.rest)
-no_worker p s t true safe = safe
-no_worker p s t false safe = safe
-
 pub all_parents : (p : Plan) (s : State) (t : ℕ) → true ≡ list_all (λ u. ended (s.phase u)) (parents p t) → HaveParentsEnded p s t
 all_parents p s t e = all_have (λ u. ended (s.phase u)) (parents p t) (sym e)
 
 pub not_all_parents : (p : Plan) (s : State) (t : ℕ) → false ≡ list_all (λ u. ended (s.phase u)) (parents p t) → HaveParentsEnded p s t → ⊥
 not_all_parents p s t e can = let all = have_all (λ u. ended (s.phase u)) (parents p t) can in absurd cc
 
--- the test of the code
-pub can_start_test : (p : Plan) (s : State) (t : ℕ) (x : Trial) (b : Bool) → HaveParentsEnded p s t → IsTrial p s t x → Decides b (Fits p (phase_of x.standing) (held_of x.standing) (task_numbers x.rest.items)) → Decides b (CanStart p s t)
-can_start_test p s t x b parents_ended tried d = (
-  λ h. record { parents_ended = parents_ended; leaves_safe = λ w. any_worker p s t w (is_clean p t) (fit_trial p s t x tried (d.0 h)) },
-  λ can. d.1 (trial_fit p s t x tried (no_worker p s t (is_clean p t) (can.leaves_safe 0))),
-)
-
--- the same of a candidate
+-- the test of a candidate
 kept : (p : Plan) (s : State) (t : ℕ) → is_clean p t ≡ false → (g : ℕ) → held_after p (start p 0 t) s.held g ≡ reserved_for p t s.held g
 kept p s t unclean g = ap (λ (b : Bool). held_after p (cond b (Clean 0 t) (Grant 0 t)) s.held g) unclean
 
@@ -130,19 +89,6 @@ candidate_phase p s t x unclean tried = fun_ext (λ u. tried.phase u ∙ start_p
 
 pub candidate_standing : (p : Plan) (s : State) (t : ℕ) (x : Trial) → is_clean p t ≡ false → IsTrial p s t x → progress x.standing ≡ started p s t
 candidate_standing p s t x unclean tried = λ i. record { phase = candidate_phase p s t x unclean tried i; held = candidate_held p s t x unclean tried i }
-
--- rest has at most all tasks
-pub rest_few : (p : Plan) (s : State) → IsSoundState p s → length s.rest ≤ count_tasks p
-rest_few p s sound = few_once (count_tasks p) s.rest sound.safe.once sound.safe.tasks
-
--- where no task runs the first task of rest is the Choice
-pub idle_choice : (p : Plan) (s : State) (o : Option ℕ) → HasStorageLaws p → IsSoundState p s → s.failing ≡ false → IsIdle s → MatchOption o (s.rest ≡ []) (λ t. (ts : List ℕ) × (s.rest ≡ t ∷ ts)) → MatchOption o (HasNoChoice p s) (λ t. IsChoice p s t)
-idle_choice p s None laws sound unfailed idle none = λ t choice. absurd (let there = sym (choice_in p s t choice) ∙ ap (λ (ts : List ℕ). has ts t) none in cc)
-idle_choice p s (Some t) laws sound unfailed idle first = choice_exists p s t first.0 laws sound unfailed idle first.1
-
-pub first_is : (xs : List ℕ) (t : ℕ) → 0 < length xs → t ≡ get_or xs 0 0 → (ts : List ℕ) × (xs ≡ t ∷ ts)
-first_is [] t l at = absurd (omega arith)
-first_is (x ∷ xs) t l at = (xs, ap (λ (y : ℕ). y ∷ xs) (sym at))
 
 pub none_runs : (xs : List Phase) → list_any runs xs ≡ false → (u : ℕ) → at_in Waits xs u ≡ Runs → ⊥
 none_runs [] h u e = absurd cc

@@ -8,9 +8,9 @@ use Rattle.run_record.specs.Events.{Event, Again, Fail, Grant, Regrant, may_retr
 use Rattle.lease_book.specs.declared.book.Book.{Book}
 use Rattle.lease_book.specs.declared.leasing.Next.{Next}
 use Rattle.lease_book.specs.declared.leasing.Next.TheVariants.{Task, Done, Stopped, NotYet}
-use Rattle.lease_book.specs.State.{State, now}
-use Rattle.lease_book.specs.Choice.{HasNoChoice, IsChoice, IsFresh}
-use Rattle.lease_book.specs.Legal.{IsComplete}
+use Rattle.lease_rules.specs.State.{State, now}
+use Rattle.lease_rules.specs.Choice.{HasNoChoice, IsChoice, IsFresh}
+use Rattle.lease_rules.specs.Legal.{IsComplete}
 
 -- the state of a book's record
 abbrev pub state_at : Book → State

@@ -1,13 +1,6 @@
--- What the public contracts say
-pub mod State
-pub mod Choice
-pub mod Legal
-pub mod Law
-pub mod Reading
-pub mod Owning
-pub mod Room
+-- What the calls of a book answer
 pub mod Book
--- What arrays show
+-- What arrays and trees show
 pub mod RunState
 pub mod Trial
 pub mod Kept

@@ -1,11 +1,14 @@
 -- The state that arrays show.
-use Rattle.std.specs.Prelude.{◌≡◌, ℕ, ◌≤◌, false, length, vec_capacity}
+use Rattle.std.specs.Prelude.{◌≡◌, ℕ, ◌≤◌, ◌++◌, [], false, filter, length, vec_capacity}
 use Rattle.plan_core.specs.declared.plan.Plan.{Plan}
-use Rattle.plan_core.specs.Words.{count_pairs, count_tasks, task_numbers}
+use Rattle.plan_core.specs.Words.{count_pairs, count_tasks}
 use Rattle.storage_simulation.specs.declared.standing.Standing.{Standing}
 use Rattle.storage_simulation.specs.Standings.{at_in, held_of, phase_of}
 use Rattle.lease_book.specs.declared.state.RunState.{RunState}
-use Rattle.lease_book.specs.State.{State}
+use Rattle.lease_rules.specs.State.{State}
+use Rattle.place_peaks.specs.Entries.{AreTied}
+use Rattle.place_peaks.specs.Links.{AreLinks}
+use Rattle.place_peaks.specs.Peaks.{left_of, line_of, stack_of}
 
 abbrev pub state_of : RunState → State
 state_of s = record {
@@ -15,7 +18,7 @@ state_of s = record {
   failed = at_in false s.failed.items;
   held = held_of s.standing;
   failing = s.failing;
-  rest = task_numbers s.rest.items;
+  rest = stack_of s.peaks ++ filter (left_of s.peaks) (line_of s.peaks);
 }
 
 -- one value for each pair and task, and room for an order of all tasks
@@ -29,7 +32,12 @@ pub record HasRoom (p : Plan) (s : RunState) : Type 0 where
   pub holders : length s.holders.items ≡ count_tasks p
   pub agains : length s.agains.items ≡ count_tasks p
   pub failed : length s.failed.items ≡ count_tasks p
-  pub rest : count_tasks p ≤ vec_capacity s.rest
+  pub levels : count_tasks p ≤ vec_capacity s.levels
+
+-- the trees are those of the state, and the links those of the plan
+pub record HasPeaks (p : Plan) (s : RunState) : Type 0 where
+  pub tied : AreTied p (state_of s) s.peaks
+  pub links : AreLinks p s.links
 
 -- two states with the same parts
 pub record IsSame (a b : State) : Type 0 where
@@ -40,3 +48,7 @@ pub record IsSame (a b : State) : Type 0 where
   pub held : (g : ℕ) → a.held g ≡ b.held g
   pub failing : a.failing ≡ b.failing
   pub rest : a.rest ≡ b.rest
+
+-- no task waits again: rest is what is left of the line
+abbrev pub LineIsRest : RunState → Type 0
+LineIsRest s = stack_of s.peaks ≡ []

@@ -1,23 +1,20 @@
 -- A state in which the start of one task is tried.
-use Rattle.std.specs.Prelude.{◌≡◌, ℕ, ◌≤◌, [], vec_capacity}
+use Rattle.std.specs.Prelude.{◌≡◌, ℕ, []}
 use Rattle.plan_core.specs.declared.plan.Plan.{Plan}
-use Rattle.plan_core.specs.Words.{count_tasks, task_numbers}
 use Rattle.storage_simulation.specs.Standings.{IsStanding, held_of, phase_of, sizes}
 use Rattle.storage_simulation.specs.Usage.{IsWithin}
 use Rattle.lease_book.specs.declared.trial.Trial.{Trial}
-use Rattle.lease_book.specs.Choice.{start}
+use Rattle.lease_rules.specs.Choice.{start}
 use Rattle.lease_book.specs.RunState.{HasLengths}
-use Rattle.lease_book.specs.State.{State, held_after, phase_after, without}
+use Rattle.lease_rules.specs.State.{State, held_after, phase_after}
 
 pub record HasPlace (p : Plan) (x : Trial) : Type 0 where
   pub standing : HasLengths p x.standing
-  pub rest : count_tasks p ≤ vec_capacity x.rest
 
 -- it is the state after the task's start
 pub record IsTrial (p : Plan) (s : State) (t : ℕ) (x : Trial) : Type 0 where
   pub phase : (u : ℕ) → phase_of x.standing u ≡ phase_after (start p 0 t) s.phase u
   pub held : (g : ℕ) → held_of x.standing g ≡ held_after p (start p 0 t) s.held g
-  pub rest : task_numbers x.rest.items ≡ without t s.rest
 
 -- and each place is within its bound
 pub record IsTrialWithin (p : Plan) (s : State) (t : ℕ) (x : Trial) : Type 0 where

@@ -4,8 +4,8 @@ ghost use Rattle.std.specs.Prelude.{◌≡◌, false, Decides};
 ghost use Rattle.plan_core.specs.Words.{task_numbers};
 ghost use Rattle.run_record.specs.Events.{Arrive, Clean, End};
 ghost use Rattle.lease_book.specs.Book.{state_at};
-ghost use Rattle.lease_book.specs.Choice.{IsChoice};
-ghost use Rattle.lease_book.specs.Legal.{Allowed, ArePublished, MayFail};
+ghost use Rattle.lease_rules.specs.Choice.{IsChoice};
+ghost use Rattle.lease_rules.specs.Legal.{Allowed, ArePublished, MayFail};
 
 use crate::book::Book;
 use crate::choice::choose;
@@ -17,16 +17,13 @@ const MOST_WORKERS: u32 = 16;
 
 impl Book {
     /// Whether a task is the Choice.
-    fn is_choice(&mut self, task: u32) -> bool
-        ensures value { Decides result (IsChoice self.old.plan (state_at self.old) task) }
-        ensures history { self.new.history ≡ self.old.history }
-        ensures plan { self.new.plan ≡ self.old.plan }
-        ensures order { self.new.order ≡ self.old.order }
+    fn is_choice(&self, task: u32) -> bool
+        ensures { Decides result (IsChoice self.now.plan (state_at self.now) task) }
     {
         if self.state.failing {
             return false;
         }
-        match choose(&self.plan, &self.state, &mut self.trial) {
+        match choose(&self.plan, &self.state) {
             Some(found) => found == task,
             None => false,
         }

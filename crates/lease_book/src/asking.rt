@@ -4,8 +4,8 @@ ghost use Rattle.std.specs.Prelude.{◌≡◌, slice_get, option_map, Decides};
 ghost use Rattle.values.specs.declared.numbers.TaskId.{TaskId};
 ghost use Rattle.plan_core.specs.Words.{task_numbers};
 ghost use Rattle.lease_book.specs.Book.{state_at};
-ghost use Rattle.lease_book.specs.Law.{IsSafeState, reserved_at, stored_at};
-ghost use Rattle.lease_book.specs.Legal.{IsOpen, Legal};
+ghost use Rattle.lease_rules.specs.Law.{IsSafeState, reserved_at, stored_at};
+ghost use Rattle.lease_rules.specs.Legal.{IsOpen, Legal};
 
 use crate::book::Book;
 use crate::sums;
@@ -22,11 +22,10 @@ impl Book {
     }
 
     /// The task at a position of rest.
-    #[tactic(auto, using(crate::proofs::NumbersLemmas::get_task))]
     pub fn rest_task(&self, k: usize) -> Option<TaskId>
         ensures { option_map (λ (t : TaskId). t.0) result ≡ slice_get (state_at self.now).rest k }
     {
-        self.state.rest.get(k).copied()
+        self.state.peaks.rest_task(k)
     }
 
     /// The bytes that are stored at a site, or at the output, whose number follows the last site's.

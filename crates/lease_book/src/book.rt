@@ -5,14 +5,14 @@ ghost use Rattle.plan_core.specs.Proper.{IsProper, IsProper-prop};
 ghost use Rattle.plan_core.specs.Words.{retries, task_numbers};
 ghost use Rattle.storage_simulation.specs.Goods.{IsWithinLimits};
 ghost use Rattle.storage_simulation.specs.Bench.{IsFor};
-ghost use Rattle.lease_book.specs.Kept.{IsBook};
-ghost use Rattle.lease_book.specs.Law.{FitsFromStart};
+ghost use Rattle.lease_book.specs.Kept.{IsBook, IsBook-prop};
+ghost use Rattle.lease_rules.specs.Law.{FitsFromStart};
 ghost use Rattle.lease_book.specs.Trial.{HasPlace};
 
 use crate::goods::all_made;
-use crate::law::storage_laws;
 use crate::state::RunState;
 use crate::trial::Trial;
+use lease_rules::storage_laws;
 use plan_core::Plan;
 use run_record::Record;
 use std::alloc::Global;
@@ -29,7 +29,7 @@ pub struct Book {
     pub(crate) trial: Trial,
     pub(crate) bench: Bench,
     ghost proper: { IsProper plan } by { IsProper-prop plan },
-    ghost kept: { IsBook plan (task_numbers order.items) history state },
+    ghost kept: { IsBook plan (task_numbers order.items) history state } by { IsBook-prop plan (task_numbers order.items) history state },
     ghost place: { HasPlace plan trial },
     ghost fresh: { IsFor plan bench },
 }

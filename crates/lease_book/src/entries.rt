@@ -4,7 +4,7 @@ ghost use Rattle.std.specs.Prelude.{◌≡◌, ◌<◌, ◌++◌, [], ◌∷◌}
 ghost use Rattle.plan_core.specs.Words.{task_numbers};
 ghost use Rattle.run_record.specs.Events.{Again, Arrive, Clean, End, Fail, may_retry};
 ghost use Rattle.lease_book.specs.Book.{failure, is_tried_again, state_at};
-ghost use Rattle.lease_book.specs.Legal.{Allowed, CauseFits, MayFail};
+ghost use Rattle.lease_rules.specs.Legal.{Allowed, CauseFits, MayFail};
 ghost use Rattle.lease_book.specs.RunState.{state_of};
 
 use crate::book::Book;

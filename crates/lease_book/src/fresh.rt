@@ -1,18 +1,18 @@
 //! The task of a fresh order.
 
-ghost use Rattle.std.specs.Prelude.{◌≡◌, [], ℕ, true, false, None, Some, MatchOption};
+ghost use Rattle.std.specs.Prelude.{◌≡◌, ◌<◌, ℕ, true, false, length, get_or, None, Some, Decides, MatchOption};
 ghost use Rattle.plan_core.specs.Proper.{IsProper};
 ghost use Rattle.storage_simulation.specs.Goods.{IsWithinLimits};
 ghost use Rattle.storage_simulation.specs.Bench.{IsFor};
 ghost use Rattle.storage_simulation.specs.Front.{front_of};
-ghost use Rattle.lease_book.specs.Choice.{HasNoChoice, IsCandidate, IsFresh, IsFreshAmong};
-ghost use Rattle.lease_book.specs.Law.{HasStorageLaws, IsSoundState};
-ghost use Rattle.lease_book.specs.RunState.{HasRoom, state_of};
-ghost use Rattle.lease_book.specs.State.{order_with};
+ghost use Rattle.lease_rules.specs.Choice.{HasNoChoice, IsCandidate, IsFresh, IsFreshAmong};
+ghost use Rattle.lease_rules.specs.Law.{HasStorageLaws, IsSoundState};
+ghost use Rattle.lease_book.specs.RunState.{HasPeaks, HasRoom, LineIsRest, state_of};
+ghost use Rattle.place_peaks.specs.Peaks.{left_of, line_of};
+ghost use Rattle.lease_rules.specs.State.{order_with};
 ghost use Rattle.lease_book.specs.Trial.{HasPlace, IsTrialWithin};
 
 use crate::choice::is_candidate;
-use crate::rest::{count_left, task_at};
 use crate::state::RunState;
 use crate::trial::Trial;
 use plan_core::Plan;
@@ -41,6 +41,26 @@ fn has_order(plan: &Plan, state: &RunState, trial: &Trial, bench: &mut Bench, ta
     }
 }
 
+/// Whether the task at a position of the line is left, and a fresh order may begin with it; its start is then tried.
+fn is_candidate_at(plan: &Plan, state: &RunState, trial: &mut Trial, k: usize) -> bool
+    requires limits { IsWithinLimits plan.now }
+    requires laws { HasStorageLaws plan.now }
+    requires sound { IsSoundState plan.now (state_of state.now) }
+    requires room { HasRoom plan.now state.now }
+    requires place { HasPlace plan.now trial.old }
+    requires line { LineIsRest state.now }
+    requires within { k < length (line_of state.now.peaks) }
+    ensures value { Decides result ((left_of state.now.peaks (get_or (line_of state.now.peaks) k 0) ≡ true) × IsCandidate plan.now (state_of state.now) (get_or (line_of state.now.peaks) k 0)) }
+    ensures tried { result ≡ true → IsTrialWithin plan.now (state_of state.now) (get_or (line_of state.now.peaks) k 0) trial.new }
+    ensures place { HasPlace plan.now trial.new }
+{
+    let task = state.peaks.line_task(k);
+    if !state.peaks.is_left(task) {
+        return false;
+    }
+    is_candidate(plan, state, trial, task)
+}
+
 /// The first of the first candidates of rest with which there is an order, which is then on the bench.
 fn first_with_order(
     plan: &Plan,
@@ -53,6 +73,7 @@ fn first_with_order(
     requires laws { HasStorageLaws plan.now }
     requires sound { IsSoundState plan.now (state_of state.now) }
     requires room { HasRoom plan.now state.now }
+    requires line { LineIsRest state.now }
     requires place { HasPlace plan.now trial.old }
     requires bench { IsFor plan.now bench.old }
     ensures among { MatchOption result ((t : ℕ) → IsFreshAmong plan.now (state_of state.now) 4 (state_of state.now).rest t → ⊥) (λ t. IsFreshAmong plan.now (state_of state.now) 4 (state_of state.now).rest t) }
@@ -60,14 +81,13 @@ fn first_with_order(
     ensures place { HasPlace plan.now trial.new }
     ensures bench { IsFor plan.now bench.new }
 {
-    let rest = state.rest.as_slice();
     let mut left = MOST_CANDIDATES;
-    for k in 0..count_left(rest) {
+    for k in 0..state.peaks.count_line() {
         if left == 0 {
             return None;
         }
-        let task = task_at(rest, k);
-        if is_candidate(plan, state, trial, task) {
+        if is_candidate_at(plan, state, trial, k) {
+            let task = state.peaks.line_task(k);
             if has_order(plan, state, trial, bench, task) {
                 return Some(task);
             }
@@ -89,6 +109,7 @@ pub(crate) fn fresh_task(
     requires laws { HasStorageLaws plan.now }
     requires sound { IsSoundState plan.now (state_of state.now) }
     requires room { HasRoom plan.now state.now }
+    requires peaks { HasPeaks plan.now state.now }
     requires place { HasPlace plan.now trial.old }
     requires bench { IsFor plan.now bench.old }
     requires unfailed { (state_of state.now).failing ≡ false }

@@ -4,14 +4,14 @@ ghost use Rattle.std.specs.Prelude.{◌≡◌, ◌≤◌, ◌<◌, ◌+◌, ◌*
 ghost use Rattle.plan_core.specs.Words.{count_pairs, count_tasks};
 ghost use Rattle.storage_simulation.specs.Goods.{IsWithinLimits, makes};
 ghost use Rattle.storage_simulation.specs.Usage.{total};
-ghost use Rattle.lease_book.specs.Law.{HasStorageLaws};
+ghost use Rattle.lease_rules.specs.Law.{HasStorageLaws};
 
 use plan_core::Plan;
 use storage_simulation::is_delivery;
 use values::TaskId;
 
 /// How many goods a task makes.
-#[tactic(auto, using(crate::proofs::NumbersLemmas::count_pairs_in), unfolding(storage_simulation::specs::Goods::makes))]
+#[tactic(auto, using(lease_rules::proofs::NumbersLemmas::count_pairs_in), unfolding(storage_simulation::specs::Goods::makes))]
 pub(crate) fn count_made(plan: &Plan, task: TaskId) -> usize
     ensures { result ≡ length (makes plan.now task.0) }
 {
@@ -22,7 +22,7 @@ pub(crate) fn count_made(plan: &Plan, task: TaskId) -> usize
 }
 
 /// One of the goods that a task makes.
-#[tactic(auto, using(crate::proofs::NumbersLemmas::pair_at, crate::proofs::GoodsLemmas::delivery_below), unfolding(storage_simulation::specs::Goods::makes))]
+#[tactic(auto, using(lease_rules::proofs::NumbersLemmas::pair_at, lease_rules::proofs::GoodsLemmas::delivery_below), unfolding(storage_simulation::specs::Goods::makes))]
 pub(crate) fn made_at(plan: &Plan, task: TaskId, k: usize) -> u32
     requires limits { IsWithinLimits plan.now }
     requires within { k < length (makes plan.now task.0) }
@@ -35,7 +35,7 @@ pub(crate) fn made_at(plan: &Plan, task: TaskId, k: usize) -> u32
 }
 
 /// How many goods all tasks make.
-#[tactic(auto, using(crate::proofs::GoodsLemmas::made_so_far, crate::proofs::TotalLemmas::total_more), unfolding(storage_simulation::specs::Usage::total))]
+#[tactic(auto, using(lease_rules::proofs::GoodsLemmas::made_so_far, lease_rules::proofs::TotalLemmas::total_more), unfolding(storage_simulation::specs::Usage::total))]
 pub(crate) fn all_made(plan: &Plan) -> usize
     requires limits { IsWithinLimits plan.now }
     requires laws { HasStorageLaws plan.now }

@@ -7,9 +7,9 @@ ghost use Rattle.storage_simulation.specs.declared.standing.Held.TheVariants.{No
 ghost use Rattle.storage_simulation.specs.declared.standing.Phase.TheVariants.{Ended, Runs, Waits};
 ghost use Rattle.storage_simulation.specs.Goods.{IsWithinLimits, makes};
 ghost use Rattle.storage_simulation.specs.Standings.{held_of, phase_of};
-ghost use Rattle.lease_book.specs.Law.{HasStorageLaws};
+ghost use Rattle.lease_rules.specs.Law.{HasStorageLaws};
 ghost use Rattle.lease_book.specs.RunState.{HasLengths};
-ghost use Rattle.lease_book.specs.State.{put, reserved_for, stored_among};
+ghost use Rattle.lease_rules.specs.State.{put, reserved_for, stored_among};
 
 use crate::goods::{count_made, made_at};
 use crate::items;

@@ -1,14 +1,15 @@
 //! What a worker may do next.
 
 ghost use Rattle.std.specs.Prelude.{◌≡◌, ◌<◌, ◌++◌, [], ◌∷◌, false, Some};
+ghost use Rattle.std.specs.List.{list_any};
 ghost use Rattle.plan_core.specs.Words.{task_numbers};
 ghost use Rattle.run_record.specs.Events.{Grant, Regrant};
 ghost use Rattle.storage_simulation.specs.Front.{front_of};
 ghost use Rattle.lease_book.specs.Book.{IsNext, state_at};
-ghost use Rattle.lease_book.specs.Choice.{HasNoChoice};
-ghost use Rattle.lease_book.specs.Legal.{Allowed};
+ghost use Rattle.lease_rules.specs.Choice.{HasNoChoice};
+ghost use Rattle.lease_rules.specs.Legal.{Allowed};
 ghost use Rattle.lease_book.specs.RunState.{state_of};
-ghost use Rattle.lease_book.specs.State.{order_with};
+ghost use Rattle.lease_rules.specs.State.{order_with, runs};
 
 use crate::book::Book;
 use crate::choice::choose;
@@ -74,7 +75,7 @@ impl Book {
         if self.state.failing {
             return Next::Stopped;
         }
-        match choose(&self.plan, &self.state, &mut self.trial) {
+        match choose(&self.plan, &self.state) {
             Some(task) => {
                 if !self.plan.is_clean(TaskId(task)) {
                     self.grant(worker, task);
@@ -100,12 +101,24 @@ impl Book {
                 Next::Task(TaskId(task))
             }
             None => {
-                if self.state.any_runs() {
+                if self.goes_on() {
                     Next::NotYet
                 } else {
                     Next::Done
                 }
             }
+        }
+    }
+
+    /// Whether a task runs, where there is no Choice: while one is left, another runs, since else it could start.
+    fn goes_on(&self) -> bool
+        requires unfailed { (state_of self.now.state).failing ≡ false }
+        requires no_choice { HasNoChoice self.now.plan (state_of self.now.state) }
+        ensures { result ≡ list_any runs self.now.state.standing.tasks }
+    {
+        match self.state.peaks.rest_task(0) {
+            Some(_) => true,
+            None => self.state.any_runs(),
         }
     }
 }

@@ -4,7 +4,7 @@ ghost use Rattle.std.specs.Prelude.{◌≡◌, ◌≤◌, [], ℕ, true, false, 
 ghost use Rattle.plan_core.specs.Numbers.{has};
 ghost use Rattle.plan_core.specs.Words.{is_run};
 ghost use Rattle.storage_simulation.specs.Goods.{IsWithinLimits, good_size, makes};
-ghost use Rattle.lease_book.specs.Legal.{AreDeclared, AreOfFirst, ArePublished};
+ghost use Rattle.lease_rules.specs.Legal.{AreDeclared, AreOfFirst, ArePublished};
 
 use crate::goods::{count_made, made_at};
 use plan_core::Plan;

@@ -1,26 +1,30 @@
 //! The state of a record, as arrays by number.
 
-ghost use Rattle.std.specs.Prelude.{◌≡◌, ◌≤◌, ◌<◌, ◌+◌, ℕ, true, false, cond, length, Some, vec_capacity, Decides, IfOk};
+ghost use Rattle.std.specs.Prelude.{◌≡◌, ◌<◌, ℕ, true, false, length, Some, Decides, IfOk};
 ghost use Rattle.std.specs.List.{list_any};
 ghost use Rattle.plan_core.specs.Words.{count_tasks, task_numbers};
 ghost use Rattle.run_record.specs.Events.{Grant, Regrant, Arrive, End, Clean, Fail, Again};
+ghost use Rattle.plan_core.specs.Proper.{IsProper};
 ghost use Rattle.storage_simulation.specs.Goods.{IsWithinLimits, makes};
 ghost use Rattle.storage_simulation.specs.Standings.{at_in};
-ghost use Rattle.lease_book.specs.Law.{HasStorageLaws};
-ghost use Rattle.lease_book.specs.Legal.{IsOpen};
-ghost use Rattle.lease_book.specs.RunState.{HasRoom, IsSame, state_of};
-ghost use Rattle.lease_book.specs.State.{after, opened, order_with, put, runs, without};
+ghost use Rattle.lease_rules.specs.Law.{HasStorageLaws};
+ghost use Rattle.lease_rules.specs.Law.{FitsFromStart};
+ghost use Rattle.lease_rules.specs.Legal.{Allowed, IsOpen};
+ghost use Rattle.lease_rules.specs.State.{after, opened, order_with, put, runs};
+ghost use Rattle.place_peaks.specs.Entries.{Frees};
+ghost use Rattle.lease_book.specs.RunState.{HasPeaks, HasRoom, IsSame, state_of};
 
 use crate::holding;
-use crate::rest::{overwrite, put_front, take_out};
+use place_peaks::{Links, Peaks, fails_keep_peaks, held_size};
 use plan_core::Plan;
 use run_record::Cause;
 use std::alloc::Global;
-use storage_simulation::{Phase, Standing};
+use storage_simulation::{Phase, Standing, cleaned_by};
 use values::{Memory, TaskId};
 
-/// A state; the allocator makes empty lists, which take no memory.
-#[derive(Debug, Drop)]
+/// A state; the allocator makes empty lists, which take no memory. The tasks that are left are those of the trees, whose
+/// numbers for a fresh order are made in room of its own.
+#[derive(Drop)]
 pub struct RunState {
     pub(crate) alloc: Global,
     pub(crate) standing: Standing,
@@ -28,7 +32,9 @@ pub struct RunState {
     pub(crate) agains: Vec<u32>,
     pub(crate) failed: Vec<bool>,
     pub(crate) failing: bool,
-    pub(crate) rest: Vec<TaskId>,
+    pub(crate) peaks: Peaks,
+    pub(crate) links: Links,
+    pub(crate) levels: Vec<u64>,
 }
 
 #[tactic(auto, using(crate::proofs::ArrayLemmas::at_set))]
@@ -52,17 +58,21 @@ fn set_flag(flags: &mut Vec<bool>, task: u32)
 impl RunState {
     /// The state before the first entry.
     pub(crate) fn open(alloc: Global, plan: &Plan, order: &[TaskId]) -> Result<RunState, Memory>
-        requires few { length order.now ≤ count_tasks plan.now }
+        requires proper { IsProper plan.now }
+        requires limits { IsWithinLimits plan.now }
+        requires fits { FitsFromStart plan.now (task_numbers order.now) }
         ensures state { IfOk result (λ s. IsSame (state_of s) (opened (task_numbers order.now))) }
         ensures room { IfOk result (λ s. HasRoom plan.now s) }
+        ensures peaks { IfOk result (λ s. HasPeaks plan.now s) }
     {
         let tasks = plan.tasks.as_slice().len();
         let standing = Standing::start(alloc, plan)?;
         let holders = vec![in alloc; 0; tasks]?;
         let agains = vec![in alloc; 0; tasks]?;
         let failed = vec![in alloc; false; tasks]?;
-        let mut rest = Vec::with_capacity(alloc, tasks)?;
-        overwrite(&mut rest, order);
+        let peaks = Peaks::open(alloc, plan, order)?;
+        let links = Links::new(alloc, plan)?;
+        let levels = Vec::with_capacity(alloc, tasks)?;
         Ok(RunState {
             alloc,
             standing,
@@ -70,7 +80,9 @@ impl RunState {
             agains,
             failed,
             failing: false,
-            rest,
+            peaks,
+            links,
+            levels,
         })
     }
 
@@ -138,18 +150,31 @@ impl RunState {
         self.holder(task) == worker
     }
 
+    /// What is held of the good that a task cleans.
+    fn frees(&self, plan: &Plan, task: u32) -> u64
+        ensures { Frees plan.now (state_of self.now) task result }
+    {
+        match cleaned_by(plan, TaskId(task)) {
+            Some(good) => held_size(&self.standing, good),
+            None => 0,
+        }
+    }
+
     /// A task begins.
     pub(crate) fn grant(&mut self, plan: &Plan, worker: u32, task: u32)
         requires limits { IsWithinLimits plan.now }
         requires laws { HasStorageLaws plan.now }
         requires room { HasRoom plan.now self.old }
+        requires peaks { HasPeaks plan.now self.old }
+        requires allowed { Allowed plan.now (state_of self.old) (Grant worker task) }
         requires task { task < count_tasks plan.now }
         ensures state { state_of self.new ≡ after plan.now (state_of self.old) (Grant worker task) }
         ensures room { HasRoom plan.now self.new }
+        ensures peaks { HasPeaks plan.now self.new }
     {
         holding::start(self.alloc, plan, &mut self.standing, task);
         set_number(&mut self.holders, task, worker);
-        take_out(&mut self.rest, task);
+        self.peaks.enter_grant(plan, task);
     }
 
     /// A task begins under a fresh order.
@@ -157,15 +182,19 @@ impl RunState {
         requires limits { IsWithinLimits plan.now }
         requires laws { HasStorageLaws plan.now }
         requires room { HasRoom plan.now self.old }
+        requires peaks { HasPeaks plan.now self.old }
+        requires allowed { Allowed plan.now (state_of self.old) (Regrant worker task) }
+        requires proper { IsProper plan.now }
         requires task { task < count_tasks plan.now }
         requires order { order_with plan.now (state_of self.old) task ≡ Some (task_numbers tasks.now) }
-        requires few { length tasks.now ≤ count_tasks plan.now }
         ensures state { state_of self.new ≡ after plan.now (state_of self.old) (Regrant worker task) }
         ensures room { HasRoom plan.now self.new }
+        ensures peaks { HasPeaks plan.now self.new }
     {
         holding::start(self.alloc, plan, &mut self.standing, task);
         set_number(&mut self.holders, task, worker);
-        overwrite(&mut self.rest, tasks);
+        self.peaks
+            .enter_regrant(plan, &self.standing, task, tasks, &mut self.levels);
     }
 
     /// A Transfer ends.
@@ -173,12 +202,17 @@ impl RunState {
         requires limits { IsWithinLimits plan.now }
         requires laws { HasStorageLaws plan.now }
         requires room { HasRoom plan.now self.old }
+        requires peaks { HasPeaks plan.now self.old }
+        requires allowed { Allowed plan.now (state_of self.old) (Arrive worker task size) }
+        requires proper { IsProper plan.now }
         requires task { task < count_tasks plan.now }
         ensures state { state_of self.new ≡ after plan.now (state_of self.old) (Arrive worker task size) }
         ensures room { HasRoom plan.now self.new }
+        ensures peaks { HasPeaks plan.now self.new }
     {
         let _ = worker;
         holding::arrive(self.alloc, plan, &mut self.standing, task, size);
+        self.peaks.enter_arrive(plan, &self.links, task, size);
     }
 
     /// A Run ends.
@@ -186,26 +220,37 @@ impl RunState {
         requires limits { IsWithinLimits plan.now }
         requires laws { HasStorageLaws plan.now }
         requires room { HasRoom plan.now self.old }
+        requires peaks { HasPeaks plan.now self.old }
+        requires allowed { Allowed plan.now (state_of self.old) (End worker task sizes.now) }
+        requires proper { IsProper plan.now }
         requires task { task < count_tasks plan.now }
         requires sizes { length sizes.now ≡ length (makes plan.now task) }
         ensures state { state_of self.new ≡ after plan.now (state_of self.old) (End worker task sizes.now) }
         ensures room { HasRoom plan.now self.new }
+        ensures peaks { HasPeaks plan.now self.new }
     {
         let _ = worker;
         holding::end(self.alloc, plan, &mut self.standing, task, sizes);
+        self.peaks.enter_end(plan, &self.links, task, sizes);
     }
 
     /// A Clean is done.
     pub(crate) fn clean(&mut self, plan: &Plan, worker: u32, task: u32)
         requires laws { HasStorageLaws plan.now }
         requires room { HasRoom plan.now self.old }
+        requires peaks { HasPeaks plan.now self.old }
+        requires allowed { Allowed plan.now (state_of self.old) (Clean worker task) }
+        requires proper { IsProper plan.now }
+        requires limits { IsWithinLimits plan.now }
         requires task { task < count_tasks plan.now }
         ensures state { state_of self.new ≡ after plan.now (state_of self.old) (Clean worker task) }
         ensures room { HasRoom plan.now self.new }
+        ensures peaks { HasPeaks plan.now self.new }
     {
         let _ = worker;
+        let frees = self.frees(plan, task);
         holding::clean(self.alloc, plan, &mut self.standing, task);
-        take_out(&mut self.rest, task);
+        self.peaks.enter_clean(plan, &self.links, task, frees);
     }
 
     /// A task is tried again.
@@ -218,19 +263,23 @@ impl RunState {
         published: &[u64],
     )
         requires room { HasRoom plan.now self.old }
+        requires peaks { HasPeaks plan.now self.old }
+        requires allowed { Allowed plan.now (state_of self.old) (Again worker task cause.now published.now) }
+        requires limits { IsWithinLimits plan.now }
         requires task { task < count_tasks plan.now }
         requires few { (state_of self.old).agains task < 1000 }
-        requires rest { length (without task (state_of self.old).rest) < count_tasks plan.now }
         ensures state { state_of self.new ≡ after plan.now (state_of self.old) (Again worker task cause.now published.now) }
         ensures room { HasRoom plan.now self.new }
+        ensures peaks { HasPeaks plan.now self.new }
     {
         let _ = worker;
         let _ = cause;
         let _ = published;
         let count = self.agains(task);
         set_number(&mut self.agains, task, count + 1);
+        let frees = self.frees(plan, task);
         holding::wait_again(self.alloc, plan, &mut self.standing, task);
-        put_front(&mut self.rest, task);
+        self.peaks.enter_again(plan, task, frees);
     }
 
     /// A task has failed.
@@ -243,10 +292,14 @@ impl RunState {
         published: &[u64],
     )
         requires room { HasRoom plan.now self.old }
+        requires peaks { HasPeaks plan.now self.old }
+        requires allowed { Allowed plan.now (state_of self.old) (Fail worker task cause.now published.now) }
         requires task { task < count_tasks plan.now }
         ensures state { state_of self.new ≡ after plan.now (state_of self.old) (Fail worker task cause.now published.now) }
         ensures room { HasRoom plan.now self.new }
+        ensures peaks { HasPeaks plan.now self.new }
     {
+        fails_keep_peaks();
         let _ = worker;
         let _ = cause;
         let _ = published;

@@ -3,8 +3,8 @@
 ghost use Rattle.std.specs.Prelude.{◌≡◌, ◌≤◌, ◌+◌, ◌*◌, ◌^◌, ℕ, cond};
 ghost use Rattle.storage_simulation.specs.Goods.{IsWithinLimits, goods, lies_at};
 ghost use Rattle.storage_simulation.specs.Standings.{IsStanding, held_of};
-ghost use Rattle.lease_book.specs.Law.{reserved_at, stored_at};
-ghost use Rattle.lease_book.specs.State.{reserved_size, stored_size};
+ghost use Rattle.lease_rules.specs.Law.{reserved_at, stored_at};
+ghost use Rattle.lease_rules.specs.State.{reserved_size, stored_size};
 
 use plan_core::Plan;
 use storage_simulation::{Held, Standing, lies_at};

@@ -1,32 +1,28 @@
 //! The start of a task, tried in room that was taken before.
 
-ghost use Rattle.std.specs.Prelude.{◌≡◌, ◌≤◌, ◌<◌, [], ℕ, length, vec_capacity, Decides, IfOk};
-ghost use Rattle.plan_core.specs.Proper.{IsProper};
-ghost use Rattle.plan_core.specs.Words.{count_tasks, task_numbers};
-ghost use Rattle.storage_simulation.specs.Fitting.{Fits};
-ghost use Rattle.storage_simulation.specs.Following.{Follows};
+ghost use Rattle.std.specs.Prelude.{◌≡◌, ◌<◌, [], ℕ, Decides, IfOk};
+ghost use Rattle.plan_core.specs.Words.{count_tasks};
 ghost use Rattle.storage_simulation.specs.Goods.{IsWithinLimits};
 ghost use Rattle.storage_simulation.specs.Standings.{IsStanding, held_of, phase_of, sizes};
 ghost use Rattle.storage_simulation.specs.Usage.{IsWithin};
-ghost use Rattle.lease_book.specs.Law.{HasStorageLaws};
+ghost use Rattle.lease_rules.specs.Law.{HasStorageLaws};
 ghost use Rattle.lease_book.specs.RunState.{HasRoom, state_of};
-ghost use Rattle.lease_book.specs.Choice.{start};
-ghost use Rattle.lease_book.specs.State.{held_after, phase_after};
+ghost use Rattle.lease_rules.specs.Choice.{start};
+ghost use Rattle.lease_rules.specs.State.{held_after, phase_after};
 ghost use Rattle.lease_book.specs.Trial.{HasPlace, IsTrial};
 
 use crate::state::RunState;
-use crate::{holding, items, rest};
+use crate::{holding, items};
 use plan_core::Plan;
 use std::alloc::Global;
-use storage_simulation::{Standing, fits, place_bound, places, usage_after};
+use storage_simulation::{Standing, place_bound, places, usage_after};
 use values::{Memory, SiteId, TaskId};
 
-/// A standing and the tasks that are left in it.
+/// A standing in which the start of a task is tried.
 #[derive(Debug, Drop)]
 pub struct Trial {
     alloc: Global,
     pub(crate) standing: Standing,
-    rest: Vec<TaskId>,
 }
 
 /// Whether each place is within its bound.
@@ -52,7 +48,6 @@ impl Trial {
         Ok(Trial {
             alloc,
             standing: Standing::start(alloc, plan)?,
-            rest: Vec::with_capacity(alloc, plan.tasks.as_slice().len())?,
         })
     }
 
@@ -61,7 +56,6 @@ impl Trial {
         requires state { HasRoom plan.now state.now }
         requires place { HasPlace plan.now self.old }
         ensures standing { self.new.standing ≡ state.now.standing }
-        ensures rest { self.new.rest ≡ self.old.rest }
     {
         let _ = plan;
         items::overwrite(
@@ -89,7 +83,6 @@ impl Trial {
         requires task { task < count_tasks plan.now }
         ensures phase { (u : ℕ) → phase_of self.new.standing u ≡ phase_after (start plan.now 0 task) (phase_of self.old.standing) u }
         ensures held { (g : ℕ) → held_of self.new.standing g ≡ held_after plan.now (start plan.now 0 task) (held_of self.old.standing) g }
-        ensures rest { self.new.rest ≡ self.old.rest }
         ensures place { HasPlace plan.now self.new }
     {
         if plan.is_clean(TaskId(task)) {
@@ -106,30 +99,10 @@ impl Trial {
         requires state { HasRoom plan.now state.now }
         requires place { HasPlace plan.now self.old }
         requires task { task < count_tasks plan.now }
-        requires few { length state.now.rest.items ≤ count_tasks plan.now }
         ensures tried { IsTrial plan.now (state_of state.now) task self.new }
         ensures place { HasPlace plan.now self.new }
     {
         self.copy(plan, state);
-        rest::overwrite(&mut self.rest, state.rest.as_slice());
-        rest::take_out(&mut self.rest, task);
         self.start(plan, task);
-    }
-
-    /// Whether the tasks that are left fit.
-    pub(crate) fn is_safe(&self, plan: &Plan) -> bool
-        requires proper { IsProper plan.now }
-        requires limits { IsWithinLimits plan.now }
-        requires standing { IsStanding plan.now self.now.standing }
-        requires follows { Follows plan.now (phase_of self.now.standing) (task_numbers self.now.rest.items) }
-        ensures { Decides result (Fits plan.now (phase_of self.now.standing) (held_of self.now.standing) (task_numbers self.now.rest.items)) }
-    {
-        if !is_within(plan, &self.standing) {
-            return false;
-        }
-        match fits(plan, &self.standing, self.rest.as_slice()) {
-            Ok(()) => true,
-            Err(_) => false,
-        }
     }
 }

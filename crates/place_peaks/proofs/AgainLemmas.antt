@@ -1,13 +1,13 @@
 -- Tasks that wait again stand at the front: the first of them is the Choice, and its start changes no value.
 use Rattle.std.proofs.Common.{◌≡◌, ℕ, Bool, true, false, cond, List, [], ◌∷◌, ◌++◌, take, refl, sym, ap, subst, ◌∙◌}
 use Rattle.std.specs.Prelude.{filter}
-use Rattle.lease_book.proofs.FitLemmas.{fit_tail}
-use Rattle.lease_book.proofs.ListLemmas.{has_head, without_head}
-use Rattle.lease_book.proofs.SoundLemmas.{grant_weight, put_at, put_off}
-use Rattle.lease_book.proofs.StartLemmas.{clean_can_start}
-use Rattle.lease_book.specs.Choice.{CanStart, HaveParentsEnded, IsChoice, Safe}
-use Rattle.lease_book.specs.Law.{HasStorageLaws, IsSoundState}
-use Rattle.lease_book.specs.State.{State, after, put, reserved_for, without}
+use Rattle.lease_rules.proofs.FitLemmas.{fit_tail}
+use Rattle.lease_rules.proofs.ListLemmas.{has_head, without_head}
+use Rattle.lease_rules.proofs.SoundLemmas.{grant_weight, put_at, put_off}
+use Rattle.lease_rules.proofs.StartLemmas.{clean_can_start}
+use Rattle.lease_rules.specs.Choice.{CanStart, HaveParentsEnded, IsChoice, Safe}
+use Rattle.lease_rules.specs.Law.{HasStorageLaws, IsSoundState}
+use Rattle.lease_rules.specs.State.{State, after, put, reserved_for, without}
 use Rattle.plan_core.specs.declared.plan.Plan.{Plan}
 use Rattle.plan_core.specs.Numbers.{has}
 use Rattle.plan_core.specs.Words.{cleans, is_clean}

@@ -1,13 +1,13 @@
 -- The first task that can start, by trees.
-use Rattle.std.proofs.Common.{◌≡◌, ℕ, zero, suc, ◌+◌, ◌-◌, ◌<◌, ◌||◌, Bool, true, false, cond, nat_eq, List, [], ◌∷◌, ◌++◌, length, take, drop, get_or, Option, Some, None, refl, sym, ap, subst, ◌∙◌, arith, eqb-true, length-append}
+use Rattle.std.proofs.Common.{◌≡◌, ℕ, zero, suc, ◌+◌, ◌-◌, ◌<◌, ◌≤◌, ◌||◌, Bool, true, false, cond, nat_eq, List, [], ◌∷◌, ◌++◌, length, take, drop, get_or, Option, Some, None, refl, sym, ap, subst, ◌∙◌, arith, eqb-true, length-append}
 use Rattle.std.specs.Prelude.{Decides, filter, slice_get}
 use Rattle.values.specs.declared.numbers.TaskId.{TaskId}
 use Rattle.std.proofs.lemmas.List.{take_more}
 use Rattle.std.proofs.lemmas.List.Folds.{list_any-append}
-use Rattle.lease_book.proofs.SoundLemmas.{choice_in}
-use Rattle.lease_book.proofs.StartLemmas.{clean_can_start}
-use Rattle.lease_book.specs.Choice.{CanStart, HasNoChoice, IsChoice}
-use Rattle.lease_book.specs.State.{State}
+use Rattle.lease_rules.proofs.SoundLemmas.{choice_in}
+use Rattle.lease_rules.proofs.StartLemmas.{clean_can_start}
+use Rattle.lease_rules.specs.Choice.{CanStart, HasNoChoice, IsChoice}
+use Rattle.lease_rules.specs.State.{State}
 use Rattle.peak_tree.specs.Numbers.{greatest}
 use Rattle.plan_core.specs.declared.plan.Plan.{Plan}
 use Rattle.plan_core.specs.Numbers.{has}
@@ -16,7 +16,7 @@ use Rattle.storage_simulation.specs.Goods.{place, place_bound}
 use Rattle.storage_simulation.specs.Standings.{sizes}
 use Rattle.storage_simulation.specs.Usage.{usage}
 use Rattle.place_peaks.specs.declared.peaks.Peaks.{Peaks}
-use Rattle.place_peaks.specs.Peaks.{AreBehind, ArePeaks, AreSeated, left_of, line_of, stack_of}
+use Rattle.place_peaks.specs.Peaks.{AreBehind, ArePeaks, AreSeated, HasPassed, left_of, line_of, stack_of}
 use Rattle.place_peaks.specs.Stack.{stacked}
 use Rattle.place_peaks.specs.Places.{brings, held_by, is_place, there}
 use Rattle.place_peaks.specs.Choosing.{HasRoomAt}
@@ -138,12 +138,8 @@ take_none (suc n) = refl
 abbrev pub NoneOfLine : Plan → Peaks → ℕ → Type 0
 NoneOfLine p b k = (s : State) → ArePeaks p s b → (u : ℕ) → has (filter (left_of b) (take k (line_of b))) u ≡ true → CanStart p s u → ⊥
 
-pub none_at_first : (p : Plan) (b : Peaks) → NoneOfLine p b 0
-none_at_first p b s peaks u h can = none (line_of b) h
-  where
-    none : (xs : List ℕ) → has (filter (left_of b) (take 0 xs)) u ≡ true → ⊥
-    none [] m = absurd cc
-    none (x ∷ xs) m = absurd cc
+pub none_before : (p : Plan) (b : Peaks) → HasPassed b → NoneOfLine p b b.first
+none_before p b passed s peaks u h can = absurd (let no : has [] u ≡ true = ap (λ (xs : List ℕ). has xs u) (sym passed) ∙ h in cc)
 
 has_both : (xs ys : List ℕ) (u : ℕ) → has (xs ++ ys) u ≡ (has xs u || has ys u)
 has_both xs ys u = list_any-append (λ y. nat_eq y u) xs ys
@@ -175,13 +171,15 @@ choice_of p s b k peaks unfailed l is none can = record {
   first = none s peaks;
 }
 
-take_all : (xs : List ℕ) → take (length xs) xs ≡ xs
-take_all [] = refl
-take_all (x ∷ xs) = ap (λ (l : List ℕ). x ∷ l) (take_all xs)
+pub take_past : (xs : List ℕ) (k : ℕ) → length xs ≤ k → take k xs ≡ xs
+take_past [] zero l = refl
+take_past [] (suc k) l = refl
+take_past (x ∷ xs) zero l = absurd (omega (arith, l))
+take_past (x ∷ xs) (suc k) l = ap (λ (ys : List ℕ). x ∷ ys) (take_past xs k (omega (arith, l)))
 
-pub no_choice : (p : Plan) (s : State) (b : Peaks) (k : ℕ) → ArePeaks p s b → k ≡ length (line_of b) → NoneOfLine p b k → HasNoChoice p s
+pub no_choice : (p : Plan) (s : State) (b : Peaks) (k : ℕ) → ArePeaks p s b → length (line_of b) ≤ k → NoneOfLine p b k → HasNoChoice p s
 no_choice p s b k peaks end none t choice =
-    none s peaks t (ap (λ (n : ℕ). has (filter (left_of b) (take n (line_of b))) t) end ∙ ap (λ (xs : List ℕ). has (filter (left_of b) xs) t) (take_all (line_of b)) ∙ ap (λ (xs : List ℕ). has xs t) (sym peaks.rest) ∙ choice_in p s t choice) choice.can
+    none s peaks t (ap (λ (xs : List ℕ). has (filter (left_of b) xs) t) (take_past (line_of b) k end) ∙ ap (λ (xs : List ℕ). has xs t) (sym peaks.rest) ∙ choice_in p s t choice) choice.can
 
 -- the last task of the stack is the first of rest
 pub last_first : (xs more : List ℕ) (t : ℕ) → slice_get xs (length xs - 1) ≡ Some t → (ys : List ℕ) × (stacked xs more ≡ t ∷ ys)

@@ -3,11 +3,11 @@ use Rattle.std.proofs.Common.{◌≡◌, ℕ, suc, ◌-◌, ◌<◌, ◌||◌, B
 use Rattle.std.specs.Prelude.{filter, not, set}
 use Rattle.std.proofs.Math.Path.{fun_ext}
 use Rattle.std.proofs.lemmas.List.Folds.{list_any-append}
-use Rattle.lease_book.proofs.ListLemmas.{filter_without, has_take, without_has}
-use Rattle.lease_book.proofs.SafeLemmas.{maker_of}
-use Rattle.lease_book.proofs.SoundLemmas.{choice_in, cleaned_held, not_both, sound_more}
-use Rattle.lease_book.specs.Legal.{Allowed}
-use Rattle.lease_book.specs.State.{State, after, ended, put, without}
+use Rattle.lease_rules.proofs.ListLemmas.{filter_without, has_take, without_has}
+use Rattle.lease_rules.proofs.SafeLemmas.{maker_of}
+use Rattle.lease_rules.proofs.SoundLemmas.{choice_in, cleaned_held, not_both, sound_more}
+use Rattle.lease_rules.specs.Legal.{Allowed}
+use Rattle.lease_rules.specs.State.{State, after, ended, put, without}
 use Rattle.plan_core.specs.declared.plan.Plan.{Plan}
 use Rattle.plan_core.specs.declared.plan.TaskKind.{TaskKind}
 use Rattle.plan_core.specs.declared.plan.TaskKind.TheVariants.{Clean as CleanKind, Run, Transfer}
@@ -31,7 +31,7 @@ use Rattle.place_peaks.specs.Peaks.{ArePeaks, left_of, line_of}
 use Rattle.place_peaks.specs.Places.{brings, held_by, is_place, swept, there}
 use Rattle.place_peaks.specs.Tree.{front_changed}
 use Rattle.place_peaks.specs.Values.{values}
-use Rattle.lease_book.proofs.StartLemmas.{follows_of}
+use Rattle.lease_rules.proofs.StartLemmas.{follows_of}
 use Rattle.place_peaks.proofs.ChoosingLemmas.{rest_split, split}
 use Rattle.place_peaks.proofs.CountLemmas.{counts_end, still_open}
 use Rattle.place_peaks.proofs.DecisionLemmas.{no_wait}

@@ -1,8 +1,8 @@
 -- How many parents of a task haven't ended.
 use Rattle.std.proofs.Common.{◌≡◌, ℕ, ◌+◌, ◌||◌, Bool, true, false, cond, nat_eq, List, [], ◌∷◌, get_or, refl, sym, ap, ◌∙◌, arith, eqb-true}
-use Rattle.lease_book.proofs.ListLemmas.{once_parts}
-use Rattle.lease_book.specs.Choice.{HaveParentsEnded}
-use Rattle.lease_book.specs.State.{State, ended, put}
+use Rattle.lease_rules.proofs.ListLemmas.{once_parts}
+use Rattle.lease_rules.specs.Choice.{HaveParentsEnded}
+use Rattle.lease_rules.specs.State.{State, ended, put}
 use Rattle.plan_core.specs.declared.plan.Plan.{Plan}
 use Rattle.plan_core.specs.Numbers.{has}
 use Rattle.plan_core.specs.Words.{parents}

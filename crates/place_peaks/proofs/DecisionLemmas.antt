@@ -5,12 +5,12 @@ use Rattle.std.proofs.Math.Path.{fun_ext}
 use Rattle.std.proofs.Math.Seq.{take-append-add}
 use Rattle.std.proofs.lemmas.Bool.{cases_lt}
 use Rattle.std.proofs.lemmas.List.{take-append-le, take_all}
-use Rattle.lease_book.proofs.ListLemmas.{once_parts, without_head}
-use Rattle.lease_book.proofs.SoundLemmas.{put_at, put_off, safe_grant}
-use Rattle.lease_book.proofs.StartLemmas.{fit_of, follows_of, follows_without}
-use Rattle.lease_book.specs.Choice.{CanStart, HaveParentsEnded, Safe}
-use Rattle.lease_book.specs.Law.{HasStorageLaws, IsSoundState}
-use Rattle.lease_book.specs.State.{State, after, ended, put, reserved_for, without}
+use Rattle.lease_rules.proofs.ListLemmas.{once_parts, without_head}
+use Rattle.lease_rules.proofs.SoundLemmas.{put_at, put_off, safe_grant}
+use Rattle.lease_rules.proofs.StartLemmas.{fit_of, follows_of, follows_without}
+use Rattle.lease_rules.specs.Choice.{CanStart, HaveParentsEnded, Safe}
+use Rattle.lease_rules.specs.Law.{HasStorageLaws, IsSoundState}
+use Rattle.lease_rules.specs.State.{State, after, ended, put, reserved_for, without}
 use Rattle.peak_tree.specs.Numbers.{greatest}
 use Rattle.plan_core.specs.declared.plan.Plan.{Plan}
 use Rattle.plan_core.specs.Numbers.{has}

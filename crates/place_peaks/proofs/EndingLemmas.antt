@@ -1,8 +1,8 @@
 -- One good more is settled.
 use Rattle.std.proofs.Common.{◌≡◌, ℕ, zero, suc, ◌-◌, ◌≤◌, ◌<◌, ◌^◌, Bool, true, false, cond, nat_eq, List, [], ◌∷◌, length, drop, get_or, Option, Some, None, refl, sym, ap, subst, ◌∙◌, arith}
 use Rattle.std.proofs.Math.Path.{fun_ext}
-use Rattle.lease_book.proofs.ListLemmas.{once_parts}
-use Rattle.lease_book.proofs.SoundLemmas.{declared_long}
+use Rattle.lease_rules.proofs.ListLemmas.{once_parts}
+use Rattle.lease_rules.proofs.SoundLemmas.{declared_long}
 use Rattle.plan_core.specs.declared.plan.Plan.{Plan}
 use Rattle.plan_core.specs.Numbers.{has}
 use Rattle.storage_simulation.specs.Following.{AreOnce}
@@ -17,7 +17,7 @@ use Rattle.place_peaks.specs.declared.peaks.Peaks.{Peaks}
 use Rattle.place_peaks.specs.Cleaning.{CanEnd}
 use Rattle.place_peaks.specs.Links.{AreLinks}
 use Rattle.place_peaks.proofs.PossibleLemmas.{can_end}
-use Rattle.lease_book.specs.State.{ended}
+use Rattle.lease_rules.specs.State.{ended}
 use Rattle.place_peaks.specs.Peaks.{is_left, left_of, line_of}
 use Rattle.place_peaks.specs.Places.{held_by, there}
 use Rattle.place_peaks.specs.Settling.{AreLowered, CanLower, CanSettle, CanSettleOne, IsKept, count_at, count_by, lowered, settled}
@@ -126,6 +126,7 @@ kept_more a b c h k = record {
   missing = k.missing ∙ h.missing;
   bases_long = k.bases_long ∙ h.bases_long;
   trees_long = k.trees_long ∙ h.trees_long;
+  passed = λ m. k.passed (h.passed m);
 }
 
 -- sizes stay small
@@ -251,7 +252,7 @@ none_lowered p links b t ns can home = (
 )
 
 pub kept_none : (b : Peaks) → IsKept b b
-kept_none b = record { line = refl; left = refl; homes = refl; widths = refl; seats = refl; needs = refl; again = refl; missing = refl; bases_long = refl; trees_long = refl }
+kept_none b = record { line = refl; left = refl; homes = refl; widths = refl; seats = refl; needs = refl; again = refl; missing = refl; bases_long = refl; trees_long = refl; passed = λ h. h }
 
 -- the place of a task that runs
 pub home_of : (p : Plan) (links : Links) (b : Peaks) (t : ℕ) (ns : List ℕ) (o : Option ℕ) → CanSettle p links b t ns → o ≡ get_or b.homes.items t None → place p t ≡ o

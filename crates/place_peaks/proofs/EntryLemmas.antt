@@ -4,13 +4,13 @@ use Rattle.std.specs.Prelude.{Vec, MatchOption, filter, replicate, slice_get, ve
 use Rattle.std.specs.declared.alloc.Global.{Global}
 use Rattle.std.proofs.lemmas.List.Folds.{list_any-append}
 use Rattle.values.specs.declared.numbers.TaskId.{TaskId}
-use Rattle.lease_book.proofs.ListLemmas.{absent_filter, by_bool, has_filter, has_head}
-use Rattle.lease_book.proofs.OneLemmas.{one_choice}
-use Rattle.lease_book.proofs.SoundLemmas.{choice_in}
-use Rattle.lease_book.specs.Choice.{HaveParentsEnded, IsChoice}
-use Rattle.lease_book.specs.Law.{HasStorageLaws}
-use Rattle.lease_book.specs.Legal.{Allowed, MayFail}
-use Rattle.lease_book.specs.State.{State, after, ended}
+use Rattle.lease_rules.proofs.ListLemmas.{absent_filter, by_bool, has_filter, has_head}
+use Rattle.lease_rules.proofs.OneLemmas.{one_choice}
+use Rattle.lease_rules.proofs.SoundLemmas.{choice_in}
+use Rattle.lease_rules.specs.Choice.{HaveParentsEnded, IsChoice}
+use Rattle.lease_rules.specs.Law.{HasStorageLaws}
+use Rattle.lease_rules.specs.Legal.{Allowed, MayFail}
+use Rattle.lease_rules.specs.State.{State, after, ended}
 use Rattle.plan_core.specs.declared.plan.Plan.{Plan}
 use Rattle.plan_core.specs.Numbers.{has}
 use Rattle.plan_core.specs.declared.plan.Pair.{Pair}
@@ -31,7 +31,7 @@ use Rattle.place_peaks.specs.declared.peaks.Peaks.{Peaks}
 use Rattle.place_peaks.specs.Cleaning.{CanEnd, CanFreeFirst, IsSwept, IsSweptAgain}
 use Rattle.place_peaks.specs.Entries.{AreTied, CanEnter, Frees, IsWhole}
 use Rattle.place_peaks.specs.Granting.{CanGrant, IsGranted, IsGrantedAgain}
-use Rattle.place_peaks.specs.Peaks.{AreBehind, ArePeaks, left_of, line_of, stack_of}
+use Rattle.place_peaks.specs.Peaks.{AreBehind, ArePeaks, HasPassed, left_of, line_of, stack_of}
 use Rattle.place_peaks.specs.declared.links.Links.{Links}
 use Rattle.place_peaks.specs.Links.{AreLinks}
 use Rattle.place_peaks.specs.Settling.{CanSettle, IsSettled}
@@ -73,12 +73,13 @@ first_only p s b t u behind first choice = subst (IsFirstOf (stack_of b)) (sym s
     same = one_choice p s t u choice (first_is_choice p s u (first.0 ++ filter (left_of b) (line_of b)) head.laws head.sound choice.no_fail head.rest (head.waiting u (has_head u first.0)))
 
 -- what no entry changes
-whole_of : (p : Plan) (old new : Peaks) → new.line.items ≡ old.line.items → new.seats.items ≡ old.seats.items → new.widths.items ≡ old.widths.items → vec_capacity new.again ≡ vec_capacity old.again → IsWhole p old → IsWhole p new
-whole_of p old new line seats widths long whole = record {
+whole_of : (p : Plan) (old new : Peaks) → new.line.items ≡ old.line.items → new.seats.items ≡ old.seats.items → new.widths.items ≡ old.widths.items → vec_capacity new.again ≡ vec_capacity old.again → (HasPassed old → HasPassed new) → IsWhole p old → IsWhole p new
+whole_of p old new line seats widths long passed whole = record {
   all = λ t l. ap (λ (zs : List TaskId). has (task_numbers zs) t) line ∙ whole.all t l;
   seats_long = ap length seats ∙ whole.seats_long;
   widths_long = ap length widths ∙ whole.widths_long;
   room = let had = whole.room in omega (arith, long, had);
+  passed = passed whole.passed;
 }
 
 pub tied_none : (p : Plan) (s : State) (b : Peaks) → b.again.items ≡ [] → ArePeaks p s b → IsWhole p b → AreTied p s b
@@ -108,12 +109,12 @@ grant_line p s old new w t peaks allowed is =
 
 pub grant_tied : (p : Plan) (s : State) (old new : Peaks) (w t : ℕ) → AreTied p s old → old.again.items ≡ [] → Allowed p s (Grant w t) → IsGranted old new t → AreTied p (after p s (Grant w t)) new
 grant_tied p s old new w t tied none allowed is =
-    tied_none p (after p s (Grant w t)) new (ap (λ (v : Vec TaskId Global). v.items) is.again ∙ none) (grant_line p s old new w t (behind_none p s old none tied.behind) allowed is) (whole_of p old new is.line is.seats is.widths (ap (λ (v : Vec TaskId Global). vec_capacity v) is.again) tied.whole)
+    tied_none p (after p s (Grant w t)) new (ap (λ (v : Vec TaskId Global). v.items) is.again ∙ none) (grant_line p s old new w t (behind_none p s old none tied.behind) allowed is) (whole_of p old new is.line is.seats is.widths (ap (λ (v : Vec TaskId Global). vec_capacity v) is.again) is.passed tied.whole)
 
 pub grant_again_tied : (p : Plan) (s : State) (old new : Peaks) (w t : ℕ) → AreTied p s old → Allowed p s (Grant w t) → IsGrantedAgain old new t → stack_of old ≡ t ∷ stack_of new → vec_capacity new.again ≡ vec_capacity old.again → AreTied p (after p s (Grant w t)) new
 grant_again_tied p s old new w t tied allowed is stack long = record {
   behind = granted_again p s old new (stack_of new) w t (subst (AreBehind p s old) stack tied.behind) allowed is;
-  whole = whole_of p old new is.line is.seats is.widths long tied.whole;
+  whole = whole_of p old new is.line is.seats is.widths long is.passed tied.whole;
 }
 
 -- A Clean.
@@ -152,7 +153,7 @@ clean_end p s b t tied choice = can_end p s b (stack_of b) t tied.behind (waitin
 
 pub clean_tied : (p : Plan) (s : State) (old new : Peaks) (w t frees : ℕ) → AreTied p s old → old.again.items ≡ [] → Allowed p s (Clean w t) → ((u : ℕ) → AreOnce (parents p u)) → Frees p s t frees → IsSwept p old new t frees → AreTied p (after p s (Clean w t)) new
 clean_tied p s old new w t frees tied none allowed once free is =
-    tied_none p (after p s (Clean w t)) new (ap (λ (v : Vec TaskId Global). v.items) is.again ∙ none) line (whole_of p old new is.line is.seats is.widths (ap (λ (v : Vec TaskId Global). vec_capacity v) is.again) tied.whole)
+    tied_none p (after p s (Clean w t)) new (ap (λ (v : Vec TaskId Global). v.items) is.again ∙ none) line (whole_of p old new is.line is.seats is.widths (ap (λ (v : Vec TaskId Global). vec_capacity v) is.again) is.passed tied.whole)
   where
     peaks : ArePeaks p s old
     peaks = behind_none p s old none tied.behind
@@ -168,7 +169,7 @@ pub clean_again_tied : (p : Plan) (s : State) (old new : Peaks) (w t frees : ℕ
 clean_again_tied p s old new w t frees tied allowed once free is stack long =
     let g = cleaned_good p t allowed.1 in record {
       behind = swept_again p s old new (stack_of new) w t g.0 frees (subst (AreBehind p s old) stack tied.behind) allowed once g.1 (frees_there p s t g.0 frees tied.behind.laws g.1 free) is;
-      whole = whole_of p old new is.line is.seats is.widths long tied.whole;
+      whole = whole_of p old new is.line is.seats is.widths long is.passed tied.whole;
     }
 
 -- An Again.
@@ -188,7 +189,7 @@ again_room p s b w t c ns tied kind allowed =
 pub again_tied : (p : Plan) (s : State) (old new : Peaks) (w t : ℕ) (c : Cause) (ns : List ℕ) → AreTied p s old → is_clean p t ≡ false → Allowed p s (Again w t c ns) → IsAgain old new t → stack_of new ≡ t ∷ stack_of old → vec_capacity new.again ≡ vec_capacity old.again → AreTied p (after p s (Again w t c ns)) new
 again_tied p s old new w t c ns tied kind allowed is stack long = record {
   behind = subst (AreBehind p (after p s (Again w t c ns)) new) (sym stack) (again_by p s old new (stack_of old) w t c ns tied.behind allowed (runs_of p s w t kind allowed.1) is);
-  whole = whole_of p old new is.line is.seats is.widths long tied.whole;
+  whole = whole_of p old new is.line is.seats is.widths long is.passed tied.whole;
 }
 
 pub move_room : (p : Plan) (s : State) (b : Peaks) (t : ℕ) → AreTied p s b → b.again.items ≡ [] → IsChoice p s t → length b.again.items < vec_capacity b.again
@@ -198,7 +199,7 @@ move_room p s b t tied none choice =
 pub move_tied : (p : Plan) (s : State) (old new : Peaks) (w t frees : ℕ) (c : Cause) (ns : List ℕ) → AreTied p s old → old.again.items ≡ [] → is_clean p t ≡ true → Allowed p s (Again w t c ns) → Frees p s t frees → IsMoved old new t frees → stack_of new ≡ t ∷ stack_of old → vec_capacity new.again ≡ vec_capacity old.again → AreTied p (after p s (Again w t c ns)) new
 move_tied p s old new w t frees c ns tied none kind allowed free is stack long = record {
   behind = subst (AreBehind p (after p s (Again w t c ns)) new) (sym (stack ∙ ap (λ (zs : List ℕ). t ∷ zs) (none_stacked old.again.items none))) moved;
-  whole = whole_of p old new is.line is.seats is.widths long tied.whole;
+  whole = whole_of p old new is.line is.seats is.widths long is.passed tied.whole;
 }
   where
     peaks : ArePeaks p s old
@@ -243,7 +244,7 @@ arrive_settles p links b t n can = record {
 pub arrive_tied : (p : Plan) (s : State) (links : Links) (old new : Peaks) (w t n : ℕ) → AreTied p s old → AreLinks p links → ((u : ℕ) → AreOnce (parents p u)) → Allowed p s (Arrive w t n) → IsSettled p links old new t (replicate (length (makes p t)) n) → AreTied p (after p s (Arrive w t n)) new
 arrive_tied p s links old new w t n tied linked once allowed is = record {
   behind = subst (AreBehind p (after p s (Arrive w t n)) new) (sym (ap (λ (v : Vec TaskId Global). stacked (task_numbers v.items) []) is.again)) (arrived p s links old new (stack_of old) w t n tied.behind linked once allowed is);
-  whole = whole_of p old new is.line is.seats is.widths (ap (λ (v : Vec TaskId Global). vec_capacity v) is.again) tied.whole;
+  whole = whole_of p old new is.line is.seats is.widths (ap (λ (v : Vec TaskId Global). vec_capacity v) is.again) is.passed tied.whole;
 }
 
 pub end_settles : (p : Plan) (links : Links) (b : Peaks) (t : ℕ) (ns : List ℕ) → CanEnter p b (λ w. End w t ns) → CanSettle p links b t ns
@@ -258,7 +259,7 @@ end_settles p links b t ns can = record {
 pub end_tied : (p : Plan) (s : State) (links : Links) (old new : Peaks) (w t : ℕ) (ns : List ℕ) → AreTied p s old → AreLinks p links → ((u : ℕ) → AreOnce (parents p u)) → Allowed p s (End w t ns) → IsSettled p links old new t ns → AreTied p (after p s (End w t ns)) new
 end_tied p s links old new w t ns tied linked once allowed is = record {
   behind = subst (AreBehind p (after p s (End w t ns)) new) (sym (ap (λ (v : Vec TaskId Global). stacked (task_numbers v.items) []) is.again)) (ended_at p s links old new (stack_of old) w t ns tied.behind linked once allowed is);
-  whole = whole_of p old new is.line is.seats is.widths (ap (λ (v : Vec TaskId Global). vec_capacity v) is.again) tied.whole;
+  whole = whole_of p old new is.line is.seats is.widths (ap (λ (v : Vec TaskId Global). vec_capacity v) is.again) is.passed tied.whole;
 }
 
 -- A Fail.

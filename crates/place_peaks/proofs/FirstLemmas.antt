@@ -2,14 +2,14 @@
 use Rattle.std.proofs.Common.{◌≡◌, ℕ, ◌+◌, ◌-◌, ◌<◌, ◌||◌, Bool, true, false, cond, nat_eq, List, [], ◌∷◌, ◌++◌, length, take, get_or, Option, Some, None, refl, sym, ap, subst, ◌∙◌, arith}
 use Rattle.std.specs.Prelude.{filter}
 use Rattle.std.proofs.lemmas.List.Folds.{list_any-append}
-use Rattle.lease_book.proofs.ListLemmas.{has_head, has_take, without_has, without_head}
-use Rattle.lease_book.proofs.SafeLemmas.{maker_of}
-use Rattle.lease_book.proofs.SoundLemmas.{cleaned_held, not_both, sound_more}
-use Rattle.lease_book.proofs.StartLemmas.{follows_of}
-use Rattle.lease_book.specs.Choice.{HaveParentsEnded}
-use Rattle.lease_book.specs.Law.{HasStorageLaws, IsSoundState}
-use Rattle.lease_book.specs.Legal.{Allowed}
-use Rattle.lease_book.specs.State.{State, after, reserved_for, without}
+use Rattle.lease_rules.proofs.ListLemmas.{has_head, has_take, without_has, without_head}
+use Rattle.lease_rules.proofs.SafeLemmas.{maker_of}
+use Rattle.lease_rules.proofs.SoundLemmas.{cleaned_held, not_both, sound_more}
+use Rattle.lease_rules.proofs.StartLemmas.{follows_of}
+use Rattle.lease_rules.specs.Choice.{HaveParentsEnded}
+use Rattle.lease_rules.specs.Law.{HasStorageLaws, IsSoundState}
+use Rattle.lease_rules.specs.Legal.{Allowed}
+use Rattle.lease_rules.specs.State.{State, after, reserved_for, without}
 use Rattle.plan_core.specs.declared.plan.Plan.{Plan}
 use Rattle.plan_core.specs.Numbers.{has}
 use Rattle.plan_core.specs.Words.{cleans, is_clean, parents, task_numbers}

@@ -1,11 +1,11 @@
 -- A grant keeps what trees say; a task that brings no more and stands before another can start if that one can.
 use Rattle.std.proofs.Common.{◌≡◌, ℕ, suc, ◌+◌, ◌-◌, ◌≤◌, ◌<◌, ◌||◌, ◌&&◌, Bool, true, false, cond, eqb, eqb-true, List, [], ◌∷◌, ◌++◌, length, take, drop, get_or, Option, Some, None, refl, sym, ap, subst, ◌∙◌, arith, ◌^◌}
 use Rattle.std.specs.Prelude.{filter, not, set}
-use Rattle.lease_book.proofs.ListLemmas.{filter_without, once_parts, without_has}
-use Rattle.lease_book.proofs.SoundLemmas.{choice_in, sound_more}
-use Rattle.lease_book.specs.Choice.{HaveParentsEnded}
-use Rattle.lease_book.specs.Legal.{Allowed}
-use Rattle.lease_book.specs.State.{State, after, ended, put, reserved_for, without}
+use Rattle.lease_rules.proofs.ListLemmas.{filter_without, once_parts, without_has}
+use Rattle.lease_rules.proofs.SoundLemmas.{choice_in, sound_more}
+use Rattle.lease_rules.specs.Choice.{HaveParentsEnded}
+use Rattle.lease_rules.specs.Legal.{Allowed}
+use Rattle.lease_rules.specs.State.{State, after, ended, put, reserved_for, without}
 use Rattle.peak_tree.specs.Numbers.{greater, greatest}
 use Rattle.peak_tree.proofs.NumbersLemmas.{greatest-append}
 use Rattle.plan_core.specs.declared.plan.Plan.{Plan}

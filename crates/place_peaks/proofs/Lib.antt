@@ -23,3 +23,5 @@ pub mod SizingLemmas
 pub mod OpeningLemmas
 pub mod EntryLemmas
 pub mod RenewingLemmas
+pub mod AskingLemmas
+pub mod FrontLemmas

@@ -5,10 +5,10 @@ use Rattle.std.specs.declared.alloc.Global.{Global}
 use Rattle.std.proofs.lemmas.Bool.{cases_lt}
 use Rattle.std.proofs.lemmas.List.{get_or-replicate, get_or_past, length-replicate, length-set}
 use Rattle.digraph.specs.Adjacency.{lists_of}
-use Rattle.lease_book.proofs.ArrayLemmas.{few_once}
-use Rattle.lease_book.proofs.SoundLemmas.{sound_opened}
-use Rattle.lease_book.specs.Law.{FitsFromStart, HasStorageLaws}
-use Rattle.lease_book.specs.State.{ended, opened}
+use Rattle.lease_rules.proofs.ListLemmas.{few_once}
+use Rattle.lease_rules.proofs.SoundLemmas.{sound_opened}
+use Rattle.lease_rules.specs.Law.{FitsFromStart, HasStorageLaws}
+use Rattle.lease_rules.specs.State.{ended, opened}
 use Rattle.plan_core.specs.declared.plan.Plan.{Plan}
 use Rattle.plan_core.specs.Numbers.{below, has}
 use Rattle.plan_core.specs.Proper.{IsProper}

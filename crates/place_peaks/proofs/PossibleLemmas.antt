@@ -2,12 +2,12 @@
 use Rattle.std.proofs.Common.{◌≡◌, ℕ, suc, zero, ◌+◌, ◌≤◌, ◌<◌, ◌^◌, Bool, true, false, cond, nat_eq, eqb-true, List, [], ◌∷◌, ◌++◌, length, take, drop, get_or, Some, None, refl, sym, ap, subst, ◌∙◌, arith}
 use Rattle.std.specs.Prelude.{filter, vec_capacity}
 use Rattle.std.proofs.lemmas.List.Folds.{list_any-append}
-use Rattle.lease_book.proofs.ArrayLemmas.{few_once}
-use Rattle.lease_book.proofs.ListLemmas.{has_head, once_more, once_parts}
-use Rattle.lease_book.proofs.NumbersLemmas.{count_tasks_in}
-use Rattle.lease_book.proofs.StartLemmas.{follows_of}
-use Rattle.lease_book.specs.Choice.{HaveParentsEnded}
-use Rattle.lease_book.specs.State.{State, ended, reserved_for}
+use Rattle.lease_rules.proofs.ListLemmas.{few_once}
+use Rattle.lease_rules.proofs.ListLemmas.{has_head, once_more, once_parts}
+use Rattle.lease_rules.proofs.NumbersLemmas.{count_tasks_in}
+use Rattle.lease_rules.proofs.StartLemmas.{follows_of}
+use Rattle.lease_rules.specs.Choice.{HaveParentsEnded}
+use Rattle.lease_rules.specs.State.{State, ended, reserved_for}
 use Rattle.plan_core.specs.declared.plan.Plan.{Plan}
 use Rattle.plan_core.specs.Numbers.{has}
 use Rattle.plan_core.specs.Words.{cleans, count_tasks, is_clean, parents, task_numbers}

@@ -7,15 +7,15 @@ use Rattle.std.proofs.lemmas.Bool.{cases_lt, eqb-false}
 use Rattle.std.proofs.lemmas.List.{get_or_default, length-replicate}
 use Rattle.std.proofs.lemmas.List.Folds.{list_any-append}
 use Rattle.values.specs.declared.numbers.TaskId.{TaskId}
-use Rattle.lease_book.proofs.ArrayLemmas.{few_once}
-use Rattle.lease_book.proofs.ListLemmas.{has_head, has_without, once_filter, once_more, once_parts}
-use Rattle.lease_book.proofs.NumbersLemmas.{count_tasks_in}
-use Rattle.lease_book.proofs.SoundLemmas.{fresh_among, is_waiting, sound_more}
-use Rattle.lease_book.proofs.StartLemmas.{follows_of}
-use Rattle.lease_book.specs.Choice.{HasNoChoice, HaveParentsEnded, IsCandidate}
-use Rattle.lease_book.specs.Law.{HasStorageLaws, IsSoundState}
-use Rattle.lease_book.specs.Legal.{Allowed}
-use Rattle.lease_book.specs.State.{State, after, order_or, order_with, put, reserved_for, without}
+use Rattle.lease_rules.proofs.ListLemmas.{few_once}
+use Rattle.lease_rules.proofs.ListLemmas.{has_head, has_without, once_filter, once_more, once_parts}
+use Rattle.lease_rules.proofs.NumbersLemmas.{count_tasks_in}
+use Rattle.lease_rules.proofs.SoundLemmas.{fresh_among, is_waiting, sound_more}
+use Rattle.lease_rules.proofs.StartLemmas.{follows_of}
+use Rattle.lease_rules.specs.Choice.{HasNoChoice, HaveParentsEnded, IsCandidate}
+use Rattle.lease_rules.specs.Law.{HasStorageLaws, IsSoundState}
+use Rattle.lease_rules.specs.Legal.{Allowed}
+use Rattle.lease_rules.specs.State.{State, after, order_or, order_with, put, reserved_for, without}
 use Rattle.peak_tree.specs.Numbers.{filled}
 use Rattle.plan_core.specs.declared.plan.Plan.{Plan}
 use Rattle.plan_core.specs.Numbers.{below, has}
@@ -501,6 +501,7 @@ renewed_tied p s old new standing w t ts tied allowed order shown is = record {
     seats_long = is.seats.seats_long;
     widths_long = is.seats.widths_long;
     room = subst (λ (v : Vec TaskId Global). count_tasks p ≤ vec_capacity v) (sym is.again) tied.whole.room;
+    passed = is.passed;
   };
 }
   where

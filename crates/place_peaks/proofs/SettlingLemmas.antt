@@ -3,12 +3,12 @@ use Rattle.std.proofs.Common.{◌≡◌, ℕ, suc, ◌-◌, ◌≤◌, ◌<◌, 
 use Rattle.std.specs.Prelude.{filter, replicate}
 use Rattle.std.proofs.Math.Path.{fun_ext}
 use Rattle.std.proofs.lemmas.List.Folds.{list_any-append}
-use Rattle.lease_book.proofs.ListLemmas.{absent_filter, has_filter, has_take, once_parts}
-use Rattle.lease_book.proofs.SafeLemmas.{maker_of}
-use Rattle.lease_book.specs.Law.{IsSoundState}
-use Rattle.lease_book.specs.Legal.{Allowed, AreDeclared}
-use Rattle.lease_book.specs.State.{State, after, ended, put, stored_among}
-use Rattle.lease_book.proofs.SoundLemmas.{sound_more}
+use Rattle.lease_rules.proofs.ListLemmas.{absent_filter, has_filter, has_take, once_parts}
+use Rattle.lease_rules.proofs.SafeLemmas.{maker_of}
+use Rattle.lease_rules.specs.Law.{IsSoundState}
+use Rattle.lease_rules.specs.Legal.{Allowed, AreDeclared}
+use Rattle.lease_rules.specs.State.{State, after, ended, put, stored_among}
+use Rattle.lease_rules.proofs.SoundLemmas.{sound_more}
 use Rattle.run_record.specs.Events.{Arrive, End}
 use Rattle.storage_simulation.proofs.RisingLemmas.{rises_once}
 use Rattle.plan_core.specs.declared.plan.Plan.{Plan}

@@ -1,13 +1,13 @@
 -- An Again keeps what trees say, and puts the task to the front.
 use Rattle.std.proofs.Common.{◌≡◌, ℕ, suc, ◌-◌, ◌<◌, inl, inr, Bool, true, false, cond, nat_eq, List, [], ◌∷◌, ◌++◌, length, take, drop, get_or, Option, Some, None, refl, sym, ap, subst, ◌∙◌, arith, eqb-true}
 use Rattle.std.specs.Prelude.{filter, not, set}
-use Rattle.lease_book.proofs.ListLemmas.{filter_without, has_head, without_absent, without_has}
-use Rattle.lease_book.proofs.SoundLemmas.{is_waiting, sound_more}
-use Rattle.lease_book.proofs.StartLemmas.{follows_of}
-use Rattle.lease_book.specs.Choice.{HaveParentsEnded, IsChoice}
-use Rattle.lease_book.specs.Law.{IsSoundState}
-use Rattle.lease_book.specs.Legal.{Allowed, MayFail}
-use Rattle.lease_book.specs.State.{State, after, ended, put, without}
+use Rattle.lease_rules.proofs.ListLemmas.{filter_without, has_head, without_absent, without_has}
+use Rattle.lease_rules.proofs.SoundLemmas.{is_waiting, sound_more}
+use Rattle.lease_rules.proofs.StartLemmas.{follows_of}
+use Rattle.lease_rules.specs.Choice.{HaveParentsEnded, IsChoice}
+use Rattle.lease_rules.specs.Law.{IsSoundState}
+use Rattle.lease_rules.specs.Legal.{Allowed, MayFail}
+use Rattle.lease_rules.specs.State.{State, after, ended, put, without}
 use Rattle.plan_core.specs.declared.plan.Plan.{Plan}
 use Rattle.plan_core.specs.Numbers.{has}
 use Rattle.plan_core.specs.Words.{cleans, is_clean, parents, task_numbers}

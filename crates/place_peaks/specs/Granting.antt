@@ -1,7 +1,7 @@
 -- What the grant of a task does, and what it takes.
 use Rattle.std.specs.Prelude.{◌≡◌, ℕ, ◌+◌, ◌^◌, ◌==◌, ◌&&◌, ◌<◌, ◌≤◌, cond, not, [], length, get_or, set, None}
 use Rattle.place_peaks.specs.declared.peaks.Peaks.{Peaks}
-use Rattle.place_peaks.specs.Peaks.{left_of}
+use Rattle.place_peaks.specs.Peaks.{HasPassed, left_of}
 use Rattle.place_peaks.specs.Places.{is_place}
 use Rattle.place_peaks.specs.Tree.{AllFirst, CanRise, front_changed}
 
@@ -20,6 +20,7 @@ pub record IsGranted (old new : Peaks) (t : ℕ) : Type 0 where
   pub left : (u : ℕ) → left_of new u ≡ (left_of old u && not (t == u))
   pub base : (q : ℕ) → get_or new.base.items q 0 ≡ cond (is_place q (get_or old.homes.items t None)) (get_or old.base.items q 0 + get_or old.needs.items t 0) (get_or old.base.items q 0)
   pub trees : (q : ℕ) → get_or new.trees.items q [] ≡ cond (is_place q (get_or old.homes.items t None)) (set (front_changed (get_or old.seats.items t 0) (λ n. n + get_or old.needs.items t 0) (get_or old.trees.items q [])) (get_or old.seats.items t 0) None) (get_or old.trees.items q [])
+  pub passed : HasPassed old → HasPassed new
 
 -- the place of the task can take what the task brings
 pub record CanGrant (b : Peaks) (t q : ℕ) : Type 0 where
@@ -42,6 +43,7 @@ pub record IsGrantedAgain (old new : Peaks) (t : ℕ) : Type 0 where
   pub trees : new.trees.items ≡ old.trees.items
   pub bases_long : length new.base.items ≡ length old.base.items
   pub base : (q : ℕ) → get_or new.base.items q 0 ≡ cond (is_place q (get_or old.homes.items t None)) (get_or old.base.items q 0 + get_or old.needs.items t 0) (get_or old.base.items q 0)
+  pub passed : HasPassed old → HasPassed new
 
 -- a place can hold so much more
 pub record CanHold (b : Peaks) (t q : ℕ) : Type 0 where

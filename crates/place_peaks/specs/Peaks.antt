@@ -1,8 +1,8 @@
 -- What the trees of a line of tasks say of a state.
 use Rattle.std.specs.Prelude.{◌≡◌, ℕ, ◌<◌, Bool, true, false, cond, List, [], ◌++◌, length, take, filter, get_or, Some, None}
-use Rattle.lease_book.specs.Choice.{HaveParentsEnded}
-use Rattle.lease_book.specs.Law.{HasStorageLaws, IsSoundState}
-use Rattle.lease_book.specs.State.{State, ended}
+use Rattle.lease_rules.specs.Choice.{HaveParentsEnded}
+use Rattle.lease_rules.specs.Law.{HasStorageLaws, IsSoundState}
+use Rattle.lease_rules.specs.State.{State, ended}
 use Rattle.plan_core.specs.declared.plan.Plan.{Plan}
 use Rattle.plan_core.specs.Numbers.{has}
 use Rattle.plan_core.specs.Words.{count_tasks, is_clean, parents, task_numbers}
@@ -33,6 +33,10 @@ stack_of b = stacked (task_numbers b.again.items) []
 -- each seat of a task of the line is in its tree
 abbrev pub AreSeated : Peaks → Type 0
 AreSeated b = (k q : ℕ) → k < length (line_of b) → get_or b.homes.items (get_or (line_of b) k 0) None ≡ Some q → get_or b.seats.items (get_or (line_of b) k 0) 0 < length (get_or b.trees.items q [])
+
+-- no task of the line before the front is left
+abbrev pub HasPassed : Peaks → Type 0
+HasPassed b = filter (left_of b) (take b.first (line_of b)) ≡ []
 
 -- how many parents of a task haven't ended
 abbrev pub open_parents : Plan → (ℕ → Phase) → ℕ → ℕ

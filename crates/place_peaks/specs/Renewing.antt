@@ -1,7 +1,7 @@
 -- A fresh order in place of the one that is kept.
 use Rattle.std.specs.Prelude.{◌≡◌, ℕ, ◌+◌, ◌-◌, ◌<◌, ◌≤◌, true, false, cond, not, List, [], ◌++◌, length, map, filter, take, get_or, replicate, Option, Some, None}
-use Rattle.lease_book.specs.Legal.{Allowed}
-use Rattle.lease_book.specs.State.{State, after, order_with}
+use Rattle.lease_rules.specs.Legal.{Allowed}
+use Rattle.lease_rules.specs.State.{State, after, order_with}
 use Rattle.plan_core.specs.declared.plan.Plan.{Plan}
 use Rattle.plan_core.specs.Numbers.{below, has}
 use Rattle.plan_core.specs.Words.{count_tasks, is_clean}
@@ -15,7 +15,7 @@ use Rattle.storage_simulation.specs.Usage.{usage}
 use Rattle.place_peaks.specs.declared.peaks.Peaks.{Peaks}
 use Rattle.place_peaks.specs.Entries.{AreTied}
 use Rattle.place_peaks.specs.Opening.{AreSeats, all_left}
-use Rattle.place_peaks.specs.Peaks.{left_of, line_of}
+use Rattle.place_peaks.specs.Peaks.{HasPassed, left_of, line_of}
 use Rattle.place_peaks.specs.Places.{ChangesOnePlace, brings, held_by, is_place, there}
 use Rattle.place_peaks.specs.Values.{values}
 
@@ -76,3 +76,4 @@ pub record IsRenewed (p : Plan) (size : ℕ → ℕ) (old new : Peaks) (t : ℕ)
   pub base : (q : ℕ) → get_or new.base.items q 0 ≡ cond (is_place q (get_or old.homes.items t None)) (get_or old.base.items q 0 + get_or old.needs.items t 0) (get_or old.base.items q 0)
   pub trees_long : length new.trees.items ≡ length old.trees.items
   pub trees : (q : ℕ) → q < places p → get_or new.trees.items q [] ≡ renewed_values p size ts q (get_or old.trees.items q [])
+  pub passed : HasPassed new

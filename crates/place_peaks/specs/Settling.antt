@@ -6,10 +6,10 @@ use Rattle.plan_core.specs.Words.{count_tasks, parents}
 use Rattle.storage_simulation.specs.Goods.{good_size, lies_at, makes, places}
 use Rattle.place_peaks.specs.declared.links.Links.{Links}
 use Rattle.place_peaks.specs.declared.peaks.Peaks.{Peaks}
-use Rattle.lease_book.specs.Legal.{AreDeclared}
-use Rattle.lease_book.specs.State.{State}
+use Rattle.lease_rules.specs.Legal.{AreDeclared}
+use Rattle.lease_rules.specs.State.{State}
 use Rattle.storage_simulation.specs.declared.standing.Phase.TheVariants.{Runs}
-use Rattle.place_peaks.specs.Peaks.{AreBehind, left_of}
+use Rattle.place_peaks.specs.Peaks.{AreBehind, HasPassed, left_of}
 use Rattle.place_peaks.specs.Tree.{AllFirst, CanFall, front_changed}
 
 -- Where a good counts less: in the values before the seat of its Clean, where that is left in the line, else in all.
@@ -52,6 +52,7 @@ pub record IsSettled (p : Plan) (links : Links) (old new : Peaks) (t : ℕ) (ns 
   pub bases_long : length new.base.items ≡ length old.base.items
   pub trees_long : length new.trees.items ≡ length old.trees.items
   pub lowered : AreLowered p links old new (makes p t) ns
+  pub passed : HasPassed old → HasPassed new
 
 -- what only a settling of goods leaves as it was
 pub record IsKept (old new : Peaks) : Type 0 where
@@ -65,6 +66,7 @@ pub record IsKept (old new : Peaks) : Type 0 where
   pub missing : new.missing.items ≡ old.missing.items
   pub bases_long : length new.base.items ≡ length old.base.items
   pub trees_long : length new.trees.items ≡ length old.trees.items
+  pub passed : HasPassed old → HasPassed new
 
 -- so many values of a list, and a number, can be lowered by so much
 pub record CanLower (b less count : ℕ) (vs : List (Option ℕ)) : Type 0 where

@@ -3,7 +3,7 @@ use Rattle.std.specs.Prelude.{◌≡◌, ℕ, ◌-◌, ◌==◌, ◌&&◌, ◌<�
 use Rattle.plan_core.specs.declared.plan.Plan.{Plan}
 use Rattle.plan_core.specs.Words.{count_tasks, task_numbers}
 use Rattle.place_peaks.specs.declared.peaks.Peaks.{Peaks}
-use Rattle.place_peaks.specs.Peaks.{left_of}
+use Rattle.place_peaks.specs.Peaks.{HasPassed, left_of}
 use Rattle.place_peaks.specs.Places.{is_place}
 use Rattle.place_peaks.specs.Tree.{AllFirst, CanFall, front_changed}
 
@@ -27,6 +27,7 @@ pub record IsAgain (old new : Peaks) (t : ℕ) : Type 0 where
   pub base : new.base.items ≡ old.base.items
   pub trees : new.trees.items ≡ old.trees.items
   pub needs : (u : ℕ) → get_or new.needs.items u 0 ≡ cond (t == u) 0 (get_or old.needs.items u 0)
+  pub passed : HasPassed old → HasPassed new
 
 -- A Clean of the line goes to the stack: it isn't left in the line, and its place holds so much less before all that
 -- stands before it, as if it were done.
@@ -42,6 +43,7 @@ pub record IsMoved (old new : Peaks) (t frees : ℕ) : Type 0 where
   pub trees_long : length new.trees.items ≡ length old.trees.items
   pub left : (u : ℕ) → left_of new u ≡ (left_of old u && not (t == u))
   pub trees : (q : ℕ) → get_or new.trees.items q [] ≡ cond (is_place q (get_or old.homes.items t None)) (set (front_changed (get_or old.seats.items t 0) (λ n. n - frees) (get_or old.trees.items q [])) (get_or old.seats.items t 0) None) (get_or old.trees.items q [])
+  pub passed : HasPassed old → HasPassed new
 
 -- the tree of a Clean's place can be lowered by what the Clean frees
 pub record CanFree (b : Peaks) (t q frees : ℕ) : Type 0 where

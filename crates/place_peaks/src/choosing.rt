@@ -1,11 +1,11 @@
 //! The Choice, by trees.
 
 ghost use Rattle.std.specs.Prelude.{◌≡◌, ◌≤◌, ◌<◌, ◌-◌, ℕ, [], true, false, take, length, get_or, slice_get, None, Some, Decides, MatchOption};
-ghost use Rattle.lease_book.specs.Choice.{CanStart, HasNoChoice, IsChoice};
-ghost use Rattle.lease_book.specs.State.{State};
+ghost use Rattle.lease_rules.specs.Choice.{CanStart, HasNoChoice, IsChoice};
+ghost use Rattle.lease_rules.specs.State.{State};
 ghost use Rattle.peak_tree.specs.Numbers.{greatest};
 ghost use Rattle.plan_core.specs.Words.{task_numbers};
-ghost use Rattle.place_peaks.specs.Peaks.{AreBehind, ArePeaks, AreSeated, is_left, left_of, line_of, stack_of};
+ghost use Rattle.place_peaks.specs.Peaks.{AreBehind, ArePeaks, AreSeated, HasPassed, is_left, left_of, line_of, stack_of};
 ghost use Rattle.place_peaks.specs.Choosing.{HasRoomAt};
 
 use crate::peaks::Peaks;
@@ -16,7 +16,7 @@ use storage_simulation::place_bound;
 use values::TaskId;
 
 /// The task at a position.
-#[tactic(auto, using(lease_book::proofs::NumbersLemmas::task_at))]
+#[tactic(auto, using(lease_rules::proofs::NumbersLemmas::task_at))]
 pub(crate) fn task_at(line: &[TaskId], k: usize) -> u32
     requires { k < length line.now }
     ensures { result ≡ get_or (task_numbers line.now) k 0 }
@@ -26,7 +26,7 @@ pub(crate) fn task_at(line: &[TaskId], k: usize) -> u32
 
 impl Peaks {
     /// Whether a task is left in the line.
-    pub(crate) fn is_left(&self, task: u32) -> bool
+    pub fn is_left(&self, task: u32) -> bool
         ensures { result ≡ is_left self.now.left.items task }
     {
         match self.left.get(task as usize) {
@@ -139,11 +139,12 @@ impl Peaks {
 
     /// The first task of the line that is left and can start: the Choice where no task waits again.
     fn choose_line(&self, plan: &Plan) -> Option<u32>
-        requires { AreSeated self.now }
+        requires seated { AreSeated self.now }
+        requires passed { HasPassed self.now }
         ensures { (s : State) → ArePeaks plan.now s self.now → s.failing ≡ false → MatchOption result (HasNoChoice plan.now s) (λ t. IsChoice plan.now s t) }
     {
         let line = self.line.as_slice();
-        for k in 0..line.len() {
+        for k in self.first..line.len() {
             if self.can_begin_at(plan, k) {
                 return Some(task_at(line, k));
             }
@@ -153,7 +154,8 @@ impl Peaks {
 
     /// The Choice: the first task that waits again, else the first of the line that is left and can start.
     pub fn choose(&self, plan: &Plan) -> Option<u32>
-        requires { AreSeated self.now }
+        requires seated { AreSeated self.now }
+        requires passed { HasPassed self.now }
         ensures { (s : State) → AreBehind plan.now s self.now (stack_of self.now) → s.failing ≡ false → MatchOption result (HasNoChoice plan.now s) (λ t. IsChoice plan.now s t) }
     {
         match last_of(self.again.as_slice()) {

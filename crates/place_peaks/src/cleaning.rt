@@ -64,6 +64,7 @@ impl Peaks {
     {
         end_for_children(plan, &mut self.missing, links, task);
         unmark(&mut self.left, task);
+        self.first = self.next_front();
         match self.home(task) {
             None => {}
             Some(place) => {

@@ -8,7 +8,7 @@ use storage_simulation::is_delivery;
 use values::TaskId;
 
 /// How many goods a task makes.
-#[tactic(auto, using(lease_book::proofs::NumbersLemmas::count_pairs_in), unfolding(storage_simulation::specs::Goods::makes))]
+#[tactic(auto, using(lease_rules::proofs::NumbersLemmas::count_pairs_in), unfolding(storage_simulation::specs::Goods::makes))]
 pub(crate) fn count_made(plan: &Plan, task: TaskId) -> usize
     ensures { result ≡ length (makes plan.now task.0) }
 {
@@ -19,7 +19,7 @@ pub(crate) fn count_made(plan: &Plan, task: TaskId) -> usize
 }
 
 /// One of the goods that a task makes.
-#[tactic(auto, using(lease_book::proofs::NumbersLemmas::pair_at, lease_book::proofs::GoodsLemmas::delivery_below), unfolding(storage_simulation::specs::Goods::makes))]
+#[tactic(auto, using(lease_rules::proofs::NumbersLemmas::pair_at, lease_rules::proofs::GoodsLemmas::delivery_below), unfolding(storage_simulation::specs::Goods::makes))]
 pub(crate) fn made_at(plan: &Plan, task: TaskId, k: usize) -> u32
     requires limits { IsWithinLimits plan.now }
     requires within { k < length (makes plan.now task.0) }

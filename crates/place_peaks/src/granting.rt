@@ -53,6 +53,7 @@ impl Peaks {
         ensures { IsGranted self.old self.new task }
     {
         unmark(&mut self.left, task);
+        self.first = self.next_front();
         match self.home(task) {
             None => {}
             Some(place) => {

@@ -7,11 +7,11 @@ ghost use Rattle.plan_core.specs.Words.{parents};
 ghost use Rattle.storage_simulation.specs.Following.{AreOnce};
 ghost use Rattle.run_record.specs.declared.entry.Cause.{Cause};
 ghost use Rattle.run_record.specs.Events.{Fail};
-ghost use Rattle.lease_book.specs.Legal.{Allowed};
-ghost use Rattle.lease_book.specs.State.{State, after};
+ghost use Rattle.lease_rules.specs.Legal.{Allowed};
+ghost use Rattle.lease_rules.specs.State.{State, after};
 ghost use Rattle.place_peaks.specs.declared.peaks.Peaks.{Peaks};
 ghost use Rattle.place_peaks.specs.Entries.{AreTied};
-ghost use Rattle.place_peaks.specs.Peaks.{AreBehind, AreSeated};
+ghost use Rattle.place_peaks.specs.Peaks.{AreBehind, AreSeated, HasPassed};
 ghost use Rattle.place_peaks.specs.Places.{ChangesOnePlace};
 
 use plan_core::{files_are_listed_by_pair, numbers_are_in_range, parents_come_before};
@@ -33,9 +33,10 @@ pub(crate) fn parents_stand_once()
     ensures { (p : Plan) → IsProper p → (t : ℕ) → AreOnce (parents p t) }
 {}
 
-/// Each seat of a task of the line is in its tree.
+/// Each seat of a task of the line is in its tree, and no task of the line before the front is left.
 pub fn peaks_are_seated()
-    ensures { (p : Plan) (s : State) (b : Peaks) (front : List ℕ) → AreBehind p s b front → AreSeated b }
+    ensures seated { (p : Plan) (s : State) (b : Peaks) (front : List ℕ) → AreBehind p s b front → AreSeated b }
+    ensures passed { (p : Plan) (s : State) (b : Peaks) → AreTied p s b → HasPassed b }
 {}
 
 /// A Fail changes nothing.

@@ -1,18 +1,20 @@
 //! What the places of a plan hold along its order, in one tree for each place, and the Choice found by these trees.
 //!
-//! To the layer above this is the state of a record (`lease_book`) once more: the order that is kept, a mark for each
+//! To the layer above this is the state of a record (`lease_rules`) once more: the order that is kept, a mark for each
 //! task that is left in it, and a stack of the tasks that wait again. A tree has a position for each task of the order
 //! that changes its place, with what the place holds after that task and all that are left before it
 //! (`specs/Values.antt`, `Places.antt`). `AreTied` of `specs/Entries.antt` ties all of it to a state; for each entry there
 //! is a call that keeps the tie, whether the task stands in the order or on the stack, and a Fail changes nothing.
 //! [`Peaks::choose`] answers the Choice of every state to which they are tied. A call costs some logarithms of the number
-//! of tasks for each good that it settles; `choose` walks along the order, and a fresh order is walked along for each
-//! place.
+//! of tasks for each good that it settles; `choose` walks along the order from a front that moves on, and a fresh order is
+//! walked along for each place.
 #![tactic(auto)]
 
+mod asking;
 mod choosing;
 mod cleaning;
 mod entries;
+mod front;
 mod goods;
 mod granting;
 mod law;

@@ -11,11 +11,11 @@ ghost use Rattle.storage_simulation.specs.Following.{AreOnce, Follows};
 ghost use Rattle.storage_simulation.specs.Goods.{IsWithinLimits, makes, place, places};
 ghost use Rattle.storage_simulation.specs.Law.{KeepsGoods};
 ghost use Rattle.storage_simulation.specs.Usage.{sum_of};
-ghost use Rattle.lease_book.specs.Law.{FitsFromStart};
-ghost use Rattle.lease_book.specs.State.{opened};
+ghost use Rattle.lease_rules.specs.Law.{FitsFromStart};
+ghost use Rattle.lease_rules.specs.State.{opened};
 ghost use Rattle.place_peaks.specs.Entries.{AreTied};
 ghost use Rattle.place_peaks.specs.Opening.{AreLevels, AreSeats};
-ghost use Rattle.place_peaks.specs.Peaks.{ArePeaks, line_of};
+ghost use Rattle.place_peaks.specs.Peaks.{ArePeaks, HasPassed, line_of};
 ghost use Rattle.place_peaks.specs.Places.{ChangesOnePlace};
 ghost use Rattle.place_peaks.specs.Waiting.{HasStackRoom};
 
@@ -55,7 +55,7 @@ fn homes_of(alloc: Global, plan: &Plan) -> Result<Vec<Option<u32>>, Memory>
 }
 
 /// How many parents a task has.
-#[tactic(auto, using(lease_book::proofs::NumbersLemmas::count_tasks_in))]
+#[tactic(auto, using(lease_rules::proofs::NumbersLemmas::count_tasks_in))]
 fn count_parents(plan: &Plan, task: u32) -> u32
     requires { length (parents plan.now task) < 2 ^ 32 }
     ensures { result ≡ length (parents plan.now task) }
@@ -248,6 +248,7 @@ impl Peaks {
         ensures widths { IfOk result (λ b. length b.widths.items ≡ places plan.now) }
         ensures stack { IfOk result (λ b. b.again.items ≡ []) }
         ensures room { IfOk result (λ b. HasStackRoom plan.now b) }
+        ensures passed { IfOk result (λ b. HasPassed b) }
     {
         sums_are_small();
         parents_come_before();
@@ -271,6 +272,7 @@ impl Peaks {
             widths,
             base: vec![in alloc; 0; places(plan)]?,
             trees,
+            first: 0,
         })
     }
 }

@@ -6,6 +6,7 @@ use values::TaskId;
 /// The order that is kept, and the tasks that wait again.
 /// By task: whether it is left in the order, its place, its seat among the tasks of its place, what it brings there, and
 /// how many parents haven't ended. By place: how many tasks of the line change it, what is held, and the tree of the line.
+/// No task of the line before the position `first` is left.
 #[derive(Debug, Drop)]
 pub struct Peaks {
     pub(crate) line: Vec<TaskId>,
@@ -18,4 +19,5 @@ pub struct Peaks {
     pub(crate) widths: Vec<usize>,
     pub(crate) base: Vec<u64>,
     pub(crate) trees: Vec<PeakTree>,
+    pub(crate) first: usize,
 }

@@ -3,8 +3,8 @@
 ghost use Rattle.std.specs.Prelude.{◌≡◌, ◌<◌, ◌≤◌, ◌+◌, ◌++◌, ◌∷◌, ◌^◌, ◌&&◌, ◌==◌, ℕ, [], true, false, cond, not, map, length, take, get_or, None, Some, vec_capacity};
 ghost use Rattle.std.specs.List.{list_any};
 ghost use Rattle.values.specs.declared.numbers.TaskId.{TaskId};
-ghost use Rattle.lease_book.specs.Legal.{Allowed};
-ghost use Rattle.lease_book.specs.State.{State, after, order_with};
+ghost use Rattle.lease_rules.specs.Legal.{Allowed};
+ghost use Rattle.lease_rules.specs.State.{State, after, order_with};
 ghost use Rattle.peak_tree.specs.Numbers.{filled};
 ghost use Rattle.plan_core.specs.Numbers.{below, has};
 ghost use Rattle.plan_core.specs.Proper.{IsProper};
@@ -320,6 +320,7 @@ impl Peaks {
         let home = self.home(task);
         let need = self.need(task);
         add_need(&mut self.base, home, need);
+        self.first = 0;
         mark_only(&mut self.left, tasks);
         overwrite(&mut self.line, tasks);
         add_others(&mut self.line, self.left.as_slice());

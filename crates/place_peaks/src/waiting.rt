@@ -41,6 +41,7 @@ impl Peaks {
         ensures room { vec_capacity self.new.again ≡ vec_capacity self.old.again }
     {
         unmark(&mut self.left, task);
+        self.first = self.next_front();
         push(&mut self.again, task);
         match self.home(task) {
             None => {}

@@ -4,7 +4,7 @@ use Rattle.std.proofs.Math.Logic.{∥∥₁_map}
 use Rattle.std.proofs.lemmas.List.{get_or_append_left, length-map, take-append-drop}
 use Rattle.plan_core.specs.declared.plan.Plan.{Plan}
 use Rattle.site_yard.specs.Failures.{RoseBy, tool_faults}
-use Rattle.lease_book.specs.Owning.{entries_by}
+use Rattle.lease_rules.specs.Owning.{entries_by}
 use Rattle.plan_run.specs.Moments.{MemberMoment, Tools, Work, asked_of, count_of, counting, first_count, gateless, shown_of}
 use Rattle.plan_run.specs.Running.{End, HasAsked, HasRun, Report}
 use Rattle.plan_run.proofs.MembersLemmas.{first_of_both, map_both}

@@ -9,7 +9,7 @@ use Rattle.outside.specs.declared.store.Store.{Store}
 use Rattle.plan_core.specs.declared.plan.Plan.{Plan}
 use Rattle.plan_core.specs.Carried.{Bytes, carried}
 use Rattle.plan_core.specs.Proper.{IsProper}
-use Rattle.lease_book.specs.Legal.{Legal}
+use Rattle.lease_rules.specs.Legal.{Legal}
 use Rattle.run_record.specs.Events.{Event}
 use Rattle.run_record.specs.declared.run_fault.RunFault.{RunFault}
 use Rattle.run_record.specs.declared.run_fault.RunFault.TheVariants as faults
@@ -17,7 +17,7 @@ use Rattle.site_yard.specs.Ending.{first_fault}
 use Rattle.site_yard.specs.Failures.{AreCounted, IsMore, RoseBy, host_faults, tool_faults}
 use Rattle.site_yard.specs.Faults.{AllBelow, AllCarried, HasToolFault, IsCountedFault}
 use Rattle.site_yard.specs.Law.{Agrees}
-use Rattle.site_yard.specs.Names.{site_name}
+use Rattle.plan_core.specs.Names.{site_name}
 use Rattle.site_yard.specs.Opening.{Refuses, fault_of_opening}
 use Rattle.site_yard.specs.Truthful.{Truthful}
 use Rattle.site_yard.specs.declared.opening.OpenFault.{OpenFault}

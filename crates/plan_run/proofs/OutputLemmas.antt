@@ -16,12 +16,12 @@ use Rattle.storage_simulation.specs.Goods.{count_sites, good_size, is_delivery, 
 use Rattle.storage_simulation.specs.Law.{KeepsGoods, output_usage}
 use Rattle.storage_simulation.specs.Usage.{total, usage}
 use Rattle.run_record.specs.Events.{Event, Grant, Arrive, End, Clean, Fail, Again, Regrant}
-use Rattle.lease_book.specs.Choice.{IsChoice}
-use Rattle.lease_book.specs.Law.{IsSafeState, IsSoundState, stored_at}
-use Rattle.lease_book.specs.Legal.{Allowed, Legal, LegalFrom, MayFail}
-use Rattle.lease_book.specs.State.{State, after, ended, now, now_from, opened, put, reserved_for, stored_among, stored_size}
-use Rattle.lease_book.proofs.SoundLemmas.{choice_in, fresh_among, is_waiting}
-use Rattle.lease_book.proofs.TotalLemmas.{total_at_most, total_change}
+use Rattle.lease_rules.specs.Choice.{IsChoice}
+use Rattle.lease_rules.specs.Law.{IsSafeState, IsSoundState, stored_at}
+use Rattle.lease_rules.specs.Legal.{Allowed, Legal, LegalFrom, MayFail}
+use Rattle.lease_rules.specs.State.{State, after, ended, now, now_from, opened, put, reserved_for, stored_among, stored_size}
+use Rattle.lease_rules.proofs.SoundLemmas.{choice_in, fresh_among, is_waiting}
+use Rattle.lease_rules.proofs.TotalLemmas.{total_at_most, total_change}
 use Rattle.site_yard.specs.Delivered.{Arrival, arrival_at, arrivals, arrivals_of, delivered_file}
 use Rattle.plan_run.specs.Running.{delivered_bytes, sum_of_sizes}
 

@@ -14,10 +14,10 @@ use Rattle.storage_simulation.specs.declared.standing.Phase.TheVariants.{Runs, W
 use Rattle.run_record.specs.Events.{Event}
 use Rattle.lease_book.specs.declared.book.Book.{Book}
 use Rattle.lease_book.specs.Book.{state_at}
-use Rattle.lease_book.specs.Law.{IsSafeState, reserved_at, stored_at}
-use Rattle.lease_book.specs.Legal.{IsComplete, Legal}
-use Rattle.lease_book.specs.Owning.{entries_by}
-use Rattle.lease_book.specs.State.{State, now, opened}
+use Rattle.lease_rules.specs.Law.{IsSafeState, reserved_at, stored_at}
+use Rattle.lease_rules.specs.Legal.{IsComplete, Legal}
+use Rattle.lease_rules.specs.Owning.{entries_by}
+use Rattle.lease_rules.specs.State.{State, now, opened}
 use Rattle.site_yard.specs.Changes.{carries}
 use Rattle.site_yard.specs.Delivered.{AreDigests, AreFiles, AreLengths, AreOfBytes, arrivals}
 use Rattle.site_yard.specs.Ending.{Ends}

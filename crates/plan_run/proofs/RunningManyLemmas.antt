@@ -8,8 +8,8 @@ use Rattle.outside.specs.declared.tool.Tool as tool
 use Rattle.outside.specs.declared.store.Store.{Store}
 use Rattle.plan_core.specs.declared.plan.Plan.{Plan}
 use Rattle.run_record.specs.Events.{Event}
-use Rattle.lease_book.specs.Owning.{entries_by}
-use Rattle.lease_book.specs.State.{now}
+use Rattle.lease_rules.specs.Owning.{entries_by}
+use Rattle.lease_rules.specs.State.{now}
 use Rattle.site_yard.specs.Failures.{RoseBy, tool_faults}
 use Rattle.site_yard.specs.Opening.{AreUnused}
 use Rattle.worker_gate.specs.Alone.{IsOver}

@@ -6,7 +6,7 @@ use Rattle.values.specs.Printed.{printed_name}
 use Rattle.plan_core.specs.declared.plan.Plan.{Plan}
 use Rattle.run_record.specs.Events.{Event}
 use Rattle.run_record.specs.RecordText.{record_text}
-use Rattle.site_yard.specs.Names.{file_name}
+use Rattle.plan_core.specs.Names.{file_name}
 use Rattle.site_yard.specs.declared.delivered.Delivered.{Delivered}
 
 -- the line of a delivered file: its name, its length and its digest

@@ -5,10 +5,10 @@ use Rattle.outside.specs.declared.store.Store.{Store}
 use Rattle.values.specs.Apply.{Apply}
 use Rattle.plan_core.specs.declared.plan.Plan.{Plan}
 use Rattle.plan_core.specs.Words.{output_bound}
-use Rattle.lease_book.specs.Law.{IsSafeState, reserved_at, stored_at}
-use Rattle.lease_book.specs.Legal.{IsComplete, Legal}
-use Rattle.lease_book.specs.Owning.{entries_by}
-use Rattle.lease_book.specs.State.{now}
+use Rattle.lease_rules.specs.Law.{IsSafeState, reserved_at, stored_at}
+use Rattle.lease_rules.specs.Legal.{IsComplete, Legal}
+use Rattle.lease_rules.specs.Owning.{entries_by}
+use Rattle.lease_rules.specs.State.{now}
 use Rattle.run_record.specs.Events.{Event, Log}
 use Rattle.run_record.specs.RecordText.{AreEntries}
 use Rattle.site_yard.specs.Changes.{carries}

@@ -1,7 +1,7 @@
 //! The text of a run.
 
 ghost use Rattle.std.specs.Prelude.{◌≡◌, ◌++◌, [], IfOk, OnOk, None, length, replicate};
-ghost use Rattle.site_yard.specs.Names.{file_name};
+ghost use Rattle.plan_core.specs.Names.{file_name};
 ghost use Rattle.plan_run.specs.RunText.{delivered_line, delivered_lines, line_if, lines_in, placed, run_text};
 
 use hex::encode;
@@ -12,7 +12,7 @@ use site_yard::Delivered;
 use std::alloc::Global;
 
 /// The name of a file.
-#[tactic(auto, unfolding(site_yard::specs::Names::file_name))]
+#[tactic(auto, unfolding(plan_core::specs::Names::file_name))]
 fn name_of(plan: &Plan, file: FileId) -> &str
     ensures { result.now ≡ file_name plan.now file.0 }
 {

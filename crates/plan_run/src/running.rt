@@ -3,7 +3,7 @@
 ghost use Rattle.std.specs.Prelude.{◌≡◌, ◌≤◌, ◌⊎◌, [], Err, IfOk, Some, take, true};
 ghost use Rattle.plan_core.specs.Words.{retries, task_numbers};
 ghost use Rattle.lease_book.specs.Book.{state_at};
-ghost use Rattle.lease_book.specs.Legal.{IsComplete};
+ghost use Rattle.lease_rules.specs.Legal.{IsComplete};
 ghost use Rattle.run_record.specs.declared.run_fault.RunFault.TheVariants as faults;
 ghost use Rattle.plan_run.specs.Moments.{work_moment, working};
 ghost use Rattle.plan_run.specs.Running.{EndsAs, HasRunAlone, IsEmptyReport, IsRefusal, IsReport, Reports, ended_by, marked_if, reporting};
@@ -12,7 +12,7 @@ use crate::law::deliveries_stay_within_the_output;
 use crate::record_copy::copy_of;
 use crate::run_text::print_run;
 use craft::{Crew, Gate};
-use lease_book::{legal_records_are_safe, ordered_plans_fit};
+use lease_rules::{legal_records_are_safe, ordered_plans_fit};
 use outside::{Host, Memory, Tool};
 use plan_core::Plan;
 use run_record::{Record, RunFault};

@@ -3,7 +3,7 @@
 ghost use Rattle.std.specs.Prelude.{◌≡◌, ◌<◌, ◌≤◌, ◌⊎◌, [], drop, false, length, take, true};
 ghost use Rattle.plan_core.specs.Words.{retries, task_numbers};
 ghost use Rattle.lease_book.specs.Book.{state_at};
-ghost use Rattle.lease_book.specs.Legal.{IsComplete};
+ghost use Rattle.lease_rules.specs.Legal.{IsComplete};
 ghost use Rattle.plan_run.specs.Moments.{counting, crew_moment, first_count, work_moment, working};
 ghost use Rattle.plan_run.specs.Running.{EndsAs, HasRun, Reports, marked_if, reporting};
 
@@ -11,7 +11,7 @@ use crate::law::deliveries_stay_within_the_output;
 use crate::members::{put_back, take_members};
 use crate::running::{Ran, end_run, out_of_memory, refuse_run};
 use craft::{Crew, Gate};
-use lease_book::{legal_records_are_safe, ordered_plans_fit};
+use lease_rules::{legal_records_are_safe, ordered_plans_fit};
 use outside::{Host, Memory, Tool};
 use site_yard::{Yard, what_is_left_is_held};
 use std::alloc::Global;

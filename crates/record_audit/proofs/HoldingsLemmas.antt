@@ -12,9 +12,9 @@ use Rattle.storage_simulation.specs.declared.standing.Held.TheVariants.{Nothing,
 use Rattle.storage_simulation.specs.Goods.{IsWithinLimits, count_sites, goods, is_delivery, lies_at, makes}
 use Rattle.storage_simulation.specs.Standings.{at_in, held_size}
 use Rattle.storage_simulation.proofs.FollowingLemmas.{is_itself}
-use Rattle.lease_book.specs.State.{State, put, reserved_size, stored_among, stored_size}
+use Rattle.lease_rules.specs.State.{State, put, reserved_size, stored_among, stored_size}
 use Rattle.lease_book.proofs.ArrayLemmas.{has_at}
-use Rattle.lease_book.proofs.TotalLemmas.{total_add, total_bound, total_change, total_same}
+use Rattle.lease_rules.proofs.TotalLemmas.{total_add, total_bound, total_change, total_same}
 use Rattle.record_audit.specs.Holdings.{AddsUp, AreSizes, is_this, load, size_among}
 use Rattle.record_audit.specs.Sums.{held_at}
 use Rattle.record_audit.specs.declared.holdings.Holdings.{Holdings}

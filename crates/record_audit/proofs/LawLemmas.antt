@@ -14,10 +14,10 @@ use Rattle.plan_core.specs.Proper.{IsProper}
 use Rattle.plan_core.specs.Words.{count_pairs, count_tasks, is_pair, is_run, is_run_kind, is_transfer, is_transfer_kind, kind, pair_at, retries, task_numbers, writes}
 use Rattle.storage_simulation.specs.Goods.{IsWithinLimits, is_delivery, is_delivery_kind, makes}
 use Rattle.run_record.specs.Events.{Event, Again, Arrive, Clean as Sweep, End, Fail, Grant, Regrant}
-use Rattle.lease_book.specs.Law.{FitsFromStart, IsConsistent, IsSoundState}
-use Rattle.lease_book.specs.Legal.{Allowed, AreDeclared, IsComplete, Legal, LegalFrom}
-use Rattle.lease_book.specs.Room.{entries_room}
-use Rattle.lease_book.specs.State.{State, after, now, now_from, opened}
+use Rattle.lease_rules.specs.Law.{FitsFromStart, IsConsistent, IsSoundState}
+use Rattle.lease_rules.specs.Legal.{Allowed, AreDeclared, IsComplete, Legal, LegalFrom}
+use Rattle.lease_rules.specs.Room.{entries_room}
+use Rattle.lease_rules.specs.State.{State, after, now, now_from, opened}
 use Rattle.std.specs.Prelude.{Vec}
 use Rattle.std.specs.declared.alloc.Global.{Global}
 use Rattle.values.specs.declared.numbers.TaskId.{TaskId}
@@ -26,8 +26,8 @@ use Rattle.lease_book.specs.declared.book.Book.{Book}
 use Rattle.record_audit.specs.Verdict.{IsIllegalAt, IsJudged}
 use Rattle.record_audit.specs.declared.verdict.Verdict.{Verdict}
 use Rattle.record_audit.specs.declared.verdict.Verdict.TheVariants as verdict
-use Rattle.lease_book.proofs.GoodsLemmas.{good_small}
-use Rattle.lease_book.proofs.TotalLemmas.{total_bound}
+use Rattle.lease_rules.proofs.GoodsLemmas.{good_small}
+use Rattle.lease_rules.proofs.TotalLemmas.{total_bound}
 use Rattle.record_audit.specs.Holdings.{IsSized}
 use Rattle.record_audit.specs.Sums.{arrived}
 use Rattle.record_audit.proofs.HoldingsLemmas.{makes_writes}

@@ -6,11 +6,11 @@ use Rattle.plan_core.specs.declared.plan.Plan.{Plan}
 use Rattle.storage_simulation.specs.Goods.{goods, lies_at}
 use Rattle.storage_simulation.specs.Standings.{at_in}
 use Rattle.run_record.specs.Events.{Event}
-use Rattle.lease_book.specs.State.{State, held_after, now, opened}
+use Rattle.lease_rules.specs.State.{State, held_after, now, opened}
 use Rattle.std.proofs.lemmas.List.Sums.{count_by-le-length, sum_by-append}
 use Rattle.storage_simulation.specs.declared.standing.Held.{Held}
 use Rattle.storage_simulation.specs.Usage.{total}
-use Rattle.lease_book.proofs.TotalLemmas.{total_bound}
+use Rattle.lease_rules.proofs.TotalLemmas.{total_bound}
 use Rattle.record_audit.specs.Holdings.{AddsUp, AreSizes, Shows}
 use Rattle.record_audit.specs.declared.holdings.Holdings.{Holdings}
 use Rattle.record_audit.proofs.HoldingsLemmas.{held_is_load}

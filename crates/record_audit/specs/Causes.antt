@@ -3,7 +3,7 @@ use Rattle.std.specs.Prelude.{ℕ, ◌&&◌, Bool}
 use Rattle.plan_core.specs.declared.plan.Plan.{Plan}
 use Rattle.plan_core.specs.Numbers.{has}
 use Rattle.plan_core.specs.Words.{kind, outputs}
-use Rattle.lease_book.specs.Legal.{has_job, is_too_long}
+use Rattle.lease_rules.specs.Legal.{has_job, is_too_long}
 
 -- a job of the task makes the file, and so many bytes are too long for it
 abbrev pub is_oversize : Plan → ℕ → ℕ → ℕ → ℕ → Bool

@@ -7,7 +7,7 @@ ghost use Rattle.values.specs.declared.numbers.JobId.{JobId};
 ghost use Rattle.plan_core.specs.Numbers.{has};
 ghost use Rattle.plan_core.specs.Words.{file_numbers, job_numbers, kind, outputs};
 ghost use Rattle.run_record.specs.Events.{may_publish};
-ghost use Rattle.lease_book.specs.Legal.{CauseFits, checksum, differs_from, has_job, is_from_pfn, is_too_long, is_too_long_for, is_wrong_for};
+ghost use Rattle.lease_rules.specs.Legal.{CauseFits, checksum, differs_from, has_job, is_from_pfn, is_too_long, is_too_long_for, is_wrong_for};
 ghost use Rattle.record_audit.specs.Causes.{is_oversize};
 
 use lease_book::Book;
@@ -49,7 +49,7 @@ fn is_too_long_for(plan: &Plan, task: TaskId, length: u64) -> bool
 }
 
 /// The checksum that is registered for a file.
-#[tactic(auto, unfolding(lease_book::specs::Legal::checksum))]
+#[tactic(auto, unfolding(lease_rules::specs::Legal::checksum))]
 fn checksum(plan: &Plan, file: FileId) -> Option<[u8; 32]>
     ensures { result ≡ checksum plan.now file.0 }
 {

@@ -3,13 +3,13 @@
 ghost use Rattle.std.specs.Prelude.{◌≡◌, ◌≤◌, ◌<◌, ℕ, IfOk, get_or, length, max};
 ghost use Rattle.plan_core.specs.Words.{retries, task_numbers};
 ghost use Rattle.storage_simulation.specs.Standings.{at_in};
-ghost use Rattle.lease_book.specs.Legal.{Legal};
+ghost use Rattle.lease_rules.specs.Legal.{Legal};
 ghost use Rattle.record_audit.specs.Sums.{AreSums};
 
 use crate::holdings::Holdings;
 use crate::law::{allowed_entries_are_sized, legal_records_are_short};
 use crate::sums::Statistics;
-use lease_book::ordered_plans_fit;
+use lease_rules::ordered_plans_fit;
 use run_record::Record;
 use std::alloc::Global;
 use storage_simulation::Ordered;

@@ -8,7 +8,7 @@ ghost use Rattle.storage_simulation.specs.declared.standing.Held.{Held};
 ghost use Rattle.storage_simulation.specs.Goods.{IsWithinLimits, count_sites, good_size, lies_at};
 ghost use Rattle.storage_simulation.specs.Standings.{at_in};
 ghost use Rattle.run_record.specs.Events.{Arrive, Clean, End, Event, Grant, event};
-ghost use Rattle.lease_book.specs.State.{held_after, put};
+ghost use Rattle.lease_rules.specs.State.{held_after, put};
 ghost use Rattle.record_audit.specs.Holdings.{AddsUp, IsSized, Shows, is_this, size_among};
 
 use plan_core::{Plan, files_are_listed_by_pair};
@@ -72,7 +72,7 @@ fn site_of(plan: &Plan, pair: u32) -> Option<u32>
 }
 
 /// How many files a task writes.
-#[tactic(auto, using(lease_book::proofs::NumbersLemmas::count_pairs_in))]
+#[tactic(auto, using(lease_rules::proofs::NumbersLemmas::count_pairs_in))]
 fn count_written(plan: &Plan, task: TaskId) -> usize
     ensures { result ≡ length (writes plan.now task.0) }
 {
@@ -80,7 +80,7 @@ fn count_written(plan: &Plan, task: TaskId) -> usize
 }
 
 /// One of the pairs that a task writes.
-#[tactic(auto, using(lease_book::proofs::NumbersLemmas::pair_at, lease_book::proofs::NumbersLemmas::count_pairs_in))]
+#[tactic(auto, using(lease_rules::proofs::NumbersLemmas::pair_at, lease_rules::proofs::NumbersLemmas::count_pairs_in))]
 fn written_at(plan: &Plan, task: TaskId, k: usize) -> u32
     requires { k < length (writes plan.now task.0) }
     ensures { result ≡ get_or (writes plan.now task.0) k 0 }

@@ -6,19 +6,19 @@ ghost use Rattle.plan_core.specs.Proper.{IsProper};
 ghost use Rattle.plan_core.specs.Words.{retries};
 ghost use Rattle.storage_simulation.specs.Goods.{IsWithinLimits};
 ghost use Rattle.run_record.specs.Events.{Event};
-ghost use Rattle.lease_book.specs.Law.{FitsFromStart, IsConsistent};
-ghost use Rattle.lease_book.specs.Legal.{Allowed, Legal};
-ghost use Rattle.lease_book.specs.State.{State, now};
+ghost use Rattle.lease_rules.specs.Law.{FitsFromStart, IsConsistent};
+ghost use Rattle.lease_rules.specs.Legal.{Allowed, Legal};
+ghost use Rattle.lease_rules.specs.State.{State, now};
 ghost use Rattle.record_audit.specs.Holdings.{IsSized};
 ghost use Rattle.record_audit.specs.Sums.{arrived};
 ghost use Rattle.run_record.specs.RecordText.{AreEntries, record_text};
-ghost use Rattle.lease_book.specs.Legal.{IsComplete};
+ghost use Rattle.lease_rules.specs.Legal.{IsComplete};
 ghost use Rattle.record_audit.specs.Part.{record_part};
 ghost use Rattle.record_audit.specs.Verdict.{IsJudged};
 ghost use Rattle.record_audit.specs.declared.verdict.Verdict.{Verdict};
 ghost use Rattle.record_audit.specs.declared.verdict.Verdict.TheVariants as verdicts;
 
-use lease_book::{allowed_entries_keep_safe, entries_are_few};
+use lease_rules::{allowed_entries_keep_safe, entries_are_few};
 use plan_core::files_are_listed_by_pair;
 
 /// The state after a Legal record is consistent.

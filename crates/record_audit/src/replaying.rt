@@ -5,13 +5,14 @@ ghost use Rattle.plan_core.specs.Proper.{IsProper};
 ghost use Rattle.plan_core.specs.Words.{task_numbers};
 ghost use Rattle.run_record.specs.Events.{Event, Arrive, Clean, End, event, is_second};
 ghost use Rattle.lease_book.specs.Book.{state_at};
-ghost use Rattle.lease_book.specs.Law.{FitsFromStart};
-ghost use Rattle.lease_book.specs.Legal.{Allowed};
+ghost use Rattle.lease_rules.specs.Law.{FitsFromStart};
+ghost use Rattle.lease_rules.specs.Legal.{Allowed};
 ghost use Rattle.record_audit.specs.Replaying.{EndsSo, Grew, failing, granting};
 
 use crate::causes::cause_fits;
 use crate::law::legal_records_are_consistent;
-use lease_book::{Book, Next, choice_is_one};
+use lease_book::{Book, Next};
+use lease_rules::choice_is_one;
 use plan_core::Plan;
 use run_record::{Cause, Entry, Record};
 use values::TaskId;

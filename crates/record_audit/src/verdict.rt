@@ -4,13 +4,14 @@ ghost use Rattle.std.specs.Prelude.{◌≡◌, ◌≤◌, IfOk, Decides};
 ghost use Rattle.plan_core.specs.Proper.{IsProper};
 ghost use Rattle.plan_core.specs.Words.{retries, task_numbers};
 ghost use Rattle.lease_book.specs.Book.{state_at};
-ghost use Rattle.lease_book.specs.Law.{FitsFromStart};
-ghost use Rattle.lease_book.specs.Legal.{IsComplete};
+ghost use Rattle.lease_rules.specs.Law.{FitsFromStart};
+ghost use Rattle.lease_rules.specs.Legal.{IsComplete};
 ghost use Rattle.record_audit.specs.Verdict.{IsJudged};
 
 use crate::law::legal_records_are_consistent;
 use crate::replaying::replay;
-use lease_book::{Book, Next, ordered_plans_fit};
+use lease_book::{Book, Next};
+use lease_rules::ordered_plans_fit;
 use run_record::Record;
 use std::alloc::Global;
 use storage_simulation::Ordered;

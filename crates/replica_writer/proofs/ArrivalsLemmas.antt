@@ -14,9 +14,9 @@ use Rattle.plan_core.specs.Proper.{is_kind_in_range, is_source_below, is_target_
 use Rattle.plan_core.specs.Words.{delivers, kind, kind_delivers}
 use Rattle.plan_core.proofs.TestLemmas.{both, either, is_itself, or_left, or_right, same_number}
 use Rattle.run_record.specs.Events.{Event, Arrive}
-use Rattle.lease_book.specs.Legal.{Allowed, Legal, LegalFrom}
-use Rattle.lease_book.specs.Reading.{IsRead, ends}
-use Rattle.lease_book.specs.State.{State, after, ended, now, now_from, opened}
+use Rattle.lease_rules.specs.Legal.{Allowed, Legal, LegalFrom}
+use Rattle.lease_rules.specs.Reading.{IsRead, ends}
+use Rattle.lease_rules.specs.State.{State, after, ended, now, now_from, opened}
 use Rattle.site_yard.specs.Delivered.{Arrival, arrival_at, arrivals, arrivals_of, delivered_file}
 use Rattle.site_yard.specs.Places.{delivers_file, is_delivered}
 

@@ -18,7 +18,7 @@ use Rattle.replica_catalog.specs.declared.catalog.Replica.{Replica}
 use Rattle.replica_catalog.specs.Lookup.{has_pfn, is_of, is_registered, pfns_in}
 use Rattle.replica_catalog.specs.Reader.{CatalogEntry}
 use Rattle.data_reuse.specs.Absent.{absent_in}
-use Rattle.site_yard.specs.Names.{file_name}
+use Rattle.plan_core.specs.Names.{file_name}
 use Rattle.site_yard.specs.declared.delivered.Delivered.{Delivered}
 use Rattle.replica_writer.specs.Document.{replica}
 use Rattle.replica_writer.specs.Law.{FlaggedAreHeld, KeepsNothing, ReadsBack, ReadsEnough, RegisterRequested, SaysEnough, has_file, is_flagged_as}

@@ -11,7 +11,7 @@ use Rattle.plan_core.specs.declared.plan.Plan.{Plan}
 use Rattle.plan_core.specs.declared.plan.PlanFile.{PlanFile}
 use Rattle.serde_json.specs.View.{view}
 use Rattle.serde_json.specs.declared.value.Value.{Value}
-use Rattle.site_yard.specs.Names.{file_name, lfn_in}
+use Rattle.plan_core.specs.Names.{file_name, lfn_in}
 use Rattle.serde_json.specs.Data.{Data}
 use Rattle.replica_writer.specs.Document.{Registration, entry_tree}
 use Rattle.replica_writer.specs.Writer.{AreDigests, IsDigest, delivered_name, flag_in, has_flag, registration, registrations}

@@ -14,10 +14,10 @@ use Rattle.data_reuse.specs.Kept.{IsKept}
 use Rattle.plan_core.specs.declared.plan.Plan.{Plan}
 use Rattle.plan_core.specs.Proper.{IsProper}
 use Rattle.run_record.specs.Events.{Event}
-use Rattle.lease_book.specs.Law.{FitsFromStart}
-use Rattle.lease_book.specs.Legal.{Legal}
+use Rattle.lease_rules.specs.Law.{FitsFromStart}
+use Rattle.lease_rules.specs.Legal.{Legal}
 use Rattle.site_yard.specs.Delivered.{AreFiles, arrivals}
-use Rattle.site_yard.specs.Names.{file_name}
+use Rattle.plan_core.specs.Names.{file_name}
 use Rattle.site_yard.specs.Places.{is_delivered}
 use Rattle.site_yard.specs.declared.delivered.Delivered.{Delivered}
 use Rattle.replica_writer.specs.Writer.{AreApart, AreDigests, AreInRange, AreNamed, catalogue_says, delivered_name, has_flag, is_flagged}

@@ -9,7 +9,7 @@ ghost use Rattle.site_yard.specs.declared.delivered.Delivered.{Delivered};
 ghost use Rattle.replica_writer.specs.Writer.{catalogue_line, catalogue_text};
 ghost use Rattle.replica_writer.specs.Law.{FlaggedAreHeld, KeepsNothing, ReadsBack, ReadsEnough, RegisterRequested, RunsCanBeWritten, SaysEnough};
 
-use lease_book::records_read;
+use lease_rules::records_read;
 use plan_core::numbers_are_in_range;
 
 /// The bytes of a catalogue, with a line feed behind them or without, are read as exactly the delivered files that

@@ -4,8 +4,8 @@ use Rattle.plan_core.specs.declared.plan.Plan.{Plan}
 use Rattle.storage_simulation.specs.declared.standing.Phase.{Phase}
 use Rattle.storage_simulation.specs.declared.standing.Phase.TheVariants.{Ended}
 use Rattle.run_record.specs.Events.{Event, Grant, Arrive, End, Clean, Fail, Again, Regrant}
-use Rattle.lease_book.specs.Legal.{IsOpen, Legal, LegalFrom}
-use Rattle.lease_book.specs.State.{State, after, held_after, opened, put}
+use Rattle.lease_rules.specs.Legal.{IsOpen, Legal, LegalFrom}
+use Rattle.lease_rules.specs.State.{State, after, held_after, opened, put}
 use Rattle.resume_run.specs.Replaying.{without_fails}
 
 off_on : (b : Bool) → b ≡ false → b ≡ true → ⊥

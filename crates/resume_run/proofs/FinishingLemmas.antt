@@ -9,8 +9,8 @@ use Rattle.plan_core.specs.declared.plan.Plan.{Plan}
 use Rattle.plan_core.specs.Carried.{Bytes, carried}
 use Rattle.plan_core.specs.Proper.{IsProper}
 use Rattle.storage_simulation.specs.declared.standing.Held.{Held}
-use Rattle.lease_book.specs.Legal.{Legal}
-use Rattle.lease_book.specs.State.{opened}
+use Rattle.lease_rules.specs.Legal.{Legal}
+use Rattle.lease_rules.specs.State.{opened}
 use Rattle.run_record.specs.Events.{Event}
 use Rattle.run_record.specs.declared.run_fault.RunFault.{RunFault}
 use Rattle.run_record.specs.declared.run_fault.RunFault.TheVariants as faults

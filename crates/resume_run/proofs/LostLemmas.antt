@@ -6,8 +6,8 @@ use Rattle.plan_core.proofs.TestLemmas.{by_bool}
 use Rattle.storage_simulation.specs.declared.standing.Phase.{Phase}
 use Rattle.storage_simulation.specs.declared.standing.Phase.TheVariants.{Ended, Runs, Waits}
 use Rattle.run_record.specs.Events.{Event, Grant, Arrive, End, Clean, Fail, Again, Regrant}
-use Rattle.lease_book.specs.Legal.{IsOpen, LegalFrom}
-use Rattle.lease_book.specs.State.{State, after, now_from, put, runs}
+use Rattle.lease_rules.specs.Legal.{IsOpen, LegalFrom}
+use Rattle.lease_rules.specs.State.{State, after, now_from, put, runs}
 use Rattle.resume_run.specs.declared.lost.Lost.{Lost}
 use Rattle.resume_run.specs.Lost.{HaveFewWorkers, lost_below, lost_of, owner}
 

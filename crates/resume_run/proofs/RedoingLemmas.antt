@@ -15,9 +15,9 @@ use Rattle.storage_simulation.specs.declared.standing.Phase.TheVariants.{Ended, 
 use Rattle.run_record.specs.Events.{Event, Grant, Arrive, End, Clean, Fail, Again, Regrant}
 use Rattle.lease_book.specs.declared.book.Book.{Book}
 use Rattle.lease_book.specs.Book.{state_at}
-use Rattle.lease_book.specs.Legal.{IsOpen}
-use Rattle.lease_book.specs.Reading.{is_fail}
-use Rattle.lease_book.specs.State.{State, after, now, opened, put, runs}
+use Rattle.lease_rules.specs.Legal.{IsOpen}
+use Rattle.lease_rules.specs.Reading.{is_fail}
+use Rattle.lease_rules.specs.State.{State, after, now, opened, put, runs}
 use Rattle.record_audit.proofs.LawLemmas.{now_more}
 use Rattle.worker_gate.specs.Alone.{NoneOpen}
 use Rattle.worker_gate.specs.Tending.{IsDone}

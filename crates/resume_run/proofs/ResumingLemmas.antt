@@ -18,8 +18,8 @@ use Rattle.run_record.specs.declared.run_fault.RunFault.{RunFault}
 use Rattle.run_record.specs.declared.run_fault.RunFault.TheVariants as faults
 use Rattle.lease_book.specs.declared.book.Book.{Book}
 use Rattle.lease_book.specs.Book.{state_at}
-use Rattle.lease_book.specs.Legal.{IsComplete, Legal}
-use Rattle.lease_book.specs.State.{State, now}
+use Rattle.lease_rules.specs.Legal.{IsComplete, Legal}
+use Rattle.lease_rules.specs.State.{State, now}
 use Rattle.site_yard.specs.Changes.{carries}
 use Rattle.site_yard.specs.Delivered.{AreDigests, AreFiles, AreLengths, AreOfBytes, arrivals}
 use Rattle.site_yard.specs.Ending.{Ends, failed_in, first_failed, first_fault, fault_of}
@@ -45,6 +45,7 @@ use Rattle.plan_run.specs.RunText.{run_text}
 use Rattle.plan_run.proofs.RunningLemmas.{HasLaws}
 use Rattle.resume_run.specs.Replaying.{HasFollowed, without_fails}
 use Rattle.resume_run.specs.Resuming.{AreDeliveriesSince, End, EndsAs, HasGoneOn, IsRefusal, IsReopened, IsResumedText, IsResumption, IsShownSince, Reports, ShowsFailures, TakesCalls, Tells, WasRefused, held_after}
+use Rattle.resume_run.specs.Working.{IsInOrder}
 use Rattle.resume_run.specs.declared.resuming.ResumeFault.TheVariants.{Failed as FailedBy, Illegal}
 
 -- ---- lists
@@ -162,6 +163,7 @@ pub record IsYardEnd (w : Work) (t : Tools) (p : Plan) (order : List ℕ) (first
   pub misses_are : misses ≡ w.before.counts.misses
   pub reopened : IsReopened w p (held_after p order first)
   pub below : AllBelow 16 r
+  pub in_order : IsInOrder p order first r
   pub over : IsOver p (now p order (first ++ r))
   pub inputs : AreOfInputs w.apply p r
   pub tools : (k : ℕ) → k < 16 → RoseBy (tool_faults k r) (count_of t.before k) (count_of t.after k)
@@ -175,6 +177,7 @@ went_on w t p order first r told marked faults misses text a end laws legal agre
   run = record {
     legal = legal;
     below = end.below;
+    in_order = end.in_order;
     over = inr end.over;
     safe = laws.safe;
     left = laws.left;
@@ -248,6 +251,7 @@ not_begun w t p order first text a laws legal agrees told tools refused tells re
       run = record {
         legal = legal_none p order first legal;
         below = tt;
+        in_order = record { redone = []; later = []; parts = refl; done = tt; by_zero = tt; first = tt };
         over = inl refl;
         safe = after.safe;
         left = after.left;

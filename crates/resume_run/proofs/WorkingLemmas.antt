@@ -1,20 +1,24 @@
 -- The work after the open tasks are done: by the first worker alone, or none where a Fail stands.
-use Rattle.std.proofs.Common.{◌≡◌, ◌⊎◌, ℕ, zero, suc, ◌+◌, ◌-◌, ◌^◌, ◌<◌, ◌≤◌, Bool, true, false, cond, eqb, get_or, List, [], ◌∷◌, ◌++◌, length, map, refl, sym, ap, subst, ◌∙◌, inl, inr, arith, append_assoc}
+use Rattle.std.proofs.Common.{◌≡◌, ◌⊎◌, ℕ, zero, suc, ◌+◌, ◌-◌, ◌^◌, ◌<◌, ◌≤◌, Bool, true, false, cond, eqb, get_or, List, [], ◌∷◌, ◌++◌, length, map, refl, sym, ap, subst, ◌∙◌, inl, inr, arith, append_assoc, drop}
 use Rattle.std.specs.Prelude.{slice_set}
+use Rattle.std.proofs.Math.Seq.{drop-append_seam}
+use Rattle.std.proofs.lemmas.List.{append-nil}
 use Rattle.plan_core.specs.declared.plan.Plan.{Plan}
-use Rattle.plan_core.specs.Words.{task_numbers}
+use Rattle.plan_core.specs.Words.{count_tasks, task_numbers}
 use Rattle.plan_core.proofs.TestLemmas.{by_bool}
 use Rattle.values.specs.declared.numbers.TaskId.{TaskId}
 use Rattle.run_record.specs.Events.{Event, Grant, Arrive, End, Clean, Fail, Again, Regrant}
 use Rattle.lease_book.specs.declared.book.Book.{Book}
 use Rattle.lease_book.specs.Book.{state_at}
-use Rattle.lease_book.specs.Owning.{worker}
-use Rattle.lease_book.specs.State.{State, now}
+use Rattle.lease_rules.specs.Owning.{worker}
+use Rattle.lease_rules.specs.State.{State, now}
 use Rattle.site_yard.specs.Failures.{RoseBy, tool_fault_in, tool_faults, tool_faults_of}
-use Rattle.worker_gate.specs.Alone.{AllBy, IsOver, NoneOpen, WorksAlone}
+use Rattle.worker_gate.specs.Alone.{AllBy, IsOver, NoneOpen, TakeFirst, WorksAlone}
 use Rattle.plan_run.specs.Moments.{MemberMoment, count_of}
-use Rattle.resume_run.specs.Redoing.{AddsFaults, HasRisen}
-use Rattle.resume_run.specs.Working.{WorksOn}
+use Rattle.resume_run.specs.declared.lost.Lost.{Lost}
+use Rattle.resume_run.specs.Lost.{lost_below}
+use Rattle.resume_run.specs.Redoing.{AddsFaults, AreDone, HasRisen, Redoes}
+use Rattle.resume_run.specs.Working.{IsInOrder, WorksOn}
 use Rattle.resume_run.proofs.FaultsLemmas.{count_here, count_other, count_set, risen_both, stays, turned}
 
 -- an entry of worker 0 counts for no other one's tool
@@ -47,11 +51,29 @@ first_counts shown crew old new r l is by le rose k = by_bool (eqb 0 k)
     (subst (λ b. ((shown old).faults ≤ b) × RoseBy (tool_faults 0 r) (shown old).faults b) (sym (count_set shown crew 0 new l)) (le, rose))))
     (λ off. stays shown (tool_faults k r) (count_of (map shown crew) k) (count_of (map shown (slice_set crew 0 new)) k) (alone_faults k r by off) (count_other shown crew 0 k new off))
 
+-- what two calls say was added to one record is the same
+same_added : (r after a b : List Event) → after ≡ r ++ a → after ≡ r ++ b → a ≡ b
+same_added r after a b h k = sym (drop-append_seam r a) ∙ ap (drop (length r)) (sym h ∙ k) ∙ drop-append_seam r b
+
+-- the entries of the lost tasks
+redone_so : (p : Plan) (order : List ℕ) (r mid : List Event) (before m : List MemberMoment) (lost : List Lost) (faults : AddsFaults r mid before m) → Redoes p order r mid lost → lost ≡ lost_below (now p order r) (count_tasks p)
+    → AreDone (lost_below (now p order r) (count_tasks p)) faults.added
+redone_so p order r mid before m lost faults redoes is =
+    subst (λ (ls : List Lost). AreDone ls faults.added) is (subst (AreDone lost) (same_added r mid redoes.added faults.added redoes.is faults.is) redoes.done)
+
 -- what was added before, and then by worker 0 alone
-pub works_then : (p : Plan) (order : List ℕ) (r mid after : List Event) (before m later : List MemberMoment) (x y : ℕ) → AddsFaults r mid before m → (alone : WorksAlone p order mid after x y) → ((k : ℕ) → HasRisen k (tool_faults k alone.added) m later) → WorksOn p order r after before later
-works_then p order r mid after before m later x y faults alone risen = record {
+pub works_then : (p : Plan) (order : List ℕ) (r mid after : List Event) (before m later : List MemberMoment) (x y : ℕ) (lost : List Lost) → AddsFaults r mid before m → Redoes p order r mid lost → lost ≡ lost_below (now p order r) (count_tasks p) → (alone : WorksAlone p order mid after x y) → ((k : ℕ) → HasRisen k (tool_faults k alone.added) m later) → WorksOn p order r after before later
+works_then p order r mid after before m later x y lost faults redoes all alone risen = record {
   added = faults.added ++ alone.added;
   is = alone.is ∙ ap (λ l. l ++ alone.added) faults.is ∙ append_assoc r faults.added alone.added;
+  in_order = record {
+    redone = faults.added;
+    later = alone.added;
+    parts = refl;
+    done = redone_so p order r mid before m lost faults redoes all;
+    by_zero = alone.by_zero;
+    first = subst (λ (l : List Event). TakeFirst p (now p order l) alone.added) faults.is alone.first;
+  };
   over = alone.over;
   tools = λ k l.
       let both = risen_both (tool_faults k faults.added) (tool_faults k alone.added) (count_of before k) (count_of m k) (count_of later k) (faults.counted k) (risen k) in
@@ -59,12 +81,29 @@ works_then p order r mid after before m later x y faults alone risen = record {
 }
 
 -- a Fail stands, and nothing more is done
-pub works_stopped : (p : Plan) (order : List ℕ) (r after : List Event) (before later : List MemberMoment) → AddsFaults r after before later → (now p order after).failing ≡ true → WorksOn p order r after before later
-works_stopped p order r after before later faults failing = record { added = faults.added; is = faults.is; over = inr failing; tools = λ k l. (faults.counted k).1 }
+pub works_stopped : (p : Plan) (order : List ℕ) (r after : List Event) (before later : List MemberMoment) (lost : List Lost) → AddsFaults r after before later → Redoes p order r after lost → lost ≡ lost_below (now p order r) (count_tasks p) → (now p order after).failing ≡ true → WorksOn p order r after before later
+works_stopped p order r after before later lost faults redoes all failing = record {
+  added = faults.added;
+  is = faults.is;
+  in_order = record {
+    redone = faults.added;
+    later = [];
+    parts = sym (append-nil faults.added);
+    done = redone_so p order r after before later lost faults redoes all;
+    by_zero = tt;
+    first = tt;
+  };
+  over = inr failing;
+  tools = λ k l. (faults.counted k).1;
+}
 
 -- the state that a book shows
 state_is : (b : Book) (p : Plan) (ts : List TaskId) → b.plan ≡ p → b.order.items ≡ ts → state_at b ≡ now p (task_numbers ts) b.history.events
 state_is b p ts plan order = ap (λ (q : Plan). now q (task_numbers b.order.items) b.history.events) plan ∙ ap (λ (xs : List TaskId). now p (task_numbers xs) b.history.events) order
+
+-- and the tasks that are open in it
+pub lost_in : (b : Book) (p : Plan) (ts : List TaskId) (lost : List Lost) → b.plan ≡ p → b.order.items ≡ ts → lost ≡ lost_below (state_at b) (count_tasks p) → lost ≡ lost_below (now p (task_numbers ts) b.history.events) (count_tasks p)
+lost_in b p ts lost plan order all = all ∙ ap (λ (s : State). lost_below s (count_tasks p)) (state_is b p ts plan order)
 
 pub failing_in : (b : Book) (p : Plan) (ts : List TaskId) → b.plan ≡ p → b.order.items ≡ ts → (state_at b).failing ≡ true → (now p (task_numbers ts) b.history.events).failing ≡ true
 failing_in b p ts plan order h = sym (ap (λ (s : State). s.failing) (state_is b p ts plan order)) ∙ h

@@ -4,7 +4,7 @@ use Rattle.outside.specs.declared.store.Store.{Store}
 use Rattle.plan_core.specs.declared.plan.Plan.{Plan}
 use Rattle.run_record.specs.Events.{Event}
 use Rattle.run_record.specs.declared.run_fault.RunFault.TheVariants as faults
-use Rattle.lease_book.specs.Legal.{Legal}
+use Rattle.lease_rules.specs.Legal.{Legal}
 use Rattle.site_yard.specs.Faults.{AllCarried}
 use Rattle.site_yard.specs.Kept.{IsOpening}
 use Rattle.site_yard.specs.Reopening.{AreRecorded}

@@ -2,8 +2,8 @@
 use Rattle.std.specs.Prelude.{◌≡◌, ◌⊎◌, ℕ, ◌≤◌, Bool, true, false, List, [], ◌∷◌, ◌++◌, length}
 use Rattle.plan_core.specs.declared.plan.Plan.{Plan}
 use Rattle.run_record.specs.Events.{Event}
-use Rattle.lease_book.specs.Reading.{is_fail}
-use Rattle.lease_book.specs.State.{now}
+use Rattle.lease_rules.specs.Reading.{is_fail}
+use Rattle.lease_rules.specs.State.{now}
 use Rattle.site_yard.specs.Failures.{RoseBy, tool_faults, tool_faults_of}
 use Rattle.worker_gate.specs.Alone.{NoneOpen}
 use Rattle.worker_gate.specs.Tending.{IsDone}

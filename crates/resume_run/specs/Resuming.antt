@@ -5,9 +5,9 @@ use Rattle.outside.specs.declared.store.Store.{Store}
 use Rattle.values.specs.Apply.{Apply}
 use Rattle.plan_core.specs.declared.plan.Plan.{Plan}
 use Rattle.storage_simulation.specs.declared.standing.Held.{Held}
-use Rattle.lease_book.specs.Law.{IsSafeState, reserved_at, stored_at}
-use Rattle.lease_book.specs.Legal.{IsComplete, Legal}
-use Rattle.lease_book.specs.State.{now}
+use Rattle.lease_rules.specs.Law.{IsSafeState, reserved_at, stored_at}
+use Rattle.lease_rules.specs.Legal.{IsComplete, Legal}
+use Rattle.lease_rules.specs.State.{now}
 use Rattle.run_record.specs.Events.{Event}
 use Rattle.run_record.specs.RecordText.{AreEntries}
 use Rattle.run_record.specs.declared.run_fault.RunFault.{RunFault}
@@ -32,6 +32,7 @@ use Rattle.plan_run.specs.Moments.{Tools, Work, asked_of, count_of}
 use Rattle.plan_run.specs.Running.{AreWithinOutput}
 use Rattle.plan_run.specs.RunText.{run_text}
 use Rattle.resume_run.specs.Replaying.{without_fails}
+use Rattle.resume_run.specs.Working.{IsInOrder}
 use Rattle.resume_run.specs.declared.resuming.ResumeFault.{ResumeFault}
 use Rattle.resume_run.specs.declared.resuming.ResumeFault.TheVariants.{Failed, Illegal}
 
@@ -68,6 +69,8 @@ pub record IsResumption (w : Work) (t : Tools) (p : Plan) (order : List ℕ) (fi
   -- each entry of the whole record is allowed after those before it, and the added ones are by the sixteen workers
   pub legal : Legal p order (first ++ r)
   pub below : AllBelow 16 r
+  -- each lost task's next entry is its own worker's; after them worker 0 begins what is left in the order that is kept
+  pub in_order : IsInOrder p order first r
   -- nothing was begun, or all was done, or something failed
   pub over : (r ≡ []) ⊎ (IsComplete p (now p order (first ++ r)) ⊎ ((now p order (first ++ r)).failing ≡ true))
   -- after every entry each site is within its bound, and the kept order would finish what is left within every bound

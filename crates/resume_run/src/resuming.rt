@@ -4,7 +4,7 @@ ghost use Rattle.std.specs.Prelude.{◌≡◌, ◌≤◌, ◌⊎◌, [], Err, If
 ghost use Rattle.craft.specs.declared.crew.Crew.{Crew};
 ghost use Rattle.plan_core.specs.Words.{count_tasks, retries, task_numbers};
 ghost use Rattle.lease_book.specs.Book.{state_at};
-ghost use Rattle.lease_book.specs.Legal.{IsComplete};
+ghost use Rattle.lease_rules.specs.Legal.{IsComplete};
 ghost use Rattle.plan_run.specs.Moments.{counting, crew_moment, first_count, work_moment, working};
 ghost use Rattle.plan_run.specs.Running.{marked_if};
 ghost use Rattle.resume_run.specs.Lost.{lost_below};
@@ -13,7 +13,7 @@ ghost use Rattle.resume_run.specs.Resuming.{EndsAs, HasGoneOn, IsRefusal, IsResu
 use crate::replaying::{ReplayFault, Replayed, replay};
 use crate::working::work_on;
 use craft::{Crew, Gate};
-use lease_book::{legal_records_are_safe, ordered_plans_fit};
+use lease_rules::{legal_records_are_safe, ordered_plans_fit};
 use outside::{Host, Memory, Tool};
 use plan_run::{deliveries_stay_within_the_output, print_run};
 use run_record::{Record, RunFault};

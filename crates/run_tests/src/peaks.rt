@@ -37,7 +37,7 @@ fn all_stay(tree: &PeakTree, count: usize, delta: i64) -> bool
     true
 }
 
-/// Of 3, 5, 2 the first is raised, then removed, and then the tree is refilled with 1.
+/// Of 3, 5, 2 the first is raised, then removed.
 fn small_peak_tree<L: Ledger>(
     rt: &impl Abort,
     alloc: Global,
@@ -51,6 +51,16 @@ fn small_peak_tree<L: Ledger>(
     tree.remove(0, steps);
     assert_eq!(rt; tree.greatest_front(3, steps), Some(5));
     assert_eq!(rt; tree.greatest_front(0, steps), None);
+    Ok(())
+}
+
+/// The tree of 3, 5, 2 is refilled with 1.
+fn refilled_tree<L: Ledger>(
+    rt: &impl Abort,
+    alloc: Global,
+    steps: &mut Steps<L>,
+) -> Result<(), Fail> {
+    let mut tree = PeakTree::of(alloc, &[3, 5, 2])?;
     tree.refill(&[1], steps);
     assert_eq!(rt; tree.greatest_front(3, steps), Some(1));
     assert_eq!(rt; tree.value(0), Some(1));
@@ -63,7 +73,8 @@ fn all_calls<L: Ledger>(rt: &impl Abort, alloc: Global, blank: Blank) -> Result<
     requires some { 0 < blank.parts }
 {
     let mut steps = Steps::<L>::new(blank);
-    small_peak_tree(rt, alloc, &mut steps)
+    small_peak_tree(rt, alloc, &mut steps)?;
+    refilled_tree(rt, alloc, &mut steps)
 }
 
 #[test]

@@ -12,13 +12,13 @@ use Rattle.plan_core.specs.Proper.{IsProper}
 use Rattle.plan_core.specs.Words.{task_numbers}
 use Rattle.run_record.specs.Events.{Event}
 use Rattle.lease_book.specs.declared.book.Book.{Book}
-use Rattle.lease_book.specs.Legal.{Legal, LegalFrom}
-use Rattle.lease_book.specs.State.{State, after, now, now_from, opened}
+use Rattle.lease_rules.specs.Legal.{Legal, LegalFrom}
+use Rattle.lease_rules.specs.State.{State, after, now, now_from, opened}
 use Rattle.site_yard.specs.Changes.{carries, changes}
 use Rattle.site_yard.specs.Failures.{AreCounted}
 use Rattle.site_yard.specs.Kept.{IsKept, IsOpening, IsTruthful}
 use Rattle.site_yard.specs.Law.{Agrees, AgreesSince, HasPlanLaws, HasRecordLaws, Holds}
-use Rattle.site_yard.specs.Names.{pair_file}
+use Rattle.plan_core.specs.Names.{pair_file}
 use Rattle.site_yard.specs.Places.{is_delivered, is_published, is_swept}
 use Rattle.site_yard.specs.Truthful.{Truthful}
 use Rattle.site_yard.proofs.DeliveredLemmas.{delivered_kept, undelivered_kept}

@@ -19,7 +19,7 @@ use Rattle.run_record.specs.declared.entry.Cause.TheVariants.{HostFailed, Memory
 use Rattle.site_yard.specs.Changes.{arrival, changes_of, moved, publishes}
 use Rattle.site_yard.specs.Law.{HasPlanLaws}
 use Rattle.site_yard.specs.Loan.{Aim, delivery_target, pair_target, targets, targets_in}
-use Rattle.site_yard.specs.Names.{file_name, pair_file, site_name}
+use Rattle.plan_core.specs.Names.{file_name, pair_file, site_name}
 use Rattle.site_yard.specs.Trace.{arrived_at, operations_of, published_at}
 use Rattle.site_yard.specs.Truthful.{AreSizes, IsCause, IsTrue}
 use Rattle.site_yard.specs.Yard.{IsStop, IsTold}

@@ -10,9 +10,9 @@ use Rattle.plan_core.specs.declared.plan.TaskKind.TheVariants.{Transfer, Run, Cl
 use Rattle.plan_core.specs.Words.{count_tasks, delivers, is_clean_kind, is_run_kind, kind, kind_delivers, kind_in}
 use Rattle.plan_core.proofs.TestLemmas.{either, or_left, or_right, same_number}
 use Rattle.run_record.specs.Events.{Event, Grant, Arrive, End, Clean, Fail, Again, Regrant}
-use Rattle.lease_book.specs.Legal.{IsComplete, IsOpen, Legal}
-use Rattle.lease_book.specs.Reading.{ends}
-use Rattle.lease_book.specs.State.{now, opened}
+use Rattle.lease_rules.specs.Legal.{IsComplete, IsOpen, Legal}
+use Rattle.lease_rules.specs.Reading.{ends}
+use Rattle.lease_rules.specs.State.{now, opened}
 use Rattle.site_yard.specs.Failures.{host_faults, host_misses, tool_faults}
 use Rattle.site_yard.specs.Law.{HasRecordLaws}
 use Rattle.site_yard.specs.Places.{delivers_file, is_delivered, is_published, is_swept}

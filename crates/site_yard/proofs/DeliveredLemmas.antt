@@ -19,7 +19,7 @@ use Rattle.run_record.specs.Events.{Event, Grant, Arrive, End, Clean, Fail, Agai
 use Rattle.site_yard.specs.Changes.{arrival, carries, changes, changes_of, moved, or_nil, publishes, removal}
 use Rattle.site_yard.specs.Kept.{IsTruthful}
 use Rattle.site_yard.specs.Law.{HasPlanLaws}
-use Rattle.site_yard.specs.Names.{file_name}
+use Rattle.plan_core.specs.Names.{file_name}
 use Rattle.site_yard.specs.Places.{IsUndelivered, delivers_file, is_delivered}
 use Rattle.site_yard.specs.Truthful.{IsTrue, Truthful}
 use Rattle.site_yard.proofs.PlaceLemmas.{same, same_is, same_self}

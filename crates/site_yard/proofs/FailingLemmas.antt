@@ -3,7 +3,7 @@ use Rattle.std.proofs.Common.{◌≡◌, ℕ, Bool, true, false, List, [], ◌�
 use Rattle.std.specs.Prelude.{Option, Some, None, option_map, is_some}
 use Rattle.plan_core.specs.declared.plan.Plan.{Plan}
 use Rattle.run_record.specs.Events.{Event, Grant, Arrive, End, Clean, Fail, Again, Regrant}
-use Rattle.lease_book.specs.State.{State, after, failing_after, now, now_from, opened}
+use Rattle.lease_rules.specs.State.{State, after, failing_after, now, now_from, opened}
 use Rattle.site_yard.specs.Ending.{fault_of, first_failed, first_fault}
 use Rattle.site_yard.specs.declared.ending.Failed.{Failed}
 

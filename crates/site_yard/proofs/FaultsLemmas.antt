@@ -21,16 +21,18 @@ use Rattle.storage_simulation.specs.Goods.{or_zero}
 use Rattle.run_record.specs.declared.entry.Cause.{Cause}
 use Rattle.run_record.specs.declared.entry.Cause.TheVariants.{Absent, TooLong, Checksum, Oversize, Declined, ToolFailed, HostFailed, Memory}
 use Rattle.run_record.specs.Events.{Event, Grant, Arrive, End, Clean, Fail, Again, Regrant}
-use Rattle.lease_book.specs.Legal.{Allowed, CauseFits, LegalFrom, checksum, differs_from, is_too_long_for, is_wrong_for}
-use Rattle.lease_book.specs.State.{State, after}
+use Rattle.lease_rules.specs.Legal.{Allowed, CauseFits, LegalFrom, checksum, differs_from, is_too_long_for, is_wrong_for}
+use Rattle.lease_rules.specs.State.{State, after}
 use Rattle.site_yard.specs.Changes.{moved}
 use Rattle.site_yard.specs.Ending.{failed_in, fault_of, first_failed, first_fault}
-use Rattle.site_yard.specs.Failures.{fault_in, host_faults, tool_fault_in, tool_faults}
-use Rattle.lease_book.specs.Owning.{worker}
+use Rattle.lease_rules.specs.Causes.{fault_in}
+use Rattle.site_yard.specs.Failures.{host_faults, tool_fault_in, tool_faults}
+use Rattle.lease_rules.specs.Owning.{worker}
 use Rattle.site_yard.specs.Faults.{AllBelow, AllCarried, HasToolFault, IsCountedFault}
 use Rattle.site_yard.specs.Law.{HasPlanLaws}
-use Rattle.site_yard.specs.Names.{pair_file, pair_site}
-use Rattle.site_yard.specs.Truthful.{HasChecksum, HasSum, IsAtPfn, IsCause, IsDigest, IsLongAs, IsTrue, Truthful, declined, is_over, oversize_among}
+use Rattle.plan_core.specs.Names.{pair_file, pair_site}
+use Rattle.plan_core.specs.Declined.{declined}
+use Rattle.site_yard.specs.Truthful.{HasChecksum, HasSum, IsAtPfn, IsCause, IsDigest, IsLongAs, IsTrue, Truthful, is_over, oversize_among}
 use Rattle.site_yard.specs.declared.ending.Failed.{Failed}
 use Rattle.run_record.specs.declared.run_fault.RunFault.{RunFault}
 use Rattle.run_record.specs.declared.run_fault.RunFault.TheVariants as fault

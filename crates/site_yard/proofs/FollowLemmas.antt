@@ -7,11 +7,11 @@ use Rattle.plan_core.specs.Numbers.{has}
 use Rattle.plan_core.specs.Words.{parents, reads, writes}
 use Rattle.plan_core.proofs.TestLemmas.{either, or_left, or_right}
 use Rattle.run_record.specs.Events.{Event, Grant, Arrive, End, Clean, Fail, Again, Regrant}
-use Rattle.lease_book.specs.Choice.{IsChoice}
-use Rattle.lease_book.specs.Law.{IsSoundState}
-use Rattle.lease_book.specs.Legal.{Allowed, IsOpen, Legal, LegalFrom}
-use Rattle.lease_book.specs.Reading.{ends, frees, IsRead}
-use Rattle.lease_book.specs.State.{State, after, ended, now, now_from, opened}
+use Rattle.lease_rules.specs.Choice.{IsChoice}
+use Rattle.lease_rules.specs.Law.{IsSoundState}
+use Rattle.lease_rules.specs.Legal.{Allowed, IsOpen, Legal, LegalFrom}
+use Rattle.lease_rules.specs.Reading.{ends, frees, IsRead}
+use Rattle.lease_rules.specs.State.{State, after, ended, now, now_from, opened}
 use Rattle.site_yard.specs.Law.{HasPlanLaws, HasRecordLaws}
 use Rattle.site_yard.specs.Places.{is_swept}
 

@@ -15,12 +15,12 @@ use Rattle.plan_core.specs.Proper.{IsProper}
 use Rattle.plan_core.specs.Words.{cleans, count_pairs, is_clean, kind, kind_cleans, reads, writes}
 use Rattle.plan_core.proofs.TestLemmas.{both, either, or_left, or_right, same_number}
 use Rattle.run_record.specs.Events.{Event, Grant, Arrive, End, Clean, Fail, Again, Regrant}
-use Rattle.lease_book.specs.Legal.{Allowed, IsOpen, Legal, LegalFrom, MayFail}
-use Rattle.lease_book.specs.Reading.{ends, frees}
-use Rattle.lease_book.specs.State.{now}
+use Rattle.lease_rules.specs.Legal.{Allowed, IsOpen, Legal, LegalFrom, MayFail}
+use Rattle.lease_rules.specs.Reading.{ends, frees}
+use Rattle.lease_rules.specs.State.{now}
 use Rattle.site_yard.specs.Changes.{arrival, carries, changes, changes_of, moved, or_nil, publishes, removal}
 use Rattle.site_yard.specs.Law.{HasPlanLaws, HasRecordLaws}
-use Rattle.site_yard.specs.Names.{pair_file, pair_file_name, pair_site_name}
+use Rattle.plan_core.specs.Names.{pair_file, pair_file_name, pair_site_name}
 use Rattle.site_yard.specs.Places.{is_swept}
 use Rattle.site_yard.proofs.FollowLemmas.{choice_after, ended_longer, from_next, legal_next, not_true, open_not_ended}
 use Rattle.site_yard.proofs.HoldsLemmas.{arrival_is, same_id, swept_below}

@@ -16,11 +16,11 @@ use Rattle.plan_core.specs.Words.{count_pairs, declared, kind, kind_cleans, is_t
 use Rattle.plan_core.proofs.TestLemmas.{both, either, is_itself, or_left, or_right, same_number}
 use Rattle.storage_simulation.specs.Goods.{good_size, is_delivery, is_delivery_kind, makes, or_zero}
 use Rattle.run_record.specs.Events.{Event, Grant, Arrive, End, Clean, Fail, Again, Regrant}
-use Rattle.lease_book.specs.Legal.{AreOfFirst}
-use Rattle.lease_book.specs.Reading.{frees}
+use Rattle.lease_rules.specs.Legal.{AreOfFirst}
+use Rattle.lease_rules.specs.Reading.{frees}
 use Rattle.site_yard.specs.Changes.{arrival, changes, changes_of, moved, or_nil, publishes, removal}
 use Rattle.site_yard.specs.Law.{HasPlanLaws}
-use Rattle.site_yard.specs.Names.{file_name, pair_file, pair_file_name, pair_site, pair_site_name, site_name}
+use Rattle.plan_core.specs.Names.{file_name, pair_file, pair_file_name, pair_site, pair_site_name, site_name}
 use Rattle.site_yard.specs.Places.{is_published, is_swept, publishes_pair}
 use Rattle.site_yard.specs.Truthful.{AreSizes, IsLongAs, IsTrue, Truthful}
 use Rattle.site_yard.proofs.PlaceLemmas.{left_append, left_at, left_by, same, same_is, same_self}

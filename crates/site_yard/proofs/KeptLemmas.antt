@@ -16,7 +16,7 @@ use Rattle.storage_simulation.specs.declared.standing.Held.TheVariants.{Stored, 
 use Rattle.storage_simulation.specs.Goods.{good_size, makes}
 use Rattle.run_record.specs.declared.entry.Cause.{Cause}
 use Rattle.run_record.specs.Events.{Event, Grant, Regrant, Fail, Again}
-use Rattle.lease_book.specs.State.{State, after, now, now_from, opened}
+use Rattle.lease_rules.specs.State.{State, after, now, now_from, opened}
 use Rattle.site_yard.specs.Changes.{carries, changes, changes_of}
 use Rattle.site_yard.specs.Failures.{AreCounted, AreMore, IsCounted, faults_of, host_faults, host_misses, misses_of}
 use Rattle.site_yard.specs.Kept.{HasBecome, HoldsSizes, IsKept, IsOpening}

@@ -21,12 +21,12 @@ use Rattle.storage_simulation.specs.Law.{KeepsGoods}
 use Rattle.storage_simulation.specs.Standings.{held_size, sizes}
 use Rattle.storage_simulation.specs.Usage.{total, usage}
 use Rattle.run_record.specs.Events.{Event, Grant, Arrive, End, Clean, Fail, Again, Regrant}
-use Rattle.lease_book.specs.Law.{IsSoundState, reserved_at, stored_at}
-use Rattle.lease_book.specs.Legal.{Allowed, AreDeclared, AreOfFirst, LegalFrom, MayFail}
-use Rattle.lease_book.specs.State.{State, after, now, now_from, opened, stored_among}
+use Rattle.lease_rules.specs.Law.{IsSoundState, reserved_at, stored_at}
+use Rattle.lease_rules.specs.Legal.{Allowed, AreDeclared, AreOfFirst, LegalFrom, MayFail}
+use Rattle.lease_rules.specs.State.{State, after, now, now_from, opened, stored_among}
 use Rattle.site_yard.specs.Law.{HasPlanLaws}
 use Rattle.site_yard.specs.Leaving.{left_after, left_by, left_in}
-use Rattle.site_yard.specs.Names.{file_name, pair_file_name, pair_site_name, site_name}
+use Rattle.plan_core.specs.Names.{file_name, pair_file_name, pair_site_name, site_name}
 use Rattle.site_yard.specs.Trace.{arrived_at, operations_of, published_at, removed, trace_of}
 use Rattle.site_yard.proofs.HoldsLemmas.{delivery_writes, or_both, same_id, swept_below}
 use Rattle.site_yard.proofs.PlanLemmas.{names_apart, transfer_writes, written_below}

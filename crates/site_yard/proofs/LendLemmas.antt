@@ -17,7 +17,7 @@ use Rattle.run_record.specs.declared.entry.Cause.TheVariants.{Absent, TooLong, H
 use Rattle.run_record.specs.Events.{Event, Fail}
 use Rattle.lease_book.specs.declared.book.Book.{Book}
 use Rattle.lease_book.specs.Book.{failure, is_tried_again, state_at}
-use Rattle.lease_book.specs.Legal.{IsOpen}
+use Rattle.lease_rules.specs.Legal.{IsOpen}
 use Rattle.site_yard.specs.Changes.{carries}
 use Rattle.site_yard.specs.Failures.{AreMore, IsCounted, IsMore}
 use Rattle.site_yard.specs.Kept.{IsKept}

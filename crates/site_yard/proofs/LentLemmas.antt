@@ -25,14 +25,13 @@ use Rattle.plan_core.proofs.TestLemmas.{is_itself, or_left, or_right}
 use Rattle.run_record.specs.Events.{Event}
 use Rattle.lease_book.specs.declared.book.Book.{Book}
 use Rattle.lease_book.specs.Book.{state_at}
-use Rattle.lease_book.specs.Legal.{IsOpen, Legal}
-use Rattle.lease_book.specs.State.{now}
+use Rattle.lease_rules.specs.Legal.{IsOpen, Legal}
+use Rattle.lease_rules.specs.State.{now}
 use Rattle.site_yard.specs.Changes.{carries}
 use Rattle.site_yard.specs.Kept.{IsKept, IsOpening}
 use Rattle.site_yard.specs.Law.{HasPlanLaws, HasRecordLaws}
 use Rattle.site_yard.specs.Loan.{AreOpened, AreReadings, IsLent, IsReplica, at_pair, fresh_at, inputs, read_told, targets}
-use Rattle.site_yard.specs.Names.{pair_file, pair_site}
-use Rattle.site_yard.specs.Yard.{content}
+use Rattle.plan_core.specs.Names.{pair_file, pair_site, content}
 use Rattle.site_yard.proofs.FollowLemmas.{not_swept, open_after}
 use Rattle.site_yard.proofs.KeptLemmas.{parts}
 use Rattle.site_yard.proofs.LoanLemmas.{HasBookLaws}

@@ -9,7 +9,7 @@ use Rattle.plan_core.specs.declared.plan.Plan.{Plan}
 use Rattle.plan_core.specs.Words.{is_clean}
 use Rattle.run_record.specs.declared.entry.Cause.{Cause}
 use Rattle.run_record.specs.Events.{Event, Grant, Regrant}
-use Rattle.lease_book.specs.State.{State}
+use Rattle.lease_rules.specs.State.{State}
 use Rattle.lease_book.specs.declared.leasing.Next.{Next}
 use Rattle.lease_book.specs.declared.leasing.Next.TheVariants as next
 use Rattle.lease_book.specs.Book.{IsNext}

@@ -9,8 +9,7 @@ use Rattle.values.specs.Apply.{Apply}
 use Rattle.outside.specs.declared.counts.Counts.{Counts}
 use Rattle.outside.specs.declared.store.Store.{Store}
 use Rattle.outside.specs.Store.{changed_by, operation}
-use Rattle.outside.specs.Parts.{DraftState, ReadState}
-use Rattle.site_yard.specs.Returning.{draft_faults, part_faults, reading_faults}
+use Rattle.outside.specs.Parts.{DraftState, ReadState, draft_faults, part_faults, reading_faults}
 use Rattle.plan_core.specs.declared.plan.Plan.{Plan}
 use Rattle.plan_core.specs.declared.plan.TaskKind.{TaskKind}
 use Rattle.plan_core.specs.declared.plan.TaskKind.TheVariants.{Transfer, Run, Clean as CleanTask}
@@ -22,9 +21,9 @@ use Rattle.run_record.specs.declared.entry.Cause.TheVariants.{Absent, TooLong, C
 use Rattle.run_record.specs.Events.{Event, Grant, Arrive, End, Clean, Fail, Again, Regrant}
 use Rattle.lease_book.specs.declared.book.Book.{Book}
 use Rattle.lease_book.specs.Book.{failure, is_tried_again, state_at}
-use Rattle.lease_book.specs.Law.{FitsFromStart}
-use Rattle.lease_book.specs.Legal.{Allowed, ArePublished, CauseFits, IsOpen, Legal, LegalFrom, is_from_pfn, is_too_long, is_too_long_for}
-use Rattle.lease_book.specs.State.{State, after, holder_after, now, now_from, opened}
+use Rattle.lease_rules.specs.Law.{FitsFromStart}
+use Rattle.lease_rules.specs.Legal.{Allowed, ArePublished, CauseFits, IsOpen, Legal, LegalFrom, is_from_pfn, is_too_long, is_too_long_for}
+use Rattle.lease_rules.specs.State.{State, after, holder_after, now, now_from, opened}
 use Rattle.site_yard.specs.Changes.{carries, changes_of}
 use Rattle.site_yard.specs.Failures.{AreMore, IsCounted}
 use Rattle.site_yard.specs.Kept.{IsKept, IsOpening}

@@ -16,8 +16,8 @@ use Rattle.lease_book.specs.declared.book.Book.{Book}
 use Rattle.lease_book.specs.Book.{IsNext, state_at}
 use Rattle.lease_book.specs.declared.leasing.Next.{Next}
 use Rattle.lease_book.specs.declared.leasing.Next.TheVariants as next
-use Rattle.lease_book.specs.Choice.{IsChoice, IsFresh, IsFreshAmong}
-use Rattle.lease_book.specs.State.{State, now}
+use Rattle.lease_rules.specs.Choice.{IsChoice, IsFresh, IsFreshAmong}
+use Rattle.lease_rules.specs.State.{State, now}
 use Rattle.site_yard.specs.Failures.{AreMore, IsCounted, faults_of, misses_of}
 use Rattle.site_yard.specs.Kept.{IsKept}
 use Rattle.site_yard.specs.Yard.{Leases}

@@ -9,10 +9,10 @@ use Rattle.outside.specs.declared.counts.Counts.{Counts}
 use Rattle.outside.specs.declared.store.Store.{Store}
 use Rattle.plan_core.specs.declared.plan.Plan.{Plan}
 use Rattle.run_record.specs.Events.{Event}
-use Rattle.lease_book.specs.State.{now}
+use Rattle.lease_rules.specs.State.{now}
 use Rattle.site_yard.specs.Failures.{AreMore, host_faults, host_misses}
 use Rattle.site_yard.specs.Kept.{HoldsSizes, IsKept}
-use Rattle.site_yard.specs.Names.{is_used, site_name}
+use Rattle.plan_core.specs.Names.{is_used, site_name}
 use Rattle.site_yard.specs.Opening.{AreUnusedBelow, IsInUse, IsUnusedAt, Looked, LookedAt, Refuses, looks_at, looks_below}
 use Rattle.site_yard.specs.declared.opening.OpenFault.{OpenFault}
 use Rattle.site_yard.specs.declared.opening.OpenFault.TheVariants.{ScratchInUse, HostFailed, Memory, PairAbsent, LengthDiffers}

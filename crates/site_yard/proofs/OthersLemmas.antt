@@ -15,10 +15,10 @@ use Rattle.plan_core.specs.Proper.{IsProper}
 use Rattle.plan_core.specs.Words.{kind, kind_cleans, writes}
 use Rattle.plan_core.proofs.TestLemmas.{both, is_itself, or_left, or_right}
 use Rattle.run_record.specs.Events.{Event, Grant, Arrive, End, Clean, Fail, Again, Regrant}
-use Rattle.lease_book.specs.Reading.{frees}
+use Rattle.lease_rules.specs.Reading.{frees}
 use Rattle.site_yard.specs.Changes.{arrival, carries, changes, changes_of, moved, or_nil, publishes, removal}
 use Rattle.site_yard.specs.Law.{HasPlanLaws}
-use Rattle.site_yard.specs.Names.{pair_file_name, pair_site_name}
+use Rattle.plan_core.specs.Names.{pair_file_name, pair_site_name}
 use Rattle.site_yard.specs.Places.{IsUntouched, is_published, is_swept, publishes_pair}
 use Rattle.site_yard.proofs.HoldsLemmas.{arrival_is, same_id}
 use Rattle.site_yard.proofs.PlaceLemmas.{left_append, left_by, pair_changed, same, same_is}

@@ -8,7 +8,7 @@ use Rattle.outside.specs.declared.counts.Counts.{Counts}
 use Rattle.values.specs.declared.numbers.PairId.{PairId}
 use Rattle.outside.specs.declared.store.Store.{Store}
 use Rattle.outside.specs.Lending.{IsOpened}
-use Rattle.outside.specs.Parts.{DraftState, ReadState}
+use Rattle.outside.specs.Parts.{DraftState, ReadState, draft_faults, reading_faults}
 use Rattle.plan_core.specs.declared.plan.Plan.{Plan}
 use Rattle.plan_core.specs.Numbers.{has}
 use Rattle.plan_core.specs.Words.{kind, pair_numbers, reads}
@@ -21,8 +21,7 @@ use Rattle.plan_core.specs.declared.plan.Source.TheVariants.{Pfn, Site}
 use Rattle.site_yard.specs.Failures.{AreMore}
 use Rattle.site_yard.specs.Lending.{IsHostCause, IsPairCause, IsPairsCause, IsRefusedAfter, IsReplicaCause, IsUnfit, RefusesLoan, RefusesReadings, SomeUnfit}
 use Rattle.site_yard.specs.Loan.{Aim, AreOpened, at_pair, count_readings, fresh_at, pair_target, targets}
-use Rattle.site_yard.specs.Names.{pair_limit}
-use Rattle.site_yard.specs.Returning.{draft_faults, reading_faults}
+use Rattle.lease_rules.specs.Storing.{pair_limit}
 use Rattle.site_yard.proofs.CountingLemmas.{after_done, done_before, more_then, none_after, same_more}
 
 one_more : (k : ℕ) → suc k ≡ k + 1

@@ -14,7 +14,7 @@ use Rattle.site_yard.specs.Returning.{placing_of, placings}
 use Rattle.plan_core.specs.declared.plan.Plan.{Plan}
 use Rattle.site_yard.specs.Changes.{or_nil, publishes}
 use Rattle.site_yard.specs.Loan.{Aim, AreDrafts, IsDraftOf, draft_bytes, draft_size, pair_target}
-use Rattle.site_yard.specs.Names.{pair_file}
+use Rattle.plan_core.specs.Names.{pair_file}
 use Rattle.site_yard.specs.Trace.{published_at}
 
 -- the operation by which so many bytes come to a place

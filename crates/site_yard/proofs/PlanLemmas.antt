@@ -27,7 +27,7 @@ use Rattle.plan_core.specs.Words.{count_pairs, count_tasks, is_pair, kind, kind_
 use Rattle.plan_core.proofs.NumbersLemmas.{least_passes, some_least}
 use Rattle.plan_core.proofs.TestLemmas.{both, or_left, or_right, same_number}
 use Rattle.site_yard.specs.Law.{HasPlanLaws}
-use Rattle.site_yard.specs.Names.{file_in, file_name, lfn_in, name_in, pair_file, pair_file_name, pair_site, pair_site_name, site_in, site_name}
+use Rattle.plan_core.specs.Names.{file_in, file_name, lfn_in, name_in, pair_file, pair_file_name, pair_site, pair_site_name, site_in, site_name}
 
 -- a site or a file by its name
 name_at : (xs : List PlanSite) (s : ℕ) → get_or (map (λ (x : PlanSite). x.name) xs) s [] ≡ name_in (slice_get xs s)

@@ -16,12 +16,12 @@ use Rattle.plan_core.specs.Words.{count_pairs}
 use Rattle.storage_simulation.specs.declared.standing.Held.{Held}
 use Rattle.storage_simulation.specs.declared.standing.Held.TheVariants.{Nothing, Stored, Reserved}
 use Rattle.run_record.specs.Events.{Event}
-use Rattle.lease_book.specs.State.{now}
+use Rattle.lease_rules.specs.State.{now}
 use Rattle.site_yard.specs.Delivered.{AreDelivered, IsDigestOf}
 use Rattle.site_yard.specs.declared.delivered.Delivered.{Delivered}
 use Rattle.site_yard.specs.Failures.{AreMore, host_faults, host_misses}
 use Rattle.site_yard.specs.Kept.{HoldsSizes, IsKept, IsOpening, IsTruthful}
-use Rattle.site_yard.specs.Names.{pair_file_name, pair_site_name}
+use Rattle.plan_core.specs.Names.{pair_file_name, pair_site_name}
 use Rattle.site_yard.specs.Reopening.{AreRecorded, AreRecordedBelow, Checks, ChecksAll, IsAsRecorded, IsLackingAt, IsLongAt, IsStored, RefusesAgain, measures, measures_at, measures_below, measures_of, recorded_size}
 use Rattle.site_yard.specs.declared.opening.OpenFault.{OpenFault}
 use Rattle.site_yard.specs.declared.opening.OpenFault.TheVariants.{HostFailed, LengthDiffers, Memory, PairAbsent, ScratchInUse}

@@ -9,9 +9,9 @@ use Rattle.outside.specs.declared.store.Store.{Store}
 use Rattle.outside.specs.declared.host.HostFault.{HostFault}
 use Rattle.outside.specs.declared.host.HostFault.TheVariants.{Failed, Memory}
 use Rattle.outside.specs.Lending.{Publishing, published, with_faults}
-use Rattle.outside.specs.Parts.{DraftState, Drafted, ReadState}
+use Rattle.outside.specs.Parts.{DraftState, Drafted, ReadState, draft_faults, reading_faults}
 use Rattle.site_yard.specs.Failures.{AreMore, IsMore}
-use Rattle.site_yard.specs.Returning.{IsRefused, draft_faults, placing_of, placings, reading_faults, refusal_faults}
+use Rattle.site_yard.specs.Returning.{IsRefused, placing_of, placings, refusal_faults}
 
 -- While parts are given back: so many calls did what was asked, and of all faults of the parts those of the parts that are
 -- left aren't counted yet.

@@ -18,7 +18,7 @@ use Rattle.plan_core.specs.Words.{kind, task_numbers}
 use Rattle.run_record.specs.Events.{Event, Arrive}
 use Rattle.lease_book.specs.declared.book.Book.{Book}
 use Rattle.lease_book.specs.Book.{state_at}
-use Rattle.lease_book.specs.Legal.{IsOpen}
+use Rattle.lease_rules.specs.Legal.{IsOpen}
 use Rattle.site_yard.specs.Changes.{carries, moved}
 use Rattle.site_yard.specs.Delivered.{AreDelivered, AreDigests, AreFiles, AreLengths, AreOfBytes, Arrival, IsDigestOf, arrival_at, arrivals, arrivals_of, carried_digest, count_deliveries, delivered_file, delivery_of, kept_at}
 use Rattle.site_yard.specs.Kept.{IsOpening}

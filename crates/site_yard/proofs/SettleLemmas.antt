@@ -9,8 +9,8 @@ use Rattle.outside.specs.declared.counts.Counts.{Counts}
 use Rattle.outside.specs.declared.host.HostFault.{HostFault}
 use Rattle.outside.specs.declared.host.HostFault.TheVariants as fault
 use Rattle.outside.specs.declared.store.Store.{Store}
-use Rattle.outside.specs.Parts.{DraftState, ReadState}
-use Rattle.site_yard.specs.Returning.{IsRefused, draft_faults, part_faults, reading_faults, refusal_faults}
+use Rattle.outside.specs.Parts.{DraftState, ReadState, draft_faults, part_faults, reading_faults}
+use Rattle.site_yard.specs.Returning.{IsRefused, refusal_faults}
 use Rattle.plan_core.specs.declared.plan.Plan.{Plan}
 use Rattle.plan_core.specs.declared.plan.Task.{Task}
 use Rattle.plan_core.specs.declared.plan.TaskKind.{TaskKind}
@@ -26,13 +26,13 @@ use Rattle.run_record.specs.declared.entry.Cause.TheVariants.{HostFailed, Memory
 use Rattle.run_record.specs.Events.{Event, Arrive, End, Fail}
 use Rattle.lease_book.specs.declared.book.Book.{Book}
 use Rattle.lease_book.specs.Book.{failure, is_tried_again, state_at}
-use Rattle.lease_book.specs.Legal.{Allowed, AreDeclared, AreOfFirst, ArePublished, CauseFits, IsOpen, Legal}
-use Rattle.lease_book.specs.State.{now}
+use Rattle.lease_rules.specs.Legal.{Allowed, AreDeclared, AreOfFirst, ArePublished, CauseFits, IsOpen, Legal}
+use Rattle.lease_rules.specs.State.{now}
 use Rattle.site_yard.specs.Failures.{AreMore, IsCounted, IsMore}
 use Rattle.site_yard.specs.Law.{HasPlanLaws, HasRecordLaws}
 use Rattle.site_yard.specs.Lending.{IsHostCause}
 use Rattle.values.specs.Apply.{Apply}
-use Rattle.site_yard.specs.Names.{pair_limit}
+use Rattle.lease_rules.specs.Storing.{pair_limit}
 use Rattle.site_yard.specs.Loan.{Aim, AreDrafts, AreSmall, CanSettle, draft_size, pair_target, targets, targets_in}
 use Rattle.site_yard.specs.Moving.{scratch_cause}
 use Rattle.site_yard.specs.Yard.{Adds, IsSettled, IsStop, TakesPublished}

@@ -23,11 +23,11 @@ use Rattle.storage_simulation.specs.declared.standing.Held.TheVariants.{Nothing,
 use Rattle.storage_simulation.specs.Goods.{is_delivery, is_delivery_kind, makes}
 use Rattle.run_record.specs.declared.entry.Cause.{Cause}
 use Rattle.run_record.specs.Events.{Arrive, End}
-use Rattle.lease_book.specs.State.{State, stored_among}
+use Rattle.lease_rules.specs.State.{State, stored_among}
 use Rattle.site_yard.specs.Kept.{HoldsSizes}
 use Rattle.site_yard.specs.Law.{HasPlanLaws}
 use Rattle.site_yard.specs.Loan.{AreDrafts, delivery_target, draft_size, pair_target, targets, targets_in}
-use Rattle.site_yard.specs.Names.{pair_file_name, pair_site_name}
+use Rattle.plan_core.specs.Names.{pair_file_name, pair_site_name}
 use Rattle.site_yard.proofs.FollowLemmas.{not_true}
 use Rattle.site_yard.proofs.KeptLemmas.{KeepsSizes, failed}
 use Rattle.site_yard.proofs.PlaceLemmas.{left_append, left_by, pair_changed, same, same_is, same_self}

@@ -14,7 +14,7 @@ use Rattle.run_record.specs.Events.{Event}
 use Rattle.site_yard.specs.Changes.{carries, changes, or_nil}
 use Rattle.site_yard.specs.Kept.{IsTruthful}
 use Rattle.site_yard.specs.Law.{HasPlanLaws}
-use Rattle.site_yard.specs.Names.{pair_file, pair_file_name, pair_site_name}
+use Rattle.plan_core.specs.Names.{pair_file, pair_file_name, pair_site_name}
 use Rattle.site_yard.specs.Places.{is_published, is_swept}
 use Rattle.site_yard.proofs.HoldsLemmas.{IsSized, record_sets, record_sized}
 use Rattle.site_yard.proofs.PlaceLemmas.{pair_changed}

@@ -17,14 +17,14 @@ use Rattle.plan_core.specs.Proper.{IsProper}
 use Rattle.plan_core.specs.Words.{count_pairs, kind, kind_cleans, writes}
 use Rattle.plan_core.proofs.TestLemmas.{either, same_number}
 use Rattle.run_record.specs.Events.{Event, Grant, Arrive, End, Clean, Fail, Again, Regrant}
-use Rattle.lease_book.specs.Legal.{Legal}
-use Rattle.lease_book.specs.Reading.{ends, frees}
-use Rattle.lease_book.specs.State.{opened}
+use Rattle.lease_rules.specs.Legal.{Legal}
+use Rattle.lease_rules.specs.Reading.{ends, frees}
+use Rattle.lease_rules.specs.State.{opened}
 use Rattle.site_yard.specs.Changes.{carries, changes, or_nil}
 use Rattle.site_yard.specs.Kept.{IsKept, IsOpening}
 use Rattle.site_yard.specs.Law.{HasPlanLaws, HasRecordLaws}
 use Rattle.site_yard.specs.Loan.{at_pair}
-use Rattle.site_yard.specs.Names.{pair_file, pair_file_name, pair_site_name}
+use Rattle.plan_core.specs.Names.{pair_file, pair_file_name, pair_site_name}
 use Rattle.site_yard.specs.Places.{is_published, is_swept, publishes_pair}
 use Rattle.site_yard.proofs.HoldsLemmas.{or_both, record_sets, record_sized, swept_below}
 use Rattle.site_yard.proofs.OthersLemmas.{record_off}

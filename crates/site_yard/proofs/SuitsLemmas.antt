@@ -13,11 +13,11 @@ use Rattle.storage_simulation.specs.Goods.{delivered_size, good_size, is_deliver
 use Rattle.run_record.specs.declared.entry.Cause.{Cause}
 use Rattle.run_record.specs.declared.entry.Cause.TheVariants.{Absent, TooLong, Checksum, Oversize, Declined, ToolFailed, HostFailed, Memory}
 use Rattle.run_record.specs.Events.{Event, Grant, Arrive, End, Clean, Fail, Again, Regrant}
-use Rattle.lease_book.specs.Legal.{Allowed, AreDeclared, AreOfFirst, ArePublished, CauseFits, LegalFrom}
-use Rattle.lease_book.specs.Reading.{ends}
-use Rattle.lease_book.specs.State.{State, after}
+use Rattle.lease_rules.specs.Legal.{Allowed, AreDeclared, AreOfFirst, ArePublished, CauseFits, LegalFrom}
+use Rattle.lease_rules.specs.Reading.{ends}
+use Rattle.lease_rules.specs.State.{State, after}
 use Rattle.site_yard.specs.Law.{HasPlanLaws}
-use Rattle.site_yard.specs.Names.{file_in, pair_file}
+use Rattle.plan_core.specs.Names.{file_in, pair_file}
 use Rattle.site_yard.specs.Places.{is_published, publishes_pair}
 use Rattle.site_yard.proofs.PlanLemmas.{not_none}
 

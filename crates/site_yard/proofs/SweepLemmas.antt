@@ -28,17 +28,17 @@ use Rattle.run_record.specs.declared.entry.Cause.TheVariants.{HostFailed, Memory
 use Rattle.run_record.specs.Events.{Event, Grant, Arrive, End, Clean, Fail, Again, Regrant}
 use Rattle.lease_book.specs.declared.book.Book.{Book}
 use Rattle.lease_book.specs.Book.{failure, is_tried_again, state_at}
-use Rattle.lease_book.specs.Choice.{IsChoice}
-use Rattle.lease_book.specs.Legal.{CauseFits, Legal}
-use Rattle.lease_book.specs.Reading.{ends, frees, reserves, stored}
-use Rattle.lease_book.specs.State.{State, ended, now, opened}
+use Rattle.lease_rules.specs.Choice.{IsChoice}
+use Rattle.lease_rules.specs.Legal.{CauseFits, Legal}
+use Rattle.lease_rules.specs.Reading.{ends, frees, reserves, stored}
+use Rattle.lease_rules.specs.State.{State, ended, now, opened}
 use Rattle.site_yard.specs.Changes.{removal}
 use Rattle.site_yard.specs.Failures.{AreMore, IsCounted, IsMore}
 use Rattle.site_yard.specs.Kept.{HoldsSizes, IsKept}
 use Rattle.site_yard.specs.Law.{HasPlanLaws, HasRecordLaws}
 use Rattle.site_yard.specs.Leased.{failed_as}
 use Rattle.site_yard.specs.Moving.{SweptAway}
-use Rattle.site_yard.specs.Names.{pair_file_name, pair_site_name}
+use Rattle.plan_core.specs.Names.{pair_file_name, pair_site_name}
 use Rattle.site_yard.specs.Places.{is_swept}
 use Rattle.site_yard.specs.Trace.{operations_of, removed}
 use Rattle.site_yard.specs.Yard.{IsStop, Leases}

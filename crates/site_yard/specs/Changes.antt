@@ -11,7 +11,7 @@ use Rattle.plan_core.specs.declared.plan.Target.TheVariants.{Site, Delivery}
 use Rattle.plan_core.specs.Carried.{carried}
 use Rattle.plan_core.specs.Words.{kind, writes}
 use Rattle.run_record.specs.Events.{Event, Grant, Arrive, End, Clean, Fail, Again, Regrant}
-use Rattle.site_yard.specs.Names.{site_name, file_name, pair_site_name, pair_file_name, pair_file}
+use Rattle.plan_core.specs.Names.{site_name, file_name, pair_site_name, pair_file_name, pair_file}
 
 abbrev pub or_nil : Option (List ℕ) → List ℕ
 or_nil None = []

@@ -12,8 +12,8 @@ use Rattle.storage_simulation.specs.Goods.{or_zero}
 use Rattle.run_record.specs.declared.entry.Cause.{Cause}
 use Rattle.run_record.specs.declared.entry.Cause.TheVariants as why
 use Rattle.run_record.specs.Events.{Event, Fail}
-use Rattle.lease_book.specs.Legal.{checksum}
-use Rattle.site_yard.specs.Names.{file_name}
+use Rattle.lease_rules.specs.Legal.{checksum}
+use Rattle.plan_core.specs.Names.{file_name}
 use Rattle.site_yard.specs.declared.ending.Failed.{Failed}
 use Rattle.run_record.specs.declared.run_fault.RunFault.{RunFault}
 use Rattle.run_record.specs.declared.run_fault.RunFault.TheVariants.{ReplicaAbsent, ReplicaTooLong, ChecksumDiffers, Oversize, Declined, ToolFailed, HostFailed, Memory}

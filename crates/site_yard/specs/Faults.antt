@@ -7,12 +7,13 @@ use Rattle.plan_core.specs.Kinds.{carries}
 use Rattle.plan_core.specs.Words.{declared, is_transfer, kind}
 use Rattle.storage_simulation.specs.Goods.{or_zero}
 use Rattle.run_record.specs.Events.{Event}
-use Rattle.lease_book.specs.Owning.{worker}
+use Rattle.lease_rules.specs.Owning.{worker}
 use Rattle.run_record.specs.declared.run_fault.RunFault.{RunFault}
 use Rattle.run_record.specs.declared.run_fault.RunFault.TheVariants.{ToolFailed, HostFailed, Memory}
 use Rattle.site_yard.specs.Changes.{moved}
 use Rattle.site_yard.specs.Failures.{host_faults, tool_faults}
-use Rattle.site_yard.specs.Truthful.{HasChecksum, declined, is_over}
+use Rattle.plan_core.specs.Declined.{declined}
+use Rattle.site_yard.specs.Truthful.{HasChecksum, is_over}
 
 -- What tasks carry over the bytes at pfns: no job of a Run declines; what a Transfer moves is there; no file that is
 -- carried is longer than declared; and what comes from a pfn has the checksum that is registered.

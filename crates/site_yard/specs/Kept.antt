@@ -13,11 +13,11 @@ use Rattle.plan_core.specs.Words.{count_pairs, delivers, writes}
 use Rattle.storage_simulation.specs.declared.standing.Held.{Held}
 use Rattle.storage_simulation.specs.declared.standing.Held.TheVariants.{Stored}
 use Rattle.run_record.specs.Events.{Event}
-use Rattle.lease_book.specs.Reading.{ends}
-use Rattle.lease_book.specs.State.{now}
+use Rattle.lease_rules.specs.Reading.{ends}
+use Rattle.lease_rules.specs.State.{now}
 use Rattle.site_yard.specs.Changes.{carries, changes}
 use Rattle.site_yard.specs.Failures.{AreCounted}
-use Rattle.site_yard.specs.Names.{file_name, pair_file, pair_file_name, pair_site_name}
+use Rattle.plan_core.specs.Names.{file_name, pair_file, pair_file_name, pair_site_name}
 use Rattle.site_yard.specs.Places.{is_delivered, is_swept}
 use Rattle.site_yard.specs.Trace.{trace_of}
 use Rattle.site_yard.specs.Truthful.{Truthful}

@@ -12,13 +12,13 @@ use Rattle.plan_core.specs.Kinds.{reads_file, writes_file}
 use Rattle.plan_core.specs.Numbers.{RisesFrom, below, has}
 use Rattle.plan_core.specs.Proper.{is_kind_in_range, is_parent}
 use Rattle.plan_core.specs.Words.{cleans, count_pairs, delivers, is_clean, is_pair, kind, reads, writes}
-use Rattle.lease_book.specs.Law.{IsSoundState}
-use Rattle.lease_book.specs.Legal.{Legal}
-use Rattle.lease_book.specs.Reading.{IsRead}
-use Rattle.lease_book.specs.State.{now}
+use Rattle.lease_rules.specs.Law.{IsSoundState}
+use Rattle.lease_rules.specs.Legal.{Legal}
+use Rattle.lease_rules.specs.Reading.{IsRead}
+use Rattle.lease_rules.specs.State.{now}
 use Rattle.site_yard.specs.Changes.{carries}
 use Rattle.site_yard.specs.Kept.{IsOpening, IsTruthful}
-use Rattle.site_yard.specs.Names.{file_name, pair_file, pair_file_name, pair_site_name}
+use Rattle.plan_core.specs.Names.{file_name, pair_file, pair_file_name, pair_site_name}
 use Rattle.site_yard.specs.Places.{IsUndelivered, IsUntouched, is_delivered, is_published, is_swept}
 use Rattle.site_yard.specs.Trace.{trace_of}
 

@@ -6,7 +6,7 @@ use Rattle.outside.specs.declared.operation.Operation.TheVariants.{Publish, Deli
 use Rattle.plan_core.specs.declared.plan.Plan.{Plan}
 use Rattle.plan_core.specs.Words.{count_pairs, is_at}
 use Rattle.storage_simulation.specs.Usage.{total}
-use Rattle.site_yard.specs.Names.{pair_file_name, pair_site_name}
+use Rattle.plan_core.specs.Names.{pair_file_name, pair_site_name}
 
 -- what operations leave of the file of name n at site s, of which so many bytes stand there
 abbrev pub left_by : List ℕ → List ℕ → Operation → ℕ → ℕ

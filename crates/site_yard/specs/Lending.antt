@@ -13,10 +13,10 @@ use Rattle.run_record.specs.declared.entry.Cause.{Cause}
 use Rattle.run_record.specs.declared.entry.Cause.TheVariants.{Absent, HostFailed, Memory, TooLong}
 use Rattle.outside.specs.Lending.{IsOpened}
 use Rattle.outside.specs.Parts.{DraftState, ReadState}
-use Rattle.lease_book.specs.Legal.{is_too_long}
+use Rattle.lease_rules.specs.Legal.{is_too_long}
 use Rattle.site_yard.specs.Failures.{AreMore}
 use Rattle.site_yard.specs.Loan.{Aim, AreOpened, AreReadings, at_pair, count_readings, fresh_at, targets}
-use Rattle.site_yard.specs.Names.{pair_limit}
+use Rattle.lease_rules.specs.Storing.{pair_limit}
 use Rattle.site_yard.specs.Truthful.{IsLongAs}
 
 -- how many calls make the parts of a task: one for each reading and one for each draft

@@ -1,5 +1,4 @@
 -- What the entries of a record say of the store.
-pub mod Names
 pub mod Changes
 pub mod Trace
 pub mod Truthful
@@ -12,7 +11,6 @@ pub mod Law
 -- What the calls answer.
 pub mod Returning
 pub mod Moving
-pub mod Storing
 pub mod Loan
 pub mod Lending
 pub mod Opening

@@ -6,7 +6,7 @@ use Rattle.outside.specs.declared.store.Store.{Store}
 use Rattle.values.specs.Apply.{Apply}
 use Rattle.sha2.specs.Sha256.{sha256}
 use Rattle.outside.specs.Lending.{IsOpened, fresh}
-use Rattle.outside.specs.Parts.{DraftState, Drafted, ReadState}
+use Rattle.outside.specs.Parts.{DraftState, Drafted, ReadState, part_faults}
 use Rattle.outside.specs.declared.place.Place.{Place}
 use Rattle.outside.specs.declared.place.Place.TheVariants.{Scratch, Delivery as Out}
 use Rattle.plan_core.specs.declared.plan.Plan.{Plan}
@@ -20,10 +20,9 @@ use Rattle.run_record.specs.Events.{Event}
 use Rattle.site_yard.specs.Delivered.{IsDigestOf}
 use Rattle.site_yard.specs.Kept.{IsOpening}
 use Rattle.site_yard.specs.Changes.{carries, moved}
-use Rattle.site_yard.specs.Names.{file_name, pair_file, pair_file_name, pair_limit, pair_site_name}
-use Rattle.site_yard.specs.Returning.{part_faults}
+use Rattle.lease_rules.specs.Storing.{pair_limit}
+use Rattle.plan_core.specs.Names.{file_name, pair_file, pair_file_name, pair_site_name, content}
 use Rattle.site_yard.specs.Truthful.{HasChecksum}
-use Rattle.site_yard.specs.Yard.{content}
 
 -- where a file is to stand, and its declared size
 pub record Aim : Type 0 where

@@ -5,7 +5,7 @@ use Rattle.outside.specs.declared.counts.Counts.{Counts}
 use Rattle.outside.specs.declared.store.Store.{Store}
 use Rattle.plan_core.specs.declared.plan.Plan.{Plan}
 use Rattle.site_yard.specs.Failures.{AreMore}
-use Rattle.site_yard.specs.Names.{is_used, pair_file_name, pair_site_name, site_name}
+use Rattle.plan_core.specs.Names.{is_used, pair_file_name, pair_site_name, site_name}
 use Rattle.run_record.specs.declared.run_fault.RunFault.{RunFault}
 use Rattle.run_record.specs.declared.run_fault.RunFault.TheVariants as run
 use Rattle.site_yard.specs.declared.opening.OpenFault.{OpenFault}

@@ -5,8 +5,8 @@ use Rattle.plan_core.specs.declared.plan.Plan.{Plan}
 use Rattle.plan_core.specs.Numbers.{has}
 use Rattle.plan_core.specs.Words.{delivers, writes}
 use Rattle.run_record.specs.Events.{Event, Arrive, End, Fail, Again}
-use Rattle.lease_book.specs.Reading.{frees}
-use Rattle.site_yard.specs.Names.{file_name, pair_site_name, pair_file_name}
+use Rattle.lease_rules.specs.Reading.{frees}
+use Rattle.plan_core.specs.Names.{file_name, pair_site_name, pair_file_name}
 
 -- an entry publishes the pair; it delivers the file
 abbrev pub publishes_pair : Plan → ℕ → Event → Bool

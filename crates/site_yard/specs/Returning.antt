@@ -6,20 +6,8 @@ use Rattle.outside.specs.declared.host.HostFault.{HostFault}
 use Rattle.outside.specs.declared.host.HostFault.TheVariants.{Failed, Memory}
 use Rattle.outside.specs.declared.store.Store.{Store}
 use Rattle.outside.specs.Lending.{placing}
-use Rattle.outside.specs.Parts.{DraftState, Drafted, ReadState}
+use Rattle.outside.specs.Parts.{DraftState, Drafted, draft_faults}
 use Rattle.site_yard.specs.Failures.{AreMore}
-
--- how often calls of some parts failed
-abbrev pub reading_faults : List ReadState → ℕ
-reading_faults [] = 0
-reading_faults (s ∷ ss) = s.faults + reading_faults ss
-
-abbrev pub draft_faults : List DraftState → ℕ
-draft_faults [] = 0
-draft_faults (s ∷ ss) = s.faults + draft_faults ss
-
-abbrev pub part_faults : List ReadState → List DraftState → ℕ
-part_faults rs ds = reading_faults rs + draft_faults ds
 
 -- the changes by which drafts come to their places; one that tells nothing changes nothing that is told
 abbrev pub placing_of : Option Drafted → List Change

@@ -1,44 +1,25 @@
 -- Truthful records: what the entries say of sizes and causes is so, over the told replicas and what tasks carry.
-use Rattle.std.specs.Prelude.{◌≡◌, ℕ, ◌≤◌, Bool, true, false, cond, nat_lt, List, [], ◌∷◌, map, length, take, Option, Some, None, option_map, option_and_then}
+use Rattle.std.specs.Prelude.{◌≡◌, ℕ, ◌≤◌, Bool, true, false, cond, nat_lt, List, [], ◌∷◌, map, length, take, Option, Some, None, option_map}
 use Rattle.sha2.specs.Sha256.{sha256}
-use Rattle.values.specs.Apply.{Apply, all_of}
-use Rattle.values.specs.declared.numbers.JobId.{JobId}
+use Rattle.values.specs.Apply.{Apply}
 use Rattle.plan_core.specs.declared.plan.Plan.{Plan}
-use Rattle.plan_core.specs.declared.plan.PlanJob.{PlanJob}
 use Rattle.plan_core.specs.declared.plan.TaskKind.{TaskKind}
-use Rattle.plan_core.specs.declared.plan.TaskKind.TheVariants.{Transfer, Run}
+use Rattle.plan_core.specs.declared.plan.TaskKind.TheVariants.{Transfer}
 use Rattle.plan_core.specs.declared.plan.Source.TheVariants.{Pfn}
-use Rattle.plan_core.specs.Carried.{after_job, read}
+use Rattle.plan_core.specs.Declined.{declined}
 use Rattle.plan_core.specs.Numbers.{has}
-use Rattle.plan_core.specs.Words.{declared, inputs, kind, made, outputs, writes}
+use Rattle.plan_core.specs.Words.{declared, kind, outputs, writes}
 use Rattle.storage_simulation.specs.Goods.{or_zero}
 use Rattle.run_record.specs.declared.entry.Cause.{Cause}
 use Rattle.run_record.specs.declared.entry.Cause.TheVariants.{Absent, TooLong, Checksum, Oversize, Declined, ToolFailed, HostFailed, Memory}
 use Rattle.run_record.specs.Events.{Event, Grant, Arrive, End, Clean, Fail, Again, Regrant}
-use Rattle.lease_book.specs.Legal.{checksum}
+use Rattle.lease_rules.specs.Legal.{checksum}
 use Rattle.site_yard.specs.Changes.{moved}
-use Rattle.site_yard.specs.Names.{pair_file}
+use Rattle.plan_core.specs.Names.{pair_file}
 
 -- the sizes are those of what the task carries for the first of its writes
 abbrev pub AreSizes : Plan → (ℕ → ℕ → Option (List ℕ)) → ℕ → List ℕ → Type 0
 AreSizes p c t ns = map (λ q. option_map length (c t (pair_file p q))) (take (length ns) (writes p t)) ≡ map Some ns
-
--- the first of the jobs on whose inputs the tool makes nothing, where v stands at the files before them
-abbrev pub next_declined : ℕ → Option (List (List ℕ)) → Option ℕ → Option ℕ
-next_declined j None later = Some j
-next_declined j (Some outs) later = later
-
-abbrev pub declined_among : Apply → List PlanJob → List JobId → (ℕ → Option (List ℕ)) → Option ℕ
-declined_among apply jobs [] v = None
-declined_among apply jobs (j ∷ js) v = next_declined j.0 (option_and_then (made apply jobs j.0) (all_of (map v (inputs jobs j.0)))) (declined_among apply jobs js (after_job apply jobs j.0 v))
-
-abbrev pub declined_in : Apply → Plan → (ℕ → ℕ → Option (List ℕ)) → Option TaskKind → Option ℕ
-declined_in apply p at (Some (Run s js)) = declined_among apply p.jobs js (at s.0)
-declined_in apply p at _ = None
-
--- the first job of a Run on whose inputs the tool makes nothing
-abbrev pub declined : Apply → Plan → (ℕ → ℕ → Option (List ℕ)) → ℕ → Option ℕ
-declined apply p c t = declined_in apply p (λ s f. read p c t s f) (kind p t)
 
 -- the first of the pairs for whose file the task carries more than is declared
 abbrev pub is_over : ℕ → Option (List ℕ) → Bool

@@ -5,20 +5,17 @@ use Rattle.values.specs.Apply.{Apply}
 use Rattle.outside.specs.declared.counts.Counts.{Counts}
 use Rattle.outside.specs.declared.store.Store.{Store}
 use Rattle.plan_core.specs.declared.plan.Plan.{Plan}
-use Rattle.plan_core.specs.Carried.{stored}
 use Rattle.plan_core.specs.Words.{is_clean, is_transfer}
 use Rattle.storage_simulation.specs.declared.standing.Phase.TheVariants.{Runs}
 use Rattle.run_record.specs.declared.entry.Cause.{Cause}
 use Rattle.run_record.specs.declared.entry.Cause.TheVariants.{Absent, HostFailed, Memory, TooLong}
 use Rattle.run_record.specs.Events.{Event, Grant, Regrant, Arrive, End, Clean, Fail, Again}
-use Rattle.lease_book.specs.Choice.{HasNoChoice, IsChoice, IsFresh}
-use Rattle.lease_book.specs.Legal.{IsComplete}
-use Rattle.lease_book.specs.State.{State}
-use Rattle.outside.specs.Parts.{DraftState, ReadState}
+use Rattle.lease_rules.specs.Choice.{HasNoChoice, IsChoice, IsFresh}
+use Rattle.lease_rules.specs.Legal.{IsComplete}
+use Rattle.lease_rules.specs.State.{State}
+use Rattle.outside.specs.Parts.{DraftState, ReadState, part_faults}
 use Rattle.site_yard.specs.Changes.{carries}
 use Rattle.site_yard.specs.Failures.{AreMore, IsCounted, IsMore}
-use Rattle.site_yard.specs.Names.{pair_file, pair_site}
-use Rattle.site_yard.specs.Returning.{part_faults}
 use Rattle.site_yard.specs.Truthful.{IsCause}
 use Rattle.site_yard.specs.declared.leased.Leased.{Leased}
 use Rattle.site_yard.specs.declared.leased.Leased.TheVariants as leased
@@ -73,10 +70,6 @@ Leases p s w r after told before now (leased.Again t) = IsChoice p s t.0 × (is_
 Leases p s w r after told before now leased.Done = IsComplete p s × (after ≡ r) × (now ≡ before)
 Leases p s w r after told before now leased.Stopped = (s.failing ≡ true) × (after ≡ r) × (now ≡ before)
 Leases p s w r after told before now leased.NotYet = (s.failing ≡ false) × HasNoChoice p s × ((t : ℕ) → IsFresh p s t → ⊥) × ((u : ℕ) × (s.phase u ≡ Runs)) × (after ≡ r) × (now ≡ before)
-
--- what the writer of a pair carries for its file
-abbrev pub content : Plan → (ℕ → ℕ → Option (List ℕ)) → ℕ → Option (List ℕ)
-content p c q = stored p c (pair_site p q) (pair_file p q)
 
 -- why a loan wasn't made
 abbrev pub IsLending : Cause → Type 0

@@ -3,7 +3,7 @@
 ghost use Rattle.std.specs.Prelude.{◌≡◌, ◌⊎◌, [], IfOk, IfSome, drop, take, true};
 ghost use Rattle.plan_core.specs.Words.{task_numbers};
 ghost use Rattle.lease_book.specs.Book.{state_at};
-ghost use Rattle.lease_book.specs.Legal.{IsComplete, Legal};
+ghost use Rattle.lease_rules.specs.Legal.{IsComplete, Legal};
 ghost use Rattle.site_yard.specs.Changes.{carries};
 ghost use Rattle.site_yard.specs.Delivered.{AreAllDelivered, AreDigests, AreFiles, AreLengths, AreOfBytes, arrivals};
 ghost use Rattle.site_yard.specs.Ending.{Ends};

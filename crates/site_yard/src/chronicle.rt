@@ -2,7 +2,7 @@
 
 ghost use Rattle.std.specs.Prelude.{is_some, take};
 ghost use Rattle.run_record.specs.Events.{Event, Grant};
-ghost use Rattle.lease_book.specs.Owning.{worker};
+ghost use Rattle.lease_rules.specs.Owning.{worker};
 
 use crate::yard::Yard;
 use outside::{Host, Items, Store, TaskId, Tool};

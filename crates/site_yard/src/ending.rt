@@ -5,9 +5,9 @@ ghost use Rattle.plan_core.specs.Words.{declared, kind};
 ghost use Rattle.storage_simulation.specs.Goods.{or_zero};
 ghost use Rattle.run_record.specs.declared.entry.Cause.TheVariants as why;
 ghost use Rattle.run_record.specs.Events.{event};
-ghost use Rattle.lease_book.specs.Legal.{checksum};
+ghost use Rattle.lease_rules.specs.Legal.{checksum};
 ghost use Rattle.run_record.specs.declared.run_fault.RunFault.TheVariants.{Oversize};
-ghost use Rattle.site_yard.specs.Names.{file_name};
+ghost use Rattle.plan_core.specs.Names.{file_name};
 ghost use Rattle.site_yard.specs.Ending.{failed_in, fault_of, first_failed, job_name, moved_file, registered, source_pfn};
 
 use crate::names::{declared_size, file_name};
@@ -35,7 +35,7 @@ fn job_name(plan: &Plan, job: JobId) -> &str
 }
 
 /// The checksum that is registered for a file.
-#[tactic(auto, unfolding(lease_book::specs::Legal::checksum))]
+#[tactic(auto, unfolding(lease_rules::specs::Legal::checksum))]
 fn checksum(plan: &Plan, file: FileId) -> Option<[u8; 32]>
     ensures { result ≡ checksum plan.now file.0 }
 {

@@ -7,12 +7,12 @@ ghost use Rattle.outside.specs.declared.store.Store.{Store};
 ghost use Rattle.plan_core.specs.declared.plan.Plan.{Plan};
 ghost use Rattle.plan_core.specs.Proper.{IsProper};
 ghost use Rattle.run_record.specs.Events.{Event};
-ghost use Rattle.lease_book.specs.Law.{FitsFromStart};
-ghost use Rattle.lease_book.specs.Legal.{Legal};
+ghost use Rattle.lease_rules.specs.Law.{FitsFromStart};
+ghost use Rattle.lease_rules.specs.Legal.{Legal};
 ghost use Rattle.site_yard.specs.Kept.{IsKept};
 ghost use Rattle.site_yard.specs.Law.{AgreesSince, HasPlanLaws, HasRecordLaws};
 
-use lease_book::{allowed_entries_keep_safe, records_read};
+use lease_rules::{allowed_entries_keep_safe, records_read};
 use plan_core::{
     carried_is_carried_along, each_pair_has_one_writer, files_are_listed_by_pair,
     numbers_are_in_range, pairs_stand_once, parents_come_before, rising_lists_are_one,

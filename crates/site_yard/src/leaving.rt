@@ -4,14 +4,14 @@ ghost use Rattle.std.specs.Prelude.{◌≤◌, ◌+◌, ℕ, List, take};
 ghost use Rattle.plan_core.specs.declared.plan.Plan.{Plan};
 ghost use Rattle.plan_core.specs.Proper.{IsProper};
 ghost use Rattle.run_record.specs.Events.{Event};
-ghost use Rattle.lease_book.specs.Law.{FitsFromStart, reserved_at, stored_at};
-ghost use Rattle.lease_book.specs.Legal.{Legal};
-ghost use Rattle.lease_book.specs.State.{now};
+ghost use Rattle.lease_rules.specs.Law.{FitsFromStart, reserved_at, stored_at};
+ghost use Rattle.lease_rules.specs.Legal.{Legal};
+ghost use Rattle.lease_rules.specs.State.{now};
 ghost use Rattle.site_yard.specs.Leaving.{left_in};
 ghost use Rattle.site_yard.specs.Trace.{trace_of};
 
 use crate::law::plan_laws;
-use lease_book::{allowed_entries_keep_safe, legal_records_are_safe};
+use lease_rules::{allowed_entries_keep_safe, legal_records_are_safe};
 use storage_simulation::proper_plans_keep_goods;
 
 /// After every entry of a Legal record its operations have left at a site no more than is stored and reserved there.

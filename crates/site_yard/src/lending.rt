@@ -6,7 +6,7 @@ ghost use Rattle.plan_core.specs.Words.{kind, pair_numbers, reads, writes};
 ghost use Rattle.site_yard.specs.Loan.{AreReadings, delivery_target, fresh_at, pair_target, targets};
 ghost use Rattle.site_yard.specs.Failures.{AreMore};
 ghost use Rattle.site_yard.specs.Lending.{MakesDraft, MakesDrafts, OpensPair, OpensPairs, OpensReadings, RefusesLoan, count_parts};
-ghost use Rattle.site_yard.specs.Returning.{draft_faults, reading_faults};
+ghost use Rattle.outside.specs.Parts.{draft_faults, reading_faults};
 
 use crate::moving::{replica_cause, scratch_cause};
 use crate::names::{declared_size, file_name, pair_file_name, pair_limit, pair_site_name};

@@ -4,7 +4,7 @@ ghost use Rattle.std.specs.Prelude.{◌≡◌, ◌++◌, ◌∷◌, [], IfErr, I
 ghost use Rattle.outside.specs.Counts.{IsLater};
 ghost use Rattle.plan_core.specs.Words.{kind, reads};
 ghost use Rattle.lease_book.specs.Book.{failure, state_at};
-ghost use Rattle.lease_book.specs.Legal.{CauseFits, IsOpen};
+ghost use Rattle.lease_rules.specs.Legal.{CauseFits, IsOpen};
 ghost use Rattle.site_yard.specs.Failures.{AreMore, IsCounted, IsMore};
 ghost use Rattle.site_yard.specs.Kept.{IsOpening};
 ghost use Rattle.site_yard.specs.Lending.{RefusesLoan, count_parts};

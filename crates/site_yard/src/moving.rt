@@ -2,7 +2,7 @@
 
 ghost use Rattle.std.specs.Prelude.{◌≡◌};
 ghost use Rattle.outside.specs.Counts.{IsLater};
-ghost use Rattle.site_yard.specs.Names.{pair_file_name, pair_site_name};
+ghost use Rattle.plan_core.specs.Names.{pair_file_name, pair_site_name};
 ghost use Rattle.site_yard.specs.Moving.{SweptAway, replica_cause, scratch_cause};
 
 use crate::names::{pair_file_name, pair_site_name};

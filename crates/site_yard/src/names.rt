@@ -6,13 +6,14 @@ ghost use Rattle.plan_core.specs.declared.plan.Pair.{Pair};
 ghost use Rattle.plan_core.specs.declared.plan.TaskKind.TheVariants.{Clean};
 ghost use Rattle.plan_core.specs.Words.{declared, is_clean, kind};
 ghost use Rattle.storage_simulation.specs.Goods.{or_zero};
-ghost use Rattle.site_yard.specs.Names.{file_name, is_used, pair_file, pair_file_name, pair_limit, pair_site, pair_site_name, site_name};
+ghost use Rattle.lease_rules.specs.Storing.{pair_limit};
+ghost use Rattle.plan_core.specs.Names.{file_name, is_used, pair_file, pair_file_name, pair_site, pair_site_name, site_name};
 
 use outside::{FileId, PairId, SiteId, TaskId};
 use plan_core::{Plan, TaskKind};
 
 /// The name of a site.
-#[tactic(auto, unfolding(crate::specs::Names::site_name))]
+#[tactic(auto, unfolding(plan_core::specs::Names::site_name))]
 pub(crate) fn site_name(plan: &Plan, site: SiteId) -> &str
     ensures { result.now ≡ site_name plan.now site.0 }
 {
@@ -23,7 +24,7 @@ pub(crate) fn site_name(plan: &Plan, site: SiteId) -> &str
 }
 
 /// The name of a file.
-#[tactic(auto, unfolding(crate::specs::Names::file_name))]
+#[tactic(auto, unfolding(plan_core::specs::Names::file_name))]
 pub(crate) fn file_name(plan: &Plan, file: FileId) -> &str
     ensures { result.now ≡ file_name plan.now file.0 }
 {
@@ -33,7 +34,7 @@ pub(crate) fn file_name(plan: &Plan, file: FileId) -> &str
     }
 }
 
-#[tactic(auto, unfolding(crate::specs::Names::pair_site))]
+#[tactic(auto, unfolding(plan_core::specs::Names::pair_site))]
 fn pair_site(plan: &Plan, pair: PairId) -> SiteId
     ensures { result.0 ≡ pair_site plan.now pair.0 }
 {
@@ -43,7 +44,7 @@ fn pair_site(plan: &Plan, pair: PairId) -> SiteId
     }
 }
 
-#[tactic(auto, unfolding(crate::specs::Names::pair_file))]
+#[tactic(auto, unfolding(plan_core::specs::Names::pair_file))]
 pub(crate) fn pair_file(plan: &Plan, pair: PairId) -> FileId
     ensures { result.0 ≡ pair_file plan.now pair.0 }
 {
@@ -85,7 +86,7 @@ pub(crate) fn pair_limit(plan: &Plan, pair: PairId) -> u64
 }
 
 /// Whether a site has a pair.
-#[tactic(auto, unfolding(crate::specs::Names::is_used))]
+#[tactic(auto, unfolding(plan_core::specs::Names::is_used))]
 pub(crate) fn is_used(plan: &Plan, site: SiteId) -> bool
     ensures { result ≡ is_used plan.now site.0 }
 {

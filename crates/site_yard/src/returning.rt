@@ -3,7 +3,8 @@
 ghost use Rattle.std.specs.Prelude.{◌≡◌, map};
 ghost use Rattle.outside.specs.Counts.{IsLater};
 ghost use Rattle.site_yard.specs.Failures.{AreMore};
-ghost use Rattle.site_yard.specs.Returning.{Publishes, draft_faults, reading_faults};
+ghost use Rattle.outside.specs.Parts.{draft_faults, reading_faults};
+ghost use Rattle.site_yard.specs.Returning.{Publishes};
 
 use outside::{Host, HostFault};
 use std::alloc::Global;

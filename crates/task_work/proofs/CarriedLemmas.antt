@@ -17,10 +17,9 @@ use Rattle.plan_core.specs.Numbers.{has}
 use Rattle.plan_core.specs.Proper.{IsProper, stands}
 use Rattle.plan_core.specs.Words.{count_pairs, is_pair, is_run, is_run_kind, kind, pair, pair_at, reads, writes}
 use Rattle.plan_core.proofs.TestLemmas.{both, by_bool, is_itself, or_left, or_right, same_number}
-use Rattle.site_yard.specs.Names.{file_in, pair_file, pair_site, site_in}
-use Rattle.site_yard.specs.Truthful.{declined_among, declined_in}
+use Rattle.plan_core.specs.Names.{file_in, pair_file, pair_site, site_in, content}
+use Rattle.plan_core.specs.Declined.{declined_among, declined_in}
 use Rattle.task_work.specs.Computing.{IsComputed, files_of, given, jobs_in}
-use Rattle.site_yard.specs.Yard.{content}
 use Rattle.task_work.proofs.PairLemmas.{pair_is, pair_with}
 
 -- a pair by its site and its file

@@ -21,9 +21,9 @@ use Rattle.run_record.specs.declared.entry.Cause.TheVariants as why
 use Rattle.storage_simulation.specs.Following.{AreOnce}
 use Rattle.storage_simulation.proofs.FollowingLemmas.{once_more, once_parts}
 use Rattle.storage_simulation.proofs.RisingLemmas.{rises_once}
-use Rattle.lease_book.specs.Legal.{has_job}
-use Rattle.site_yard.specs.Names.{pair_file, pair_site}
-use Rattle.site_yard.specs.Truthful.{declined_among}
+use Rattle.lease_rules.specs.Legal.{has_job}
+use Rattle.plan_core.specs.Names.{pair_file, pair_site}
+use Rattle.plan_core.specs.Declined.{declined_among}
 use Rattle.task_work.specs.Computing.{Computes, computed, files_of, given, jobs_in}
 use Rattle.task_work.specs.Running.{RanJobs, RunsJobs}
 use Rattle.task_work.specs.Table.{at}

@@ -2,7 +2,7 @@
 use Rattle.std.proofs.Common.{◌≡◌, ℕ, ◌+◌, ◌≤◌, ◌<◌, true, List, [], ◌∷◌, length, map, get_or, set, refl, sym, ap, ◌∙◌, subst, arith}
 use Rattle.std.specs.Prelude.{Option, Some, None, option_map, is_some, IfSome, Result, Ok, Err}
 use Rattle.outside.specs.Counts.{Rose}
-use Rattle.outside.specs.Parts.{DraftState, Drafted, ReadState, extended}
+use Rattle.outside.specs.Parts.{DraftState, Drafted, ReadState, extended, part_faults}
 use Rattle.outside.specs.declared.host.HostFault.{HostFault}
 use Rattle.outside.specs.declared.host.HostFault.TheVariants as fault
 use Rattle.outside.specs.declared.place.Place.{Place}
@@ -15,12 +15,11 @@ use Rattle.plan_core.specs.declared.plan.TaskKind.TheVariants.{Transfer, Run, Cl
 use Rattle.plan_core.specs.Words.{is_transfer_kind, kind, writes}
 use Rattle.run_record.specs.declared.entry.Cause.{Cause}
 use Rattle.run_record.specs.declared.entry.Cause.TheVariants as why
-use Rattle.lease_book.specs.Legal.{checksum, is_wrong_for}
-use Rattle.site_yard.specs.Names.{pair_file}
+use Rattle.lease_rules.specs.Legal.{checksum, is_wrong_for}
+use Rattle.plan_core.specs.Names.{pair_file}
 use Rattle.task_work.specs.Computing.{IsComputed, Makes, computed}
 use Rattle.task_work.specs.Filling.{AreParts}
 use Rattle.task_work.specs.Making.{AreWritten, Each}
-use Rattle.site_yard.specs.Returning.{part_faults}
 use Rattle.task_work.specs.Moving.{Agrees, IsAgreed, Moves, part_cause}
 use Rattle.task_work.specs.Pieces.{HasMoved, HasRead, IsPartFault, IsSteadyDraft}
 use Rattle.values.specs.Apply.{Apply}

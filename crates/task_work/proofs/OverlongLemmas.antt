@@ -14,9 +14,9 @@ use Rattle.plan_core.specs.Numbers.{has}
 use Rattle.plan_core.specs.Words.{count_pairs, file_numbers, is_pair, is_run, is_run_kind, job_numbers, kind, outputs, pair_numbers, reads, writes}
 use Rattle.plan_core.proofs.TestLemmas.{both, is_itself, or_left, or_right}
 use Rattle.run_record.specs.declared.entry.Cause.TheVariants.{Oversize}
-use Rattle.lease_book.specs.Legal.{CauseFits, is_too_long}
-use Rattle.site_yard.specs.Names.{pair_file, pair_limit, pair_site}
-use Rattle.site_yard.specs.Storing.{AreWithin, IsFirstPast, IsOverlong}
+use Rattle.lease_rules.specs.Legal.{CauseFits, is_too_long}
+use Rattle.lease_rules.specs.Storing.{pair_limit, AreWithin, IsFirstPast, IsOverlong}
+use Rattle.plan_core.specs.Names.{pair_file, pair_site}
 use Rattle.task_work.proofs.PairLemmas.{written_file}
 
 same_id : (q : ℕ) (qs : List ℕ) → has (q ∷ qs) q ≡ true

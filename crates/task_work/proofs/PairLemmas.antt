@@ -7,7 +7,7 @@ use Rattle.plan_core.specs.Kinds.{writes_file}
 use Rattle.plan_core.specs.Numbers.{has}
 use Rattle.plan_core.specs.Words.{count_pairs, is_pair, pair, pair_at, reads, writes}
 use Rattle.plan_core.proofs.TestLemmas.{by_bool, is_itself, or_left, or_right, same_number}
-use Rattle.site_yard.specs.Names.{file_in, pair_file, pair_site, site_in}
+use Rattle.plan_core.specs.Names.{file_in, pair_file, pair_site, site_in}
 use Rattle.task_work.specs.Computing.{files_of}
 use Rattle.task_work.proofs.SmallLemmas.{not_none}
 

@@ -11,9 +11,9 @@ use Rattle.plan_core.specs.Words.{reads, writes}
 use Rattle.run_record.specs.declared.entry.Cause.{Cause}
 use Rattle.run_record.specs.declared.entry.Cause.TheVariants as why
 use Rattle.storage_simulation.specs.Goods.{makes}
-use Rattle.lease_book.specs.Legal.{AreOfFirst, CauseFits}
-use Rattle.site_yard.specs.Names.{pair_file}
-use Rattle.site_yard.specs.Storing.{AreWithin}
+use Rattle.lease_rules.specs.Legal.{AreOfFirst, CauseFits}
+use Rattle.plan_core.specs.Names.{pair_file}
+use Rattle.lease_rules.specs.Storing.{AreWithin}
 use Rattle.task_work.specs.Computing.{Computes, Makes, computed, files_of}
 use Rattle.task_work.specs.Making.{AreStored, AreWritten, Each, IsFaultOf, IsRunCause, IsShown, MakesWithin, OfRead, blames}
 use Rattle.task_work.specs.Moving.{part_cause}

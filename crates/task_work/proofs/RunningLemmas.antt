@@ -1,7 +1,6 @@
 -- One job more.
 use Rattle.std.proofs.Common.{◌≡◌, ℕ, zero, suc, ◌+◌, ◌<◌, ◌≤◌, ◌||◌, Bool, true, false, nat_eq, List, [], ◌∷◌, length, map, drop, get_or, refl, sym, ap, subst, ◌∙◌, drop-cons, arith}
-use Rattle.std.specs.Prelude.{Option, Some, None, is_some, if◌then◌else◌, option_and_then, slice_get, Result, Ok, Err}
-use Rattle.std.specs.Prelude.{Vec}
+use Rattle.std.specs.Prelude.{Option, Some, None, is_some, if◌then◌else◌, option_and_then, slice_get, Result, Ok, Err, Vec}
 use Rattle.std.specs.declared.alloc.Global.{Global}
 use Rattle.task_work.specs.Table.{IsFound}
 use Rattle.std.proofs.Math.Path.{fun_ext}
@@ -16,7 +15,7 @@ use Rattle.plan_core.specs.Words.{file_numbers, inputs, inputs_in, job_numbers, 
 use Rattle.plan_core.proofs.TestLemmas.{by_bool, is_itself, or_left, or_right}
 use Rattle.run_record.specs.declared.entry.Cause.{Cause}
 use Rattle.run_record.specs.declared.entry.Cause.TheVariants as why
-use Rattle.site_yard.specs.Truthful.{declined_among, next_declined}
+use Rattle.plan_core.specs.Declined.{declined_among, next_declined}
 use Rattle.task_work.specs.Running.{IsToolCause, Places, RanJob, RanJobs, RunsJob, RunsJobs, RunsTool, made_by, made_of}
 
 -- a job by its number

@@ -11,9 +11,9 @@ use Rattle.plan_core.specs.Carried.{after_jobs}
 use Rattle.plan_core.specs.Words.{kind, reads, writes}
 use Rattle.run_record.specs.declared.entry.Cause.{Cause}
 use Rattle.run_record.specs.declared.entry.Cause.TheVariants.{Declined, ToolFailed, Memory}
-use Rattle.lease_book.specs.Legal.{has_job}
-use Rattle.site_yard.specs.Names.{pair_file}
-use Rattle.site_yard.specs.Truthful.{declined, declined_among}
+use Rattle.lease_rules.specs.Legal.{has_job}
+use Rattle.plan_core.specs.Names.{pair_file}
+use Rattle.plan_core.specs.Declined.{declined, declined_among}
 
 -- the jobs of a Run
 abbrev pub jobs_in : Option TaskKind → List JobId

@@ -2,7 +2,7 @@
 use Rattle.std.specs.Prelude.{◌≡◌, ℕ, ◌≤◌, true, List, [], ◌∷◌, length, map, Option, Some, Result, Ok, Err}
 use Rattle.values.specs.Apply.{Apply}
 use Rattle.outside.specs.Counts.{Rose}
-use Rattle.outside.specs.Parts.{DraftState, ReadState}
+use Rattle.outside.specs.Parts.{DraftState, ReadState, part_faults}
 use Rattle.plan_core.specs.declared.plan.Plan.{Plan}
 use Rattle.plan_core.specs.declared.plan.TaskKind.{TaskKind}
 use Rattle.plan_core.specs.declared.plan.TaskKind.TheVariants.{Transfer, Run}
@@ -10,10 +10,9 @@ use Rattle.plan_core.specs.Words.{is_run, is_transfer, kind, reads, writes}
 use Rattle.storage_simulation.specs.Goods.{is_delivery}
 use Rattle.run_record.specs.declared.entry.Cause.{Cause}
 use Rattle.run_record.specs.declared.entry.Cause.TheVariants.{Checksum, HostFailed, Memory}
-use Rattle.lease_book.specs.Legal.{is_from_pfn, is_wrong_for}
-use Rattle.site_yard.specs.Names.{pair_limit}
+use Rattle.lease_rules.specs.Legal.{is_from_pfn, is_wrong_for}
+use Rattle.lease_rules.specs.Storing.{pair_limit}
 use Rattle.task_work.specs.Making.{AreStored, IsRunCause, OfRead, limit_of}
-use Rattle.site_yard.specs.Returning.{part_faults}
 use Rattle.task_work.specs.Moving.{IsAgreeing, digest_of}
 use Rattle.task_work.specs.Pieces.{HasMoved}
 use Rattle.task_work.specs.declared.filling.Filled.{Filled}

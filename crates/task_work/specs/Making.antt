@@ -10,8 +10,8 @@ use Rattle.plan_core.specs.declared.plan.Plan.{Plan}
 use Rattle.plan_core.specs.Words.{reads, writes}
 use Rattle.run_record.specs.declared.entry.Cause.{Cause}
 use Rattle.run_record.specs.declared.entry.Cause.TheVariants.{Declined, HostFailed, Memory, Oversize, ToolFailed}
-use Rattle.site_yard.specs.Failures.{fault_in}
-use Rattle.site_yard.specs.Storing.{AreWithin, IsOverlong}
+use Rattle.lease_rules.specs.Causes.{fault_in}
+use Rattle.lease_rules.specs.Storing.{AreWithin, IsOverlong}
 use Rattle.task_work.specs.Computing.{Computes, Makes, first_declined}
 use Rattle.task_work.specs.Pieces.{HasRead, HasWritten}
 

@@ -11,7 +11,7 @@ use Rattle.plan_core.specs.declared.plan.TaskKind.TheVariants.{Transfer}
 use Rattle.plan_core.specs.Words.{kind}
 use Rattle.run_record.specs.declared.entry.Cause.{Cause}
 use Rattle.run_record.specs.declared.entry.Cause.TheVariants.{Checksum, HostFailed, Memory}
-use Rattle.lease_book.specs.Legal.{checksum, differs_from, is_from_pfn, is_wrong_for}
+use Rattle.lease_rules.specs.Legal.{checksum, differs_from, is_from_pfn, is_wrong_for}
 use Rattle.task_work.specs.Pieces.{HasMoved}
 use Rattle.task_work.specs.declared.pieces.Moved.{Moved}
 

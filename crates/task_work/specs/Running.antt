@@ -10,7 +10,7 @@ use Rattle.plan_core.specs.Numbers.{has, or_else}
 use Rattle.plan_core.specs.Words.{file_numbers, inputs, job_numbers, made, outputs}
 use Rattle.run_record.specs.declared.entry.Cause.{Cause}
 use Rattle.run_record.specs.declared.entry.Cause.TheVariants.{Declined, ToolFailed, Memory}
-use Rattle.site_yard.specs.Truthful.{declined_among}
+use Rattle.plan_core.specs.Declined.{declined_among}
 
 -- what a job's tool makes of these inputs
 abbrev pub made_by : Apply → PlanJob → List (List ℕ) → Option (List (List ℕ))

@@ -3,10 +3,10 @@
 ghost use Rattle.std.specs.Prelude.{◌≡◌, ◌+◌, ◌≤◌, [], IfErr, IfOk, map, true};
 ghost use Rattle.plan_core.specs.Proper.{IsProper};
 ghost use Rattle.plan_core.specs.Words.{is_transfer, kind};
-ghost use Rattle.lease_book.specs.Legal.{CauseFits};
+ghost use Rattle.lease_rules.specs.Legal.{CauseFits};
 ghost use Rattle.task_work.specs.Filling.{AreParts, FillsTransfer, HasFilled, IsWhy};
 ghost use Rattle.task_work.specs.Making.{AreBegun, AreEmpty, Each, IsShown, blames};
-ghost use Rattle.site_yard.specs.Returning.{part_faults};
+ghost use Rattle.outside.specs.Parts.{part_faults};
 ghost use Rattle.task_work.specs.Pieces.{IsSteadyDraft, IsSteadyReading};
 
 use crate::making::make_files;

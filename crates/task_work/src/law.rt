@@ -7,7 +7,7 @@ ghost use Rattle.plan_core.specs.Carried.{Bytes, carried};
 ghost use Rattle.plan_core.specs.Proper.{IsProper};
 ghost use Rattle.plan_core.specs.Words.{is_run, reads};
 ghost use Rattle.task_work.specs.Computing.{IsComputed};
-ghost use Rattle.site_yard.specs.Yard.{content};
+ghost use Rattle.plan_core.specs.Names.{content};
 
 use plan_core::{carried_is_carried_along, files_are_listed_by_pair};
 

@@ -3,10 +3,10 @@
 ghost use Rattle.std.specs.Prelude.{◌≡◌, ◌+◌, ◌≤◌, ◌++◌, ◌∷◌, [], IfErr, IfOk, OnOk, length, map, true};
 ghost use Rattle.plan_core.specs.Proper.{IsProper};
 ghost use Rattle.plan_core.specs.Words.{is_run, reads, writes};
-ghost use Rattle.lease_book.specs.Legal.{CauseFits};
-ghost use Rattle.site_yard.specs.Names.{pair_limit};
+ghost use Rattle.lease_rules.specs.Legal.{CauseFits};
+ghost use Rattle.lease_rules.specs.Storing.{pair_limit};
 ghost use Rattle.task_work.specs.Making.{AreBegun, AreEmpty, AreStored, AreWritten, Each, Fits, IsFaultOf, IsRunCause, IsShown, MakesWithin, OfRead, blames, limit_of};
-ghost use Rattle.site_yard.specs.Returning.{draft_faults, part_faults, reading_faults};
+ghost use Rattle.outside.specs.Parts.{draft_faults, part_faults, reading_faults};
 ghost use Rattle.task_work.specs.Pieces.{HasRead, IsSteadyDraft, IsSteadyReading, fails_in};
 
 use crate::computing::compute;

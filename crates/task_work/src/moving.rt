@@ -1,7 +1,7 @@
 //! The bytes of a Transfer, and their digest.
 
 ghost use Rattle.std.specs.Prelude.{◌≡◌, ◌+◌, ◌≤◌, true};
-ghost use Rattle.lease_book.specs.Legal.{checksum};
+ghost use Rattle.lease_rules.specs.Legal.{checksum};
 ghost use Rattle.plan_core.specs.Words.{is_transfer, kind};
 ghost use Rattle.storage_simulation.specs.Goods.{is_delivery};
 ghost use Rattle.task_work.specs.Making.{blames};
@@ -26,7 +26,7 @@ pub(crate) fn part_cause(fault: HostFault) -> Cause
 }
 
 /// The checksum that is registered for a file.
-#[tactic(auto, unfolding(lease_book::specs::Legal::checksum))]
+#[tactic(auto, unfolding(lease_rules::specs::Legal::checksum))]
 fn checksum(plan: &Plan, file: FileId) -> Option<[u8; 32]>
     ensures { result ≡ checksum plan.now file.0 }
 {

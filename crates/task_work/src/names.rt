@@ -1,14 +1,14 @@
 //! The file of a pair, and its declared size.
 
 ghost use Rattle.std.specs.Prelude.{◌≡◌};
-ghost use Rattle.site_yard.specs.Names.{pair_limit};
-ghost use Rattle.site_yard.specs.Names.{pair_file};
+ghost use Rattle.lease_rules.specs.Storing.{pair_limit};
+ghost use Rattle.plan_core.specs.Names.{pair_file};
 
 use outside::{FileId, PairId};
 use plan_core::Plan;
 
 /// The file of a pair.
-#[tactic(auto, unfolding(site_yard::specs::Names::pair_file))]
+#[tactic(auto, unfolding(plan_core::specs::Names::pair_file))]
 pub(crate) fn pair_file(plan: &Plan, pair: PairId) -> FileId
     ensures { result.0 ≡ pair_file plan.now pair.0 }
 {

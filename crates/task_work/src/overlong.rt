@@ -7,8 +7,8 @@ ghost use Rattle.plan_core.specs.Numbers.{has};
 ghost use Rattle.plan_core.specs.Kinds.{carries, makes};
 ghost use Rattle.plan_core.specs.Proper.{IsProper};
 ghost use Rattle.plan_core.specs.Words.{file_numbers, is_run, job_numbers, kind, outputs, pair_numbers, writes};
-ghost use Rattle.lease_book.specs.Legal.{has_job};
-ghost use Rattle.site_yard.specs.Storing.{AreWithin, IsFirstPast, IsOverlong};
+ghost use Rattle.lease_rules.specs.Legal.{has_job};
+ghost use Rattle.lease_rules.specs.Storing.{AreWithin, IsFirstPast, IsOverlong};
 
 use crate::names::{pair_file, pair_limit};
 use outside::{Blob, FileId, JobId, PairId, TaskId};

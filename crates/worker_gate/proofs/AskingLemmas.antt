@@ -7,7 +7,7 @@ use Rattle.plan_core.specs.declared.plan.Plan.{Plan}
 use Rattle.run_record.specs.declared.entry.Cause.{Cause}
 use Rattle.run_record.specs.declared.entry.Cause.TheVariants.{Absent, TooLong, Checksum, Oversize, Declined, ToolFailed, HostFailed, Memory}
 use Rattle.run_record.specs.Events.{Event, Grant, Arrive, End, Clean, Fail, Again, Regrant}
-use Rattle.lease_book.specs.State.{State}
+use Rattle.lease_rules.specs.State.{State}
 use Rattle.ruled_lock.specs.Chronicle.{GrowsAlike}
 use Rattle.site_yard.specs.declared.leased.Leased.{Leased}
 use Rattle.site_yard.specs.declared.leased.Leased.TheVariants as leased

@@ -9,7 +9,7 @@ use Rattle.plan_core.specs.declared.plan.Plan.{Plan}
 use Rattle.run_record.specs.declared.entry.Cause.{Cause}
 use Rattle.run_record.specs.Events.{Event, Grant, Arrive, End, Clean, Fail, Again, Regrant}
 use Rattle.lease_book.specs.Book.{failure, is_tried_again}
-use Rattle.lease_book.specs.State.{State}
+use Rattle.lease_rules.specs.State.{State}
 use Rattle.site_yard.specs.Failures.{AreMore, IsMore}
 use Rattle.site_yard.specs.Lending.{count_parts}
 use Rattle.site_yard.specs.Loan.{targets}

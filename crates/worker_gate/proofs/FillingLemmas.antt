@@ -5,7 +5,7 @@ use Rattle.std.specs.Prelude.{Option, Some, None, Result, Ok, Err}
 use Rattle.std.specs.FinMap as files
 use Rattle.values.specs.Apply.{Apply}
 use Rattle.outside.specs.Counts.{Rose}
-use Rattle.outside.specs.Parts.{DraftState, ReadState}
+use Rattle.outside.specs.Parts.{DraftState, ReadState, part_faults}
 use Rattle.outside.specs.declared.store.Store.{Store}
 use Rattle.plan_core.specs.declared.plan.Plan.{Plan}
 use Rattle.plan_core.specs.Proper.{IsProper}
@@ -13,16 +13,16 @@ use Rattle.plan_core.specs.Words.{kind}
 use Rattle.run_record.specs.declared.entry.Cause.{Cause}
 use Rattle.run_record.specs.declared.entry.Cause.TheVariants as why
 use Rattle.run_record.specs.Events.{Event}
-use Rattle.lease_book.specs.Legal.{CauseFits}
+use Rattle.lease_rules.specs.Legal.{CauseFits}
 use Rattle.site_yard.specs.Changes.{carries}
-use Rattle.site_yard.specs.Failures.{RoseBy, fault_in}
+use Rattle.lease_rules.specs.Causes.{fault_in}
+use Rattle.site_yard.specs.Failures.{RoseBy}
 use Rattle.site_yard.specs.Kept.{IsOpening}
 use Rattle.site_yard.specs.Law.{HasPlanLaws}
 use Rattle.site_yard.specs.Truthful.{IsCause}
 use Rattle.site_yard.specs.Yard.{IsBehind, IsTold, IsWorkers}
 use Rattle.task_work.specs.Filling.{IsWhy}
 use Rattle.task_work.specs.Making.{Each, IsShown}
-use Rattle.site_yard.specs.Returning.{part_faults}
 use Rattle.task_work.specs.Pieces.{IsSteadyDraft}
 use Rattle.task_work.specs.declared.filling.Filled.{Filled}
 use Rattle.task_work.specs.declared.filling.Filled.TheVariants.{Moved, Made}

@@ -14,8 +14,8 @@ use Rattle.run_record.specs.declared.entry.Cause.{Cause}
 use Rattle.run_record.specs.declared.entry.Cause.TheVariants as why
 use Rattle.run_record.specs.Events.{Event, Grant, Arrive, End, Clean, Fail, Again, Regrant}
 use Rattle.lease_book.specs.Book.{failure, is_tried_again}
-use Rattle.lease_book.specs.Owning.{worker}
-use Rattle.lease_book.specs.State.{State}
+use Rattle.lease_rules.specs.Owning.{worker}
+use Rattle.lease_rules.specs.State.{State}
 use Rattle.ruled_lock.specs.Chronicle.{AddsAtMostOne, GrowsAlike}
 use Rattle.site_yard.specs.Yard.{Adds, IsAgain, IsFail, IsFailure, IsLending, IsSettled, IsStop, Leases}
 use Rattle.site_yard.specs.declared.chronicle.Charter.{Charter}

@@ -15,3 +15,4 @@ mod AskingLemmas
 mod WorkingLemmas
 mod HandsLemmas
 mod ManyLemmas
+pub mod SendLemmas

@@ -5,7 +5,7 @@ use Rattle.std.specs.FinMap as files
 use Rattle.std.proofs.lemmas.List.{length-append, length-map}
 use Rattle.values.specs.Apply.{Apply}
 use Rattle.outside.specs.Lending.{IsOpened, TellsFound}
-use Rattle.outside.specs.Parts.{DraftState, ReadState, extended}
+use Rattle.outside.specs.Parts.{DraftState, ReadState, extended, draft_faults, part_faults, reading_faults}
 use Rattle.outside.specs.declared.store.Store.{Store}
 use Rattle.plan_core.specs.declared.plan.Plan.{Plan}
 use Rattle.plan_core.specs.declared.plan.Source.TheVariants.{Pfn, Site}
@@ -17,9 +17,8 @@ use Rattle.storage_simulation.specs.Goods.{or_zero}
 use Rattle.run_record.specs.declared.entry.Cause.TheVariants as why
 use Rattle.run_record.specs.Events.{Event}
 use Rattle.site_yard.specs.Law.{HasPlanLaws}
-use Rattle.site_yard.specs.Names.{pair_limit}
+use Rattle.lease_rules.specs.Storing.{pair_limit}
 use Rattle.site_yard.specs.Loan.{Aim, AreDrafts, AreOpened, AreReadings, IsDraftOf, IsLent, IsLoan, IsReplica, at_pair, count_readings, fresh_at, pair_target, targets, targets_in}
-use Rattle.site_yard.specs.Returning.{draft_faults, part_faults, reading_faults}
 use Rattle.site_yard.specs.Yard.{IsTold}
 use Rattle.site_yard.proofs.AimLemmas.{aim_of, moved_limit}
 use Rattle.site_yard.proofs.PlanLemmas.{transfer_reads}

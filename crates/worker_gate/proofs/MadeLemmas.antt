@@ -3,7 +3,7 @@ use Rattle.std.proofs.Common.{◌≡◌, ℕ, ◌≤◌, ◌<◌, inl, inr, Bool
 use Rattle.std.specs.Prelude.{Option, Some, None, option_map, IfSome}
 use Rattle.std.specs.FinMap as files
 use Rattle.values.specs.Apply.{Apply}
-use Rattle.outside.specs.Parts.{DraftState, ReadState}
+use Rattle.outside.specs.Parts.{DraftState, ReadState, part_faults}
 use Rattle.outside.specs.declared.store.Store.{Store}
 use Rattle.plan_core.specs.declared.plan.Plan.{Plan}
 use Rattle.plan_core.specs.declared.plan.TaskKind.{TaskKind}
@@ -14,16 +14,15 @@ use Rattle.plan_core.specs.Proper.{IsProper}
 use Rattle.plan_core.specs.Words.{is_run, is_run_kind, kind, outputs, reads, writes}
 use Rattle.storage_simulation.specs.Goods.{is_delivery, is_delivery_kind}
 use Rattle.run_record.specs.Events.{Event}
-use Rattle.lease_book.specs.Legal.{has_job}
+use Rattle.lease_rules.specs.Legal.{has_job}
 use Rattle.site_yard.specs.Changes.{carries}
 use Rattle.site_yard.specs.Kept.{IsOpening}
 use Rattle.site_yard.specs.Law.{HasPlanLaws}
 use Rattle.site_yard.specs.Loan.{Aim, AreCarried, AreSmall, CanSettle, draft_size, fresh_at, inputs, pair_target, targets, targets_in}
-use Rattle.site_yard.specs.Names.{pair_file, pair_limit}
-use Rattle.site_yard.specs.Returning.{part_faults}
-use Rattle.site_yard.specs.Storing.{AreWithin, IsFirstPast, IsOverlong}
-use Rattle.site_yard.specs.Truthful.{HasChecksum, IsLongAs, declined, is_over, oversize_among}
-use Rattle.site_yard.specs.Yard.{content}
+use Rattle.lease_rules.specs.Storing.{pair_limit, AreWithin, IsFirstPast, IsOverlong}
+use Rattle.plan_core.specs.Names.{pair_file, content}
+use Rattle.plan_core.specs.Declined.{declined}
+use Rattle.site_yard.specs.Truthful.{HasChecksum, IsLongAs, is_over, oversize_among}
 use Rattle.task_work.specs.Computing.{IsComputed, Makes, computed, files_of, first_declined}
 use Rattle.task_work.specs.Making.{AreStored, AreWritten, Each, MakesOverlong, OfRead}
 use Rattle.task_work.specs.Pieces.{HasRead, IsSteadyDraft, IsSteadyReading}

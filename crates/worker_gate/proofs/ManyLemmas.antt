@@ -14,10 +14,10 @@ use Rattle.plan_core.specs.Proper.{IsProper}
 use Rattle.plan_core.specs.Words.{task_numbers}
 use Rattle.run_record.specs.Events.{Event, Grant, Arrive, End, Clean, Fail, Again, Regrant}
 use Rattle.lease_book.specs.declared.book.Book.{Book}
-use Rattle.lease_book.specs.Law.{FitsFromStart}
-use Rattle.lease_book.specs.Legal.{IsComplete, Legal}
-use Rattle.lease_book.specs.Owning.{entries_by, is_open, is_open_after, worker}
-use Rattle.lease_book.specs.State.{now}
+use Rattle.lease_rules.specs.Law.{FitsFromStart}
+use Rattle.lease_rules.specs.Legal.{IsComplete, Legal}
+use Rattle.lease_rules.specs.Owning.{entries_by, is_open, is_open_after, worker}
+use Rattle.lease_rules.specs.State.{now}
 use Rattle.ruled_lock.specs.Chronicle.{items_of, list_of}
 use Rattle.ruled_lock.specs.Pass.{charter_of, count_of, lists_of, mine_of, seen_of, worker_of}
 use Rattle.ruled_lock.specs.declared.lock.RuledLock.{RuledLock}

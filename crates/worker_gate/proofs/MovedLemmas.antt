@@ -4,7 +4,7 @@ use Rattle.std.specs.Prelude.{Option, Some, None, option_map, is_some, IfSome}
 use Rattle.std.specs.FinMap as files
 use Rattle.sha2.specs.Sha256.{sha256}
 use Rattle.values.specs.Apply.{Apply}
-use Rattle.outside.specs.Parts.{DraftState, Drafted, ReadState, extended}
+use Rattle.outside.specs.Parts.{DraftState, Drafted, ReadState, extended, part_faults}
 use Rattle.outside.specs.declared.store.Store.{Store}
 use Rattle.plan_core.specs.declared.plan.Plan.{Plan}
 use Rattle.plan_core.specs.declared.plan.Source.TheVariants.{Pfn, Site}
@@ -15,13 +15,12 @@ use Rattle.plan_core.specs.Proper.{IsProper}
 use Rattle.plan_core.specs.Words.{is_transfer, is_transfer_kind, kind, reads}
 use Rattle.storage_simulation.specs.Goods.{is_delivery}
 use Rattle.run_record.specs.Events.{Event}
-use Rattle.lease_book.specs.Legal.{checksum, is_from_pfn}
+use Rattle.lease_rules.specs.Legal.{checksum, is_from_pfn}
 use Rattle.site_yard.specs.Changes.{carries, moved}
 use Rattle.site_yard.specs.Delivered.{IsDigestOf}
 use Rattle.site_yard.specs.Kept.{IsOpening}
 use Rattle.site_yard.specs.Law.{HasPlanLaws}
 use Rattle.site_yard.specs.Loan.{Aim, AreCarried, AreSmall, CanSettle, draft_bytes, draft_size, fresh_at, inputs, read_told}
-use Rattle.site_yard.specs.Returning.{part_faults}
 use Rattle.site_yard.specs.Truthful.{HasChecksum, HasSum, IsAtPfn, IsDigest}
 use Rattle.site_yard.proofs.AimLemmas.{IsAimOf, aim_of, moved_limit}
 use Rattle.task_work.specs.Filling.{AreMoved, IsTransferred}

@@ -9,9 +9,9 @@ use Rattle.plan_core.specs.Words.{task_numbers}
 use Rattle.run_record.specs.Events.{Event}
 use Rattle.lease_book.specs.declared.book.Book.{Book}
 use Rattle.lease_book.specs.Book.{state_at}
-use Rattle.lease_book.specs.Legal.{Legal, LegalFrom}
-use Rattle.lease_book.specs.Room.{entries_room}
-use Rattle.lease_book.specs.State.{now, now_from, opened}
+use Rattle.lease_rules.specs.Legal.{Legal, LegalFrom}
+use Rattle.lease_rules.specs.Room.{entries_room}
+use Rattle.lease_rules.specs.State.{now, now_from, opened}
 use Rattle.site_yard.specs.Failures.{RoseBy, tool_faults}
 use Rattle.worker_gate.specs.Alone.{AllBy, IsOver, NoneOpen, TakeFirst, WorksAlone, tried}
 use Rattle.worker_gate.specs.Law.{HasLeaseLaws}

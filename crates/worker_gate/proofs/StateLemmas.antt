@@ -11,11 +11,11 @@ use Rattle.storage_simulation.specs.declared.standing.Phase.{Phase}
 use Rattle.storage_simulation.specs.declared.standing.Phase.TheVariants.{Ended, Runs, Waits}
 use Rattle.run_record.specs.declared.entry.Cause.{Cause}
 use Rattle.run_record.specs.Events.{Event, Grant, Arrive, End, Clean, Fail, Again, Regrant}
-use Rattle.lease_book.specs.Choice.{IsChoice, IsFresh, IsFreshAmong}
-use Rattle.lease_book.specs.Law.{IsConsistent, IsIdle, IsSafeState, IsSoundState}
-use Rattle.lease_book.specs.Legal.{IsOpen, LegalFrom}
-use Rattle.lease_book.specs.Room.{entries_room}
-use Rattle.lease_book.specs.State.{State, after, now_from, put}
+use Rattle.lease_rules.specs.Choice.{IsChoice, IsFresh, IsFreshAmong}
+use Rattle.lease_rules.specs.Law.{IsConsistent, IsIdle, IsSafeState, IsSoundState}
+use Rattle.lease_rules.specs.Legal.{IsOpen, LegalFrom}
+use Rattle.lease_rules.specs.Room.{entries_room}
+use Rattle.lease_rules.specs.State.{State, after, now_from, put}
 use Rattle.worker_gate.specs.Alone.{NoneOpen, TakeFirst}
 use Rattle.worker_gate.specs.Law.{HasLeaseLaws}
 use Rattle.worker_gate.specs.Tending.{HasLoan, IsDone}

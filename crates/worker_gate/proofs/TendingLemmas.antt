@@ -7,7 +7,7 @@ use Rattle.plan_core.specs.declared.plan.Plan.{Plan}
 use Rattle.run_record.specs.declared.entry.Cause.{Cause}
 use Rattle.run_record.specs.Events.{Event}
 use Rattle.lease_book.specs.Book.{failure, is_tried_again}
-use Rattle.lease_book.specs.State.{State}
+use Rattle.lease_rules.specs.State.{State}
 use Rattle.site_yard.specs.Failures.{RoseBy, tool_fault_in}
 use Rattle.site_yard.specs.Yard.{Adds, IsFailure, IsSettled}
 use Rattle.worker_gate.specs.Stepping.{DoesTask}

@@ -19,10 +19,10 @@ use Rattle.run_record.specs.Events.{Event, Grant, Arrive, End, Clean, Fail, Agai
 use Rattle.storage_simulation.specs.declared.ordered.Ordered.{Ordered}
 use Rattle.lease_book.specs.declared.book.Book.{Book}
 use Rattle.lease_book.specs.Book.{state_at}
-use Rattle.lease_book.specs.Law.{FitsFromStart}
-use Rattle.lease_book.specs.Legal.{IsOpen, Legal, LegalFrom}
-use Rattle.lease_book.specs.Owning.{entries_by, is_open, is_open_after, open_after, worker}
-use Rattle.lease_book.specs.State.{State, after, now, opened}
+use Rattle.lease_rules.specs.Law.{FitsFromStart}
+use Rattle.lease_rules.specs.Legal.{IsOpen, Legal, LegalFrom}
+use Rattle.lease_rules.specs.Owning.{entries_by, is_open, is_open_after, open_after, worker}
+use Rattle.lease_rules.specs.State.{State, after, now, opened}
 use Rattle.ruled_lock.specs.Chronicle.{AddsAtMostOne, GrowsAlike}
 use Rattle.site_yard.specs.declared.chronicle.Charter.{Charter}
 use Rattle.site_yard.specs.declared.leased.Leased.{Leased}

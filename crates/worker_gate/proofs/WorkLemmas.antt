@@ -14,15 +14,15 @@ use Rattle.run_record.specs.Events.{Event, Grant, Arrive, End, Clean, Fail, Agai
 use Rattle.storage_simulation.specs.declared.ordered.Ordered.{Ordered}
 use Rattle.lease_book.specs.declared.book.Book.{Book}
 use Rattle.lease_book.specs.Book.{state_at}
-use Rattle.lease_book.specs.Choice.{IsChoice}
-use Rattle.lease_book.specs.Law.{IsConsistent, IsSafeState}
-use Rattle.lease_book.specs.Legal.{IsOpen}
-use Rattle.lease_book.specs.State.{State, after, now, opened}
+use Rattle.lease_rules.specs.Choice.{IsChoice}
+use Rattle.lease_rules.specs.Law.{IsConsistent, IsSafeState}
+use Rattle.lease_rules.specs.Legal.{IsOpen}
+use Rattle.lease_rules.specs.State.{State, after, now, opened}
 use Rattle.lease_book.specs.RunState.{IsSame, state_of}
 use Rattle.site_yard.specs.Failures.{RoseBy, tool_fault_in, tool_faults, tool_faults_of}
 use Rattle.site_yard.specs.Yard.{IsAgain, IsFail, IsFailure, IsLending, IsSettled, IsStop, Leases}
 use Rattle.site_yard.specs.declared.leased.Leased.TheVariants as leased
-use Rattle.lease_book.specs.Owning.{worker}
+use Rattle.lease_rules.specs.Owning.{worker}
 use Rattle.worker_gate.specs.Alone.{IsNext, NoneOpen, TakesFirst}
 use Rattle.worker_gate.specs.Law.{HasLeaseLaws}
 use Rattle.worker_gate.specs.Stepping.{DoesTask, WorksOn}

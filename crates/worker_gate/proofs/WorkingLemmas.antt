@@ -10,7 +10,7 @@ use Rattle.plan_core.specs.Words.{kind}
 use Rattle.run_record.specs.declared.entry.Cause.{Cause}
 use Rattle.run_record.specs.declared.entry.Cause.TheVariants as why
 use Rattle.run_record.specs.Events.{Event, Grant, Regrant}
-use Rattle.lease_book.specs.Owning.{is_open_after}
+use Rattle.lease_rules.specs.Owning.{is_open_after}
 use Rattle.ruled_lock.specs.Pass.{IsSamePass}
 use Rattle.ruled_lock.specs.declared.pass.Pass.{Pass}
 use Rattle.site_yard.specs.Failures.{RoseBy, tool_faults, tool_faults_of}

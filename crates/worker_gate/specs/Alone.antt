@@ -2,10 +2,10 @@
 use Rattle.std.specs.Prelude.{◌≡◌, ◌==◌, ℕ, ◌⊎◌, Bool, true, false, cond, List, [], ◌∷◌, ◌++◌, length, take, Option, Some, None}
 use Rattle.plan_core.specs.declared.plan.Plan.{Plan}
 use Rattle.run_record.specs.Events.{Event, Grant, Clean, Again, Regrant}
-use Rattle.lease_book.specs.Legal.{IsComplete, IsOpen}
-use Rattle.lease_book.specs.State.{State, after, now}
+use Rattle.lease_rules.specs.Legal.{IsComplete, IsOpen}
+use Rattle.lease_rules.specs.State.{State, after, now}
 use Rattle.site_yard.specs.Failures.{RoseBy, tool_faults}
-use Rattle.lease_book.specs.Owning.{worker}
+use Rattle.lease_rules.specs.Owning.{worker}
 
 -- no task is open, for any worker
 abbrev pub NoneOpen : State → Type 0

@@ -3,7 +3,7 @@ use Rattle.std.specs.Prelude.{◌≡◌, ◌⊎◌, ℕ, ◌<◌, List, [], ◌�
 use Rattle.run_record.specs.declared.entry.Cause.{Cause}
 use Rattle.run_record.specs.declared.entry.Cause.TheVariants.{Checksum, Oversize, Declined, ToolFailed}
 use Rattle.run_record.specs.Events.{Event, Arrive, End, Fail, Again}
-use Rattle.lease_book.specs.Owning.{entries_by}
+use Rattle.lease_rules.specs.Owning.{entries_by}
 
 -- What only the filling of a task's drafts can find was found after the gate was asked, once. Any other cause may have
 -- been found before that too, so the gate was asked once at most.

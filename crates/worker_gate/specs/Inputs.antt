@@ -6,14 +6,14 @@ use Rattle.plan_core.specs.declared.plan.Plan.{Plan}
 use Rattle.plan_core.specs.declared.plan.TaskKind.{TaskKind}
 use Rattle.plan_core.specs.declared.plan.TaskKind.TheVariants.{Transfer}
 use Rattle.plan_core.specs.declared.plan.Source.TheVariants.{Pfn}
-use Rattle.lease_book.specs.Legal.{checksum}
+use Rattle.lease_rules.specs.Legal.{checksum}
 use Rattle.plan_core.specs.Words.{declared, is_run, is_transfer, kind, reads, writes}
 use Rattle.storage_simulation.specs.Goods.{or_zero}
 use Rattle.run_record.specs.declared.entry.Cause.{Cause}
 use Rattle.run_record.specs.declared.entry.Cause.TheVariants.{Checksum, Declined, Oversize}
 use Rattle.run_record.specs.Events.{Event, Again, Arrive, End, Fail}
-use Rattle.site_yard.specs.Names.{pair_file}
-use Rattle.site_yard.specs.Storing.{AreWithin, IsFirstPast}
+use Rattle.plan_core.specs.Names.{pair_file}
+use Rattle.lease_rules.specs.Storing.{AreWithin, IsFirstPast}
 use Rattle.task_work.specs.Computing.{first_declined, Makes}
 use Rattle.task_work.specs.declared.filling.Filled.{Filled}
 use Rattle.task_work.specs.declared.filling.Filled.TheVariants.{Moved, Made}

@@ -2,11 +2,11 @@
 use Rattle.std.specs.Prelude.{◌≡◌, ℕ, ◌+◌, ◌≤◌}
 use Rattle.plan_core.specs.declared.plan.Plan.{Plan}
 use Rattle.run_record.specs.Events.{Event}
-use Rattle.lease_book.specs.Choice.{IsChoice}
-use Rattle.lease_book.specs.Law.{IsConsistent}
-use Rattle.lease_book.specs.Legal.{Allowed}
-use Rattle.lease_book.specs.Room.{entries_room}
-use Rattle.lease_book.specs.State.{State, after}
+use Rattle.lease_rules.specs.Choice.{IsChoice}
+use Rattle.lease_rules.specs.Law.{IsConsistent}
+use Rattle.lease_rules.specs.Legal.{Allowed}
+use Rattle.lease_rules.specs.Room.{entries_room}
+use Rattle.lease_rules.specs.State.{State, after}
 
 pub record HasLeaseLaws (p : Plan) : Type 0 where
   pub one_choice : (s : State) (t u : ℕ) → IsChoice p s t → IsChoice p s u → t ≡ u

@@ -3,7 +3,7 @@ use Rattle.std.specs.Prelude.{◌≡◌, ℕ, ◌≤◌, ◌<◌, Bool, false, L
 use Rattle.values.specs.Apply.{Apply}
 use Rattle.plan_core.specs.declared.plan.Plan.{Plan}
 use Rattle.run_record.specs.Events.{Event}
-use Rattle.lease_book.specs.State.{now}
+use Rattle.lease_rules.specs.State.{now}
 use Rattle.ruled_lock.specs.declared.lock.RuledLock.{RuledLock}
 use Rattle.ruled_lock.specs.declared.pass.Pass.{Pass}
 use Rattle.ruled_lock.specs.Lock.{IsOf}

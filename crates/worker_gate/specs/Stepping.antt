@@ -2,7 +2,7 @@
 use Rattle.std.specs.Prelude.{◌≡◌, ℕ, ◌<◌, Bool, true, false, List, [], ◌∷◌, ◌++◌, length}
 use Rattle.plan_core.specs.declared.plan.Plan.{Plan}
 use Rattle.run_record.specs.Events.{Event}
-use Rattle.lease_book.specs.State.{State}
+use Rattle.lease_rules.specs.State.{State}
 use Rattle.site_yard.specs.Failures.{RoseBy, tool_faults, tool_faults_of}
 use Rattle.worker_gate.specs.Alone.{AllBy, IsOver, NoneOpen, TakeFirst}
 use Rattle.worker_gate.specs.Tending.{IsDone}

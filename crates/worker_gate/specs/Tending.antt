@@ -1,7 +1,7 @@
 -- What a worker does for a task at a yard, whoever works there besides.
 use Rattle.std.specs.Prelude.{◌≡◌, ℕ, ◌+◌, ◌≤◌, true, List, [], ◌∷◌, ◌++◌, map, Option, Some, None, IfErr, IfOk, IfSome, is_some, Result, Ok, Err}
 use Rattle.values.specs.Apply.{Apply}
-use Rattle.outside.specs.Parts.{DraftState, ReadState}
+use Rattle.outside.specs.Parts.{DraftState, ReadState, part_faults}
 use Rattle.outside.specs.declared.store.Store.{Store}
 use Rattle.plan_core.specs.declared.plan.Plan.{Plan}
 use Rattle.plan_core.specs.declared.plan.Source.TheVariants.{Pfn}
@@ -11,16 +11,15 @@ use Rattle.plan_core.specs.Words.{declared, kind, reads}
 use Rattle.storage_simulation.specs.Goods.{or_zero}
 use Rattle.run_record.specs.declared.entry.Cause.{Cause}
 use Rattle.run_record.specs.Events.{Event, Arrive, End, Clean, Fail, Again}
-use Rattle.lease_book.specs.Legal.{CauseFits}
+use Rattle.lease_rules.specs.Legal.{CauseFits}
 use Rattle.site_yard.specs.Changes.{carries}
 use Rattle.site_yard.specs.Failures.{tool_fault_in, tool_faults_of}
 use Rattle.site_yard.specs.Kept.{IsOpening}
 use Rattle.site_yard.specs.Loan.{CanSettle, IsLoan, fresh_at, inputs, read_told, targets}
-use Rattle.site_yard.specs.Names.{pair_limit}
+use Rattle.lease_rules.specs.Storing.{pair_limit}
 use Rattle.site_yard.specs.Yard.{IsBehind, IsTold, IsWorkers}
 use Rattle.task_work.specs.Filling.{HasFilled, IsWhy}
 use Rattle.task_work.specs.Making.{Each, IsShown, blames}
-use Rattle.site_yard.specs.Returning.{part_faults}
 use Rattle.task_work.specs.Pieces.{IsSteadyDraft, IsSteadyReading}
 use Rattle.task_work.specs.declared.filling.Filled.{Filled}
 use Rattle.task_work.specs.declared.filling.Filled.TheVariants.{Moved, Made}

@@ -8,9 +8,9 @@ use Rattle.plan_core.specs.declared.plan.Plan.{Plan}
 use Rattle.plan_core.specs.Words.{kind, task_numbers}
 use Rattle.plan_core.specs.Proper.{IsProper}
 use Rattle.run_record.specs.Events.{Event, Grant, Regrant}
-use Rattle.lease_book.specs.Legal.{IsOpen}
-use Rattle.lease_book.specs.Owning.{is_open_after}
-use Rattle.lease_book.specs.State.{State, now}
+use Rattle.lease_rules.specs.Legal.{IsOpen}
+use Rattle.lease_rules.specs.Owning.{is_open_after}
+use Rattle.lease_rules.specs.State.{State, now}
 use Rattle.site_yard.specs.declared.chronicle.Charter.{Charter}
 use Rattle.site_yard.specs.declared.leased.Leased.{Leased}
 use Rattle.site_yard.specs.declared.leased.Leased.TheVariants as leased

@@ -3,11 +3,11 @@
 ghost use Rattle.std.specs.Prelude.{◌≡◌, ℕ, List, []};
 ghost use Rattle.plan_core.specs.declared.plan.Plan.{Plan};
 ghost use Rattle.plan_core.specs.Proper.{IsProper};
-ghost use Rattle.lease_book.specs.State.{now};
+ghost use Rattle.lease_rules.specs.State.{now};
 ghost use Rattle.worker_gate.specs.Alone.{NoneOpen};
 ghost use Rattle.worker_gate.specs.Law.{HasLeaseLaws};
 
-use lease_book::{choice_is_one, entries_are_few};
+use lease_rules::{choice_is_one, entries_are_few};
 
 /// What lease_book promises of a proper plan.
 pub(crate) fn lease_laws()

@@ -10,7 +10,7 @@ ghost use Rattle.worker_gate.specs.Many.{AreToolsCounted, CanAllWork, CanWork, H
 use crate::hands::{Hand, deal, gather};
 use crate::working::work;
 use craft::{Crew, Gate};
-use lease_book::{over_records_end, own_entries_tell_open_tasks};
+use lease_rules::{over_records_end, own_entries_tell_open_tasks};
 use outside::{Host, Tool};
 use ruled_lock::{LockRefused, RuledLock};
 use site_yard::Yard;

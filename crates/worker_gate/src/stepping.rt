@@ -3,7 +3,7 @@
 ghost use Rattle.std.specs.Prelude.{◌≡◌, ◌≤◌, is_some};
 ghost use Rattle.outside.specs.Counts.{IsLater};
 ghost use Rattle.lease_book.specs.Book.{state_at};
-ghost use Rattle.lease_book.specs.Legal.{IsOpen};
+ghost use Rattle.lease_rules.specs.Legal.{IsOpen};
 ghost use Rattle.worker_gate.specs.Alone.{NoneOpen};
 ghost use Rattle.worker_gate.specs.Calls.{AddsCalls};
 ghost use Rattle.worker_gate.specs.Inputs.{AddsOfInputs};

@@ -5,7 +5,7 @@ ghost use Rattle.plan_core.specs.Proper.{IsProper};
 ghost use Rattle.plan_core.specs.Words.{kind};
 ghost use Rattle.outside.specs.Counts.{IsLater};
 ghost use Rattle.lease_book.specs.Book.{state_at};
-ghost use Rattle.lease_book.specs.Legal.{IsOpen};
+ghost use Rattle.lease_rules.specs.Legal.{IsOpen};
 ghost use Rattle.task_work.specs.Filling.{AreParts};
 ghost use Rattle.task_work.specs.Making.{AreBegun, AreEmpty};
 ghost use Rattle.worker_gate.specs.Calls.{EndsCalls};

@@ -2,7 +2,7 @@
 //! most.
 
 ghost use Rattle.std.specs.Prelude.{◌≡◌, ◌<◌, ◌++◌, ◌∷◌, [], ℕ, IfNone, IfOk, IfSome, List, false, map, true};
-ghost use Rattle.lease_book.specs.Owning.{is_open_after};
+ghost use Rattle.lease_rules.specs.Owning.{is_open_after};
 ghost use Rattle.ruled_lock.specs.Lock.{IsOf};
 ghost use Rattle.ruled_lock.specs.Pass.{IsIdle, IsSamePass, charter_of, mine_of, seen_of, worker_of};
 ghost use Rattle.worker_gate.specs.Asking.{AsksOwn};
@@ -11,7 +11,7 @@ ghost use Rattle.worker_gate.specs.Tending.{CanFinish, Finishes, failures_in};
 ghost use Rattle.worker_gate.specs.Turning.{IsHeldFor, IsPlanOf, LeasesOwn, NoneOpenBy, NoneOpenFor, plan_of, told_of};
 
 use crate::tending::finish_at;
-use lease_book::own_entries_tell_open_tasks;
+use lease_rules::own_entries_tell_open_tasks;
 use outside::{Host, Memory, TaskId, Tool};
 use plan_core::Plan;
 use ruled_lock::{Pass, RuledLock};

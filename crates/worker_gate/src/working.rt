@@ -3,7 +3,7 @@
 ghost use Rattle.std.specs.Prelude.{◌≡◌, ◌≤◌, ◌<◌, IfOk, IfSome, false, map, true};
 ghost use Rattle.plan_core.specs.Proper.{IsProper};
 ghost use Rattle.plan_core.specs.Words.{kind};
-ghost use Rattle.lease_book.specs.Owning.{is_open_after};
+ghost use Rattle.lease_rules.specs.Owning.{is_open_after};
 ghost use Rattle.ruled_lock.specs.Lock.{IsOf};
 ghost use Rattle.ruled_lock.specs.Pass.{IsIdle, IsSamePass, charter_of, mine_of, seen_of, worker_of};
 ghost use Rattle.worker_gate.specs.Asking.{AsksOwn};

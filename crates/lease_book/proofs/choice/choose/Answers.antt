@@ -1,9 +1,12 @@
-use Rattle.std.proofs.Common.{sym, ◌∙◌}
 use Rattle.lease_book.specs.RunState.{state_of}
-use Rattle.lease_book.proofs.TrialLemmas.{idle_choice, none_runs}
+use Rattle.place_peaks.specs.Peaks.{stack_of}
 use Rattle.lease_book.proofs.choice.choose.Goals as goal
 
-pub returns-then-not-any_runs-clause-choice : goal.returns-then-not-any_runs-clause-choice
-returns-then-not-any_runs-clause-choice c =
-    let first = rw c.as_slice.ensures.value at c.first_of.ensures in
-    idle_choice c.args.plan.now (state_of c.args.state.now) c.first_of.result c.requires.laws c.requires.sound c.requires.unfailed (none_runs c.args.state.now.standing.tasks (sym c.any_runs.ensures ∙ c.if-not-any_runs.true)) first
+pub choose-requires-clause-seated : goal.choose-requires-clause-seated
+choose-requires-clause-seated c = c.peaks_are_seated.ensures.seated c.args.plan.now (state_of c.args.state.now) c.args.state.now.peaks (stack_of c.args.state.now.peaks) c.requires.peaks.tied.behind
+
+pub choose-requires-clause-passed : goal.choose-requires-clause-passed
+choose-requires-clause-passed c = c.peaks_are_seated.ensures.passed c.args.plan.now (state_of c.args.state.now) c.args.state.now.peaks c.requires.peaks.tied
+
+pub returns : goal.returns
+returns c = c.choose.ensures (state_of c.args.state.now) c.requires.peaks.tied.behind c.requires.unfailed

@@ -1,17 +1,11 @@
 use Rattle.std.proofs.Common.{arith, sym, ◌∙◌}
 use Rattle.lease_book.specs.RunState.{state_of}
-use Rattle.lease_book.proofs.NumbersLemmas.{count_tasks_in}
-use Rattle.lease_book.proofs.TrialLemmas.{all_parents, candidate_test, not_all_parents, rest_few, trial_standing}
+use Rattle.lease_rules.proofs.NumbersLemmas.{count_tasks_in}
+use Rattle.lease_book.proofs.TrialLemmas.{all_parents, candidate_test, not_all_parents, trial_standing}
 use Rattle.lease_book.proofs.choice.is_candidate.Goals as goal
 
 pub begin-requires-clause-task : goal.begin-requires-clause-task
 begin-requires-clause-task c = c.requires.sound.safe.tasks c.args.task c.requires.left
-
-pub begin-requires-clause-few : goal.begin-requires-clause-few
-begin-requires-clause-few c =
-    let few = rest_few c.args.plan.now (state_of c.args.state.now) c.requires.sound in
-    let count = count_tasks_in c.args.state.now.rest.items in
-    omega (arith, few, count)
 
 pub is_within-requires-clause-standing : goal.is_within-requires-clause-standing
 is_within-requires-clause-standing c = trial_standing c.args.plan.now (state_of c.args.state.now) c.args.task c.begin.new.self c.requires.limits c.requires.sound c.begin.ensures.place c.begin.ensures.tried

@@ -2,7 +2,7 @@ use Rattle.std.proofs.Common.{ℕ, ap, ◌∙◌}
 use Rattle.storage_simulation.specs.declared.standing.Held.{Held}
 use Rattle.storage_simulation.specs.declared.standing.Phase.{Phase}
 use Rattle.storage_simulation.specs.Goods.{makes}
-use Rattle.lease_book.specs.State.{stored_among}
+use Rattle.lease_rules.specs.State.{stored_among}
 use Rattle.lease_book.proofs.holding.end.Goals as goal
 
 pub returns-clause-phase : goal.returns-clause-phase

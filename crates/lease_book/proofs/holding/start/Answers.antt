@@ -1,7 +1,7 @@
 use Rattle.std.proofs.Common.{ℕ, ap, ◌∙◌}
 use Rattle.storage_simulation.specs.declared.standing.Held.{Held}
 use Rattle.storage_simulation.specs.declared.standing.Phase.{Phase}
-use Rattle.lease_book.specs.State.{reserved_for}
+use Rattle.lease_rules.specs.State.{reserved_for}
 use Rattle.lease_book.proofs.holding.start.Goals as goal
 
 pub returns-clause-phase : goal.returns-clause-phase

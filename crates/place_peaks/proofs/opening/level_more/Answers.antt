@@ -1,6 +1,6 @@
 use Rattle.std.proofs.Common.{◌<◌, length, sym, arith}
 use Rattle.digraph.specs.Adjacency.{lists_of}
-use Rattle.lease_book.proofs.NumbersLemmas.{count_tasks_in}
+use Rattle.lease_rules.proofs.NumbersLemmas.{count_tasks_in}
 use Rattle.plan_core.specs.Words.{task_numbers}
 use Rattle.place_peaks.proofs.OpeningLemmas.{levels_none, levels_some}
 use Rattle.place_peaks.proofs.opening.level_more.Goals as goal

@@ -1,6 +1,6 @@
 use Rattle.std.proofs.Common.{◌<◌, length, sym, ap, ◌∙◌, arith}
 use Rattle.std.proofs.lemmas.List.{get_or_default}
-use Rattle.lease_book.proofs.NumbersLemmas.{count_tasks_in}
+use Rattle.lease_rules.proofs.NumbersLemmas.{count_tasks_in}
 use Rattle.plan_core.specs.Numbers.{has}
 use Rattle.plan_core.specs.Words.{task_numbers}
 use Rattle.storage_simulation.proofs.FollowingLemmas.{at_place}

@@ -1,7 +1,7 @@
 use Rattle.std.proofs.Common.{◌≡◌, ◌<◌, ◌∙◌, true, false, length, refl, ap, arith}
 use Rattle.std.specs.Prelude.{replicate, vec_len}
 use Rattle.std.proofs.lemmas.List.{length-set}
-use Rattle.lease_book.proofs.NumbersLemmas.{count_tasks_in}
+use Rattle.lease_rules.proofs.NumbersLemmas.{count_tasks_in}
 use Rattle.plan_core.specs.Numbers.{has}
 use Rattle.plan_core.specs.Words.{task_numbers}
 use Rattle.storage_simulation.proofs.FollowingLemmas.{at_place}

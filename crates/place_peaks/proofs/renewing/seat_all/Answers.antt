@@ -1,6 +1,6 @@
 use Rattle.std.proofs.Common.{◌≡◌, length, refl, subst, arith}
 use Rattle.std.specs.Prelude.{vec_len}
-use Rattle.lease_book.proofs.NumbersLemmas.{count_tasks_in}
+use Rattle.lease_rules.proofs.NumbersLemmas.{count_tasks_in}
 use Rattle.plan_core.specs.Words.{task_numbers}
 use Rattle.place_peaks.specs.Opening.{AreSeats}
 use Rattle.place_peaks.proofs.RenewingLemmas.{seats_start}

@@ -3,7 +3,7 @@ use Rattle.std.proofs.Math.Logic.{∥∥₁_elim, ∥∥₁_map, ∥∥₁_prop}
 use Rattle.std.specs.Prelude.{is_some}
 use Rattle.plan_core.specs.Words.{task_numbers}
 use Rattle.storage_simulation.specs.declared.ordered.Ordered.{Ordered}
-use Rattle.lease_book.specs.State.{now}
+use Rattle.lease_rules.specs.State.{now}
 use Rattle.worker_gate.specs.Alone.{IsOver}
 use Rattle.plan_run.specs.Moments.{counting, crew_moment, first_count, work_moment, working}
 use Rattle.plan_run.specs.Running.{reporting}

@@ -4,7 +4,7 @@ use Rattle.plan_core.specs.declared.plan.Plan.{Plan}
 use Rattle.plan_core.specs.Words.{task_numbers}
 use Rattle.storage_simulation.specs.Standings.{at_in}
 use Rattle.run_record.specs.Events.{Event, event}
-use Rattle.lease_book.specs.State.{now, opened}
+use Rattle.lease_rules.specs.State.{now, opened}
 use Rattle.record_audit.specs.Holdings.{AddsUp, IsSized, Shows}
 use Rattle.record_audit.specs.Sums.{AreCounts, ArePeaks, arrived}
 use Rattle.record_audit.proofs.LawLemmas.{legal_at, legal_take, take_all, take_few, take_next}

@@ -1,6 +1,6 @@
 use Rattle.std.proofs.Common.{take}
 use Rattle.plan_core.specs.Words.{task_numbers}
-use Rattle.lease_book.specs.State.{now}
+use Rattle.lease_rules.specs.State.{now}
 use Rattle.record_audit.specs.Holdings.{AddsUp, Shows}
 use Rattle.record_audit.specs.Sums.{AreCounts, ArePeaks}
 use Rattle.record_audit.proofs.counting.statistics.Given as goal

@@ -1,6 +1,6 @@
 use Rattle.std.proofs.Common.{ℕ, ◌<◌}
 use Rattle.lease_book.specs.Book.{state_at}
-use Rattle.lease_book.specs.Legal.{IsOpen}
+use Rattle.lease_rules.specs.Legal.{IsOpen}
 use Rattle.resume_run.proofs.lost.owner.Given as goal
 
 abbrev pub invariant-loop-worker : goal.invariant-loop-worker

@@ -70,6 +70,7 @@ returns-in-Ok-reopen-clause-gone_on g c =
       misses_are = f.misses ∙ e.misses;
       reopened = recorded;
       below = below_by first works.added whole works.is (c.nothing_else_fails.ensures.workers p order whole l);
+      in_order = works.in_order;
       over = over_since p order first works.added whole works.is works.over;
       inputs = inputs_added g.T.Tool.apply p first works.added whole works.is inputs;
       tools = works.tools;

@@ -5,7 +5,7 @@ use Rattle.worker_gate.specs.Alone.{WorksAlone}
 use Rattle.worker_gate.proofs.CallsLemmas.{calls_both}
 use Rattle.worker_gate.proofs.InputsLemmas.{adds_both}
 use Rattle.plan_run.specs.Moments.{crew_moment, member_moment}
-use Rattle.resume_run.proofs.WorkingLemmas.{failing_in, first_counts, none_open_in, works_stopped, works_then}
+use Rattle.resume_run.proofs.WorkingLemmas.{failing_in, first_counts, lost_in, none_open_in, works_stopped, works_then}
 use Rattle.resume_run.proofs.working.work_on.Goals as goal
 
 pub returns-then-is_failing-clause-works : goal.returns-then-is_failing-clause-works
@@ -14,7 +14,7 @@ returns-then-is_failing-clause-works g c =
     let y = c.redo-yard.result in
     let e = c.redo-yard.ensures in
     let failing = sym (ap (λ b. (state_at b).failing) c.book.ensures) ∙ sym c.is_failing.ensures ∙ c.if-is_failing.true in
-    works_stopped a.ordered.plan (task_numbers a.ordered.tasks.items) a.book.history.events y.book.history.events _ _ e.tools
+    works_stopped a.ordered.plan (task_numbers a.ordered.tasks.items) a.book.history.events y.book.history.events _ _ c.args.lost.now e.tools e.redoes (lost_in a.book a.ordered.plan a.ordered.tasks.items c.args.lost.now a.same_plan a.same_order c.requires.lost)
     (failing_in y.book a.ordered.plan a.ordered.tasks.items (y.same_plan ∙ ap (λ o. o.plan) e.ordered) (y.same_order ∙ ap (λ o. o.tasks.items) e.ordered) failing)
 
 pub run_alone-requires : goal.run_alone-requires
@@ -33,7 +33,7 @@ returns-clause-works g c =
     let e = c.redo-yard.ensures in
     let alone = rw e.ordered at c.run_alone.ensures.works in
     let many = e.crew in
-    works_then a.ordered.plan (task_numbers a.ordered.tasks.items) a.book.history.events y.book.history.events z.book.history.events _ _ _ _ _ e.tools alone
+    works_then a.ordered.plan (task_numbers a.ordered.tasks.items) a.book.history.events y.book.history.events z.book.history.events _ _ _ _ _ c.args.lost.now e.tools e.redoes (lost_in a.book a.ordered.plan a.ordered.tasks.items c.args.lost.now a.same_plan a.same_order c.requires.lost) alone
     (first_counts (member_moment g.T.Tool g.G.Gate) c.redo-yard.new.crew.items c.index_mut.result.now c.run_alone.new.crew alone.added (omega (arith, many, c.requires.members)) c.index_mut.ensures.value alone.by_zero c.run_alone.ensures.tool alone.counted)
 
 pub returns-clause-calls : goal.returns-clause-calls

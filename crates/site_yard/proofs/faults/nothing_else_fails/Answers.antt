@@ -1,5 +1,5 @@
 use Rattle.plan_core.specs.Carried.{carried}
-use Rattle.lease_book.specs.State.{now, opened}
+use Rattle.lease_rules.specs.State.{now, opened}
 use Rattle.site_yard.proofs.AgreesLemmas.{legal_parts, truthful_since}
 use Rattle.site_yard.proofs.FaultsLemmas.{all_below, alone_counted, nothing_else}
 use Rattle.site_yard.proofs.faults.nothing_else_fails.Goals as goal

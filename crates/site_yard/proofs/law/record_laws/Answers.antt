@@ -1,4 +1,4 @@
-use Rattle.lease_book.specs.State.{opened}
+use Rattle.lease_rules.specs.State.{opened}
 use Rattle.site_yard.proofs.FollowLemmas.{sound_now}
 use Rattle.site_yard.proofs.law.record_laws.Goals as goal
 

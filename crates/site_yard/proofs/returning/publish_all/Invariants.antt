@@ -2,7 +2,8 @@ use Rattle.std.proofs.Common.{◌≡◌, ◌≤◌, length, map, take, drop}
 use Rattle.std.specs.Prelude.{option_map}
 use Rattle.outside.specs.Counts.{IsLater}
 use Rattle.outside.specs.Store.{changed_by}
-use Rattle.site_yard.specs.Returning.{draft_faults, placings}
+use Rattle.outside.specs.Parts.{draft_faults}
+use Rattle.site_yard.specs.Returning.{placings}
 use Rattle.site_yard.proofs.ReturnLemmas.{IsGivingBack}
 use Rattle.site_yard.proofs.returning.publish_all.Given as goal
 

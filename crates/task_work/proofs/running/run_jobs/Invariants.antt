@@ -2,7 +2,7 @@ use Rattle.std.proofs.Common.{◌≡◌, ◌≤◌, ◌||◌, ℕ, true, drop}
 use Rattle.std.specs.Prelude.{is_some}
 use Rattle.plan_core.specs.Carried.{after_jobs}
 use Rattle.plan_core.specs.Kinds.{makes}
-use Rattle.site_yard.specs.Truthful.{declined_among}
+use Rattle.plan_core.specs.Declined.{declined_among}
 use Rattle.task_work.specs.Table.{at}
 use Rattle.task_work.proofs.running.run_jobs.Given as goal
 

@@ -2,7 +2,7 @@ use Rattle.std.proofs.Common.{◌≡◌, ◌≤◌}
 use Rattle.std.specs.Prelude.{is_some}
 use Rattle.outside.specs.Counts.{IsLater}
 use Rattle.lease_book.specs.Book.{state_at}
-use Rattle.lease_book.specs.Room.{entries_room}
+use Rattle.lease_rules.specs.Room.{entries_room}
 use Rattle.worker_gate.specs.Calls.{AddsCalls}
 use Rattle.worker_gate.specs.Inputs.{AddsOfInputs}
 use Rattle.worker_gate.specs.Stepping.{WorksOn}

@@ -1,7 +1,7 @@
 use Rattle.std.proofs.Common.{◌<◌, ap, sym, subst, length}
 use Rattle.lease_book.specs.declared.book.Book.{Book}
 use Rattle.lease_book.specs.Book.{state_at}
-use Rattle.lease_book.specs.Law.{IsSafeState}
+use Rattle.lease_rules.specs.Law.{IsSafeState}
 use Rattle.site_yard.specs.Yard.{Leases}
 use Rattle.site_yard.specs.declared.leased.Leased.TheVariants as leased
 use Rattle.worker_gate.specs.Stepping.{WorksOn}

@@ -1,6 +1,5 @@
-use Rattle.lease_book.specs.RunState.{state_of}
 use Rattle.run_record.specs.Events.{Again}
-use Rattle.lease_book.proofs.BookLemmas.{again_short, has_room, has_sizes, kept_more}
+use Rattle.lease_book.proofs.BookLemmas.{has_room, has_sizes, kept_more}
 use Rattle.lease_book.proofs.book.Book.add_again.Goals as goal
 
 pub push-requires-clause-room : goal.push-requires-clause-room
@@ -12,10 +11,7 @@ push-requires-clause-sizes c = has_sizes c.args.self.now (Again c.args.worker c.
 pub invariant_of-self : goal.invariant_of-self
 invariant_of-self c = record {
   proper = c.args.self.now.proper;
-  kept = kept_more c.args.self.now (Again c.args.worker c.args.task c.args.cause.now c.args.published.now) c.push.new.self c.again.new.self c.requires c.push.ensures.events c.push.ensures.room c.push.ensures.sizes_room c.again.ensures.state c.again.ensures.room;
+  kept = kept_more c.args.self.now (Again c.args.worker c.args.task c.args.cause.now c.args.published.now) c.push.new.self c.again.new.self c.requires c.push.ensures.events c.push.ensures.room c.push.ensures.sizes_room c.again.ensures.state c.again.ensures.room c.again.ensures.peaks;
   place = c.args.self.now.place;
   fresh = c.args.self.now.fresh;
 }
-
-pub again-requires-clause-rest : goal.again-requires-clause-rest
-again-requires-clause-rest c = again_short c.args.self.now.plan (state_of c.args.self.now.state) c.args.worker c.args.task c.args.cause.now c.args.published.now c.args.self.now.kept.laws c.args.self.now.kept.consistent.sound c.requires

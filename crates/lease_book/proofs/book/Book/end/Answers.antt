@@ -1,5 +1,5 @@
 use Rattle.storage_simulation.specs.Goods.{makes}
-use Rattle.lease_book.proofs.SoundLemmas.{declared_long}
+use Rattle.lease_rules.proofs.SoundLemmas.{declared_long}
 use Rattle.run_record.specs.Events.{End}
 use Rattle.lease_book.proofs.BookLemmas.{allowed_in, has_room, has_sizes, kept_more}
 use Rattle.lease_book.proofs.book.Book.end.Goals as goal
@@ -13,7 +13,7 @@ push-requires-clause-sizes c = has_sizes c.args.self.now (End c.args.worker c.ar
 pub invariant_of-self : goal.invariant_of-self
 invariant_of-self c = record {
   proper = c.args.self.now.proper;
-  kept = kept_more c.args.self.now (End c.args.worker c.args.task.0 c.args.sizes.now) c.push.new.self c.end.new.self (allowed_in c.args.self.now (End c.args.worker c.args.task.0 c.args.sizes.now) c.requires) c.push.ensures.events c.push.ensures.room c.push.ensures.sizes_room c.end.ensures.state c.end.ensures.room;
+  kept = kept_more c.args.self.now (End c.args.worker c.args.task.0 c.args.sizes.now) c.push.new.self c.end.new.self (allowed_in c.args.self.now (End c.args.worker c.args.task.0 c.args.sizes.now) c.requires) c.push.ensures.events c.push.ensures.room c.push.ensures.sizes_room c.end.ensures.state c.end.ensures.room c.end.ensures.peaks;
   place = c.args.self.now.place;
   fresh = c.args.self.now.fresh;
 }

@@ -1,6 +1,6 @@
 use Rattle.std.proofs.Common.{subst, sym}
-use Rattle.lease_book.specs.Legal.{MayFail}
-use Rattle.lease_book.specs.State.{State}
+use Rattle.lease_rules.specs.Legal.{MayFail}
+use Rattle.lease_rules.specs.State.{State}
 use Rattle.lease_book.proofs.BookLemmas.{seen}
 use Rattle.lease_book.proofs.book.Book.fail.Goals as goal
 

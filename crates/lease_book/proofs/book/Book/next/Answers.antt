@@ -1,6 +1,6 @@
 use Rattle.std.proofs.Common.{subst}
 use Rattle.lease_book.specs.Book.{IsNext}
-use Rattle.lease_book.specs.State.{State}
+use Rattle.lease_rules.specs.State.{State}
 use Rattle.lease_book.proofs.BookLemmas.{seen}
 use Rattle.lease_book.proofs.book.Book.next.Goals as goal
 

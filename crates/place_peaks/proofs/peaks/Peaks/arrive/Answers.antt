@@ -21,4 +21,5 @@ returns c = record {
   bases_long = c.settle_one_size.ensures.kept.bases_long;
   trees_long = c.settle_one_size.ensures.kept.trees_long;
   lowered = c.settle_one_size.ensures.lowered;
+  passed = c.settle_one_size.ensures.kept.passed;
 }

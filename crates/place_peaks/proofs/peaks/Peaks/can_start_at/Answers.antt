@@ -1,7 +1,7 @@
 use Rattle.std.proofs.Common.{◌≡◌, ◌<◌, ℕ, List, None, length, get_or, sym, ap, subst, ◌∙◌, arith}
 use Rattle.std.specs.Prelude.{Decides}
 use Rattle.values.specs.declared.numbers.TaskId.{TaskId}
-use Rattle.lease_book.proofs.NumbersLemmas.{count_tasks_in}
+use Rattle.lease_rules.proofs.NumbersLemmas.{count_tasks_in}
 use Rattle.plan_core.specs.Words.{is_clean, task_numbers}
 use Rattle.place_peaks.specs.Peaks.{line_of}
 use Rattle.place_peaks.specs.declared.peaks.Peaks.{Peaks}

@@ -1,21 +1,21 @@
-use Rattle.std.proofs.Common.{◌≡◌, ◌<◌, ℕ, List, length, get_or, refl, sym, ap, subst, ◌∙◌, arith}
+use Rattle.std.proofs.Common.{◌≡◌, ◌<◌, ◌≤◌, ℕ, List, length, get_or, refl, sym, ap, subst, ◌∙◌, arith}
 use Rattle.values.specs.declared.numbers.TaskId.{TaskId}
-use Rattle.lease_book.proofs.NumbersLemmas.{count_tasks_in}
-use Rattle.lease_book.specs.Choice.{IsChoice}
+use Rattle.lease_rules.proofs.NumbersLemmas.{count_tasks_in}
+use Rattle.lease_rules.specs.Choice.{IsChoice}
 use Rattle.plan_core.specs.Words.{task_numbers}
 use Rattle.place_peaks.specs.Peaks.{line_of}
 use Rattle.place_peaks.specs.declared.peaks.Peaks.{Peaks}
-use Rattle.place_peaks.proofs.ChoosingLemmas.{choice_of, no_choice, none_at_first, none_more}
+use Rattle.place_peaks.proofs.ChoosingLemmas.{choice_of, no_choice, none_before, none_more}
 use Rattle.place_peaks.proofs.peaks.Peaks.choose_line.Goals as goal
 
 in_line : (b : Peaks) (line : List TaskId) (k : ℕ) → line ≡ b.line.items → k < length line → k < length (line_of b)
 in_line b line k e l = let n = count_tasks_in b.line.items in let m = ap length e in omega (arith, n, m, l)
 
-whole : (b : Peaks) (line : List TaskId) (k : ℕ) → line ≡ b.line.items → k ≡ length line → k ≡ length (line_of b)
+whole : (b : Peaks) (line : List TaskId) (k : ℕ) → line ≡ b.line.items → length line ≤ k → length (line_of b) ≤ k
 whole b line k e l = let n = count_tasks_in b.line.items in let m = ap length e in omega (arith, n, m, l)
 
 pub loop-k-init : goal.loop-k-init
-loop-k-init c = record { none = none_at_first c.args.plan.now c.args.self.now }
+loop-k-init c = record { none = none_before c.args.plan.now c.args.self.now c.requires.passed }
 
 pub loop-k-preserved : goal.loop-k-preserved
 loop-k-preserved c = record {

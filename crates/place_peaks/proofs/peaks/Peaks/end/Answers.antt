@@ -19,4 +19,5 @@ returns c = record {
   bases_long = c.settle_sizes.ensures.kept.bases_long;
   trees_long = c.settle_sizes.ensures.kept.trees_long;
   lowered = c.settle_sizes.ensures.lowered;
+  passed = c.settle_sizes.ensures.kept.passed;
 }

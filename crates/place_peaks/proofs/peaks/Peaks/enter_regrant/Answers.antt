@@ -1,11 +1,12 @@
 use Rattle.std.proofs.Common.{◌≡◌, ◌<◌, ◌≤◌, ◌+◌, ◌^◌, ◌∙◌, ℕ, List, Bool, length, get_or, refl, sym, ap, subst, arith}
-use Rattle.lease_book.proofs.ArrayLemmas.{few_once}
-use Rattle.lease_book.proofs.NumbersLemmas.{count_tasks_in}
+use Rattle.lease_rules.proofs.ListLemmas.{few_once}
+use Rattle.lease_rules.proofs.NumbersLemmas.{count_tasks_in}
 use Rattle.plan_core.specs.Numbers.{has}
 use Rattle.plan_core.specs.Words.{count_tasks, task_numbers}
 use Rattle.storage_simulation.specs.Following.{AreOnce}
 use Rattle.place_peaks.specs.Opening.{AreSeats}
 use Rattle.place_peaks.specs.Peaks.{is_left, line_of}
+use Rattle.place_peaks.proofs.FrontLemmas.{none_passed}
 use Rattle.place_peaks.proofs.RenewingLemmas.{base_begun, begun_room, line_long, line_low, line_once, new_line, new_room, order_once, renewed_tied, walk_of}
 use Rattle.place_peaks.proofs.peaks.Peaks.enter_regrant.Goals as goal
 
@@ -96,4 +97,5 @@ returns-clause-tied c = λ s w tied allowed order shown.
       base = λ q. ap (λ (v : List ℕ). get_or v q 0) c.refill_all.ensures.base ∙ c.add_need.ensures.each q ∙ base_begun c.args.self.now.base.items q c.need-need.result c.home-home.result _ _ c.home-home.ensures c.need-need.ensures;
       trees_long = kept.trees_long;
       trees = c.refill_all.ensures.trees;
+      passed = kept.passed (none_passed (is_left c.mark_only.new.left.items) (task_numbers c.add_others.new.line.items));
     })

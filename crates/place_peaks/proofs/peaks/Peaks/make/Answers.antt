@@ -4,7 +4,9 @@ use Rattle.std.specs.declared.alloc.Global.{Global}
 use Rattle.digraph.specs.Adjacency.{lists_of}
 use Rattle.plan_core.specs.Words.{task_numbers}
 use Rattle.storage_simulation.specs.OrderLaw.{less_by_score}
-use Rattle.lease_book.proofs.GoodsLemmas.{storage_laws}
+use Rattle.lease_rules.proofs.GoodsLemmas.{storage_laws}
+use Rattle.place_peaks.specs.Peaks.{is_left}
+use Rattle.place_peaks.proofs.FrontLemmas.{none_passed}
 use Rattle.place_peaks.proofs.OpeningLemmas.{made_small, opened_by, parents_few}
 use Rattle.place_peaks.proofs.peaks.Peaks.make.Goals as goal
 
@@ -36,3 +38,6 @@ returns-clause-seats c = c.in_ok-seating.ensures.seats_long
 
 pub returns-clause-widths : goal.returns-clause-widths
 returns-clause-widths c = c.in_ok-seating.ensures.widths_long
+
+pub returns-clause-passed : goal.returns-clause-passed
+returns-clause-passed c = none_passed (is_left c.in_ok-vec.field-0.items) (task_numbers c.in_ok-copied.field-0.items)

@@ -4,6 +4,7 @@ use Rattle.place_peaks.specs.declared.peaks.Peaks.{Peaks}
 use Rattle.place_peaks.specs.Peaks.{left_of}
 use Rattle.place_peaks.specs.Places.{is_place}
 use Rattle.place_peaks.specs.Tree.{AllFirst, CanFall, front_changed}
+use Rattle.place_peaks.proofs.FrontLemmas.{marked_off}
 use Rattle.place_peaks.proofs.SetLemmas.{same_place, unmarked}
 use Rattle.place_peaks.proofs.peaks.Peaks.move_again.Goals as goal
 
@@ -34,6 +35,7 @@ returns-in-None-clause-moved c = record {
   trees_long = refl;
   left = λ u. c.unmark.ensures.each u ∙ unmarked (nat_eq c.args.task u) (left_of c.args.self.now u);
   trees = λ q. ap (λ (o : Option ℕ). cond (is_place q o) (set (front_changed (get_or c.args.self.now.seats.items c.args.task 0) (λ n. n - c.args.frees) (get_or c.args.self.now.trees.items q [])) (get_or c.args.self.now.seats.items c.args.task 0) None) (get_or c.args.self.now.trees.items q [])) c.in-None.ensures;
+  passed = λ h. c.next_front-self.ensures (marked_off c.args.self.now c.unmark.new.left.items c.args.task c.unmark.ensures.each h);
 }
 
 pub returns-in-Some-clause-moved : goal.returns-in-Some-clause-moved
@@ -57,4 +59,5 @@ returns-in-Some-clause-moved c =
           ∙ same_place (λ (x : ℕ). get_or b.trees.items x []) (λ (vs : List (Option ℕ)). set (front_changed c.seat-seat.result (λ n. n - c.args.frees) vs) c.seat-seat.result None) place q
           ∙ ap (λ (k : ℕ). cond (nat_eq place q) (set (front_changed k (λ n. n - c.args.frees) (get_or b.trees.items q [])) k None) (get_or b.trees.items q [])) seat
           ∙ ap (λ (o : Option ℕ). cond (is_place q o) (set (front_changed (get_or b.seats.items t 0) (λ n. n - c.args.frees) (get_or b.trees.items q [])) (get_or b.seats.items t 0) None) (get_or b.trees.items q [])) c.in-Some.ensures;
+      passed = λ h. c.next_front-self.ensures (marked_off c.args.self.now c.unmark.new.left.items c.args.task c.unmark.ensures.each h);
     }

@@ -1,7 +1,7 @@
 use Rattle.std.proofs.Common.{List, ℕ, ap, ◌∙◌}
 use Rattle.plan_core.specs.Numbers.{has}
 use Rattle.plan_core.specs.Words.{task_numbers}
-use Rattle.lease_book.specs.State.{opened}
+use Rattle.lease_rules.specs.State.{opened}
 use Rattle.place_peaks.proofs.EntryLemmas.{tied_none}
 use Rattle.place_peaks.proofs.peaks.Peaks.open.Goals as goal
 
@@ -11,4 +11,5 @@ returns-clause-tied c = tied_none c.args.plan.now (opened (task_numbers c.args.o
   seats_long = c.in_ok-peaks.ensures.seats;
   widths_long = c.in_ok-peaks.ensures.widths;
   room = c.in_ok-peaks.ensures.room;
+  passed = c.in_ok-peaks.ensures.passed;
 })

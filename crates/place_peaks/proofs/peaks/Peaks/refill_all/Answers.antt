@@ -44,6 +44,7 @@ loop-at-preserved c = record {
     missing = c.loop-at.invariant.kept.missing;
     bases_long = c.loop-at.invariant.kept.bases_long;
     trees_long = c.refill_at.ensures.long ∙ c.loop-at.invariant.kept.trees_long;
+    passed = c.loop-at.invariant.kept.passed;
   };
   base = c.loop-at.invariant.base;
   filled = λ q l. refill_more c.args.plan.now (sizes (held_of c.args.standing.now)) (task_numbers c.args.tasks.now) c.as_slice.result.now c.loop-at.at (λ r. get_or c.args.self.now.trees.items r []) (λ r. get_or c.loop-at.self.trees.items r []) (λ r. get_or c.refill_at.new.trees.items r []) c.refill_at.ensures.each

@@ -1,6 +1,6 @@
 use Rattle.std.proofs.Common.{◌<◌, arith, length}
 use Rattle.plan_core.specs.Words.{writes}
-use Rattle.lease_book.proofs.GoodsLemmas.{good_small}
+use Rattle.lease_rules.proofs.GoodsLemmas.{good_small}
 use Rattle.record_audit.proofs.HoldingsLemmas.{written_in}
 use Rattle.record_audit.proofs.holdings.Holdings.reserve.Goals as goal
 

@@ -1,7 +1,7 @@
 use Rattle.std.proofs.Common.{ap, ◌∙◌}
 use Rattle.run_record.specs.Events.{Log}
 use Rattle.lease_book.specs.Book.{state_at}
-use Rattle.lease_book.specs.Legal.{IsComplete}
+use Rattle.lease_rules.specs.Legal.{IsComplete}
 use Rattle.site_yard.specs.Ending.{fault_of, first_failed}
 use Rattle.site_yard.proofs.LoanLemmas.{book_laws}
 use Rattle.site_yard.proofs.EndingLemmas.{ends_complete, none_ends, some_ends}

@@ -1,9 +1,9 @@
-use Rattle.std.proofs.Common.{◌+◌, map, sym, ap, refl, take, true, ◌≡◌, ◌∙◌}
+use Rattle.std.proofs.Common.{◌+◌, map, sym, ap, refl, take, true, ◌≡◌, ◌∙◌, length, subst}
 use Rattle.std.specs.Prelude.{None, Some, is_some}
-use Rattle.std.proofs.Common.{length, subst}
 use Rattle.plan_core.specs.Words.{is_transfer}
 use Rattle.site_yard.specs.Failures.{AreMore}
-use Rattle.site_yard.specs.Returning.{IsRefused, draft_faults, refusal_faults}
+use Rattle.outside.specs.Parts.{draft_faults}
+use Rattle.site_yard.specs.Returning.{IsRefused, refusal_faults}
 use Rattle.site_yard.proofs.LoanLemmas.{book_laws, worker_low}
 use Rattle.lease_book.specs.Book.{failure, is_tried_again, state_at}
 use Rattle.run_record.specs.Events.{Arrive, End}

@@ -1,0 +1,17 @@
+use Rattle.std.proofs.Common.{refl, ℕ}
+use Rattle.lease_rules.specs.State.{after}
+use Rattle.run_record.specs.Events.{Arrive}
+use Rattle.lease_book.specs.RunState.{state_of}
+use Rattle.lease_book.proofs.StateLemmas.{peaks_after, state_after}
+use Rattle.lease_book.proofs.state.RunState.arrive.Goals as goal
+
+pub enter_arrive-requires-clause-can : goal.enter_arrive-requires-clause-can
+enter_arrive-requires-clause-can c = record { state = state_of c.args.self.now; worker = c.args.worker; tied = c.requires.peaks.tied; allowed = c.requires.allowed }
+
+pub returns-clause-state : goal.returns-clause-state
+returns-clause-state c = state_after c.args.plan.now (after c.args.plan.now (state_of c.args.self.now) (Arrive c.args.worker c.args.task c.args.size)) (record c.args.self.now { standing = c.arrive.new.standing; peaks = c.enter_arrive.new.self }) (c.enter_arrive.ensures (state_of c.args.self.now) c.args.worker c.requires.peaks.tied c.requires.allowed) c.arrive.ensures.phase (λ t. refl) (λ t. refl) (λ t. refl) c.arrive.ensures.held refl
+
+pub returns-clause-peaks : goal.returns-clause-peaks
+returns-clause-peaks c =
+    let tied = c.enter_arrive.ensures (state_of c.args.self.now) c.args.worker c.requires.peaks.tied c.requires.allowed in
+    peaks_after c.args.plan.now (after c.args.plan.now (state_of c.args.self.now) (Arrive c.args.worker c.args.task c.args.size)) (record c.args.self.now { standing = c.arrive.new.standing; peaks = c.enter_arrive.new.self }) (state_after c.args.plan.now (after c.args.plan.now (state_of c.args.self.now) (Arrive c.args.worker c.args.task c.args.size)) (record c.args.self.now { standing = c.arrive.new.standing; peaks = c.enter_arrive.new.self }) tied c.arrive.ensures.phase (λ t. refl) (λ t. refl) (λ t. refl) c.arrive.ensures.held refl) tied c.requires.peaks.links

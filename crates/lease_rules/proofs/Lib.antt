@@ -1,0 +1,15 @@
+pub mod GoodsLemmas
+pub mod ListLemmas
+pub mod TotalLemmas
+pub mod FitLemmas
+pub mod SoundLemmas
+pub mod SafeLemmas
+pub mod OneLemmas
+pub mod RoomLemmas
+pub mod SizesRoomLemmas
+pub mod ReadingLemmas
+pub mod PlainLemmas
+pub mod StartLemmas
+pub mod NumbersLemmas
+pub mod OwningLemmas
+pub mod OverLemmas
