@@ -13,8 +13,8 @@ use Rattle.plan_run.specs.RunText.{delivered_lines}
 use Rattle.run_record.specs.Events.{Event}
 use Rattle.run_record.specs.Fault.{IsMalformedAt}
 use Rattle.run_record.specs.RecordText.{AreEntries, record_text}
-use Rattle.lease_book.specs.Legal.{IsComplete, Legal}
-use Rattle.lease_book.specs.State.{now}
+use Rattle.lease_rules.specs.Legal.{IsComplete, Legal}
+use Rattle.lease_rules.specs.State.{now}
 use Rattle.record_audit.specs.Part.{record_part}
 use Rattle.record_audit.specs.Sums.{AreSums}
 use Rattle.record_audit.specs.Text.{statistics_lines, verdict_line}

@@ -46,7 +46,7 @@ use Rattle.planner.specs.declared.inputs.Survey.{Survey}
 use Rattle.plan_core.specs.declared.plan.Plan.{Plan}
 use Rattle.plan_core.specs.Words.{delivers}
 use Rattle.run_record.specs.Events.{Event}
-use Rattle.site_yard.specs.Names.{file_name, lfn_in}
+use Rattle.plan_core.specs.Names.{file_name, lfn_in}
 use Rattle.site_yard.specs.Places.{is_delivered}
 use Rattle.site_yard.specs.declared.delivered.Delivered.{Delivered}
 

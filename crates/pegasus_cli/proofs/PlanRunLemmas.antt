@@ -13,8 +13,8 @@ use Rattle.plan_core.specs.declared.plan.Target.TheVariants.{Delivery, Site}
 use Rattle.plan_core.specs.Kinds.{kind_carries}
 use Rattle.plan_core.specs.Proper.{IsProper}
 use Rattle.plan_core.specs.Words.{delivers, kind, kind_delivers, retries, task_numbers}
-use Rattle.lease_book.specs.Legal.{IsComplete, Legal}
-use Rattle.lease_book.specs.State.{now}
+use Rattle.lease_rules.specs.Legal.{IsComplete, Legal}
+use Rattle.lease_rules.specs.State.{now}
 use Rattle.run_record.specs.Events.{Event}
 use Rattle.run_record.specs.declared.run_fault.RunFault.TheVariants as run
 use Rattle.plan_request.specs.RunPolicy.{IsPolicyInRange}
@@ -26,7 +26,7 @@ use Rattle.planner.specs.declared.plan_fault.PlanFault.TheVariants as plan_fault
 use Rattle.planner.specs.declared.surveyed.Surveyed.{Surveyed}
 use Rattle.site_yard.specs.Changes.{carries}
 use Rattle.site_yard.specs.Law.{Agrees, IsDeliveryOf}
-use Rattle.site_yard.specs.Names.{file_name, lfn_in}
+use Rattle.plan_core.specs.Names.{file_name, lfn_in}
 use Rattle.site_yard.specs.Places.{IsUndelivered, is_delivered}
 use Rattle.plan_run.specs.Finishing.{CanEnd, IsDoneOrMemory as EndsOrMemory, NoneFailed, replicas_of}
 use Rattle.plan_run.specs.Moments.{Tools, Work}

@@ -7,7 +7,7 @@ use Rattle.plan_core.specs.declared.plan.Plan.{Plan}
 use Rattle.plan_core.specs.Proper.{IsProper}
 use Rattle.plan_core.specs.Words.{task_numbers}
 use Rattle.run_record.specs.Events.{Event}
-use Rattle.lease_book.specs.Law.{FitsFromStart}
+use Rattle.lease_rules.specs.Law.{FitsFromStart}
 use Rattle.planner.specs.Deliveries.{DeliversRequests}
 use Rattle.planner.specs.Meaning.{MeansWorkflow}
 use Rattle.planner.specs.declared.inputs.Survey.{Survey}

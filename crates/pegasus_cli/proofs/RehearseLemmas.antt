@@ -30,7 +30,7 @@ use Rattle.run_record.specs.declared.run_fault.RunFault.{RunFault}
 use Rattle.run_record.specs.declared.run_fault.RunFault.TheVariants as run_faults
 use Rattle.site_yard.specs.Faults.{AllCarried}
 use Rattle.site_yard.specs.Law.{Agrees}
-use Rattle.site_yard.specs.Names.{site_name}
+use Rattle.plan_core.specs.Names.{site_name}
 use Rattle.site_yard.specs.Opening.{AreUnused}
 use Rattle.site_yard.specs.Places.{is_delivered}
 use Rattle.site_yard.specs.Trace.{trace_of}

@@ -19,14 +19,14 @@ use Rattle.plan_core.proofs.TestLemmas.{either, same_number}
 use Rattle.run_record.specs.Events.{Event, Grant, Arrive, End, Clean, Fail, Again, Regrant}
 use Rattle.run_record.specs.Fault.{IsMalformedAt}
 use Rattle.run_record.specs.declared.run_fault.RunFault.TheVariants as run
-use Rattle.lease_book.specs.Legal.{Legal}
+use Rattle.lease_rules.specs.Legal.{Legal}
 use Rattle.planner.specs.Deliveries.{DeliversRequests, IsNamed, IsRequested}
 use Rattle.planner.specs.Meaning.{MeansWorkflow}
 use Rattle.planner.specs.declared.surveyed.Surveyed.{Surveyed}
 use Rattle.site_yard.specs.Changes.{carries, moved}
 use Rattle.site_yard.specs.Kept.{IsOpening}
 use Rattle.site_yard.specs.Law.{AgreesSince, Holds, IsDeliveryOf}
-use Rattle.site_yard.specs.Names.{file_name}
+use Rattle.plan_core.specs.Names.{file_name}
 use Rattle.site_yard.specs.Places.{IsUndelivered, delivers_file, is_delivered}
 use Rattle.site_yard.specs.Truthful.{IsLongAs, IsTrue, Truthful}
 use Rattle.site_yard.proofs.PlanLemmas.{one_file}

@@ -11,10 +11,10 @@ use Rattle.storage_simulation.specs.Ordering.{IsOrder, at_start}
 use Rattle.planner.specs.Deliveries.{IsRequested}
 use Rattle.planner.specs.Planning.{IsPlanOf}
 use Rattle.run_record.specs.Events.{Event}
-use Rattle.lease_book.specs.Choice.{Safe}
-use Rattle.lease_book.specs.Law.{reserved_at, stored_at}
-use Rattle.lease_book.specs.Legal.{IsComplete, Legal}
-use Rattle.lease_book.specs.State.{now}
+use Rattle.lease_rules.specs.Choice.{Safe}
+use Rattle.lease_rules.specs.Law.{reserved_at, stored_at}
+use Rattle.lease_rules.specs.Legal.{IsComplete, Legal}
+use Rattle.lease_rules.specs.State.{now}
 use Rattle.site_yard.specs.Changes.{carries}
 use Rattle.site_yard.specs.Faults.{AllBelow}
 use Rattle.site_yard.specs.Law.{IsDeliveryOf}

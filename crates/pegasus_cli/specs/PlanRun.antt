@@ -16,7 +16,7 @@ use Rattle.planner.specs.declared.plan_fault.PlanFault.{PlanFault}
 use Rattle.run_record.specs.Events.{Event}
 use Rattle.site_yard.specs.Changes.{carries}
 use Rattle.site_yard.specs.Law.{IsDeliveryOf}
-use Rattle.site_yard.specs.Names.{file_name}
+use Rattle.plan_core.specs.Names.{file_name}
 use Rattle.site_yard.specs.Places.{is_delivered}
 use Rattle.planner.specs.declared.surveyed.Surveyed.{Surveyed}
 use Rattle.plan_run.specs.Finishing.{CanEnd, replicas_of}

@@ -32,7 +32,7 @@ use std::sync::Wait;
 use std::thread::Threads;
 
 /// The most tasks that a plan may have.
-pub(crate) const TASK_LIMIT: u64 = 2000;
+pub(crate) const TASK_LIMIT: u64 = 120_000;
 
 /// What a command tells: its answer, and the text before the answer's line.
 #[derive(Drop)]

@@ -18,7 +18,7 @@ use Rattle.pegasus_cli.specs.Survey.{over_survey}
 
 -- how many tasks a plan may have
 abbrev pub task_limit : ℕ
-task_limit = 2000
+task_limit = 120000
 
 -- the peaks of the first n sites along the order
 pub record ArePeaksOf (p : Plan) (order : List TaskId) (n : ℕ) (peaks : List ℕ) : Type 0 where

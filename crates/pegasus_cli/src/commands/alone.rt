@@ -10,7 +10,7 @@ use crate::commands::Worked;
 use crate::ready_plan::{ended, ready_plan, unrun};
 use crate::survey::read_survey;
 use craft::{Crew, Gate};
-use lease_book::ordered_plans_fit;
+use lease_rules::ordered_plans_fit;
 use outside::{Docs, Host, Tool};
 use plan_run::run_plan;
 use planner::{Surveyed, plans_deliver_requests};

@@ -13,7 +13,7 @@ use crate::fault::CallFault;
 use crate::ready_plan::{ended, ready_plan, unrun};
 use crate::survey::read_survey;
 use craft::{Crew, Gate};
-use lease_book::ordered_plans_fit;
+use lease_rules::ordered_plans_fit;
 use outside::{Docs, Host, Memory, Tool};
 use plan_core::Plan;
 use plan_run::{Ran, run_plan};

@@ -14,7 +14,7 @@ use crate::commands::{Told, at_once};
 use crate::fault::{CallFault, of_plan_fault};
 use crate::ready_plan::ready_plan;
 use craft::{Crew, Gate};
-use lease_book::ordered_plans_fit;
+use lease_rules::ordered_plans_fit;
 use outside::{Host, Memory, MemoryHost, SiteId, Tool};
 use plan_run::{Ran, run_plan, run_plan_by};
 use planner::{Surveyed, plans_deliver_requests};

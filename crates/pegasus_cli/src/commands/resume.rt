@@ -14,7 +14,7 @@ use crate::judging::record_in;
 use crate::ready_plan::{ready_plan, unrun};
 use crate::recorded::{Recorded, read_recorded};
 use craft::{Crew, Gate};
-use lease_book::ordered_plans_fit;
+use lease_rules::ordered_plans_fit;
 use outside::{Docs, Host, Tool};
 use planner::plans_deliver_requests;
 use resume_run::{Resumed, resume_plan};

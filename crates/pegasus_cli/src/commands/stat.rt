@@ -2,7 +2,7 @@
 
 ghost use Rattle.std.specs.Prelude.{◌≡◌, ◌≤◌, IfOk, OnOk};
 ghost use Rattle.plan_core.specs.Words.{retries, task_numbers};
-ghost use Rattle.lease_book.specs.Legal.{Legal};
+ghost use Rattle.lease_rules.specs.Legal.{Legal};
 ghost use Rattle.record_audit.specs.Verdict.{IsJudged};
 ghost use Rattle.plan_run.specs.Moments.{Tools, Work};
 ghost use Rattle.pegasus_cli.specs.Commands.Audit.{SaysOf};
