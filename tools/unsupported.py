@@ -19,10 +19,12 @@ KINDS = {
     "checksums": "64 hexadecimal digits are wanted",
     "requires": "jobs are this program's own tools and need no others",
     "types": "say installed or stageable",
+    "transformation": "add it to the catalogue of transformations, at one of the sites",
+    "pin": "name one of the sites that have its transformation, or none",
     "version": "documents of another version than 5.0 have to be written anew",
     "catalogue": "name one with --sites or --transformations",
 }
-DROPPED = [kind for kind in KINDS if kind not in ("version", "catalogue")]
+DROPPED = [kind for kind in KINDS if kind not in ("transformation", "pin", "version", "catalogue")]
 
 
 @dataclass
@@ -52,6 +54,47 @@ def table(found, name):
     return {**documents.WORKFLOW, **unread} if name == "workflow" else documents.TABLES[name]
 
 
+# Where jobs can run
+
+
+def triple_of(it):
+    return it.get("namespace"), it.get("name"), it.get("version")
+
+
+def site_names(found):
+    """The names of the sites of the catalogue that the program reads."""
+    return [site.get("name") for _, _, it in catalogues(found, "sites") for _, site in documents.members(it, "sites")]
+
+
+def having(found, triple):
+    """The sites that have a transformation: what is stageable at one is at all of them."""
+    entries = [it for _, _, found_there in catalogues(found, "transformations")
+               for _, it in documents.members(found_there, "transformations") if triple_of(it) == triple]
+    places = [place for entry in entries for _, place in documents.members(entry, "sites")]
+    names = site_names(found)
+    if any(place.get("type") == "stageable" for place in places):
+        return names
+    return [name for name in names if any(place.get("name") == name and place.get("type") == "installed" for place in places)]
+
+
+def pin_of(job):
+    """The site that a job is pinned to, if there is one."""
+    here = job
+    for key in ("profiles", "selector", "execution.site"):
+        here = here.get(key) if isinstance(here, dict) else None
+    return here if isinstance(here, str) else None
+
+
+def sites_of(found, job):
+    """The sites at which a job can run."""
+    names, pin = having(found, triple_of(job)), pin_of(job)
+    return names if pin is None else [name for name in names if name == pin]
+
+
+def is_any_of(names, others):
+    return any(name in others for name in names)
+
+
 # Where it is
 
 
@@ -70,6 +113,17 @@ def of_jobs(workflow):
             if isinstance(use.get("type"), str) and use["type"] not in ("input", "output"):
                 kind = "checkpoints" if use["type"] == "checkpoint" else "uses"
                 yield Place(kind, "workflow", f"/jobs/{place}/uses/{at}", f"a use of type {use['type']}")
+
+
+def of_places(found):
+    """The jobs that can run at no site of the catalogue."""
+    for place, job in documents.members(found["workflow"], "jobs"):
+        if job.get("type") != "job" or sites_of(found, job):
+            continue
+        if having(found, triple_of(job)):
+            yield Place("pin", "workflow", f"/jobs/{place}", f"a job that is pinned to {pin_of(job)}")
+        else:
+            yield Place("transformation", "workflow", f"/jobs/{place}", f"a job of {job.get('name')}, which no site has")
 
 
 def of_replicas(catalogue, name, path):
@@ -109,6 +163,21 @@ def places(found):
                 yield from of_replicas(catalogue, document, path)
             elif name == "transformations":
                 yield from of_transformations(catalogue, document, path)
+    if all(list(catalogues(found, name)) for name in ("sites", "transformations")):
+        yield from of_places(found)
+
+
+def unregistered(found):
+    """A line for each file that a job reads and that is neither made nor registered, at its first use."""
+    jobs = documents.members(found["workflow"], "jobs")
+    uses = [(place, at, use) for place, job in jobs for at, use in documents.members(job, "uses")]
+    known = {use.get("lfn") for _, _, use in uses if use.get("type") == "output"}
+    known |= {entry.get("lfn") for _, _, it in catalogues(found, "replicas")
+              for _, entry in documents.members(it, "replicas") if entry.get("pfns")}
+    for place, at, use in uses:
+        if use.get("type") == "input" and use.get("lfn") not in known:
+            known.add(use.get("lfn"))
+            yield f"registered nowhere workflow /jobs/{place}/uses/{at} {use.get('lfn')}: add it to a catalogue of replicas"
 
 
 # How it is taken out

@@ -36,11 +36,14 @@ assert request["tools"] == {"preprocess": "deal"} and request["replicas"] == str
 
 plain = work / "plain.yml"
 plain.write_text(
-    "pegasus: 5.0\nname: 007\nsiteCatalog: {sites: []}\ntransformationCatalog: {transformations: []}\njobs:\n- {type: job, id: 1, name: yes, version: 4.0, arguments: [010, on, 2026-01-02],\n"
+    "pegasus: 5.0\nname: 007\nsiteCatalog: {sites: [{name: local}]}\ntransformationCatalog: {transformations: [{name: yes, version: 4.0, "
+    "sites: [{name: local, pfn: yes, type: installed}]}]}\njobs:\n- {type: job, id: 1, name: yes, version: 4.0, arguments: [010, on, 2026-01-02],\n"
     "   uses: [{lfn: 1.50, type: output, stageOut: no, size: 12, color/x: red}]}\n",
     encoding="utf-8",
 )
-assert turn(str(plain), str(work / "plain")).stdout.splitlines()[0] == "not acted on workflow /jobs/0/uses/0/color~1x"
+assert turn(str(plain), str(work / "plain")).stdout.splitlines() == [
+    "no tool yes:4.0: name one with --tool yes:4.0=TOOL, or in the request's tools",
+    "not acted on workflow /jobs/0/uses/0/color~1x", f"written {work / 'plain' / 'request.json'}"]
 job = read(work / "plain", "workflow")["jobs"][0]
 assert (job["id"], job["name"], job["version"], job["arguments"]) == ("1", "yes", "4.0", ["010", "on", "2026-01-02"])
 assert job["uses"][0]["lfn"] == "1.50" and job["uses"][0]["stageOut"] is False and job["uses"][0]["size"] == 12
@@ -135,13 +138,49 @@ ran = subprocess.run([sys.executable, "tools/run-model", str(work / "full" / "re
 assert ran.stdout.splitlines()[-1] == "done" and "delivered whole 16 " in ran.stdout, ran.stdout
 
 # An inlined catalogue isn't looked at where a document stands in its place, and one that is missing is told.
-(work / "catalogue.yml").write_text("pegasus: 5.0\ntransformations: []\n", encoding="utf-8")
+(work / "catalogue.yml").write_text(
+    "pegasus: 5.0\ntransformations: [{name: make, sites: [{name: condorpool, pfn: /bin/make, type: installed}]},\n"
+    " {namespace: diamond, name: make, version: 4.0, sites: [{name: elsewhere, pfn: /bin/make, type: stageable}]}]\n", encoding="utf-8")
 left = turn("--transformations", str(work / "catalogue.yml"), "--drop", "subworkflows", "--drop", "uses", "--drop", "checkpoints",
             "--drop", "patterns", "--drop", "checksums", str(work / "full.yml"), str(work / "other"))
 assert left.returncode == 0 and "/transformationCatalog" not in left.stdout, left
 (work / "bare.yml").write_text("pegasus: 4.9\nname: bare\njobs: []\n", encoding="utf-8")
 bare = turn(str(work / "bare.yml"), str(work / "nothing"))
 assert bare.returncode == 4 and "/pegasus 4.9" in bare.stderr and "no catalogue of sites" in bare.stderr, bare.stderr
+
+# A job that no site can run, or that is pinned elsewhere, is told, and `local` runs jobs where none of the others can.
+PLACES = """
+pegasus: 5.0
+name: places
+siteCatalog: {sites: [{name: local}, {name: pool}]}
+transformationCatalog: {transformations: [{name: cat, sites: [{name: AT, pfn: /bin/cat, type: TYPE}]}]}
+jobs:
+- {type: job, id: one, name: NAME, uses: [{lfn: f.a, type: input}, {lfn: f.b, type: output}], profiles: {selector: {execution.site: PIN}}}
+- {type: job, id: two, name: cat, uses: [{lfn: f.a, type: input}, {lfn: f.b, type: input}, {lfn: f.c, type: output}]}
+"""
+
+
+def placed(at="pool", kind="installed", name="cat", pin="pool"):
+    text = PLACES.replace("AT", at).replace("TYPE", kind).replace("NAME", name).replace("PIN", pin)
+    (work / "places.yml").write_text(text, encoding="utf-8")
+    return turn(str(work / "places.yml"), str(work / "places"))
+
+
+for how, told in (
+        ({"name": "dog"}, "unsupported workflow /jobs/0 a job of dog, which no site has: add it"),
+        ({"at": "moon"}, "unsupported workflow /jobs/1 a job of cat, which no site has: add it"),
+        ({"pin": "moon"}, "unsupported workflow /jobs/0 a job that is pinned to moon: name one"),
+        ({"pin": "local"}, "unsupported workflow /jobs/0 a job that is pinned to local: name one")):
+    refused = placed(**how)
+    assert refused.returncode == 4 and told in refused.stderr and not (work / "places").exists(), (how, refused)
+for how, sites in (({}, ["pool"]), ({"kind": "stageable", "pin": "local"}, ["local", "pool"]), ({"at": "moon", "kind": "stageable"}, ["pool"]),
+                   ({"at": "local", "pin": "local"}, ["local", "pool"])):
+    done = placed(**how)
+    assert done.returncode == 0 and done.stdout.splitlines()[:2] == [
+        "registered nowhere workflow /jobs/0/uses/0 f.a: add it to a catalogue of replicas",
+        "no tool cat: name one with --tool cat=TOOL, or in the request's tools"], (how, done)
+    assert [it["site"] for it in read(work / "places", "request")["execute"]] == sites, how
+
 for words in (["--tool", "nobody=join"], ["--tool", "diamond::make:5.0=join"]):
     assert turn(*drops, *words, str(work / "full.yml"), str(work / "nothing")).returncode == 1, words
 for words in (["--tool", "make"], ["--tool", "make=cat"], ["--drop", "jobs"], ["--size", "many"]):

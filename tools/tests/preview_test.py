@@ -55,6 +55,19 @@ assert handed(call(mine, "torn.json", "plan")[1]) == (["torn.json"], ["plan", "t
 assert handed(call(mine, "torn.json", "stat", "data/a")[1]) == (["torn.json", "data/a"], ["stat", "torn.json", "data/a"])
 assert handed(call(mine, "nowhere.json")[1]) == ([], ["alone", "nowhere.json"])
 
+# The record and the sites of a run that is gone on with; the members of an ensemble; and a rehearsal, which reads nothing.
+(mine / "sites/pool").mkdir(parents=True)
+(mine / "sites/pool/f.a").write_text("x\n")
+assert handed(call(mine, "torn.json", "resume", "data/a")[1])[0] == ["torn.json", "data/a", "sites/pool/f.a"]
+assert handed(call(mine, "torn.json", "alone")[1])[0] == ["torn.json"]
+joint = call(TOP, "examples/ensemble/ensemble.json", "ensemble", "--workers", "4")[1]
+assert set(handed(joint)[0]) == {"examples/ensemble/ensemble.json", *documents, *(
+    f"examples/ensemble/{it}.json" for it in ("words-request", "words", "lines-request", "lines"))}, joint
+assert handed(joint)[1] == ["ensemble", "examples/ensemble/ensemble.json", "--workers", "4"], joint
+(mine / "joint.json").write_text('{"members": [{"request": "r.json"}, {"name": "b"}, 7, {"request": 8}]}')
+assert handed(call(mine, "joint.json", "ensemble")[1])[0] == ["joint.json", "r.json", "w.json", "data/a", "data/b"]
+assert handed(call(mine, "20", "rehearse")[1]) == ([], ["rehearse", "20"])
+
 status, _, told = call(mine, "r.json", ends="echo 'error: a fault' >&2; echo 'run=none proved=no' >&2; exit 4\n")
 assert status == 70 and told[-2:] == ["error: a fault", "run=none proved=no"], (status, told)
 assert call(mine)[0] == 2
