@@ -321,7 +321,7 @@ def devices(place):
     ):
         assert call(place, ("check", name)) == wanted, (name, call(place, ("check", name)))
         tried += 1
-    for pfn in ("/dev/null", "/dev/zero", "/proc/self", ".", "socket"):
+    for pfn in ("/dev/null", "/dev/zero", "/proc/self", "/proc/version", ".", "socket"):
         write(place, [delivery("a")], [replica("a", pfn)])
         for words in CALLS:
             assert call(place, words) == (6, ["failed host 0"]) and not files(place), (pfn, words)
