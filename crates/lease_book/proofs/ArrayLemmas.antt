@@ -1,14 +1,12 @@
 -- Arrays by number.
-use Rattle.std.proofs.Common.{◌≡◌, ℕ, zero, suc, ◌+◌, ◌≤◌, ◌<◌, ◌||◌, Bool, true, false, cond, nat_eq, eqb-true, List, [], ◌∷◌, length, take, drop, set, get_or, refl, sym, ap, ◌∙◌, arith}
+use Rattle.std.proofs.Common.{◌≡◌, ℕ, zero, suc, ◌+◌, ◌<◌, ◌||◌, Bool, true, false, cond, nat_eq, eqb-true, List, [], ◌∷◌, length, take, drop, set, get_or, refl, sym, ap, ◌∙◌, arith}
 use Rattle.std.proofs.lemmas.List.{take_more}
 use Rattle.std.proofs.lemmas.List.Folds.{list_any-append}
-use Rattle.std.specs.Prelude.{not, replicate}
+use Rattle.std.specs.Prelude.{replicate}
 use Rattle.std.proofs.Math.Path.{fun_ext}
-use Rattle.std.proofs.lemmas.Bool.{eqb-false}
 use Rattle.storage_simulation.specs.declared.standing.Held.{Held}
 use Rattle.storage_simulation.specs.declared.standing.Held.TheVariants.{Nothing, Stored}
 use Rattle.storage_simulation.specs.Standings.{at_in}
-use Rattle.storage_simulation.specs.Following.{AreOnce}
 use Rattle.plan_core.specs.Numbers.{has}
 use Rattle.plan_core.specs.declared.plan.Plan.{Plan}
 use Rattle.plan_core.specs.Words.{cleans}
@@ -16,8 +14,8 @@ use Rattle.storage_simulation.specs.declared.standing.Standing.{Standing}
 use Rattle.storage_simulation.specs.Goods.{makes}
 use Rattle.lease_rules.specs.Law.{HasStorageLaws}
 use Rattle.lease_book.specs.RunState.{HasLengths, IsSame}
-use Rattle.lease_rules.specs.State.{State, put, stored_among, without}
-use Rattle.lease_rules.proofs.ListLemmas.{has_head, once_parts, once_without, or_right, without_absent, without_has}
+use Rattle.lease_rules.specs.State.{State, put, stored_among}
+use Rattle.lease_rules.proofs.ListLemmas.{has_head, or_right}
 
 -- one place written
 -- a list of one value has it everywhere, and where it ends

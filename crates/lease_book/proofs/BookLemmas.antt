@@ -1,15 +1,14 @@
 -- One entry more in a book.
 use Rattle.std.proofs.Common.{◌≡◌, ℕ, zero, suc, ◌+◌, ◌-◌, ◌*◌, ◌≤◌, ◌<◌, ◌||◌, ◌&&◌, Bool, true, false, inl, inr, List, [], ◌∷◌, ◌++◌, length, ltb, refl, sym, ap, subst, ◌∙◌, arith, ltb-true, ltb-false}
-use Rattle.std.specs.Prelude.{◌⊎◌, not, Option, Some, slice_get}
+use Rattle.std.specs.Prelude.{◌⊎◌, not, Some, slice_get}
 use Rattle.std.specs.List.{list_any}
 use Rattle.std.proofs.Math.Logic.{∥∥₁_map}
-use Rattle.storage_simulation.specs.Fitting.{Fits}
 use Rattle.lease_book.proofs.ArrayLemmas.{same_state}
 use Rattle.lease_rules.proofs.GoodsLemmas.{good_small}
 use Rattle.lease_rules.proofs.ListLemmas.{both, by_bool, un_not}
 use Rattle.lease_rules.proofs.RoomLemmas.{consistent_more, room_falls}
 use Rattle.lease_rules.proofs.SizesRoomLemmas.{sizes_fall}
-use Rattle.lease_rules.proofs.SoundLemmas.{fresh_among, sound_more, sound_opened}
+use Rattle.lease_rules.proofs.SoundLemmas.{fresh_among, sound_opened}
 use Rattle.lease_rules.proofs.SafeLemmas.{choice_exists, complete_of, safe_state}
 use Rattle.lease_book.specs.Book.{is_tried_again, state_at}
 use Rattle.lease_rules.specs.Choice.{IsChoice}
@@ -18,7 +17,7 @@ use Rattle.lease_rules.specs.Law.{FitsFromStart, HasStorageLaws, IsConsistent, I
 use Rattle.lease_rules.specs.Legal.{Allowed, CauseFits, IsComplete, Legal, LegalFrom, MayFail}
 use Rattle.lease_rules.specs.Room.{listed, entries_room, sizes_left, sizes_room}
 use Rattle.lease_book.specs.RunState.{HasPeaks, HasRoom, IsSame, state_of}
-use Rattle.lease_rules.specs.State.{State, after, now, now_from, opened, order_or, order_with, runs, without}
+use Rattle.lease_rules.specs.State.{State, after, now, now_from, opened, runs}
 use Rattle.lease_book.specs.declared.book.Book.{Book}
 use Rattle.lease_book.specs.declared.state.RunState.{RunState}
 use Rattle.plan_core.specs.Words.{count_tasks, retries, task_numbers}

@@ -1,5 +1,5 @@
 -- The state that arrays and trees show after one entry more.
-use Rattle.std.proofs.Common.{◌≡◌, ◌≤◌, ℕ, true, false, List, [], ◌∷◌, ◌++◌, refl, sym, ap, subst, ◌∙◌, arith}
+use Rattle.std.proofs.Common.{◌≡◌, ℕ, false, List, [], ◌∷◌, ◌++◌, refl, sym, ap, subst, ◌∙◌, arith}
 use Rattle.std.specs.Prelude.{filter, replicate}
 use Rattle.lease_rules.proofs.ListLemmas.{has_head}
 use Rattle.lease_rules.specs.Choice.{HasNoChoice}
@@ -16,7 +16,7 @@ use Rattle.run_record.specs.Events.{Regrant}
 use Rattle.storage_simulation.specs.declared.standing.Phase.TheVariants.{Runs, Waits}
 use Rattle.storage_simulation.specs.declared.standing.Standing.{Standing}
 use Rattle.storage_simulation.specs.Goods.{IsWithinLimits}
-use Rattle.storage_simulation.specs.Standings.{at_in, held_of, held_size, phase_of}
+use Rattle.storage_simulation.specs.Standings.{held_of, held_size, phase_of}
 use Rattle.place_peaks.specs.declared.peaks.Peaks.{Peaks}
 use Rattle.place_peaks.specs.Renewing.{IsShown}
 use Rattle.place_peaks.specs.Entries.{AreTied}

@@ -1,27 +1,22 @@
 -- A state in which the start of a task is tried.
-use Rattle.std.proofs.Common.{◌≡◌, ℕ, zero, suc, ◌≤◌, ◌<◌, ◌||◌, Bool, true, false, cond, List, [], ◌∷◌, length, get_or, refl, sym, ap, subst, ◌∙◌, arith}
-use Rattle.std.specs.Prelude.{Decides, MatchOption, Option, Some, None}
+use Rattle.std.proofs.Common.{◌≡◌, ℕ, zero, suc, ◌≤◌, ◌||◌, Bool, true, false, cond, List, [], ◌∷◌, refl, sym, ap, subst, ◌∙◌, arith}
+use Rattle.std.specs.Prelude.{Decides}
 use Rattle.std.specs.List.{list_all, list_any}
 use Rattle.std.proofs.Math.Path.{fun_ext}
 use Rattle.lease_rules.proofs.GoodsLemmas.{good_small}
-use Rattle.lease_rules.proofs.ListLemmas.{all_have, few_once, have_all}
-use Rattle.lease_rules.proofs.SoundLemmas.{choice_in, put_at, put_off}
-use Rattle.lease_rules.proofs.SafeLemmas.{choice_exists}
-use Rattle.lease_rules.proofs.StartLemmas.{follows_of, follows_without}
-use Rattle.lease_rules.specs.Choice.{CanStart, HasNoChoice, HaveParentsEnded, IsCandidate, IsChoice, Safe, start}
-use Rattle.lease_rules.specs.Law.{HasStorageLaws, IsIdle, IsSoundState}
-use Rattle.lease_rules.specs.State.{State, after, ended, held_after, phase_after, put, reserved_for, runs, started, without}
+use Rattle.lease_rules.proofs.ListLemmas.{all_have, have_all}
+use Rattle.lease_rules.specs.Choice.{HaveParentsEnded, IsCandidate, start}
+use Rattle.lease_rules.specs.Law.{IsSoundState}
+use Rattle.lease_rules.specs.State.{State, ended, held_after, phase_after, put, reserved_for, runs, started}
 use Rattle.lease_book.specs.Trial.{HasPlace, IsTrial}
 use Rattle.lease_book.specs.declared.trial.Trial.{Trial}
 use Rattle.plan_core.specs.Numbers.{has}
-use Rattle.plan_core.specs.Words.{cleans, count_tasks, is_clean, parents, task_numbers}
+use Rattle.plan_core.specs.Words.{cleans, is_clean, parents}
 use Rattle.plan_core.specs.declared.plan.Plan.{Plan}
 use Rattle.run_record.specs.Events.{Clean, Grant}
-use Rattle.storage_simulation.specs.Fitting.{Fits}
-use Rattle.storage_simulation.specs.Following.{Follows}
 use Rattle.storage_simulation.specs.Goods.{IsWithinLimits, good_size, makes}
 use Rattle.storage_simulation.specs.Ordering.{progress}
-use Rattle.storage_simulation.specs.Standings.{IsStanding, at_in, held_of, held_size, phase_of, sizes, waits}
+use Rattle.storage_simulation.specs.Standings.{IsStanding, at_in, held_of, held_size, phase_of, sizes}
 use Rattle.storage_simulation.specs.Usage.{IsWithin}
 use Rattle.storage_simulation.specs.declared.standing.Held.{Held}
 use Rattle.storage_simulation.specs.declared.standing.Held.TheVariants.{Nothing, Reserved}

@@ -9,6 +9,7 @@ ghost use Rattle.lease_rules.specs.Legal.{IsOpen, Legal};
 
 use crate::book::Book;
 use crate::sums;
+use place_peaks::peaks_are_seated;
 use run_record::Record;
 use storage_simulation::Held;
 use values::{PairId, SiteId, TaskId};
@@ -25,6 +26,7 @@ impl Book {
     pub fn rest_task(&self, k: usize) -> Option<TaskId>
         ensures { option_map (λ (t : TaskId). t.0) result ≡ slice_get (state_at self.now).rest k }
     {
+        peaks_are_seated();
         self.state.peaks.rest_task(k)
     }
 

@@ -46,6 +46,7 @@ fn parents_ended(plan: &Plan, standing: &Standing, task: u32) -> bool
 
 /// The Choice.
 pub(crate) fn choose(plan: &Plan, state: &RunState) -> Option<u32>
+    requires limits { IsWithinLimits plan.now }
     requires peaks { HasPeaks plan.now state.now }
     requires unfailed { (state_of state.now).failing ≡ false }
     ensures { MatchOption result (HasNoChoice plan.now (state_of state.now)) (λ t. IsChoice plan.now (state_of state.now) t) }

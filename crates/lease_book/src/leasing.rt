@@ -14,6 +14,7 @@ ghost use Rattle.lease_rules.specs.State.{order_with, runs};
 use crate::book::Book;
 use crate::choice::choose;
 use crate::fresh::fresh_task;
+use place_peaks::peaks_are_seated;
 use run_record::Entry;
 use values::TaskId;
 
@@ -116,6 +117,7 @@ impl Book {
         requires no_choice { HasNoChoice self.now.plan (state_of self.now.state) }
         ensures { result ≡ list_any runs self.now.state.standing.tasks }
     {
+        peaks_are_seated();
         match self.state.peaks.rest_task(0) {
             Some(_) => true,
             None => self.state.any_runs(),

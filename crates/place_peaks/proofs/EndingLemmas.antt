@@ -126,6 +126,7 @@ kept_more a b c h k = record {
   missing = k.missing ∙ h.missing;
   bases_long = k.bases_long ∙ h.bases_long;
   trees_long = k.trees_long ∙ h.trees_long;
+  ready = k.ready ∙ h.ready;
   passed = λ m. k.passed (h.passed m);
 }
 
@@ -252,7 +253,7 @@ none_lowered p links b t ns can home = (
 )
 
 pub kept_none : (b : Peaks) → IsKept b b
-kept_none b = record { line = refl; left = refl; homes = refl; widths = refl; seats = refl; needs = refl; again = refl; missing = refl; bases_long = refl; trees_long = refl; passed = λ h. h }
+kept_none b = record { line = refl; left = refl; homes = refl; widths = refl; seats = refl; needs = refl; again = refl; missing = refl; bases_long = refl; trees_long = refl; ready = refl; passed = λ h. h }
 
 -- the place of a task that runs
 pub home_of : (p : Plan) (links : Links) (b : Peaks) (t : ℕ) (ns : List ℕ) (o : Option ℕ) → CanSettle p links b t ns → o ≡ get_or b.homes.items t None → place p t ≡ o

@@ -44,6 +44,7 @@ use Rattle.place_peaks.proofs.FirstLemmas.{granted_again, swept_again}
 use Rattle.place_peaks.proofs.GrantingLemmas.{SumsAreSmall, can_grant, granted_at}
 use Rattle.place_peaks.proofs.PossibleLemmas.{can_end, can_free, can_free_first, has_stack_room}
 use Rattle.place_peaks.proofs.SettlingLemmas.{arrive_declared, arrived, ended_at}
+use Rattle.place_peaks.proofs.ReadyLemmas.{HaveTrees}
 use Rattle.place_peaks.proofs.WaitingLemmas.{again_by, again_first, clean_choice, failed_by, moved_at}
 
 -- a task of rest stands in the line where none waits again
@@ -82,7 +83,7 @@ whole_of p old new line seats widths long passed whole = record {
   passed = passed whole.passed;
 }
 
-pub tied_none : (p : Plan) (s : State) (b : Peaks) → b.again.items ≡ [] → ArePeaks p s b → IsWhole p b → AreTied p s b
+pub tied_none : (p : Plan) (s : State) (b : Peaks) → b.again.items ≡ [] → ArePeaks p s b → IsWhole p b → HaveTrees p s b
 tied_none p s b none peaks whole = record { behind = subst (AreBehind p s b) (sym (none_stacked b.again.items none)) peaks; whole = whole }
 
 -- a task that waits stands below the number of tasks, and hasn't ended
@@ -107,11 +108,11 @@ grant_line p s old new w t peaks allowed is =
     subst (λ (n : ℕ). left_of old n ≡ true → Allowed p s (Grant w n) → IsGranted old new n → ArePeaks p (after p s (Grant w n)) new) k.is
     (λ left a i. granted_at p s old new w k.at peaks a i k.within left) k.left allowed is
 
-pub grant_tied : (p : Plan) (s : State) (old new : Peaks) (w t : ℕ) → AreTied p s old → old.again.items ≡ [] → Allowed p s (Grant w t) → IsGranted old new t → AreTied p (after p s (Grant w t)) new
+pub grant_tied : (p : Plan) (s : State) (old new : Peaks) (w t : ℕ) → AreTied p s old → old.again.items ≡ [] → Allowed p s (Grant w t) → IsGranted old new t → HaveTrees p (after p s (Grant w t)) new
 grant_tied p s old new w t tied none allowed is =
     tied_none p (after p s (Grant w t)) new (ap (λ (v : Vec TaskId Global). v.items) is.again ∙ none) (grant_line p s old new w t (behind_none p s old none tied.behind) allowed is) (whole_of p old new is.line is.seats is.widths (ap (λ (v : Vec TaskId Global). vec_capacity v) is.again) is.passed tied.whole)
 
-pub grant_again_tied : (p : Plan) (s : State) (old new : Peaks) (w t : ℕ) → AreTied p s old → Allowed p s (Grant w t) → IsGrantedAgain old new t → stack_of old ≡ t ∷ stack_of new → vec_capacity new.again ≡ vec_capacity old.again → AreTied p (after p s (Grant w t)) new
+pub grant_again_tied : (p : Plan) (s : State) (old new : Peaks) (w t : ℕ) → AreTied p s old → Allowed p s (Grant w t) → IsGrantedAgain old new t → stack_of old ≡ t ∷ stack_of new → vec_capacity new.again ≡ vec_capacity old.again → HaveTrees p (after p s (Grant w t)) new
 grant_again_tied p s old new w t tied allowed is stack long = record {
   behind = granted_again p s old new (stack_of new) w t (subst (AreBehind p s old) stack tied.behind) allowed is;
   whole = whole_of p old new is.line is.seats is.widths long is.passed tied.whole;
@@ -151,7 +152,7 @@ clean_room_again p s b t q frees behind first kind free home =
 pub clean_end : (p : Plan) (s : State) (b : Peaks) (t : ℕ) → AreTied p s b → IsChoice p s t → CanEnd p b.missing.items t
 clean_end p s b t tied choice = can_end p s b (stack_of b) t tied.behind (waiting_open (s.phase t) (tied.behind.sound.safe.waiting t (choice_in p s t choice)))
 
-pub clean_tied : (p : Plan) (s : State) (old new : Peaks) (w t frees : ℕ) → AreTied p s old → old.again.items ≡ [] → Allowed p s (Clean w t) → ((u : ℕ) → AreOnce (parents p u)) → Frees p s t frees → IsSwept p old new t frees → AreTied p (after p s (Clean w t)) new
+pub clean_tied : (p : Plan) (s : State) (old new : Peaks) (w t frees : ℕ) → AreTied p s old → old.again.items ≡ [] → Allowed p s (Clean w t) → ((u : ℕ) → AreOnce (parents p u)) → Frees p s t frees → IsSwept p old new t frees → HaveTrees p (after p s (Clean w t)) new
 clean_tied p s old new w t frees tied none allowed once free is =
     tied_none p (after p s (Clean w t)) new (ap (λ (v : Vec TaskId Global). v.items) is.again ∙ none) line (whole_of p old new is.line is.seats is.widths (ap (λ (v : Vec TaskId Global). vec_capacity v) is.again) is.passed tied.whole)
   where
@@ -165,7 +166,7 @@ clean_tied p s old new w t frees tied none allowed once free is =
         subst (λ (n : ℕ). left_of old n ≡ true → Allowed p s (Clean w n) → ((x : ℕ) → cleans p n x ≡ nat_eq g.0 x) → ((q : ℕ) → place p n ≡ Some q → held_part p (sizes s.held) q g.0 ≡ frees) → IsSwept p old new n frees → ArePeaks p (after p s (Clean w n)) new) k.is
         (λ left a its f i. swept_at p s old new w k.at g.0 frees peaks k.within left a once its f i) k.left allowed g.1 (frees_there p s t g.0 frees peaks.laws g.1 free) is
 
-pub clean_again_tied : (p : Plan) (s : State) (old new : Peaks) (w t frees : ℕ) → AreTied p s old → Allowed p s (Clean w t) → ((u : ℕ) → AreOnce (parents p u)) → Frees p s t frees → IsSweptAgain p old new t frees → stack_of old ≡ t ∷ stack_of new → vec_capacity new.again ≡ vec_capacity old.again → AreTied p (after p s (Clean w t)) new
+pub clean_again_tied : (p : Plan) (s : State) (old new : Peaks) (w t frees : ℕ) → AreTied p s old → Allowed p s (Clean w t) → ((u : ℕ) → AreOnce (parents p u)) → Frees p s t frees → IsSweptAgain p old new t frees → stack_of old ≡ t ∷ stack_of new → vec_capacity new.again ≡ vec_capacity old.again → HaveTrees p (after p s (Clean w t)) new
 clean_again_tied p s old new w t frees tied allowed once free is stack long =
     let g = cleaned_good p t allowed.1 in record {
       behind = swept_again p s old new (stack_of new) w t g.0 frees (subst (AreBehind p s old) stack tied.behind) allowed once g.1 (frees_there p s t g.0 frees tied.behind.laws g.1 free) is;
@@ -186,7 +187,7 @@ again_room p s b w t c ns tied kind allowed =
     has_stack_room p s b t tied.whole.room tied.behind (tied.behind.sound.running_kind t runs).1
     (off_stack p s b t tied.behind (false_of (has s.rest t) (λ h. absurd (let wait = tied.behind.sound.safe.waiting t h in let no : waits (s.phase t) ≡ false = ap waits runs in cc))))
 
-pub again_tied : (p : Plan) (s : State) (old new : Peaks) (w t : ℕ) (c : Cause) (ns : List ℕ) → AreTied p s old → is_clean p t ≡ false → Allowed p s (Again w t c ns) → IsAgain old new t → stack_of new ≡ t ∷ stack_of old → vec_capacity new.again ≡ vec_capacity old.again → AreTied p (after p s (Again w t c ns)) new
+pub again_tied : (p : Plan) (s : State) (old new : Peaks) (w t : ℕ) (c : Cause) (ns : List ℕ) → AreTied p s old → is_clean p t ≡ false → Allowed p s (Again w t c ns) → IsAgain old new t → stack_of new ≡ t ∷ stack_of old → vec_capacity new.again ≡ vec_capacity old.again → HaveTrees p (after p s (Again w t c ns)) new
 again_tied p s old new w t c ns tied kind allowed is stack long = record {
   behind = subst (AreBehind p (after p s (Again w t c ns)) new) (sym stack) (again_by p s old new (stack_of old) w t c ns tied.behind allowed (runs_of p s w t kind allowed.1) is);
   whole = whole_of p old new is.line is.seats is.widths long is.passed tied.whole;
@@ -196,7 +197,7 @@ pub move_room : (p : Plan) (s : State) (b : Peaks) (t : ℕ) → AreTied p s b �
 move_room p s b t tied none choice =
     has_stack_room p s b t tied.whole.room tied.behind (tied.behind.sound.safe.tasks t (choice_in p s t choice)) (ap (λ (zs : List ℕ). has zs t) (none_stacked b.again.items none))
 
-pub move_tied : (p : Plan) (s : State) (old new : Peaks) (w t frees : ℕ) (c : Cause) (ns : List ℕ) → AreTied p s old → old.again.items ≡ [] → is_clean p t ≡ true → Allowed p s (Again w t c ns) → Frees p s t frees → IsMoved old new t frees → stack_of new ≡ t ∷ stack_of old → vec_capacity new.again ≡ vec_capacity old.again → AreTied p (after p s (Again w t c ns)) new
+pub move_tied : (p : Plan) (s : State) (old new : Peaks) (w t frees : ℕ) (c : Cause) (ns : List ℕ) → AreTied p s old → old.again.items ≡ [] → is_clean p t ≡ true → Allowed p s (Again w t c ns) → Frees p s t frees → IsMoved old new t frees → stack_of new ≡ t ∷ stack_of old → vec_capacity new.again ≡ vec_capacity old.again → HaveTrees p (after p s (Again w t c ns)) new
 move_tied p s old new w t frees c ns tied none kind allowed free is stack long = record {
   behind = subst (AreBehind p (after p s (Again w t c ns)) new) (sym (stack ∙ ap (λ (zs : List ℕ). t ∷ zs) (none_stacked old.again.items none))) moved;
   whole = whole_of p old new is.line is.seats is.widths long is.passed tied.whole;
@@ -220,6 +221,7 @@ stay_tied p s b w t u c ns tied first kind allowed =
     let only = first_only p s b t u tied.behind first (clean_choice p s w t tied.behind.sound kind allowed.1) in record {
       behind = subst (AreBehind p (after p s (Again w t c ns)) b) (sym only.1) (again_first p s b only.0 w t c ns (subst (AreBehind p s b) only.1 tied.behind) allowed);
       whole = tied.whole;
+      indexed = tied.indexed;
     }
 
 -- The first task of the stack, as a test.
@@ -241,7 +243,7 @@ arrive_settles p links b t n can = record {
   declared = arrive_declared p (makes p t) n can.allowed.3;
 }
 
-pub arrive_tied : (p : Plan) (s : State) (links : Links) (old new : Peaks) (w t n : ℕ) → AreTied p s old → AreLinks p links → ((u : ℕ) → AreOnce (parents p u)) → Allowed p s (Arrive w t n) → IsSettled p links old new t (replicate (length (makes p t)) n) → AreTied p (after p s (Arrive w t n)) new
+pub arrive_tied : (p : Plan) (s : State) (links : Links) (old new : Peaks) (w t n : ℕ) → AreTied p s old → AreLinks p links → ((u : ℕ) → AreOnce (parents p u)) → Allowed p s (Arrive w t n) → IsSettled p links old new t (replicate (length (makes p t)) n) → HaveTrees p (after p s (Arrive w t n)) new
 arrive_tied p s links old new w t n tied linked once allowed is = record {
   behind = subst (AreBehind p (after p s (Arrive w t n)) new) (sym (ap (λ (v : Vec TaskId Global). stacked (task_numbers v.items) []) is.again)) (arrived p s links old new (stack_of old) w t n tied.behind linked once allowed is);
   whole = whole_of p old new is.line is.seats is.widths (ap (λ (v : Vec TaskId Global). vec_capacity v) is.again) is.passed tied.whole;
@@ -256,7 +258,7 @@ end_settles p links b t ns can = record {
   declared = can.allowed.3;
 }
 
-pub end_tied : (p : Plan) (s : State) (links : Links) (old new : Peaks) (w t : ℕ) (ns : List ℕ) → AreTied p s old → AreLinks p links → ((u : ℕ) → AreOnce (parents p u)) → Allowed p s (End w t ns) → IsSettled p links old new t ns → AreTied p (after p s (End w t ns)) new
+pub end_tied : (p : Plan) (s : State) (links : Links) (old new : Peaks) (w t : ℕ) (ns : List ℕ) → AreTied p s old → AreLinks p links → ((u : ℕ) → AreOnce (parents p u)) → Allowed p s (End w t ns) → IsSettled p links old new t ns → HaveTrees p (after p s (End w t ns)) new
 end_tied p s links old new w t ns tied linked once allowed is = record {
   behind = subst (AreBehind p (after p s (End w t ns)) new) (sym (ap (λ (v : Vec TaskId Global). stacked (task_numbers v.items) []) is.again)) (ended_at p s links old new (stack_of old) w t ns tied.behind linked once allowed is);
   whole = whole_of p old new is.line is.seats is.widths (ap (λ (v : Vec TaskId Global). vec_capacity v) is.again) is.passed tied.whole;
@@ -264,4 +266,4 @@ end_tied p s links old new w t ns tied linked once allowed is = record {
 
 -- A Fail.
 pub fail_tied : (p : Plan) (s : State) (b : Peaks) (w t : ℕ) (c : Cause) (ns : List ℕ) → AreTied p s b → Allowed p s (Fail w t c ns) → AreTied p (after p s (Fail w t c ns)) b
-fail_tied p s b w t c ns tied allowed = record { behind = failed_by p s b (stack_of b) w t c ns tied.behind allowed; whole = tied.whole }
+fail_tied p s b w t c ns tied allowed = record { behind = failed_by p s b (stack_of b) w t c ns tied.behind allowed; whole = tied.whole; indexed = tied.indexed }

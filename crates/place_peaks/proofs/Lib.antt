@@ -21,6 +21,9 @@ pub mod LoweringLemmas
 pub mod EndingLemmas
 pub mod SizingLemmas
 pub mod OpeningLemmas
+pub mod ReadyLemmas
+pub mod RefreshLemmas
+pub mod SearchingLemmas
 pub mod EntryLemmas
 pub mod RenewingLemmas
 pub mod AskingLemmas

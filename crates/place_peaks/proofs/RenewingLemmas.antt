@@ -44,8 +44,12 @@ use Rattle.place_peaks.specs.Renewing.{CanRenew, CanWalk, IsLevel, IsRenewed, Is
 use Rattle.place_peaks.specs.Stack.{stacked}
 use Rattle.place_peaks.specs.Settling.{IsKept}
 use Rattle.place_peaks.specs.Values.{value, values}
+use Rattle.group_index.specs.Index.{AreAsMany, count_before}
+use Rattle.place_peaks.specs.Ready.{group_of, groups_of}
+use Rattle.place_peaks.specs.declared.ready.Ready.{Ready}
+use Rattle.place_peaks.proofs.ReadyLemmas.{HaveTrees}
 use Rattle.place_peaks.proofs.AgainLemmas.{first_is_choice}
-use Rattle.place_peaks.proofs.ChoosingLemmas.{filter_both, placed_there, spot_of}
+use Rattle.place_peaks.proofs.ChoosingLemmas.{filter_both, placed_there, spot_of, take_past}
 use Rattle.place_peaks.proofs.CleaningLemmas.{cleaned_good}
 use Rattle.place_peaks.proofs.CountLemmas.{counts_run, open_none}
 use Rattle.place_peaks.proofs.DecisionLemmas.{IsSpot, then_holds, then_same}
@@ -485,6 +489,30 @@ unfolding below
 below_all zero = refl
 below_all (suc n) = let less = below_all n in let sum = length-append (below n (λ u. true)) (n ∷ []) in omega (arith, less, sum)
 
+pub line_exact : (n : ℕ) (xs : List ℕ) → AreOnce xs → ((u : ℕ) → has xs u ≡ true → u < n) → ((u : ℕ) → u < n → has xs u ≡ true) → length xs ≡ n
+line_exact n xs once low all =
+    let few = few_once n xs once low in
+    let more = shorter_once (below n (λ u. true)) xs (rises_once 0 (below n (λ u. true)) (below_rises n (λ u. true))) (λ u m. all u (below_low n (λ v. true) u m)) in
+    let long = below_all n in
+    omega (arith, few, more, long)
+
+filter_mapped : (h : ℕ → ℕ) (g : ℕ) (xs : List ℕ) → length (filter (λ x. nat_eq x g) (map h xs)) ≡ length (filter (λ t. nat_eq (h t) g) xs)
+filter_mapped h g [] = refl
+filter_mapped h g (x ∷ xs) = by (nat_eq (h x) g) (filter_mapped h g xs)
+  where
+    by : (b : Bool) → length (filter (λ x. nat_eq x g) (map h xs)) ≡ length (filter (λ t. nat_eq (h t) g) xs) → length (cond b (h x ∷ filter (λ x. nat_eq x g) (map h xs)) (filter (λ x. nat_eq x g) (map h xs))) ≡ length (cond b (x ∷ filter (λ t. nat_eq (h t) g) xs) (filter (λ t. nat_eq (h t) g) xs))
+    by true e = ap (λ (n : ℕ). suc n) e
+    by false e = e
+
+-- two lines of the same tasks have each group as often
+pub groups_many : (last count : ℕ) (homes : List (Option ℕ)) (xs ys groups : List ℕ) → AreOnce xs → AreOnce ys → ((u : ℕ) → has xs u ≡ true → has ys u ≡ true) → ((u : ℕ) → has ys u ≡ true → has xs u ≡ true)
+    → groups ≡ groups_of last homes ys → AreAsMany count (groups_of last homes xs) groups
+groups_many last count homes xs ys groups once_x once_y to_y to_x is g l =
+    whole xs ∙ as_many (λ t. nat_eq (group_of last (get_or homes t None)) g) xs ys once_x once_y to_y to_x ∙ sym (whole ys) ∙ ap (λ (gs : List ℕ). count_before gs g (length gs)) (sym is)
+  where
+    whole : (zs : List ℕ) → count_before (groups_of last homes zs) g (length (groups_of last homes zs)) ≡ length (filter (λ t. nat_eq (group_of last (get_or homes t None)) g) zs)
+    whole zs = ap (λ (ns : List ℕ). length (filter (λ h. nat_eq h g) ns)) (take_past (groups_of last homes zs) (length (groups_of last homes zs)) (omega arith)) ∙ filter_mapped (λ t. group_of last (get_or homes t None)) g zs
+
 pub line_long : (p : Plan) (s : State) (b : Peaks) → AreTied p s b → count_tasks p ≤ length (line_of b)
 line_long p s b tied =
     let few = shorter_once (below (count_tasks p) (λ u. true)) (line_of b) (rises_once 0 (below (count_tasks p) (λ u. true)) (below_rises (count_tasks p) (λ u. true))) (λ u m. tied.whole.all u (below_low (count_tasks p) (λ v. true) u m)) in
@@ -493,7 +521,7 @@ line_long p s b tied =
 
 -- A fresh order keeps what the trees say.
 pub renewed_tied : (p : Plan) (s : State) (old new : Peaks) (standing : Standing) (w t : ℕ) (ts : List ℕ) → AreTied p s old → Allowed p s (Regrant w t) → order_with p s t ≡ Some ts → IsShown p standing (after p s (Regrant w t))
-    → IsRenewed p (sizes (held_of standing)) old new t ts → AreTied p (after p s (Regrant w t)) new
+    → IsRenewed p (sizes (held_of standing)) old new t ts → HaveTrees p (after p s (Regrant w t)) new
 renewed_tied p s old new standing w t ts tied allowed order shown is = record {
   behind = subst (AreBehind p (after p s (Regrant w t)) new) (sym (ap (λ (v : Vec TaskId Global). stacked (task_numbers v.items) []) is.again ∙ empty_stack p s old w t tied allowed)) then_behind;
   whole = record {
@@ -694,3 +722,17 @@ new_room n marks slice tasks over long each same copied once low =
 
 pub base_begun : (base : List ℕ) (q need : ℕ) (o p : Option ℕ) (n : ℕ) → o ≡ p → need ≡ n → cond (is_place q o) (get_or base q 0 + need) (get_or base q 0) ≡ cond (is_place q p) (get_or base q 0 + n) (get_or base q 0)
 base_begun base q need o p n e f = ap (λ (x : Option ℕ). cond (is_place q x) (get_or base q 0 + need) (get_or base q 0)) e ∙ ap (λ (m : ℕ). cond (is_place q p) (get_or base q 0 + m) (get_or base q 0)) f
+
+-- the line of a fresh order has the tasks of the one before
+pub renewed_many : (p : Plan) (s : State) (old : Peaks) (ts line : List ℕ) (homes : List (Option ℕ)) (ready : Ready) → AreTied p s old → AreOnce ts → ((u : ℕ) → has ts u ≡ true → u < count_tasks p) → line ≡ renewed_line (count_tasks p) ts → homes ≡ old.homes.items → ready ≡ old.ready
+    → AreAsMany (places p + 1) (groups_of (places p) homes line) ready.index.groups.items
+renewed_many p s old ts line homes ready tied once low is same kept =
+    groups_many (places p) (places p + 1) homes line (line_of old) ready.index.groups.items (subst AreOnce (sym is) (line_once (count_tasks p) ts once)) tied.behind.once
+    (λ u m. tied.whole.all u (line_low (count_tasks p) ts low u (ap (λ (zs : List ℕ). has zs u) (sym is) ∙ m))) (λ u m. ap (λ (zs : List ℕ). has zs u) is ∙ line_all (count_tasks p) ts u (tied.behind.in_plan u m))
+    (ap (λ (r : Ready). r.index.groups.items) kept ∙ tied.indexed.grouped.groups ∙ ap (λ (hs : List (Option ℕ)). groups_of (places p) hs (line_of old)) (sym same))
+
+pub line_as_long : (p : Plan) (s : State) (old : Peaks) (ts line : List ℕ) → AreTied p s old → AreOnce ts → ((u : ℕ) → has ts u ≡ true → u < count_tasks p) → line ≡ renewed_line (count_tasks p) ts → (length line ≡ count_tasks p) × (length (line_of old) ≡ count_tasks p)
+line_as_long p s old ts line tied once low is = (
+  ap length is ∙ line_exact (count_tasks p) (renewed_line (count_tasks p) ts) (line_once (count_tasks p) ts once) (line_low (count_tasks p) ts low) (line_all (count_tasks p) ts),
+  line_exact (count_tasks p) (line_of old) tied.behind.once tied.behind.in_plan tied.whole.all,
+)

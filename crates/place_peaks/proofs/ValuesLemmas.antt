@@ -218,12 +218,12 @@ values_until there left held after f front xs t ys is at before behind =
     ∙ ap (front_changed (length (filter there xs)) f) (sym (split_there there left held front xs t ys at is))
 
 -- bounds on what is held after each front
-up_to_greater : (b : ℕ) (x y : Option ℕ) → IsUpTo b (greater x y) → IsUpTo b x × IsUpTo b y
+pub up_to_greater : (b : ℕ) (x y : Option ℕ) → IsUpTo b (greater x y) → IsUpTo b x × IsUpTo b y
 up_to_greater b None y h = (tt, h)
 up_to_greater b (Some m) None h = (h, tt)
 up_to_greater b (Some m) (Some n) h = (omega (arith, h), omega (arith, h))
 
-greater_up_to : (b : ℕ) (x y : Option ℕ) → IsUpTo b x → IsUpTo b y → IsUpTo b (greater x y)
+pub greater_up_to : (b : ℕ) (x y : Option ℕ) → IsUpTo b x → IsUpTo b y → IsUpTo b (greater x y)
 greater_up_to b None y h k = k
 greater_up_to b (Some m) None h k = h
 greater_up_to b (Some m) (Some n) h k = omega (arith, h, k)

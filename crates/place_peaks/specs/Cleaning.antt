@@ -25,6 +25,7 @@ pub record IsSwept (p : Plan) (old new : Peaks) (t frees : ℕ) : Type 0 where
   pub left : (u : ℕ) → left_of new u ≡ (left_of old u && not (t == u))
   pub base : (q : ℕ) → get_or new.base.items q 0 ≡ cond (is_place q (get_or old.homes.items t None)) (get_or old.base.items q 0 - frees) (get_or old.base.items q 0)
   pub trees : (q : ℕ) → get_or new.trees.items q [] ≡ cond (is_place q (get_or old.homes.items t None)) (set (front_changed (get_or old.seats.items t 0) (λ n. n - frees) (get_or old.trees.items q [])) (get_or old.seats.items t 0) None) (get_or old.trees.items q [])
+  pub ready : new.ready ≡ old.ready
   pub passed : HasPassed old → HasPassed new
 
 -- A Clean that is the first task of the stack is done: it stands there no more, its place holds so much less, and each
@@ -41,6 +42,7 @@ pub record IsSweptAgain (p : Plan) (old new : Peaks) (t frees : ℕ) : Type 0 wh
   pub missing : (u : ℕ) → u < count_tasks p → get_or new.missing.items u 1 + cond (has (parents p u) t) 1 0 ≡ get_or old.missing.items u 1
   pub bases_long : length new.base.items ≡ length old.base.items
   pub base : (q : ℕ) → get_or new.base.items q 0 ≡ cond (is_place q (get_or old.homes.items t None)) (get_or old.base.items q 0 - frees) (get_or old.base.items q 0)
+  pub ready : new.ready ≡ old.ready
   pub passed : HasPassed old → HasPassed new
 
 -- each task that waits for task t has an open parent

@@ -11,6 +11,7 @@ use Rattle.storage_simulation.specs.Goods.{places}
 use Rattle.storage_simulation.specs.Standings.{sizes}
 use Rattle.place_peaks.specs.declared.peaks.Peaks.{Peaks}
 use Rattle.place_peaks.specs.Peaks.{AreBehind, HasPassed, line_of, stack_of}
+use Rattle.place_peaks.specs.Ready.{IsIndexed}
 use Rattle.place_peaks.specs.Waiting.{HasStackRoom}
 
 -- The line has all tasks, there is a number for each task and place, the stack has room for every task, and no task
@@ -22,10 +23,11 @@ pub record IsWhole (p : Plan) (b : Peaks) : Type 0 where
   pub room : HasStackRoom p b
   pub passed : HasPassed b
 
--- The trees say what the state is.
+-- The trees say what the state is, and the index which tasks can be asked for room.
 pub record AreTied (p : Plan) (s : State) (b : Peaks) : Type 0 where
   pub behind : AreBehind p s b (stack_of b)
   pub whole : IsWhole p b
+  pub indexed : IsIndexed p b
 
 -- in a state to which the trees are tied, the entry of some worker is allowed
 pub record CanEnter (p : Plan) (b : Peaks) (entry : ℕ → Event) : Type 0 where

@@ -20,6 +20,7 @@ pub record IsGranted (old new : Peaks) (t : ℕ) : Type 0 where
   pub left : (u : ℕ) → left_of new u ≡ (left_of old u && not (t == u))
   pub base : (q : ℕ) → get_or new.base.items q 0 ≡ cond (is_place q (get_or old.homes.items t None)) (get_or old.base.items q 0 + get_or old.needs.items t 0) (get_or old.base.items q 0)
   pub trees : (q : ℕ) → get_or new.trees.items q [] ≡ cond (is_place q (get_or old.homes.items t None)) (set (front_changed (get_or old.seats.items t 0) (λ n. n + get_or old.needs.items t 0) (get_or old.trees.items q [])) (get_or old.seats.items t 0) None) (get_or old.trees.items q [])
+  pub ready : new.ready ≡ old.ready
   pub passed : HasPassed old → HasPassed new
 
 -- the place of the task can take what the task brings
@@ -43,6 +44,7 @@ pub record IsGrantedAgain (old new : Peaks) (t : ℕ) : Type 0 where
   pub trees : new.trees.items ≡ old.trees.items
   pub bases_long : length new.base.items ≡ length old.base.items
   pub base : (q : ℕ) → get_or new.base.items q 0 ≡ cond (is_place q (get_or old.homes.items t None)) (get_or old.base.items q 0 + get_or old.needs.items t 0) (get_or old.base.items q 0)
+  pub ready : new.ready ≡ old.ready
   pub passed : HasPassed old → HasPassed new
 
 -- a place can hold so much more

@@ -8,6 +8,7 @@ pub mod Peaks
 -- Calls on one tree
 pub mod Tree
 -- The Choice
+pub mod Ready
 pub mod Choosing
 -- What each entry changes
 pub mod Granting

@@ -52,6 +52,7 @@ pub record IsSettled (p : Plan) (links : Links) (old new : Peaks) (t : ℕ) (ns 
   pub bases_long : length new.base.items ≡ length old.base.items
   pub trees_long : length new.trees.items ≡ length old.trees.items
   pub lowered : AreLowered p links old new (makes p t) ns
+  pub ready : new.ready ≡ old.ready
   pub passed : HasPassed old → HasPassed new
 
 -- what only a settling of goods leaves as it was
@@ -66,6 +67,7 @@ pub record IsKept (old new : Peaks) : Type 0 where
   pub missing : new.missing.items ≡ old.missing.items
   pub bases_long : length new.base.items ≡ length old.base.items
   pub trees_long : length new.trees.items ≡ length old.trees.items
+  pub ready : new.ready ≡ old.ready
   pub passed : HasPassed old → HasPassed new
 
 -- so many values of a list, and a number, can be lowered by so much

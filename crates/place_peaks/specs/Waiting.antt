@@ -27,6 +27,7 @@ pub record IsAgain (old new : Peaks) (t : ℕ) : Type 0 where
   pub base : new.base.items ≡ old.base.items
   pub trees : new.trees.items ≡ old.trees.items
   pub needs : (u : ℕ) → get_or new.needs.items u 0 ≡ cond (t == u) 0 (get_or old.needs.items u 0)
+  pub ready : new.ready ≡ old.ready
   pub passed : HasPassed old → HasPassed new
 
 -- A Clean of the line goes to the stack: it isn't left in the line, and its place holds so much less before all that
@@ -43,6 +44,7 @@ pub record IsMoved (old new : Peaks) (t frees : ℕ) : Type 0 where
   pub trees_long : length new.trees.items ≡ length old.trees.items
   pub left : (u : ℕ) → left_of new u ≡ (left_of old u && not (t == u))
   pub trees : (q : ℕ) → get_or new.trees.items q [] ≡ cond (is_place q (get_or old.homes.items t None)) (set (front_changed (get_or old.seats.items t 0) (λ n. n - frees) (get_or old.trees.items q [])) (get_or old.seats.items t 0) None) (get_or old.trees.items q [])
+  pub ready : new.ready ≡ old.ready
   pub passed : HasPassed old → HasPassed new
 
 -- the tree of a Clean's place can be lowered by what the Clean frees

@@ -2,7 +2,7 @@
 
 ghost use Rattle.std.specs.Prelude.{◌≡◌, ◌<◌, ◌++◌, filter, length, get_or, option_map, slice_get};
 ghost use Rattle.values.specs.declared.numbers.TaskId.{TaskId};
-ghost use Rattle.place_peaks.specs.Peaks.{left_of, line_of, stack_of};
+ghost use Rattle.place_peaks.specs.Peaks.{HasPassed, left_of, line_of, stack_of};
 
 use crate::choosing::task_at;
 use crate::peaks::Peaks;
@@ -28,10 +28,11 @@ impl Peaks {
 
     /// The task at a position among those of the line that are left.
     fn left_task(&self, k: usize) -> Option<TaskId>
+        requires { HasPassed self.now }
         ensures { option_map (λ (t : TaskId). t.0) result ≡ slice_get (filter (left_of self.now) (line_of self.now)) k }
     {
         let mut before = k;
-        for position in 0..self.count_line() {
+        for position in self.first..self.count_line() {
             let task = self.line_task(position);
             if !self.is_left(task) {
                 continue;
@@ -46,6 +47,7 @@ impl Peaks {
 
     /// The task at a position of rest.
     pub fn rest_task(&self, k: usize) -> Option<TaskId>
+        requires { HasPassed self.now }
         ensures { option_map (λ (t : TaskId). t.0) result ≡ slice_get (stack_of self.now ++ filter (left_of self.now) (line_of self.now)) k }
     {
         let waiting = self.again.len();

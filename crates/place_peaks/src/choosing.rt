@@ -1,12 +1,14 @@
 //! The Choice, by trees.
 
 ghost use Rattle.std.specs.Prelude.{◌≡◌, ◌≤◌, ◌<◌, ◌-◌, ℕ, [], true, false, take, length, get_or, slice_get, None, Some, Decides, MatchOption};
-ghost use Rattle.lease_rules.specs.Choice.{CanStart, HasNoChoice, IsChoice};
+ghost use Rattle.lease_rules.specs.Choice.{HasNoChoice, IsChoice};
 ghost use Rattle.lease_rules.specs.State.{State};
 ghost use Rattle.peak_tree.specs.Numbers.{greatest};
-ghost use Rattle.plan_core.specs.Words.{task_numbers};
-ghost use Rattle.place_peaks.specs.Peaks.{AreBehind, ArePeaks, AreSeated, HasPassed, is_left, left_of, line_of, stack_of};
-ghost use Rattle.place_peaks.specs.Choosing.{HasRoomAt};
+ghost use Rattle.plan_core.specs.Words.{is_clean, task_numbers};
+ghost use Rattle.storage_simulation.specs.Goods.{IsWithinLimits, place_bound};
+ghost use Rattle.place_peaks.specs.Peaks.{AreBehind, ArePeaks, AreSeated, is_left, line_of, stack_of};
+ghost use Rattle.place_peaks.specs.Choosing.{CanBegin, HasRoomAt};
+ghost use Rattle.place_peaks.specs.Ready.{IsIndexed};
 
 use crate::peaks::Peaks;
 use crate::stack::last_of;
@@ -62,7 +64,7 @@ impl Peaks {
         }
     }
 
-    fn missing(&self, task: u32) -> u32
+    pub(crate) fn missing(&self, task: u32) -> u32
         ensures { result ≡ get_or self.now.missing.items task 1 }
     {
         match self.missing.get(task as usize) {
@@ -106,16 +108,11 @@ impl Peaks {
         )
     }
 
-    /// Whether the task at a position of the line can start.
-    fn can_start_at(&self, plan: &Plan, k: usize) -> bool
-        requires within { k < length self.now.line.items }
-        requires seated { AreSeated self.now }
-        ensures { (s : State) → ArePeaks plan.now s self.now → left_of self.now (get_or (line_of self.now) k 0) ≡ true → Decides result (CanStart plan.now s (get_or (line_of self.now) k 0)) }
+    /// Whether a task that is left and of which no parent is open can begin.
+    fn has_room_for(&self, plan: &Plan, task: u32) -> bool
+        requires { (q : ℕ) → get_or self.now.homes.items task None ≡ Some q → get_or self.now.seats.items task 0 ≤ length (get_or self.now.trees.items q []) }
+        ensures { Decides result ((q : ℕ) → is_clean plan.now task ≡ false → get_or self.now.homes.items task None ≡ Some q → HasRoomAt self.now task q (place_bound plan.now q)) }
     {
-        let task = task_at(self.line.as_slice(), k);
-        if self.missing(task) > 0 {
-            return false;
-        }
         if plan.is_clean(TaskId(task)) {
             return true;
         }
@@ -125,37 +122,40 @@ impl Peaks {
         }
     }
 
-    /// Whether the task at a position of the line is left and can start.
-    fn can_begin_at(&self, plan: &Plan, k: usize) -> bool
-        requires within { k < length self.now.line.items }
+    /// Whether the task at a position of the line is left and can begin.
+    pub(crate) fn can_begin_at(&self, plan: &Plan, k: usize) -> bool
+        requires within { k < length (line_of self.now) }
         requires seated { AreSeated self.now }
-        ensures { (s : State) → ArePeaks plan.now s self.now → Decides result ((left_of self.now (get_or (line_of self.now) k 0) ≡ true) × CanStart plan.now s (get_or (line_of self.now) k 0)) }
+        ensures { Decides result (CanBegin plan.now self.now (get_or (line_of self.now) k 0)) }
     {
-        if !self.is_left(task_at(self.line.as_slice(), k)) {
+        let task = self.line_task(k);
+        if !self.is_left(task) {
             return false;
         }
-        self.can_start_at(plan, k)
+        if self.missing(task) > 0 {
+            return false;
+        }
+        self.has_room_for(plan, task)
     }
 
     /// The first task of the line that is left and can start: the Choice where no task waits again.
     fn choose_line(&self, plan: &Plan) -> Option<u32>
+        requires limits { IsWithinLimits plan.now }
         requires seated { AreSeated self.now }
-        requires passed { HasPassed self.now }
+        requires indexed { IsIndexed plan.now self.now }
         ensures { (s : State) → ArePeaks plan.now s self.now → s.failing ≡ false → MatchOption result (HasNoChoice plan.now s) (λ t. IsChoice plan.now s t) }
     {
-        let line = self.line.as_slice();
-        for k in self.first..line.len() {
-            if self.can_begin_at(plan, k) {
-                return Some(task_at(line, k));
-            }
+        match self.first_to_begin(plan) {
+            None => None,
+            Some(k) => Some(self.line_task(k)),
         }
-        None
     }
 
     /// The Choice: the first task that waits again, else the first of the line that is left and can start.
     pub fn choose(&self, plan: &Plan) -> Option<u32>
+        requires limits { IsWithinLimits plan.now }
         requires seated { AreSeated self.now }
-        requires passed { HasPassed self.now }
+        requires indexed { IsIndexed plan.now self.now }
         ensures { (s : State) → AreBehind plan.now s self.now (stack_of self.now) → s.failing ≡ false → MatchOption result (HasNoChoice plan.now s) (λ t. IsChoice plan.now s t) }
     {
         match last_of(self.again.as_slice()) {

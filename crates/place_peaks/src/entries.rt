@@ -35,10 +35,12 @@ impl Peaks {
         requires can { CanEnter plan.now self.old (λ w. Grant w task) }
         ensures { (s : State) (w : ℕ) → AreTied plan.now s self.old → Allowed plan.now s (Grant w task) → AreTied plan.now (after plan.now s (Grant w task)) self.new }
     {
-        let _ = plan;
         sums_are_small();
         match self.first_again() {
-            None => self.grant(task),
+            None => {
+                self.grant(task);
+                self.refresh(plan, task);
+            }
             Some(_) => self.grant_again(task),
         }
     }
@@ -54,8 +56,15 @@ impl Peaks {
         sums_are_small();
         parents_stand_once();
         match self.first_again() {
-            None => self.clean(plan, links, task, frees),
-            Some(_) => self.clean_again(plan, links, task, frees),
+            None => {
+                self.clean(plan, links, task, frees);
+                self.refresh(plan, task);
+                self.refresh_children(plan, links, task);
+            }
+            Some(_) => {
+                self.clean_again(plan, links, task, frees);
+                self.refresh_children(plan, links, task);
+            }
         }
     }
 
@@ -69,6 +78,7 @@ impl Peaks {
     {
         parents_stand_once();
         self.arrive(plan, links, task, size);
+        self.refresh_children(plan, links, task);
     }
 
     /// A Run has made its files, of these sizes.
@@ -81,6 +91,7 @@ impl Peaks {
     {
         parents_stand_once();
         self.end(plan, links, task, sizes);
+        self.refresh_children(plan, links, task);
     }
 
     /// A Clean, which is the Choice and frees so much, is to be tried again. The first one that waits again stays there.
@@ -90,10 +101,12 @@ impl Peaks {
         requires can { CanTryAgain plan.now self.old task frees }
         ensures { (s : State) (w : ℕ) (c : Cause) (ns : List ℕ) → AreTied plan.now s self.old → Allowed plan.now s (Again w task c ns) → Frees plan.now s task frees → AreTied plan.now (after plan.now s (Again w task c ns)) self.new }
     {
-        let _ = plan;
         sums_are_small();
         match self.first_again() {
-            None => self.move_again(task, frees),
+            None => {
+                self.move_again(task, frees);
+                self.refresh(plan, task);
+            }
             Some(_) => {}
         }
     }
@@ -108,6 +121,7 @@ impl Peaks {
             self.put_back(plan, task, frees);
         } else {
             self.wait_again(task);
+            self.refresh(plan, task);
         }
     }
 }

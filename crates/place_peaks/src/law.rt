@@ -13,6 +13,7 @@ ghost use Rattle.place_peaks.specs.declared.peaks.Peaks.{Peaks};
 ghost use Rattle.place_peaks.specs.Entries.{AreTied};
 ghost use Rattle.place_peaks.specs.Peaks.{AreBehind, AreSeated, HasPassed};
 ghost use Rattle.place_peaks.specs.Places.{ChangesOnePlace};
+ghost use Rattle.place_peaks.specs.Ready.{IsIndexed};
 
 use plan_core::{files_are_listed_by_pair, numbers_are_in_range, parents_come_before};
 use storage_simulation::proper_plans_keep_goods;
@@ -33,10 +34,11 @@ pub(crate) fn parents_stand_once()
     ensures { (p : Plan) → IsProper p → (t : ℕ) → AreOnce (parents p t) }
 {}
 
-/// Each seat of a task of the line is in its tree, and no task of the line before the front is left.
+/// Each seat of a task of the line is in its tree, no task of the line before the front is left, and the index is right.
 pub fn peaks_are_seated()
     ensures seated { (p : Plan) (s : State) (b : Peaks) (front : List ℕ) → AreBehind p s b front → AreSeated b }
     ensures passed { (p : Plan) (s : State) (b : Peaks) → AreTied p s b → HasPassed b }
+    ensures indexed { (p : Plan) (s : State) (b : Peaks) → AreTied p s b → IsIndexed p b }
 {}
 
 /// A Fail changes nothing.

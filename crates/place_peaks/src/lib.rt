@@ -5,9 +5,10 @@
 //! that changes its place, with what the place holds after that task and all that are left before it
 //! (`specs/Values.antt`, `Places.antt`). `AreTied` of `specs/Entries.antt` ties all of it to a state; for each entry there
 //! is a call that keeps the tie, whether the task stands in the order or on the stack, and a Fail changes nothing.
-//! [`Peaks::choose`] answers the Choice of every state to which they are tied. A call costs some logarithms of the number
-//! of tasks for each good that it settles; `choose` walks along the order from a front that moves on, and a fresh order is
-//! walked along for each place.
+//! [`Peaks::choose`] answers the Choice of every state to which they are tied: of each place it asks the ready task that
+//! needs least, and then those before it alone, by an index of what the ready tasks need (`specs/Ready.antt`). A call costs
+//! some logarithms of the number of tasks for each good that it settles and each child of its task; a fresh order is walked
+//! along for each place.
 #![tactic(auto)]
 
 mod asking;
@@ -21,7 +22,9 @@ mod law;
 mod links;
 mod opening;
 mod peaks;
+mod ready;
 mod renewing;
+mod searching;
 mod settling;
 mod sizing;
 mod stack;

@@ -17,11 +17,13 @@ ghost use Rattle.place_peaks.specs.Entries.{AreTied};
 ghost use Rattle.place_peaks.specs.Opening.{AreLevels, AreSeats};
 ghost use Rattle.place_peaks.specs.Peaks.{ArePeaks, HasPassed, line_of};
 ghost use Rattle.place_peaks.specs.Places.{ChangesOnePlace};
+ghost use Rattle.place_peaks.specs.Ready.{AreSmall, HasGroups};
 ghost use Rattle.place_peaks.specs.Waiting.{HasStackRoom};
 
 use crate::choosing::task_at;
 use crate::law::tasks_change_one_place;
 use crate::peaks::Peaks;
+use crate::ready::Ready;
 use crate::sizing::{level_next, made_size, place_of};
 use peak_tree::PeakTree;
 use plan_core::{Plan, files_are_listed_by_pair, parents_come_before};
@@ -80,7 +82,8 @@ fn missing_of(alloc: Global, plan: &Plan) -> Result<Vec<u32>, Memory>
 fn need_of(plan: &Plan, task: u32) -> u64
     requires limits { IsWithinLimits plan.now }
     requires few { (q : ℕ) → place plan.now task ≡ Some q → sum_of (size_part plan.now q) (makes plan.now task) < 2 ^ 62 }
-    ensures { (q : ℕ) → place plan.now task ≡ Some q → result ≡ sum_of (size_part plan.now q) (makes plan.now task) }
+    ensures sum { (q : ℕ) → place plan.now task ≡ Some q → result ≡ sum_of (size_part plan.now q) (makes plan.now task) }
+    ensures small { result ≤ 2 ^ 62 }
 {
     match place_of(plan, TaskId(task)) {
         None => 0,
@@ -91,7 +94,8 @@ fn need_of(plan: &Plan, task: u32) -> u64
 fn needs_of(alloc: Global, plan: &Plan) -> Result<Vec<u64>, Memory>
     requires limits { IsWithinLimits plan.now }
     requires few { (t q : ℕ) → place plan.now t ≡ Some q → sum_of (size_part plan.now q) (makes plan.now t) < 2 ^ 62 }
-    ensures { IfOk result (λ v. (t q : ℕ) → t < count_tasks plan.now → place plan.now t ≡ Some q → get_or v.items t 0 ≡ sum_of (size_part plan.now q) (makes plan.now t)) }
+    ensures each { IfOk result (λ v. (t q : ℕ) → t < count_tasks plan.now → place plan.now t ≡ Some q → get_or v.items t 0 ≡ sum_of (size_part plan.now q) (makes plan.now t)) }
+    ensures small { IfOk result (λ v. (t : ℕ) → get_or v.items t 0 ≤ 2 ^ 62) }
 {
     let mut needs = Vec::new(alloc);
     for task in 0..plan.tasks.as_slice().len() {
@@ -233,7 +237,8 @@ impl Peaks {
         ensures tied { IfOk result (λ b. AreTied plan.now (opened (task_numbers order.now)) b) }
         ensures stack { IfOk result (λ b. b.again.items ≡ []) }
     {
-        let peaks = Peaks::make(alloc, plan, order)?;
+        let mut peaks = Peaks::make(alloc, plan, order)?;
+        peaks.refresh_all(plan);
         Ok(peaks)
     }
 
@@ -249,6 +254,8 @@ impl Peaks {
         ensures stack { IfOk result (λ b. b.again.items ≡ []) }
         ensures room { IfOk result (λ b. HasStackRoom plan.now b) }
         ensures passed { IfOk result (λ b. HasPassed b) }
+        ensures groups { IfOk result (λ b. HasGroups plan.now b) }
+        ensures small { IfOk result (λ b. AreSmall b) }
     {
         sums_are_small();
         parents_come_before();
@@ -261,10 +268,12 @@ impl Peaks {
         let levels = levels_of(alloc, plan, order)?;
         let Seating { seats, widths } = seating;
         let trees = trees_of(alloc, levels.lists.as_slice())?;
+        let homes = homes_of(alloc, plan)?;
+        let ready = Ready::new(alloc, plan, order, homes.as_slice())?;
         Ok(Peaks {
             line: copied(alloc, order)?,
             left: vec![in alloc; true; tasks]?,
-            homes: homes_of(alloc, plan)?,
+            homes,
             seats,
             needs: needs_of(alloc, plan)?,
             missing: missing_of(alloc, plan)?,
@@ -273,6 +282,7 @@ impl Peaks {
             base: vec![in alloc; 0; places(plan)]?,
             trees,
             first: 0,
+            ready,
         })
     }
 }

@@ -331,5 +331,8 @@ impl Peaks {
             &mut self.widths,
         );
         self.refill_all(plan, standing, tasks, levels);
+        self.ready
+            .renew(plan, self.line.as_slice(), self.homes.as_slice());
+        self.refresh_all(plan);
     }
 }

@@ -11,6 +11,7 @@ use Rattle.peak_tree.proofs.node.Node.TheLaws.TheKnot as Tree
 use Rattle.values.proofs.numbers.TaskId.TheSendSync as TaskId
 use Rattle.place_peaks.specs.contracts.peaks.Peaks as Peaks
 use Rattle.place_peaks.proofs.links.Links.TheSendSync as Links
+use Rattle.place_peaks.proofs.ready.Ready.TheSendSync as Ready
 use Rattle.storage_simulation.proofs.standing.Standing.TheSendSync as Standing
 use Rattle.peak_tree.specs.contracts.tree.PeakTree as PeakTree
 use Rattle.lease_book.specs.contracts.state.RunState as RunState
@@ -32,7 +33,40 @@ pub tree_send : IsSend PeakTree.the_row
 tree_send = search (sendable, crosses, Tree.crosses) depth 30
 
 pub peaks_send : IsSend Peaks.the_row
-peaks_send = search (sendable, crosses, tree_send, TaskId.the_send) depth 30
+peaks_send = declared_send Peaks.the_type (
+  search (sendable, crosses, TaskId.the_send) depth 30,
+  (
+    search (sendable, crosses) depth 30,
+    (
+      search (sendable, crosses) depth 30,
+      (
+        search (sendable, crosses) depth 30,
+        (
+          search (sendable, crosses) depth 30,
+          (
+            search (sendable, crosses) depth 30,
+            (
+              search (sendable, crosses, TaskId.the_send) depth 30,
+              (
+                search (sendable, crosses) depth 30,
+                (
+                  search (sendable, crosses) depth 30,
+                  (
+                    search (sendable, crosses, tree_send) depth 30,
+                    (
+                      search (sendable, crosses) depth 30,
+                      (search (sendable, Ready.the_send) depth 30, tt),
+                    ),
+                  ),
+                ),
+              ),
+            ),
+          ),
+        ),
+      ),
+    ),
+  ),
+)
 
 pub state_send : IsSend RunState.the_row
 state_send = declared_send RunState.the_type (

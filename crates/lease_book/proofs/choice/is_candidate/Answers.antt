@@ -1,6 +1,5 @@
-use Rattle.std.proofs.Common.{arith, sym, ◌∙◌}
+use Rattle.std.proofs.Common.{sym, ◌∙◌}
 use Rattle.lease_book.specs.RunState.{state_of}
-use Rattle.lease_rules.proofs.NumbersLemmas.{count_tasks_in}
 use Rattle.lease_book.proofs.TrialLemmas.{all_parents, candidate_test, not_all_parents, trial_standing}
 use Rattle.lease_book.proofs.choice.is_candidate.Goals as goal
 

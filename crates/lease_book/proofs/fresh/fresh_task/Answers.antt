@@ -1,4 +1,3 @@
-use Rattle.lease_book.specs.RunState.{state_of}
 use Rattle.lease_book.proofs.StateLemmas.{line_is_rest}
 use Rattle.lease_book.proofs.fresh.fresh_task.Goals as goal
 

@@ -6,3 +6,6 @@ returns-clause-seated c = seated
 
 pub returns-clause-passed : goal.returns-clause-passed
 returns-clause-passed c = λ p s b tied. tied.whole.passed
+
+pub returns-clause-indexed : goal.returns-clause-indexed
+returns-clause-indexed c = λ p s b tied. tied.indexed

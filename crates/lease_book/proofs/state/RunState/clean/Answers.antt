@@ -1,4 +1,4 @@
-use Rattle.std.proofs.Common.{refl, ℕ}
+use Rattle.std.proofs.Common.{refl}
 use Rattle.lease_rules.specs.State.{after}
 use Rattle.run_record.specs.Events.{Clean}
 use Rattle.lease_book.specs.RunState.{state_of}

@@ -1,4 +1,4 @@
-use Rattle.std.proofs.Common.{refl, ℕ, true}
+use Rattle.std.proofs.Common.{refl, true}
 use Rattle.lease_rules.specs.State.{after}
 use Rattle.run_record.specs.Events.{Fail}
 use Rattle.lease_book.specs.RunState.{state_of}

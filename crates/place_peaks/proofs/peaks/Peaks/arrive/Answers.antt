@@ -21,5 +21,6 @@ returns c = record {
   bases_long = c.settle_one_size.ensures.kept.bases_long;
   trees_long = c.settle_one_size.ensures.kept.trees_long;
   lowered = c.settle_one_size.ensures.lowered;
+  ready = c.settle_one_size.ensures.kept.ready;
   passed = c.settle_one_size.ensures.kept.passed;
 }

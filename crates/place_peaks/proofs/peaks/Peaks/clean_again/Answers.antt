@@ -23,6 +23,7 @@ returns-in-None-clause-swept c = record {
   missing = c.end_for_children.ensures.each;
   bases_long = refl;
   base = λ q. ap (λ (o : Option ℕ). cond (is_place q o) (get_or c.args.self.now.base.items q 0 - c.args.frees) (get_or c.args.self.now.base.items q 0)) c.in-None.ensures;
+  ready = refl;
   passed = λ h. h;
 }
 
@@ -44,5 +45,6 @@ returns-in-Some-clause-swept c =
       base = λ q. c.take_base.ensures.each q
           ∙ same_place (λ (x : ℕ). get_or b.base.items x 0) (λ (n : ℕ). n - c.args.frees) place q
           ∙ ap (λ (o : Option ℕ). cond (is_place q o) (get_or b.base.items q 0 - c.args.frees) (get_or b.base.items q 0)) c.in-Some.ensures;
+      ready = refl;
       passed = λ h. h;
     }

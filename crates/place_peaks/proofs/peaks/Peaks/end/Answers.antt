@@ -19,5 +19,6 @@ returns c = record {
   bases_long = c.settle_sizes.ensures.kept.bases_long;
   trees_long = c.settle_sizes.ensures.kept.trees_long;
   lowered = c.settle_sizes.ensures.lowered;
+  ready = c.settle_sizes.ensures.kept.ready;
   passed = c.settle_sizes.ensures.kept.passed;
 }

@@ -1,4 +1,7 @@
-use Rattle.std.proofs.Common.{sym, ◌∙◌}
+use Rattle.std.proofs.Common.{nat_eq, sym, ◌∙◌}
+use Rattle.lease_rules.specs.State.{after}
+use Rattle.run_record.specs.Events.{Again}
+use Rattle.place_peaks.proofs.ReadyLemmas.{again_but, again_small, groups_after, one_indexed, rising_after, tied_with}
 use Rattle.place_peaks.proofs.EntryLemmas.{again_room, again_tied}
 use Rattle.place_peaks.proofs.peaks.Peaks.enter_again.Goals as goal
 
@@ -8,5 +11,16 @@ wait_again-requires c =
       room = again_room c.args.plan.now can.state c.args.self.now can.worker c.args.task c.requires.can.cause c.requires.can.published can.tied (sym c.is_clean.ensures ∙ c.if-is_clean.false) can.allowed;
     }
 
+pub refresh-requires-clause-groups : goal.refresh-requires-clause-groups
+refresh-requires-clause-groups c = let is = c.wait_again.ensures.waits in groups_after c.args.plan.now c.args.self.now c.wait_again.new.self is.line is.homes is.ready c.requires.can.enters.tied.indexed.grouped
+
+pub refresh-requires-clause-small : goal.refresh-requires-clause-small
+refresh-requires-clause-small c = again_small c.args.self.now c.wait_again.new.self c.args.task c.requires.can.enters.tied.indexed.small c.wait_again.ensures.waits
+
 pub returns-else-is_clean : goal.returns-else-is_clean
-returns-else-is_clean c = λ s w cause ns tied allowed frees. again_tied c.args.plan.now s c.args.self.now c.wait_again.new.self w c.args.task cause ns tied (sym c.is_clean.ensures ∙ c.if-is_clean.false) allowed c.wait_again.ensures.waits c.wait_again.ensures.stack c.wait_again.ensures.room
+returns-else-is_clean c = λ s w cause ns tied allowed frees.
+    let is = c.wait_again.ensures.waits in
+    tied_with c.args.plan.now (after c.args.plan.now s (Again w c.args.task cause ns)) c.wait_again.new.self c.refresh.new.self
+    (again_tied c.args.plan.now s c.args.self.now c.wait_again.new.self w c.args.task cause ns tied (sym c.is_clean.ensures ∙ c.if-is_clean.false) allowed is c.wait_again.ensures.stack c.wait_again.ensures.room) c.refresh.ensures.same
+    (one_indexed c.args.plan.now c.wait_again.new.self c.refresh.new.self c.args.task (again_small c.args.self.now c.wait_again.new.self c.args.task tied.indexed.small is) (rising_after c.args.self.now c.wait_again.new.self is.line is.homes is.seats tied.indexed.rising)
+    c.refresh.ensures.same c.refresh.ensures.groups (c.refresh.ensures.indexed (λ u. nat_eq u c.args.task) (again_but c.args.plan.now c.args.self.now c.wait_again.new.self c.args.task tied.indexed is)))

@@ -44,6 +44,7 @@ returns-in-None c = record {
   left = λ u. c.unmark.ensures.each u ∙ unmarked (nat_eq c.args.task u) (left_of c.args.self.now u);
   base = λ q. ap (λ (o : Option ℕ). cond (is_place q o) (get_or c.args.self.now.base.items q 0 + get_or c.args.self.now.needs.items c.args.task 0) (get_or c.args.self.now.base.items q 0)) c.in-None.ensures;
   trees = λ q. ap (λ (o : Option ℕ). cond (is_place q o) (set (front_changed (get_or c.args.self.now.seats.items c.args.task 0) (λ n. n + get_or c.args.self.now.needs.items c.args.task 0) (get_or c.args.self.now.trees.items q [])) (get_or c.args.self.now.seats.items c.args.task 0) None) (get_or c.args.self.now.trees.items q [])) c.in-None.ensures;
+  ready = refl;
   passed = λ h. c.next_front-self.ensures (marked_off c.args.self.now c.unmark.new.left.items c.args.task c.unmark.ensures.each h);
 }
 
@@ -75,5 +76,6 @@ returns-in-Some c =
           ∙ ap (λ (k : ℕ). cond (nat_eq place q) (set (front_changed k (λ n. n + c.need-need.result) (get_or b.trees.items q [])) k None) (get_or b.trees.items q [])) seat
           ∙ ap (λ (m : ℕ). cond (nat_eq place q) (set (front_changed (get_or b.seats.items t 0) (λ n. n + m) (get_or b.trees.items q [])) (get_or b.seats.items t 0) None) (get_or b.trees.items q [])) need
           ∙ ap (λ (o : Option ℕ). cond (is_place q o) (set (front_changed (get_or b.seats.items t 0) (λ n. n + get_or b.needs.items t 0) (get_or b.trees.items q [])) (get_or b.seats.items t 0) None) (get_or b.trees.items q [])) c.in-Some.ensures;
+      ready = refl;
       passed = λ h. c.next_front-self.ensures (marked_off c.args.self.now c.unmark.new.left.items c.args.task c.unmark.ensures.each h);
     }

@@ -22,6 +22,7 @@ returns-in-None-clause-granted c = record {
   trees = refl;
   bases_long = refl;
   base = λ q. ap (λ (o : Option ℕ). cond (is_place q o) (get_or c.args.self.now.base.items q 0 + get_or c.args.self.now.needs.items c.args.task 0) (get_or c.args.self.now.base.items q 0)) c.in-None.ensures;
+  ready = refl;
   passed = λ h. h;
 }
 
@@ -45,5 +46,6 @@ returns-in-Some-clause-granted c =
           ∙ same_place (λ (x : ℕ). get_or b.base.items x 0) (λ (n : ℕ). n + c.need-need.result) place q
           ∙ ap (λ (n : ℕ). cond (nat_eq place q) (get_or b.base.items q 0 + n) (get_or b.base.items q 0)) need
           ∙ ap (λ (o : Option ℕ). cond (is_place q o) (get_or b.base.items q 0 + get_or b.needs.items t 0) (get_or b.base.items q 0)) c.in-Some.ensures;
+      ready = refl;
       passed = λ h. h;
     }

@@ -35,6 +35,7 @@ returns-in-None-clause-moved c = record {
   trees_long = refl;
   left = λ u. c.unmark.ensures.each u ∙ unmarked (nat_eq c.args.task u) (left_of c.args.self.now u);
   trees = λ q. ap (λ (o : Option ℕ). cond (is_place q o) (set (front_changed (get_or c.args.self.now.seats.items c.args.task 0) (λ n. n - c.args.frees) (get_or c.args.self.now.trees.items q [])) (get_or c.args.self.now.seats.items c.args.task 0) None) (get_or c.args.self.now.trees.items q [])) c.in-None.ensures;
+  ready = refl;
   passed = λ h. c.next_front-self.ensures (marked_off c.args.self.now c.unmark.new.left.items c.args.task c.unmark.ensures.each h);
 }
 
@@ -59,5 +60,6 @@ returns-in-Some-clause-moved c =
           ∙ same_place (λ (x : ℕ). get_or b.trees.items x []) (λ (vs : List (Option ℕ)). set (front_changed c.seat-seat.result (λ n. n - c.args.frees) vs) c.seat-seat.result None) place q
           ∙ ap (λ (k : ℕ). cond (nat_eq place q) (set (front_changed k (λ n. n - c.args.frees) (get_or b.trees.items q [])) k None) (get_or b.trees.items q [])) seat
           ∙ ap (λ (o : Option ℕ). cond (is_place q o) (set (front_changed (get_or b.seats.items t 0) (λ n. n - c.args.frees) (get_or b.trees.items q [])) (get_or b.seats.items t 0) None) (get_or b.trees.items q [])) c.in-Some.ensures;
+      ready = refl;
       passed = λ h. c.next_front-self.ensures (marked_off c.args.self.now c.unmark.new.left.items c.args.task c.unmark.ensures.each h);
     }

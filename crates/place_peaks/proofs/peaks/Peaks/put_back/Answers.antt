@@ -1,3 +1,7 @@
+use Rattle.std.proofs.Common.{nat_eq}
+use Rattle.lease_rules.specs.State.{after}
+use Rattle.run_record.specs.Events.{Again}
+use Rattle.place_peaks.proofs.ReadyLemmas.{groups_after, moved_but, one_indexed, rising_after, small_after, tied_with}
 use Rattle.place_peaks.proofs.ChoosingLemmas.{behind_none}
 use Rattle.place_peaks.proofs.EntryLemmas.{choice_marked, clean_room, move_room, move_tied, stay_tied}
 use Rattle.place_peaks.proofs.WaitingLemmas.{clean_choice}
@@ -19,8 +23,19 @@ move_again-requires-clause-room c =
     let can = c.requires.can.enters in
     move_room c.args.plan.now can.state c.args.self.now c.args.task can.tied c.in-None.ensures (clean_choice c.args.plan.now can.state can.worker c.args.task can.tied.behind.sound c.requires.kind can.allowed.1)
 
+pub refresh-requires-clause-groups : goal.refresh-requires-clause-groups
+refresh-requires-clause-groups c = let is = c.move_again.ensures.moved in groups_after c.args.plan.now c.args.self.now c.move_again.new.self is.line is.homes is.ready c.requires.can.enters.tied.indexed.grouped
+
+pub refresh-requires-clause-small : goal.refresh-requires-clause-small
+refresh-requires-clause-small c = small_after c.args.self.now c.move_again.new.self c.move_again.ensures.moved.needs c.requires.can.enters.tied.indexed.small
+
 pub returns-in-None : goal.returns-in-None
-returns-in-None c = λ s w cause ns tied allowed frees. move_tied c.args.plan.now s c.args.self.now c.move_again.new.self w c.args.task c.args.frees cause ns tied c.in-None.ensures c.requires.kind allowed frees c.move_again.ensures.moved c.move_again.ensures.stack c.move_again.ensures.room
+returns-in-None c = λ s w cause ns tied allowed frees.
+    let is = c.move_again.ensures.moved in
+    tied_with c.args.plan.now (after c.args.plan.now s (Again w c.args.task cause ns)) c.move_again.new.self c.refresh.new.self
+    (move_tied c.args.plan.now s c.args.self.now c.move_again.new.self w c.args.task c.args.frees cause ns tied c.in-None.ensures c.requires.kind allowed frees is c.move_again.ensures.stack c.move_again.ensures.room) c.refresh.ensures.same
+    (one_indexed c.args.plan.now c.move_again.new.self c.refresh.new.self c.args.task (small_after c.args.self.now c.move_again.new.self is.needs tied.indexed.small) (rising_after c.args.self.now c.move_again.new.self is.line is.homes is.seats tied.indexed.rising)
+    c.refresh.ensures.same c.refresh.ensures.groups (c.refresh.ensures.indexed (λ u. nat_eq u c.args.task) (moved_but c.args.plan.now c.args.self.now c.move_again.new.self c.args.task c.args.frees tied.indexed is)))
 
 pub returns-in-Some : goal.returns-in-Some
 returns-in-Some c = λ s w cause ns tied allowed frees. stay_tied c.args.plan.now s c.args.self.now w c.args.task c.in-Some.field-0 cause ns tied c.in-Some.ensures c.requires.kind allowed

@@ -44,6 +44,7 @@ loop-at-preserved c = record {
     missing = c.loop-at.invariant.kept.missing;
     bases_long = c.loop-at.invariant.kept.bases_long;
     trees_long = c.refill_at.ensures.long ∙ c.loop-at.invariant.kept.trees_long;
+    ready = c.loop-at.invariant.kept.ready;
     passed = c.loop-at.invariant.kept.passed;
   };
   base = c.loop-at.invariant.base;

@@ -1,0 +1,220 @@
+//! Which tasks can be asked for room: those of the line that are left and of which no parent is open.
+
+ghost use Rattle.std.specs.Prelude.{◌≡◌, ◌≤◌, ◌<◌, ◌+◌, ◌^◌, ℕ, Bool, false, true, length, get_or, Some, None, IfOk};
+ghost use Rattle.plan_core.specs.Numbers.{has};
+ghost use Rattle.plan_core.specs.Words.{count_tasks, parents, task_numbers};
+ghost use Rattle.storage_simulation.specs.Following.{AreOnce};
+ghost use Rattle.storage_simulation.specs.Goods.{IsWithinLimits, places};
+ghost use Rattle.group_index.specs.Index.{AreAsMany, IsIndex, count};
+ghost use Rattle.place_peaks.specs.Links.{AreLinks};
+ghost use Rattle.place_peaks.specs.Peaks.{line_of};
+ghost use Rattle.place_peaks.specs.Ready.{AreGrouped, AreSmall, HasGroups, IsIndexedBut, but_one, but_some, group_of, groups_of, is_ready, position, ready_score, score, with_ready};
+
+use crate::choosing::task_at;
+use crate::links::Links;
+use crate::peaks::Peaks;
+use group_index::GroupIndex;
+use plan_core::Plan;
+use std::alloc::Global;
+use storage_simulation::places;
+use values::{Memory, TaskId};
+
+/// By task its position in the line; and by position its group, which is the place of its task, or one number more for
+/// tasks without one, and the score of the task, where that is ready: what it needs, and one more.
+#[derive(Debug, Drop)]
+pub struct Ready {
+    pub(crate) positions: Vec<u32>,
+    pub(crate) groups: Vec<u32>,
+    pub(crate) index: GroupIndex,
+}
+
+/// The group of a task of a home.
+pub(crate) fn group_of(plan: &Plan, home: Option<u32>) -> u32
+    requires { IsWithinLimits plan.now }
+    ensures { result ≡ group_of (places plan.now) home }
+{
+    match home {
+        None => places(plan) as u32,
+        Some(place) => place,
+    }
+}
+
+/// Each task of a line has its position.
+fn place_all(positions: &mut Vec<u32>, line: &[TaskId])
+    requires once { AreOnce (task_numbers line.now) }
+    requires few { length line.now < 2 ^ 32 }
+    requires tasks { (t : ℕ) → has (task_numbers line.now) t ≡ true → t < length positions.old.items }
+    ensures long { length positions.new.items ≡ length positions.old.items }
+    ensures placed { (k : ℕ) → k < length line.now → get_or positions.new.items (get_or (task_numbers line.now) k 0) 0 ≡ k }
+{
+    for k in 0..line.len() {
+        let task = task_at(line, k);
+        positions[task as usize] = k as u32;
+    }
+}
+
+fn home_of(homes: &[Option<u32>], task: u32) -> Option<u32>
+    ensures { result ≡ get_or homes.now task None }
+{
+    match homes.get(task as usize) {
+        Some(home) => *home,
+        None => None,
+    }
+}
+
+/// Each position of a line has its group.
+fn group_all(groups: &mut Vec<u32>, plan: &Plan, line: &[TaskId], homes: &[Option<u32>])
+    requires limits { IsWithinLimits plan.now }
+    requires long { length groups.old.items ≡ length line.now }
+    ensures { groups.new.items ≡ groups_of (places plan.now) homes.now (task_numbers line.now) }
+{
+    for k in 0..line.len() {
+        let home = home_of(homes, task_at(line, k));
+        groups[k] = group_of(plan, home);
+    }
+}
+
+impl Ready {
+    /// The positions and groups of a line, without a score.
+    pub(crate) fn new(
+        alloc: Global,
+        plan: &Plan,
+        line: &[TaskId],
+        homes: &[Option<u32>],
+    ) -> Result<Ready, Memory>
+        requires limits { IsWithinLimits plan.now }
+        requires once { AreOnce (task_numbers line.now) }
+        requires tasks { (t : ℕ) → has (task_numbers line.now) t ≡ true → t < count_tasks plan.now }
+        requires few { length line.now ≤ count_tasks plan.now }
+        requires homes { (t q : ℕ) → t < count_tasks plan.now → get_or homes.now t None ≡ Some q → q < places plan.now }
+        ensures { IfOk result (λ r. AreGrouped plan.now (task_numbers line.now) homes.now r) }
+    {
+        let mut positions = vec![in alloc; 0; plan.tasks.as_slice().len()]?;
+        place_all(&mut positions, line);
+        let mut groups = vec![in alloc; 0; line.len()]?;
+        group_all(&mut groups, plan, line, homes);
+        let index = GroupIndex::new(alloc, groups.as_slice(), places(plan) + 1)?;
+        Ok(Ready {
+            positions,
+            groups,
+            index,
+        })
+    }
+
+    fn position(&self, task: u32) -> usize
+        ensures { result ≡ position self.now task }
+    {
+        match self.positions.get(task as usize) {
+            Some(position) => *position as usize,
+            None => 0,
+        }
+    }
+
+    /// The same tasks in another line, without a score.
+    pub(crate) fn renew(&mut self, plan: &Plan, line: &[TaskId], homes: &[Option<u32>])
+        requires limits { IsWithinLimits plan.now }
+        requires index { IsIndex self.old.index }
+        requires trees { length self.old.index.trees.items ≡ places plan.now + 1 }
+        requires once { AreOnce (task_numbers line.now) }
+        requires few { length line.now < 2 ^ 32 }
+        requires tasks { (t : ℕ) → has (task_numbers line.now) t ≡ true → t < count_tasks plan.now }
+        requires homes { (t q : ℕ) → t < count_tasks plan.now → get_or homes.now t None ≡ Some q → q < places plan.now }
+        requires positions { length self.old.positions.items ≡ count_tasks plan.now }
+        requires groups { length self.old.groups.items ≡ length line.now }
+        requires long { count self.old.index ≡ length line.now }
+        requires as_many { AreAsMany (places plan.now + 1) (groups_of (places plan.now) homes.now (task_numbers line.now)) self.old.index.groups.items }
+        ensures { AreGrouped plan.now (task_numbers line.now) homes.now self.new }
+    {
+        place_all(&mut self.positions, line);
+        group_all(&mut self.groups, plan, line, homes);
+        self.index.renew(self.groups.as_slice());
+    }
+}
+
+impl Peaks {
+    /// What is asked first is what has the least score.
+    fn score(&self, plan: &Plan, task: u32) -> u64
+        requires { AreSmall self.now }
+        ensures { result ≡ score plan.now self.now task }
+    {
+        match self.home(task) {
+            None => 0,
+            Some(_) => {
+                if plan.is_clean(TaskId(task)) {
+                    0
+                } else {
+                    self.need(task) + 1
+                }
+            }
+        }
+    }
+
+    fn is_ready(&self, task: u32) -> bool
+        ensures { result ≡ is_ready self.now task }
+    {
+        self.is_left(task) && self.missing(task) == 0
+    }
+
+    fn ready_score(&self, plan: &Plan, task: u32) -> Option<u64>
+        requires { AreSmall self.now }
+        ensures { result ≡ ready_score plan.now self.now task }
+    {
+        if self.is_ready(task) {
+            Some(self.score(plan, task))
+        } else {
+            None
+        }
+    }
+
+    /// Whether the line has a task at a position.
+    fn stands_at(&self, k: usize, task: u32) -> bool
+        ensures yes { result ≡ true → (k < length (line_of self.now)) × (get_or (line_of self.now) k 0 ≡ task) }
+        ensures no { result ≡ false → k < length (line_of self.now) → get_or (line_of self.now) k 0 ≡ task → ⊥ }
+    {
+        k < self.count_line() && self.line_task(k) == task
+    }
+
+    /// The score of a task becomes what it is now.
+    pub(crate) fn refresh(&mut self, plan: &Plan, task: u32)
+        requires groups { HasGroups plan.now self.old }
+        requires small { AreSmall self.old }
+        ensures same { self.new ≡ with_ready self.old self.new.ready }
+        ensures groups { HasGroups plan.now self.new }
+        ensures indexed { (off : ℕ → Bool) → IsIndexedBut plan.now self.old off → IsIndexedBut plan.now self.new (but_one off task) }
+    {
+        let k = self.ready.position(task);
+        if self.stands_at(k, task) {
+            let score = self.ready_score(plan, task);
+            self.ready.index.set(k, score);
+        }
+    }
+
+    /// The scores of a task's children become what they are now.
+    pub(crate) fn refresh_children(&mut self, plan: &Plan, links: &Links, task: u32)
+        requires links { AreLinks plan.now links.now }
+        requires groups { HasGroups plan.now self.old }
+        requires small { AreSmall self.old }
+        ensures same { self.new ≡ with_ready self.old self.new.ready }
+        ensures groups { HasGroups plan.now self.new }
+        ensures indexed { (off : ℕ → Bool) → IsIndexedBut plan.now self.old off → IsIndexedBut plan.now self.new (but_some off (λ u. has (parents plan.now u) task)) }
+    {
+        let children = links.children_of(task);
+        for i in 0..children.len() {
+            self.refresh(plan, children[i]);
+        }
+    }
+
+    /// The scores of all tasks become what they are now.
+    pub(crate) fn refresh_all(&mut self, plan: &Plan)
+        requires groups { HasGroups plan.now self.old }
+        requires small { AreSmall self.old }
+        ensures same { self.new ≡ with_ready self.old self.new.ready }
+        ensures groups { HasGroups plan.now self.new }
+        ensures indexed { IsIndexedBut plan.now self.new (λ t. false) }
+    {
+        for k in 0..self.count_line() {
+            let task = self.line_task(k);
+            self.refresh(plan, task);
+        }
+    }
+}
