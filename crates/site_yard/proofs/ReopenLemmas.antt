@@ -1,10 +1,10 @@
 -- The opening of a yard with a book, and the looks at what its record stores.
-use Rattle.std.proofs.Common.{◌≡◌, ℕ, zero, suc, ◌+◌, ◌-◌, ◌^◌, ◌≤◌, ◌<◌, Bool, true, false, List, [], ◌∷◌, ◌++◌, length, drop, take, min, refl, sym, ap, ◌∙◌, subst, nat_lt, arith}
+use Rattle.std.proofs.Common.{◌≡◌, ℕ, suc, ◌+◌, ◌-◌, ◌^◌, ◌<◌, Bool, true, false, List, [], ◌++◌, length, drop, take, min, refl, sym, ap, ◌∙◌, subst, nat_lt, arith}
 use Rattle.std.specs.Prelude.{Option, Some, None, option_map, IfSome, Ok, Err}
 use Rattle.std.proofs.Math.Seq.{drop-length, take-length}
 use Rattle.std.proofs.lemmas.List.{append-nil}
 use Rattle.std.proofs.lemmas.List.Elements.{All-nil}
-use Rattle.outside.specs.Counts.{IsLater, one_done, one_fault, one_miss}
+use Rattle.outside.specs.Counts.{IsLater, one_done}
 use Rattle.outside.specs.Lending.{IsOpened, TellsFound, with_faults}
 use Rattle.outside.specs.Parts.{ReadState}
 use Rattle.values.specs.Apply.{Apply}
@@ -14,18 +14,17 @@ use Rattle.outside.specs.declared.store.Store.{Store}
 use Rattle.plan_core.specs.declared.plan.Plan.{Plan}
 use Rattle.plan_core.specs.Words.{count_pairs}
 use Rattle.storage_simulation.specs.declared.standing.Held.{Held}
-use Rattle.storage_simulation.specs.declared.standing.Held.TheVariants.{Nothing, Stored, Reserved}
 use Rattle.run_record.specs.Events.{Event}
 use Rattle.lease_rules.specs.State.{now}
 use Rattle.site_yard.specs.Delivered.{AreDelivered, IsDigestOf}
 use Rattle.site_yard.specs.declared.delivered.Delivered.{Delivered}
 use Rattle.site_yard.specs.Failures.{AreMore, host_faults, host_misses}
-use Rattle.site_yard.specs.Kept.{HoldsSizes, IsKept, IsOpening, IsTruthful}
+use Rattle.site_yard.specs.Kept.{HoldsSizes, IsKept, IsTruthful}
 use Rattle.plan_core.specs.Names.{pair_file_name, pair_site_name}
-use Rattle.site_yard.specs.Reopening.{AreRecorded, AreRecordedBelow, Checks, ChecksAll, IsAsRecorded, IsLackingAt, IsLongAt, IsStored, RefusesAgain, measures, measures_at, measures_below, measures_of, recorded_size}
+use Rattle.site_yard.specs.Reopening.{AreRecorded, AreRecordedBelow, Checks, IsAsRecorded, IsLackingAt, IsLongAt, IsStored, RefusesAgain, measures_at, measures_below, measures_of, recorded_size}
 use Rattle.site_yard.specs.declared.opening.OpenFault.{OpenFault}
 use Rattle.site_yard.specs.declared.opening.OpenFault.TheVariants.{HostFailed, LengthDiffers, Memory, PairAbsent, ScratchInUse}
-use Rattle.site_yard.proofs.CountingLemmas.{after_done, done_before, done_once, failed_once, missed_once, more_then, none_after, same_more}
+use Rattle.site_yard.proofs.CountingLemmas.{done_before, same_more}
 
 -- ---- the length of a pair's file
 

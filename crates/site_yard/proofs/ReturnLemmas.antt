@@ -1,5 +1,5 @@
 -- Parts, given back one by one.
-use Rattle.std.proofs.Common.{◌≡◌, ℕ, zero, suc, ◌+◌, ◌-◌, ◌^◌, ◌≤◌, ◌<◌, min, List, [], ◌∷◌, ◌++◌, length, map, get_or, take, drop, refl, sym, ap, ◌∙◌, subst, append_assoc, arith}
+use Rattle.std.proofs.Common.{◌≡◌, ℕ, zero, suc, ◌+◌, ◌-◌, ◌^◌, ◌≤◌, ◌<◌, min, List, [], ◌∷◌, ◌++◌, length, map, take, drop, refl, sym, ap, ◌∙◌, subst, append_assoc, arith}
 use Rattle.std.specs.Prelude.{Option, Some, None, option_map, Err}
 use Rattle.std.proofs.lemmas.List.{map-append}
 use Rattle.outside.specs.Counts.{IsLater, one_done}
@@ -124,10 +124,6 @@ drop_some [] ys zero x h = absurd (let e = ap length h in omega (arith, e))
 drop_some [] ys (suc k) x h = absurd (let e = ap length h in omega (arith, e))
 drop_some (z ∷ zs) ys zero x h = omega arith
 drop_some (z ∷ zs) ys (suc k) x h = let r = drop_some zs ys k x h in omega (arith, r)
-
-pub first_and_rest : {X : Type 0} (xs ys : List X) (x : X) → 0 < length xs → x ≡ get_or xs 0 x → ys ≡ drop 1 xs → xs ≡ x ∷ ys
-first_and_rest [] ys x some at rest = absurd (omega (arith, some))
-first_and_rest (z ∷ zs) ys x some at rest = λ i. (sym at i) ∷ (sym rest i)
 
 pub next_left : {X : Type 0} (f : X → DraftState) (all left rest : List X) (x : X) (k : ℕ) → left ≡ x ∷ rest → map f left ≡ drop k (map f all) → drop k (map f all) ≡ f x ∷ map f rest
 next_left f all left rest x k is h = sym h ∙ ap (map f) is

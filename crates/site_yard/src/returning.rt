@@ -8,6 +8,7 @@ ghost use Rattle.site_yard.specs.Returning.{Publishes};
 
 use outside::{Host, HostFault};
 use std::alloc::Global;
+use std::collections::VecDeque;
 
 /// How many drafts were published, and what refused the next one.
 #[derive(Debug, Clone, Copy)]
@@ -42,6 +43,19 @@ pub(crate) fn discard_all<H: Host>(host: &mut H, drafts: Vec<H::Draft>)
     }
 }
 
+/// Gives the drafts back that follow one that was refused.
+fn discard_left<H: Host>(host: &mut H, drafts: VecDeque<H::Draft>)
+    ensures told { H.told host.new ≡ H.told host.old }
+    ensures marked { H.marked host.new ≡ H.marked host.old }
+    ensures asked { AreMore 0 (draft_faults (map H.Draft.state drafts.items)) 0 (H.counts host.old) (H.counts host.new) }
+    ensures later { IsLater (H.counts host.old) (H.counts host.new) }
+{
+    let mut drafts = drafts;
+    while let Some(draft) = drafts.pop_front() {
+        host.discard(draft);
+    }
+}
+
 /// Publishes drafts in order. After a refusal the others are discarded.
 pub(crate) fn publish_all<H: Host>(
     host: &mut H,
@@ -52,14 +66,13 @@ pub(crate) fn publish_all<H: Host>(
     ensures marked { H.marked host.new ≡ H.marked host.old }
     ensures later { IsLater (H.counts host.old) (H.counts host.new) }
 {
-    let mut drafts = drafts;
+    let mut drafts = VecDeque::from(drafts);
     let mut count = 0;
-    while !drafts.is_empty() {
-        let draft = drafts.remove(0);
+    while let Some(draft) = drafts.pop_front() {
         match host.publish(alloc, draft) {
             Ok(()) => count += 1,
             Err(fault) => {
-                discard_all(host, drafts);
+                discard_left(host, drafts);
                 return Publication {
                     count,
                     refused: Some(fault),

@@ -7,8 +7,8 @@ use Rattle.site_yard.specs.Returning.{placings}
 use Rattle.site_yard.proofs.ReturnLemmas.{IsGivingBack}
 use Rattle.site_yard.proofs.returning.publish_all.Given as goal
 
-abbrev pub invariant-loop-alloc : goal.invariant-loop-alloc
-invariant-loop-alloc g l =
+abbrev pub invariant-loop-draft : goal.invariant-loop-draft
+invariant-loop-draft g l =
     (g.H.Host.told l.host ≡ option_map (λ s. changed_by s (placings (take l.count (map g.H.Draft.WritePart.state l.fn.drafts.items)))) (g.H.Host.told l.fn.host))
     × (g.H.Host.marked l.host ≡ g.H.Host.marked l.fn.host)
     × (map g.H.Draft.WritePart.state l.drafts.items ≡ drop l.count (map g.H.Draft.WritePart.state l.fn.drafts.items))
@@ -16,5 +16,5 @@ invariant-loop-alloc g l =
     × IsLater (g.H.Host.counts l.fn.host) (g.H.Host.counts l.host)
     × IsGivingBack l.count (draft_faults (map g.H.Draft.WritePart.state l.fn.drafts.items)) (draft_faults (map g.H.Draft.WritePart.state l.drafts.items)) (g.H.Host.counts l.fn.host) (g.H.Host.counts l.host)
 
-abbrev pub decreases-loop-alloc : goal.decreases-loop-alloc
-decreases-loop-alloc g l = length l.drafts.items
+abbrev pub decreases-loop-draft : goal.decreases-loop-draft
+decreases-loop-draft g l = length l.drafts.items
