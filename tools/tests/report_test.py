@@ -55,12 +55,12 @@ def record(name, request):
 
 
 def texts(found):
-    return ["".join(it.itertext()) for it in found.iter() if it.tag in ("td", "p", "h1", "h2", "caption")]
+    return ["".join(it.itertext()) for it in found.iter() if it.tag in ("td", "p", "h1", "h2", "figcaption")]
 
 
 def rows(found, caption):
     """The cells of the table whose caption begins so."""
-    table = next(it for it in found.iter("table") if it.find("caption").text.startswith(caption))
+    table = next(it for it in found.iter("figure") if it.find("figcaption").text.startswith(caption))
     return [["".join(cell.itertext()) for cell in row] for row in table.iter("tr")]
 
 
