@@ -1,7 +1,10 @@
-"""Tests of the pages' paths: each file of a crate that a page names is there, and in the table of rules each name stands in
-the file before it."""
+"""Tests of what the pages show of the repository: each file of a crate that a page names is there, in the table of rules each
+name stands in the file before it, and a document that stands below the name of an example's is that one, or keys of it."""
+import json
 import pathlib
 import re
+
+import pages
 
 PATH = re.compile(r"`(?:crates/)?(\w+/(?:src|specs|proofs)/[\w./-]*?)/?`(?:: ((?:`\w+`(?:, )?)+))?")
 paths, names = 0, 0
@@ -20,4 +23,12 @@ for page in (pathlib.Path("README.md"), *sorted(pathlib.Path("docs").glob("*.md"
                     assert re.search(rf"(?<![\w-]){name}(?![\w-])", text), f"{page}: {name} doesn't stand in crates/{path}"
                     names += 1
 assert names >= 60, names
-print(f"rules: ok, {paths} paths and {names} names")
+shown = 0
+for page in pages.PAGES:
+    for name, block in pages.documents(page):
+        told = json.loads(block if block.startswith("{") else "{" + block + "}")
+        found = json.loads(pathlib.Path(name).read_text(encoding="utf-8"))
+        assert told == ({key: found.get(key) for key in told} if block.startswith('"') else found), f"{page}: {name} is another document"
+        shown += 1
+assert shown >= 6, shown
+print(f"rules: ok, {paths} paths, {names} names and {shown} documents")
