@@ -31,4 +31,20 @@ for page in pages.PAGES:
         assert told == ({key: found.get(key) for key in told} if block.startswith('"') else found), f"{page}: {name} is another document"
         shown += 1
 assert shown >= 6, shown
+
+
+def built(name, uses, seen):
+    """The crates of a build in its order, each after those that it uses."""
+    for other in uses.get(name, []) if name not in seen else []:
+        built(other, uses, seen)
+    if name in uses:
+        seen[name] = None
+    return list(seen)
+
+
+lines = [line.split(":", 1) for line in pathlib.Path("crates.txt").read_text(encoding="utf-8").splitlines() if re.match(r"\w+:", line)]
+order = built("pegasus", {name: rest.split() for name, rest in lines}, {})
+guide, measured = (pathlib.Path("docs", name).read_text(encoding="utf-8") for name in ("GUIDE.md", "MEASURED.md"))
+assert f"pegasus: proving {order[0]}, crate 1 of {len(order)}, after" in guide, (order[0], len(order))
+assert f"proves the {len(order)} crates of the program" in measured, len(order)
 print(f"rules: ok, {paths} paths, {names} names and {shown} documents")
