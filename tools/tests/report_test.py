@@ -1,5 +1,6 @@
 """Tests of tools/report: pages of plans and of runs by the models, and by the program where it is built, which are the same."""
 import pathlib
+import shutil
 import subprocess
 import sys
 import xml.etree.ElementTree as tree
@@ -139,4 +140,12 @@ for words in (["nowhere.json"], ["examples/diamond/tight.json"], ["examples/diam
     refused = call(models, "tools/report", *words)
     assert refused.returncode == 1 and not refused.stdout and "report: " in refused.stderr, (words, refused)
 assert call(models, "tools/report").returncode == 2
+
+# In a folder that has no program it is the one beside the tools.
+shutil.copytree(TOOLS, work / "top/tools")
+(work / "top/pegasus").symlink_to(STAND_IN)
+(work / "user").mkdir()
+(work / "user/examples").symlink_to(EXAMPLES)
+made = call(work / "user", str(work / "top/tools/report"), "examples/hello/request.json")
+assert made.returncode == 0 and f"{work / 'top/pegasus'} plan" in made.stdout, made
 print("report: ok" + (", by the program too" if program else ""))
