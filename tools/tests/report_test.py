@@ -91,6 +91,7 @@ broken = page("examples/trouble/oversize.json", "failed.txt")
 assert rows(broken, "Attempts")[1:] == [["7", "0", "task 1: run ID0000002", "oversize 1 3 65", "for good"]]
 assert rows(broken, "What was requested")[1:] == [["f.d", "10", "", "not told as delivered"]]
 assert f"The call ended with {failed[-1]}." in texts(broken) and count(broken, "failed") == 2
+assert "The run is not complete: a task failed." in texts(broken) and not any("not complete" in it for it in texts(two))
 
 # Attempts that were followed by another one; and what the policy allows, which most plans say nothing of.
 record("again.txt", "examples/trouble/unreadable.json")
@@ -106,8 +107,11 @@ assert "Where no task may begin by the order, a new one may be made." in texts(f
 for place in filter(None, (models, program)):
     (place / "swapped.txt").write_text("record 1\ngrant 0 4\narrive 0 4 8\ngrant 1 99\nclosed\n", encoding="utf-8")
     (place / "cut.txt").write_text("record 1\ngrant 0 4\n", encoding="utf-8")
+    (place / "part.txt").write_text("record 1\ngrant 0 4\narrive 0 4 8\nclosed\n", encoding="utf-8")
 illegal = page("examples/diamond/request.json", "swapped.txt")
 assert any("The record is illegal 3: 2 entries" in it for it in texts(illegal)) and count(illegal, "bar") == 1
+assert "What is shown of it ends before its first entry that isn't allowed." in texts(illegal)
+assert "The run is not complete: it was broken off." in texts(page("examples/diamond/request.json", "part.txt"))
 
 # Above 300 tasks those of one kind are one box.
 for place in filter(None, (models, program)):
