@@ -1,5 +1,6 @@
-"""Tests of what the pages show of the repository: each file of a crate that a page names is there, in the table of rules each
-name stands in the file before it, and a document that stands below the name of an example's is that one, or keys of it."""
+"""Tests of what the pages show of the repository: each file of a crate that a page names and each file that it links to is
+there, in the table of rules each name stands in the file before it, a document that stands below the name of an example's is
+that one, or keys of it, and the crates of a build are as many as the pages say."""
 import json
 import pathlib
 import re
@@ -7,9 +8,13 @@ import re
 import pages
 
 PATH = re.compile(r"`(?:crates/)?(\w+/(?:src|specs|proofs)/[\w./-]*?)/?`(?:: ((?:`\w+`(?:, )?)+))?")
-paths, names = 0, 0
+LINK = re.compile(r"\]\(([^)#]+)(#[^)]*)?\)")
+paths, names, links = 0, 0, 0
 crates = {it.name for it in pathlib.Path("crates").iterdir()}
 for page in (pathlib.Path("README.md"), *sorted(pathlib.Path("docs").glob("*.md"))):
+    for target, _ in LINK.findall(page.read_text(encoding="utf-8")):
+        assert (page.parent / target).exists(), f"{page}: there is no {target}"
+        links += 1
     for line in page.read_text(encoding="utf-8").splitlines():
         for path, named in PATH.findall(line):
             if path.split("/")[0] not in crates:
@@ -47,4 +52,4 @@ order = built("pegasus", {name: rest.split() for name, rest in lines}, {})
 guide, measured = (pathlib.Path("docs", name).read_text(encoding="utf-8") for name in ("GUIDE.md", "MEASURED.md"))
 assert f"pegasus: proving {order[0]}, crate 1 of {len(order)}, after" in guide, (order[0], len(order))
 assert f"proves the {len(order)} crates of the program" in measured, len(order)
-print(f"rules: ok, {paths} paths, {names} names and {shown} documents")
+print(f"rules: ok, {paths} paths, {links} links, {names} names and {shown} documents")
