@@ -185,13 +185,14 @@ def unregistered(found):
 # How it is taken out
 
 
-def advice(left):
-    """The words that take out all of it that can be."""
-    kinds = dict.fromkeys(it.kind for it in left if it.kind in DROPPED)
-    if not kinds:
+def advice(left, said):
+    """The words that take out all of it that can be, with those that were said already."""
+    kinds = dict.fromkeys(it.kind for it in left)
+    wanted = [kind for kind in kinds if kind in DROPPED]
+    if not wanted:
         return ""
-    rest = "" if len(kinds) == len({it.kind for it in left}) else " that can be"
-    return f"; all{rest} is taken out by {' '.join(f'--drop {kind}' for kind in kinds)}"
+    rest = "" if len(wanted) == len(kinds) else " that can be"
+    return f"; all{rest} is taken out by {' '.join(f'--drop {kind}' for kind in dict.fromkeys([*said, *wanted]))}"
 
 
 def parent_of(document, path):

@@ -115,7 +115,9 @@ assert told[-1].startswith("from-pegasus: nothing was written; all is taken out 
 advised = told[-1].split(" by ")[1].split(" ")
 assert sorted(advised) == sorted(word for kind in REFUSED for word in ("--drop", kind)), told
 some = turn("--drop", "containers", "--drop", "uses", str(work / "full.yml"), str(work / "nothing"))
-assert some.returncode == 4 and "container" not in some.stderr and "checkpoint" in some.stderr, some.stderr
+told = some.stderr.splitlines()
+assert some.returncode == 4 and not any("container" in line for line in told[:-1]) and "checkpoint" in told[0], some.stderr
+assert " by --drop containers --drop uses --drop " in told[-1] and told[-1].count("--drop ") == len(REFUSED), told
 
 drops = advised
 tools = ["--tool", "diamond::make:4.0=sorted", "--tool", "make=join"]
