@@ -2,8 +2,10 @@
 import argparse
 import json
 import os
+import re
 
 MOST_SIZE, MOST_BOUND = 2**40, 2**60
+MOST_ALIKE = 3
 TOOLS = ("text", "join", "take", "drop", "deal", "sorted", "distinct", "count", "holds", "column", "total", "digest")
 INLINED = {"sites": "siteCatalog", "replicas": "replicaCatalog", "transformations": "transformationCatalog"}
 
@@ -55,6 +57,31 @@ def ignored(value, table, path=""):
                 yield here
 
 
+def pattern(path):
+    """A path with a `*` for each of its numbers."""
+    return re.sub(r"/\d+(?=/|$)", "/*", path)
+
+
+def alike(paths):
+    """Paths by what they are but for their numbers."""
+    found = {}
+    for path in paths:
+        found.setdefault(pattern(path), []).append(path)
+    return found
+
+
+def together(paths):
+    """Paths as they are told: more than three that differ in their numbers alone are one line, where the first stood."""
+    paths = list(paths)
+    groups = alike(paths)
+    for path in paths:
+        them = groups[pattern(path)]
+        if len(them) <= MOST_ALIKE:
+            yield path
+        elif path == them[0]:
+            yield f"{pattern(path)} {len(them)} times, first {path}"
+
+
 def members(value, key):
     """The places and objects of a list, if there is one under the key."""
     found = value.get(key) if isinstance(value, dict) else None
@@ -65,6 +92,13 @@ def write(folder, name, value):
     with open(os.path.join(folder, f"{name}.json"), "w", encoding="utf-8") as file:
         json.dump(value, file, ensure_ascii=False, indent=1)
         file.write("\n")
+
+
+def parser(text):
+    """A parser of a command line whose help is the tool's own text: what it does, its usage, and the rest."""
+    about, usage, rest = text.strip().split("\n\n", 2)
+    plain = argparse.RawDescriptionHelpFormatter
+    return argparse.ArgumentParser(usage=usage.strip(), description=f"{about}\n\n{rest}", formatter_class=plain)
 
 
 def natural(most):

@@ -15,6 +15,7 @@ STRIP, STRIDE = 24, 44
 WORDS = {"run": "runs of", "transfer": "transfers of", "delivery": "deliveries of", "clean": "removals of"}
 CLOSING = ("arrive", "end", "clean", "fail", "again")
 FAILED = ("fail", "again")
+REPLICAS = "replicas"
 
 
 # Kinds
@@ -36,7 +37,7 @@ def kinds(plan, names):
     for task in plan.tasks:
         if task.kind != "run":
             maker = makers.get((task.writes or task.removes)[0])
-            found[task.number] = maker if task.source != "pfn" and maker else "replicas"
+            found[task.number] = maker if task.source != "pfn" and maker else REPLICAS
     return found
 
 

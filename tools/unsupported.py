@@ -22,7 +22,7 @@ KINDS = {
     "transformation": "add it to the catalogue of transformations, at one of the sites",
     "pin": "name one of the sites that have its transformation, or none",
     "version": "documents of another version than 5.0 have to be written anew",
-    "catalogue": "name one with --sites or --transformations",
+    "catalogue": "name its document with",
 }
 DROPPED = [kind for kind in KINDS if kind not in ("transformation", "pin", "version", "catalogue")]
 
@@ -34,9 +34,11 @@ class Place:
     path: str
     what: str
 
+    advice: str = ""
+
     def told(self):
         dropped = f"; --drop {self.kind} takes it out" if self.kind in DROPPED else ""
-        return f"{self.document} {self.path or '%'} {self.what}: {KINDS[self.kind]}{dropped}"
+        return f"{self.document} {self.path or '%'} {self.what}: {KINDS[self.kind]}{self.advice}{dropped}"
 
 
 def catalogues(found, name):
@@ -156,7 +158,7 @@ def places(found):
     yield from of_jobs(found["workflow"])
     for name in documents.INLINED:
         if name != "replicas" and not list(catalogues(found, name)):
-            yield Place("catalogue", "workflow", "", f"no catalogue of {name}")
+            yield Place("catalogue", "workflow", "", f"no catalogue of {name}", f" --{name}")
         for document, path, catalogue in catalogues(found, name):
             yield from of_version(catalogue, document, path)
             if name == "replicas":
@@ -181,6 +183,16 @@ def unregistered(found):
 
 
 # How it is taken out
+
+
+def advice(left, said):
+    """The words that take out all of it that can be, with those that were said already."""
+    kinds = dict.fromkeys(it.kind for it in left)
+    wanted = [kind for kind in kinds if kind in DROPPED]
+    if not wanted:
+        return ""
+    rest = "" if len(wanted) == len(kinds) else " that can be"
+    return f"; all{rest} is taken out by {' '.join(f'--drop {kind}' for kind in dict.fromkeys([*said, *wanted]))}"
 
 
 def parent_of(document, path):

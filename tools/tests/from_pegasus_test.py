@@ -111,11 +111,15 @@ told = refused.stderr.splitlines()
 for kind, paths in REFUSED.items():
     found = [line for line in told if line.endswith(f"; --drop {kind} takes it out")]
     assert [line.split(" ")[3] for line in found] == sorted(paths), (kind, found)
-assert told[-1] == "from-pegasus: nothing was written" and len(told) == 1 + sum(map(len, REFUSED.values())), told
+assert told[-1].startswith("from-pegasus: nothing was written; all is taken out by --drop ") and len(told) == 1 + sum(map(len, REFUSED.values())), told
+advised = told[-1].split(" by ")[1].split(" ")
+assert sorted(advised) == sorted(word for kind in REFUSED for word in ("--drop", kind)), told
 some = turn("--drop", "containers", "--drop", "uses", str(work / "full.yml"), str(work / "nothing"))
-assert some.returncode == 4 and "container" not in some.stderr and "checkpoint" in some.stderr, some.stderr
+told = some.stderr.splitlines()
+assert some.returncode == 4 and not any("container" in line for line in told[:-1]) and "checkpoint" in told[0], some.stderr
+assert " by --drop containers --drop uses --drop " in told[-1] and told[-1].count("--drop ") == len(REFUSED), told
 
-drops = [word for kind in REFUSED for word in ("--drop", kind)]
+drops = advised
 tools = ["--tool", "diamond::make:4.0=sorted", "--tool", "make=join"]
 done = turn(*drops, *tools, str(work / "full.yml"), str(work / "full"))
 assert done.returncode == 0, done.stderr
@@ -146,7 +150,21 @@ left = turn("--transformations", str(work / "catalogue.yml"), "--drop", "subwork
 assert left.returncode == 0 and "/transformationCatalog" not in left.stdout, left
 (work / "bare.yml").write_text("pegasus: 4.9\nname: bare\njobs: []\n", encoding="utf-8")
 bare = turn(str(work / "bare.yml"), str(work / "nothing"))
-assert bare.returncode == 4 and "/pegasus 4.9" in bare.stderr and "no catalogue of sites" in bare.stderr, bare.stderr
+assert bare.returncode == 4 and "/pegasus 4.9" in bare.stderr, bare.stderr
+for catalogue in ("sites", "transformations"):
+    assert f"no catalogue of {catalogue}: name its document with --{catalogue}\n" in bare.stderr, bare.stderr
+assert bare.stderr.endswith("from-pegasus: nothing was written\n"), bare.stderr
+(work / "half.yml").write_text("pegasus: 5.0\nname: half\njobs: [{type: job, id: a, name: b, uses: [{lfn: c, type: checkpoint}]}]\n", encoding="utf-8")
+assert turn(str(work / "half.yml"), str(work / "nothing")).stderr.endswith("nothing was written; all that can be is taken out by --drop checkpoints\n")
+
+# More than three keys that differ in their numbers alone are one line, and fewer are a line each.
+for count, told in ((3, [f"not acted on workflow /jobs/{at}/metadata" for at in range(3)]),
+                    (4, ["not acted on workflow /jobs/*/metadata 4 times, first /jobs/0/metadata"])):
+    (work / "many.yml").write_text(
+        "pegasus: 5.0\nname: many\nsiteCatalog: {sites: [{name: local}]}\njobs:\n" + "".join(
+            f"- {{type: job, id: j{at}, name: text, metadata: {{a: b}}, uses: [{{lfn: f{at}, type: output}}]}}\n" for at in range(count))
+        + "transformationCatalog: {transformations: [{name: text, sites: [{name: local, pfn: text, type: installed}]}]}\n", encoding="utf-8")
+    assert turn(str(work / "many.yml"), str(work / "many")).stdout.splitlines()[:-1] == told, count
 
 # A job that no site can run, or that is pinned elsewhere, is told, and `local` runs jobs where none of the others can.
 PLACES = """

@@ -86,6 +86,12 @@ for name, rows, delivered in (("montage", MONTAGE, 2), ("cybershake", CYBERSHAKE
     assert ran[-1] == "done" and sum(line.startswith("delivered ") for line in ran) == delivered, ran
     assert sum(" run 0 " in line for line in model("plan", folder / "request.json")) == len(rows), name
 
+# What Nextflow writes in parentheses is a sample, and no part of the transformation; elsewhere it is.
+samples = instance("samples", [("CORE:FASTQC (S 1)", "a", "b"), ("CORE:FASTQC (S2)", "c", "d"), ("f(x) y", "b d", "e"), ("(z)", "e", "g")])
+done = turn(written("samples", samples), str(work / "samples"))
+assert [line for line in done.stdout.splitlines() if line.startswith("tool ")] == [
+    "tool CORE:FASTQC digest", "tool f(x) y digest", "tool (z) digest"], done.stdout
+
 # Sizes that are too small for what is made up, a runtime, a task without outputs, files twice, and one read and made.
 small = instance("small", [("split_1", "a b a", "c d"), ("cut_2", "c", "e"), ("look_3", "e e", ""), ("turn_4", "f e", "f")], 12)
 small["workflow"]["execution"] = {"tasks": [{"id": "cut_2", "runtimeInSeconds": 1e-3, "command": {"arguments": ["-n", 7]}}]}

@@ -24,6 +24,15 @@ def commands(page):
     return found
 
 
+def documents(page):
+    """Each document on a page, or keys of it, with the name of the example's in the line above."""
+    text = pathlib.Path(page).read_text(encoding="utf-8")
+    for before, block in re.findall(r"(.+)\n\n((?:    .*\n)+)", text):
+        name = re.findall(r"`(examples/[\w/]+\.json)`", before)
+        if name and block.lstrip()[0] in '{"':
+            yield name[-1], block.strip()
+
+
 def blocks(page, command):
     """The texts printed after `./pegasus COMMAND`: the request, the pattern of a `grep` behind it, and the lines."""
     found, is_inside = [], False

@@ -54,6 +54,13 @@ assert sorted(it for it in told if "can't be handed over" in it) == [f"preview: 
 assert handed(call(mine, "torn.json", "plan")[1]) == (["torn.json"], ["plan", "torn.json"])
 assert handed(call(mine, "torn.json", "stat", "data/a")[1]) == (["torn.json", "data/a"], ["stat", "torn.json", "data/a"])
 assert handed(call(mine, "nowhere.json")[1]) == ([], ["alone", "nowhere.json"])
+# What is wrong at first sight is told before two minutes are spent.
+for name, words in (("nowhere.json", "preview: nowhere.json: No such file or directory"), ("torn.json", "preview: torn.json is no JSON text: ")):
+    told = call(mine, name)[2]
+    assert told[1].startswith(words) and "compiled first" in told[2], (name, told)
+told = call(mine, "r.json")[2]
+assert [it for it in told if "none.json" in it] == ["preview: none.json: No such file or directory"] and not any("r.json" in it for it in told), told
+assert len(call(TOP, "examples/diamond/request.json")[2]) == len(call(mine, "20", "rehearse")[2]), told
 
 # The record and the sites of a run that is gone on with; the members of an ensemble; and a rehearsal, which reads nothing.
 (mine / "sites/pool").mkdir(parents=True)

@@ -1,5 +1,6 @@
 """Tests of tools/report: pages of plans and of runs by the models, and by the program where it is built, which are the same."""
 import pathlib
+import shutil
 import subprocess
 import sys
 import xml.etree.ElementTree as tree
@@ -55,12 +56,12 @@ def record(name, request):
 
 
 def texts(found):
-    return ["".join(it.itertext()) for it in found.iter() if it.tag in ("td", "p", "h1", "h2", "caption")]
+    return ["".join(it.itertext()) for it in found.iter() if it.tag in ("td", "p", "h1", "h2", "figcaption")]
 
 
 def rows(found, caption):
     """The cells of the table whose caption begins so."""
-    table = next(it for it in found.iter("table") if it.find("caption").text.startswith(caption))
+    table = next(it for it in found.iter("figure") if it.find("figcaption").text.startswith(caption))
     return [["".join(cell.itertext()) for cell in row] for row in table.iter("tr")]
 
 
@@ -90,6 +91,7 @@ broken = page("examples/trouble/oversize.json", "failed.txt")
 assert rows(broken, "Attempts")[1:] == [["7", "0", "task 1: run ID0000002", "oversize 1 3 65", "for good"]]
 assert rows(broken, "What was requested")[1:] == [["f.d", "10", "", "not told as delivered"]]
 assert f"The call ended with {failed[-1]}." in texts(broken) and count(broken, "failed") == 2
+assert "The run is not complete: a task failed." in texts(broken) and not any("not complete" in it for it in texts(two))
 
 # Attempts that were followed by another one; and what the policy allows, which most plans say nothing of.
 record("again.txt", "examples/trouble/unreadable.json")
@@ -105,8 +107,11 @@ assert "Where no task may begin by the order, a new one may be made." in texts(f
 for place in filter(None, (models, program)):
     (place / "swapped.txt").write_text("record 1\ngrant 0 4\narrive 0 4 8\ngrant 1 99\nclosed\n", encoding="utf-8")
     (place / "cut.txt").write_text("record 1\ngrant 0 4\n", encoding="utf-8")
+    (place / "part.txt").write_text("record 1\ngrant 0 4\narrive 0 4 8\nclosed\n", encoding="utf-8")
 illegal = page("examples/diamond/request.json", "swapped.txt")
 assert any("The record is illegal 3: 2 entries" in it for it in texts(illegal)) and count(illegal, "bar") == 1
+assert "What is shown of it ends before its first entry that isn't allowed." in texts(illegal)
+assert "The run is not complete: it was broken off." in texts(page("examples/diamond/request.json", "part.txt"))
 
 # Above 300 tasks those of one kind are one box.
 for place in filter(None, (models, program)):
@@ -139,4 +144,12 @@ for words in (["nowhere.json"], ["examples/diamond/tight.json"], ["examples/diam
     refused = call(models, "tools/report", *words)
     assert refused.returncode == 1 and not refused.stdout and "report: " in refused.stderr, (words, refused)
 assert call(models, "tools/report").returncode == 2
+
+# In a folder that has no program it is the one beside the tools.
+shutil.copytree(TOOLS, work / "top/tools")
+(work / "top/pegasus").symlink_to(STAND_IN)
+(work / "user").mkdir()
+(work / "user/examples").symlink_to(EXAMPLES)
+made = call(work / "user", str(work / "top/tools/report"), "examples/hello/request.json")
+assert made.returncode == 0 and f"{work / 'top/pegasus'} plan" in made.stdout, made
 print("report: ok" + (", by the program too" if program else ""))

@@ -1,12 +1,20 @@
-"""Tests of the pages' paths: each file of a crate that a page names is there, and in the table of rules each name stands in
-the file before it."""
+"""Tests of what the pages show of the repository: each file of a crate that a page names and each file that it links to is
+there, in the table of rules each name stands in the file before it, a document that stands below the name of an example's is
+that one, or keys of it, and the crates of a build are as many as the pages say."""
+import json
 import pathlib
 import re
 
+import pages
+
 PATH = re.compile(r"`(?:crates/)?(\w+/(?:src|specs|proofs)/[\w./-]*?)/?`(?:: ((?:`\w+`(?:, )?)+))?")
-paths, names = 0, 0
+LINK = re.compile(r"\]\(([^)#]+)(#[^)]*)?\)")
+paths, names, links = 0, 0, 0
 crates = {it.name for it in pathlib.Path("crates").iterdir()}
 for page in (pathlib.Path("README.md"), *sorted(pathlib.Path("docs").glob("*.md"))):
+    for target, _ in LINK.findall(page.read_text(encoding="utf-8")):
+        assert (page.parent / target).exists(), f"{page}: there is no {target}"
+        links += 1
     for line in page.read_text(encoding="utf-8").splitlines():
         for path, named in PATH.findall(line):
             if path.split("/")[0] not in crates:
@@ -20,4 +28,28 @@ for page in (pathlib.Path("README.md"), *sorted(pathlib.Path("docs").glob("*.md"
                     assert re.search(rf"(?<![\w-]){name}(?![\w-])", text), f"{page}: {name} doesn't stand in crates/{path}"
                     names += 1
 assert names >= 60, names
-print(f"rules: ok, {paths} paths and {names} names")
+shown = 0
+for page in pages.PAGES:
+    for name, block in pages.documents(page):
+        told = json.loads(block if block.startswith("{") else "{" + block + "}")
+        found = json.loads(pathlib.Path(name).read_text(encoding="utf-8"))
+        assert told == ({key: found.get(key) for key in told} if block.startswith('"') else found), f"{page}: {name} is another document"
+        shown += 1
+assert shown >= 6, shown
+
+
+def built(name, uses, seen):
+    """The crates of a build in its order, each after those that it uses."""
+    for other in uses.get(name, []) if name not in seen else []:
+        built(other, uses, seen)
+    if name in uses:
+        seen[name] = None
+    return list(seen)
+
+
+lines = [line.split(":", 1) for line in pathlib.Path("crates.txt").read_text(encoding="utf-8").splitlines() if re.match(r"\w+:", line)]
+order = built("pegasus", {name: rest.split() for name, rest in lines}, {})
+guide, measured = (pathlib.Path("docs", name).read_text(encoding="utf-8") for name in ("GUIDE.md", "MEASURED.md"))
+assert f"pegasus: proving {order[0]}, crate 1 of {len(order)}, after" in guide, (order[0], len(order))
+assert f"proves the {len(order)} crates of the program" in measured, len(order)
+print(f"rules: ok, {paths} paths, {links} links, {names} names and {shown} documents")
