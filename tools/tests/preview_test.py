@@ -3,6 +3,7 @@ import os
 import pathlib
 import subprocess
 import sys
+import time
 
 work = pathlib.Path(sys.argv[1])
 TOP = pathlib.Path.cwd()
@@ -78,4 +79,14 @@ assert handed(call(mine, "20", "rehearse")[1]) == ([], ["rehearse", "20"])
 status, _, told = call(mine, "r.json", ends="echo 'error: a fault' >&2; echo 'run=none proved=no' >&2; exit 4\n")
 assert status == 70 and told[-2:] == ["error: a fault", "run=none proved=no"], (status, told)
 assert call(mine)[0] == 2
+
+# Told to stop, it has rt end as by Ctrl-C, so that what rt has started is ended too.
+(work / "how").write_text(f"trap 'echo ended >{work}/ended; exit 130' INT; echo begun >{work}/begun; while :; do sleep 0.1; done\n")
+env = {**os.environ, "PATH": f"{work / 'bin'}:{os.environ['PATH']}", "HOW": str(work / "how"), "TMPDIR": str(work / "tmp")}
+going = subprocess.Popen([sys.executable, str(TOP / "tools/preview"), "r.json"], cwd=mine, env=env, stdout=subprocess.DEVNULL, stderr=subprocess.PIPE)
+while not (work / "begun").exists():
+    time.sleep(0.05)
+going.terminate()
+going.communicate()
+assert going.returncode == 143 and (work / "ended").exists() and not list((work / "tmp").iterdir()), going.returncode
 print("preview: ok")
