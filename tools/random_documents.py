@@ -16,10 +16,11 @@ import documents
 engine, reader = beside.load("run-model"), beside.load("check-model")
 planner = engine.planner
 
-ODD = ("a b", "x/y", ".hidden", "50%", "\u00e9", "..", 'a"b', "tab\there", "%41", "-", "x.", "sites", "\u4e16/..", "~", "a\\b", "line\nfeed")
+ODD = ("a b", "x/y", ".hidden", "50%", "\u00e9", "..", 'a"b', "tab\there", "%41", "-", "x.", "sites", "\u4e16/..", "~", "a\\b", "line\nfeed", "\U0001f600", "\u007f")
 WORDS = ("fig", "apple", "banana", "kiwi", "pear", "an", "\u00e9t\u00e9", "fig", "0", "7", "x y")
 SITES = ("pool", "local", "cluster", "desk", "far", "near")
 WIDE = 2**40
+JUNK = (None, True, False, "", "x", "input", "job", "5.1", 0, 1, -1, 1.5, 2**41, 2**61, 2**64, 11, [], {}, [1], ["x"], [{}], {"x": 1})
 
 
 @dataclass
@@ -273,10 +274,14 @@ def declare(work, written, request):
     for file in work.files:
         file.size = len(file.data if file.data is not None else b"1234567890") + (chance.randint(0, slack) if slack else 0)
         file.stated = chance.choice(("sizes", "use", "use", "default"))
+    if work.files and chance.is_so(0.02):
+        chance.choice(work.files).size = documents.MOST_SIZE
     if work.files and chance.is_so(0.04):
         wrong = chance.choice(work.files)
         wrong.size, wrong.stated = max(0, wrong.size - slack - 1), "sizes"
     request["sizes"] = {file.name: file.size for file in work.files if file.stated == "sizes"}
+    if chance.is_so(0.05):
+        request["sizes"]["of no workflow"] = 7
     rest = [file.size for file in work.files if file.stated == "default"]
     if rest and chance.is_so(0.995):
         request["default_size"] = max(rest) + (chance.randint(0, 9) if chance.is_so(0.3) else 0)
@@ -313,6 +318,8 @@ def spoil(chance, made, path, data):
 def place(work, made, file, sites):
     """A place of a replica, with its bytes there."""
     chance, path = work.chance, f"{work.prefix}data/{len(made.replicas) + len(made.mended)}"
+    if chance.is_so(0.05):
+        path += chance.choice((" x", "%20", "\u00e9", "#", "?", "\\", ":", "."))
     if chance.is_so(0.007):
         return {"site": chance.choice(sites), "pfn": f"ftp://host/{path}"}
     data = file.data if file.data is not None else b"of a job that makes nothing\n"
@@ -466,7 +473,35 @@ def strewn(chance, value, table, share):
     return made
 
 
+def letters(chance, text):
+    """A text in quotes, now and then with each letter as its number."""
+    if chance.is_so(0.1):
+        units = text.encode("utf-16-be")
+        return '"' + "".join(f"\\u{units[at]:02x}{units[at + 1]:02X}" for at in range(0, len(units), 2)) + '"'
+    made = json.dumps(text, ensure_ascii=chance.is_so(0.5))
+    return made.replace("/", "\\/") if chance.is_so(0.2) else made
+
+
+def spelled(chance, value):
+    """The same value spelled otherwise: with spaces, escapes, and keys that stood there before with another value."""
+    space = chance.choice(("", "", " ", "\n", "\t", "\r\n  "))
+    if isinstance(value, str):
+        return letters(chance, value)
+    if isinstance(value, list):
+        return "[" + space + ("," + space).join(spelled(chance, it) for it in value) + space + "]"
+    if not isinstance(value, dict):
+        return json.dumps(value)
+    members = []
+    for key, it in value.items():
+        if chance.is_so(0.03):
+            members.append(f"{letters(chance, key)}{space}:{json.dumps(chance.choice(JUNK))}")
+        members.append(f"{letters(chance, key)}{space}:{space}{spelled(chance, it)}")
+    return "{" + space + ("," + space).join(members) + space + "}"
+
+
 def text_of(chance, value):
+    if chance.is_so(0.1):
+        return spelled(chance, value).encode()
     return json.dumps(value, ensure_ascii=chance.is_so(0.5), indent=chance.choice((None, None, 1))).encode()
 
 
@@ -517,7 +552,7 @@ def one(chance, prefix="", most=12, names=None):
         "replicas": replica_catalogue(work, made, names), "transformations": transformation_catalogue(work, sites, mode),
     }
     if work.tools or chance.is_so(0.1):
-        request["tools"] = work.tools
+        request["tools"] = {**work.tools, **({"of no workflow": "none"} if chance.is_so(0.1) else {})}
     set_bounds(chance, request, found_by_model(request, found))
     put_documents(chance, made, prefix, request, found)
     return made
@@ -555,9 +590,6 @@ def joint_plan(made, stated):
 
 
 # Documents with a fault
-
-
-JUNK = (None, True, False, "", "x", "input", "job", "5.1", 0, 1, -1, 1.5, 2**41, 2**61, 2**64, 11, [], {}, [1], ["x"], [{}], {"x": 1})
 
 
 def spots(value, found):

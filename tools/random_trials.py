@@ -458,20 +458,38 @@ class Trial:
             place = self.chance.choice(sorted(told.sites))
             self.folder.put(place[:1], place[1], told.sites[place] + b"more")
             kind = "spoiled"
-        is_mended = self.chance.is_so(0.8)
+        is_mended, whole = self.chance.is_so(0.8), self.subject
         if is_mended:
             self.folder.mend()
-        if not (self.failing and self.chance.is_so(0.3)) or self.is_stopped_again():
+        if self.chance.is_so(0.1):
+            self.ask_otherwise()
+            self.ends_by_resume("asked otherwise")
+            (self.folder.place / "request.json").write_bytes(self.made.documents["request.json"])
+        elif not (self.failing and self.chance.is_so(0.3)) or self.is_stopped_again():
             self.ends_by_resume(kind)
         if is_mended:
             self.folder.spoil()
+        self.subject = whole
+
+    def ask_otherwise(self):
+        """The request is another one than that of the run."""
+        request = dict(self.subject.survey.request)
+        key = self.chance.choice(("retries", "fresh", "default_size", "execute", "cleanup"))
+        request[key] = {
+            "retries": self.chance.randint(0, 3), "fresh": self.chance.is_so(0.5), "default_size": self.chance.randint(0, 100),
+            "cleanup": self.chance.choice(("none", "inplace")),
+            "execute": [{**site, "bound": site["bound"] + self.chance.randint(0, 9)} for site in request["execute"]],
+        }[key]
+        (self.folder.place / "request.json").write_text(json.dumps(request))
+        self.subject = subject_of(self.folder.place)
 
     def ends_by_resume(self, kind):
         told = self.resumes(kind)
         if told.status == 0:
             (self.folder.place / RECORD).write_text(told.text)
-            verdict = self.folder.call("audit", "request.json", RECORD)
-            want(verdict, "verdict", (verdict.status, verdict.text), (0, "verdict complete\ndone\n"))
+            for command in ("audit", "stat"):
+                judged = self.folder.call(command, "request.json", RECORD)
+                want(judged, "verdict", (judged.status, judged.text), self.subject.judged(command, told.text))
             want(told, "verdict", self.subject.judged("audit", told.text), (0, "verdict complete\ndone\n"))
 
     def is_stopped_again(self):
