@@ -14,6 +14,7 @@ import sys
 from dataclasses import dataclass, field
 
 import beside
+import random_documents
 import random_records
 
 reader, engine, judge = beside.load("check-model"), beside.load("run-model"), beside.load("record-model")
@@ -187,9 +188,10 @@ class Folder:
         done = subprocess.run([self.program, *words], cwd=self.place, stdout=subprocess.PIPE, stderr=subprocess.DEVNULL,
                               env=around, timeout=LONGEST, check=False)
         self.calls += 1
+        stated = [f"{key}={value}" for key, value in environment.items() if os.environ.get(key) != value]
         drafts = sorted(it.name for it in self.place.glob(".pegasus.part.*"))
         left = resume.files_of(self.place / "output"), resume.sites_of(self.place / "sites")
-        return Told(words, done.returncode, done.stdout.decode("utf-8", "surrogateescape"), *left, drafts)
+        return Told(stated + words, done.returncode, done.stdout.decode("utf-8", "surrogateescape"), *left, drafts)
 
     def clear(self):
         """Takes away what a run left."""
@@ -301,7 +303,8 @@ def want_run(told, subject, workers, may_fail=False):
     if fault:
         want_answer(told, fault)
         return 0
-    want(told, "a record", told.parts() is not None, True)
+    if told.parts() is None:
+        want(told, "status and text", (told.status, told.text), "those of a run")
     record, rest = told.parts()
     entries, found = judge.read_record(record.encode()), Entries(told, subject)
     for words in entries:
@@ -319,13 +322,22 @@ def want_run(told, subject, workers, may_fail=False):
 # The commands
 
 
+# What is done with a workflow, and how often.
+STEPS = (("rehearses", 0.01), ("reads", 1), ("alone", 1), ("many", 1), ("judges", 0.6), ("produces", 0.4), ("fails", 0.4),
+         ("fails_once", 0.25), ("goes_on_from_its_own", 1))
+OF_ALL = ("rehearses", "reads", "alone", "many")
+OF_REQUESTS = ("reads", "judges", "produces")
+OF_FAILING_CALLS = ("fails", "fails_once")
+
+
 class Trial:
     """One random workflow, its commands one after the other."""
 
-    def __init__(self, folder, made, chance, failing):
-        self.folder, self.made, self.chance, self.failing = folder, made, chance, failing
+    def __init__(self, folder, made, key, failing):
+        self.folder, self.made, self.key, self.failing = folder, made, key, failing
+        self.chance = random_documents.Chance(key)
         self.subject = (joint_of if made.is_ensemble else subject_of)(folder.place)
-        self.kinds = []
+        self.kinds, self.texts = [], []
 
     def runs(self, workers=None):
         """The words of a run by one worker without threads, or by several."""
@@ -367,11 +379,11 @@ class Trial:
         want_answer(told, (status, text_of(lines)))
 
     def alone(self):
-        """One worker, whose text is known; returns it where there is a record."""
+        """One worker, whose text is known."""
         made, fault = self.subject.engine()
         if fault:
             want_answer(self.folder.fresh(*self.runs()), fault)
-            return None
+            return
         self.folder.clear()
         before = {"of an earlier run": b"older"} if self.chance.is_so(0.1) else {}
         before.update({made.name(file): b"older" for file in made.plan.workflow.requested if before and self.chance.is_so(0.5)})
@@ -386,7 +398,7 @@ class Trial:
         delivered = {**before, **made.store.delivered}
         want_answer(told, (6 if failed else 0, text_of(made.text(failed))), delivered, made.store.scratch)
         self.kinds.append("alone " + (failed or "done").split(" ")[0])
-        return told
+        self.texts.append(told.text)
 
     def many(self):
         """Several workers: what comes is true and legal, and the same is delivered where all is done."""
@@ -397,7 +409,7 @@ class Trial:
         if told.parts() is not None:
             self.kinds.append("run " + ("done" if told.status == 0 else "failed"))
             self.kinds.extend(["run with a fresh order"] * ("\nregrant " in told.text))
-        return told
+            self.texts.append(told.text)
 
     def produces(self):
         made, fault = self.subject.engine()
@@ -426,8 +438,9 @@ class Trial:
         want_answer(self.folder.call("alone", "second.json"), wanted, {**before, **delivered}, sites)
         self.kinds.append("alone of what was produced " + ("refused" if fault else "failed" if failed else "done"))
 
-    def judges(self, text):
+    def judges(self):
         """A record as it was printed, and one that was changed, judged and summed up."""
+        text = self.chance.choice(self.texts)
         self.folder.clear()
         for record in (text, random_records.changed(self.chance, text)):
             (self.folder.place / RECORD).write_bytes(record.encode("utf-8", "surrogateescape"))
@@ -552,26 +565,20 @@ class Trial:
         want_answer(told, (0, text_of(lines)))
         self.kinds.append("rehearse")
 
+    def may(self, step):
+        """Whether there is something to do it with."""
+        if step in OF_REQUESTS and self.made.is_ensemble:
+            return False
+        if step in OF_FAILING_CALLS and not self.failing:
+            return False
+        return step in OF_ALL or self.subject.engine()[1] is None
+
     def run(self):
-        """All of it, or what chance takes of it."""
-        if self.chance.is_so(0.01):
-            self.rehearses()
-        if not self.made.is_ensemble:
-            self.reads()
-        told = self.alone()
-        many = self.many()
-        if told is not None and not self.made.is_ensemble:
-            if self.chance.is_so(0.6):
-                self.judges(self.chance.choice((told, many)).text)
-            if self.chance.is_so(0.4):
-                self.produces()
-        if self.failing and self.subject.engine()[1] is None:
-            if self.chance.is_so(0.4):
-                self.fails()
-            if self.chance.is_so(0.25):
-                self.fails_once()
-        if told is not None:
-            self.goes_on_from_its_own()
+        """All of it, or what chance takes of it: for each step its own, so that one is repeated whatever came before."""
+        for step, share in STEPS:
+            self.chance = random_documents.Chance(f"{self.key} {step}")
+            if self.chance.is_so(share) and self.may(step):
+                getattr(self, step)()
 
     def goes_on_from_its_own(self):
         """A run that fails without any failing call, gone on with."""

@@ -43,7 +43,7 @@ def compare(path, case):
 
 count = 0
 for file in sorted(pathlib.Path("crates/cases/data").glob("*.cases")):
-    if not file.name.startswith("unreadable"):
+    if not file.name.startswith("unreadable") and "words resume " in file.read_text(encoding="utf-8"):
         for found in filter(is_told, case_files.read(file)):
             compare(file.name, found)
             count += 1
