@@ -7,32 +7,17 @@ from __future__ import annotations
 
 import hashlib
 import json
-import random
 from dataclasses import dataclass, field
 
 import beside
 import documents
+from random_jobs import ODD, grown
+from random_spelling import spoil_documents, strewn, text_of
 
-engine, reader = beside.load("run-model"), beside.load("check-model")
-planner = engine.planner
+planner = beside.load("plan-model")
 
-ODD = ("a b", "x/y", ".hidden", "50%", "\u00e9", "..", 'a"b', "tab\there", "%41", "-", "x.", "sites", "\u4e16/..", "~", "a\\b", "line\nfeed", "\U0001f600", "\u007f")
-WORDS = ("fig", "apple", "banana", "kiwi", "pear", "an", "\u00e9t\u00e9", "fig", "0", "7", "x y")
 SITES = ("pool", "local", "cluster", "desk", "far", "near")
 WIDE = 2**40
-JUNK = (None, True, False, "", "x", "input", "job", "5.1", 0, 1, -1, 1.5, 2**41, 2**61, 2**64, 11, [], {}, [1], ["x"], [{}], {"x": 1})
-
-
-@dataclass
-class File:
-    """A file of a workflow; what it holds is known unless a job on its way makes nothing."""
-
-    name: str
-    data: bytes | None
-    is_made: bool
-    is_read: bool = False
-    size: int = 0
-    stated: str = "default"
 
 
 @dataclass
@@ -50,131 +35,6 @@ class Made:
         self.replicas.update(other.replicas)
         self.folders.extend(other.folders)
         self.mended.update(other.mended)
-
-
-class Chance(random.Random):
-    """Random numbers, with the questions that are asked here."""
-
-    def is_so(self, share):
-        return self.random() < share
-
-    def some(self, values, least, most):
-        """So many of the values, each once, in a random order."""
-        found = list(values)
-        return self.sample(found, min(len(found), self.randint(least, most)))
-
-    def text(self):
-        return " ".join(self.choices(WORDS, k=self.randint(0, 3)))
-
-
-# What files hold
-
-
-def lines(chance):
-    made = "\n".join(chance.text() for _ in range(chance.randint(0, 6)))
-    return (made + "\n" * chance.is_so(0.8)).encode()
-
-
-def numbers(chance):
-    return "".join(f"{chance.randint(0, 10**chance.randint(1, 17))}\n" for _ in range(chance.randint(0, 4))).encode()
-
-
-def columns(chance):
-    return "".join("\t".join(chance.choices(WORDS, k=chance.randint(1, 4))) + "\n" for _ in range(chance.randint(1, 5))).encode()
-
-
-def long(chance):
-    """Longer than the pieces in which files are moved."""
-    return (columns(chance) * 70_000)[: 65_536 * chance.randint(1, 2) + chance.randint(-1, 1)]
-
-
-def content(chance):
-    if chance.is_so(0.004):
-        return long(chance)
-    return chance.choices((lines, numbers, columns, lambda it: it.randbytes(it.randint(0, 30))), (5, 3, 3, 1))[0](chance)
-
-
-# A workflow
-
-
-class Workflow:
-    """The jobs and files of a workflow as it is made, each job after those that make what it reads."""
-
-    def __init__(self, chance, prefix):
-        self.chance, self.prefix = chance, prefix
-        self.is_odd = chance.is_so(0.2)
-        self.files, self.jobs, self.tools = [], [], {}
-        self.names = {}
-
-    def name(self, word, share=0.4):
-        """A name that is there once, now and then an odd one."""
-        number = self.names[word] = self.names.get(word, -1) + 1
-        odd = self.chance.choice(ODD) if self.is_odd and self.chance.is_so(share) else ""
-        return f"{odd}{word}{number}"
-
-    def add_base(self):
-        self.files.append(File(self.name("b"), content(self.chance), is_made=False))
-
-    def arguments(self, tool):
-        """Such as the tool needs, and now and then others."""
-        chance = self.chance
-        if chance.is_so(0.02):
-            return chance.choice(([], ["x"], [""], ["-1"], [10**18], ["1" * 19], [-5]))
-        made = {
-            "text": lambda: [chance.choice((chance.text(), chance.randint(-9, 99), "12")) for _ in range(chance.randint(0, 3))],
-            "take": lambda: [chance.choice((chance.randint(0, 4), str(chance.randint(0, 4)), "003", "9" * 18))],
-            "drop": lambda: [chance.choice((chance.randint(0, 3), "0", "1"))],
-            "holds": lambda: [chance.choice(("an", "fig", "\u00e9", "\t", "7"))],
-            "column": lambda: [chance.randint(1, 3)],
-        }.get(tool, list)()
-        return made + ["more"] * (tool != "text" and chance.is_so(0.1))
-
-    def inputs(self, tool):
-        if tool == "text" and not self.chance.is_so(0.02):
-            return []
-        least = 0 if self.chance.is_so(0.05) else 1
-        late = self.files[-6:] if self.chance.is_so(0.6) else self.files
-        return self.chance.some(late, least, 3)
-
-    def outputs(self, tool):
-        if self.chance.is_so(0.01):
-            return self.chance.choice((0, 2))
-        return self.chance.randint(1, 3) if tool == "deal" else 1
-
-    def drawn(self):
-        """A tool with its arguments, inputs, the number of its outputs and what they hold, if that is anything."""
-        tool = self.chance.choice(documents.TOOLS)
-        arguments, inputs, count = self.arguments(tool), self.inputs(tool), self.outputs(tool)
-        if any(file.data is None for file in inputs):
-            return tool, arguments, inputs, [None] * count
-        try:
-            made = engine.apply(tool, [str(it) for it in arguments], [file.data for file in inputs], count)
-        except engine.Declined:
-            made = None
-        return tool, arguments, inputs, made if made is not None else [None] * count
-
-    def add_job(self):
-        """One that makes something, but for a few."""
-        for _ in range(8):
-            tool, arguments, inputs, made = self.drawn()
-            if all(data is not None and len(data) < 300_000 for data in made) or self.chance.is_so(0.01):
-                break
-        else:
-            tool, arguments, inputs, made = "text", ["word"], [], [b"word\n"]
-        outputs = [File(self.name("f"), data, is_made=True) for data in made]
-        for file in inputs:
-            file.is_read = True
-        self.files += outputs
-        self.jobs.append({"tool": tool, "arguments": arguments, "inputs": inputs, "outputs": outputs})
-
-
-def grown(chance, prefix, most):
-    made = Workflow(chance, prefix)
-    for _ in range(chance.randint(0, 4)):
-        made.add_base()
-    for _ in range(chance.randint(1, most) if chance.is_so(0.99) else 0):
-        made.add_job()
-    return made
 
 
 # Transformations, and the jobs as they are written
@@ -459,52 +319,6 @@ def set_bounds(chance, request, plan):
 # Documents
 
 
-def strewn(chance, value, table, share):
-    """The same with keys that aren't acted on, and with nulls for keys that are absent, here and there."""
-    if isinstance(table, list):
-        return [strewn(chance, it, table[0], share) for it in value] if isinstance(value, list) else value
-    if not table or not isinstance(value, dict):
-        return value
-    made = {key: strewn(chance, it, table.get(key), share) for key, it in value.items()}
-    for key in (it for it in table if it not in value and chance.is_so(share)):
-        made[key] = None
-    if chance.is_so(share):
-        made[chance.choice(("metadata", "a/b", "~", "x y", "hooks", ""))] = chance.choice(({"k": [1]}, None, "text", 1.5))
-    return made
-
-
-def letters(chance, text):
-    """A text in quotes, now and then with each letter as its number."""
-    if chance.is_so(0.1):
-        units = text.encode("utf-16-be")
-        return '"' + "".join(f"\\u{units[at]:02x}{units[at + 1]:02X}" for at in range(0, len(units), 2)) + '"'
-    made = json.dumps(text, ensure_ascii=chance.is_so(0.5))
-    return made.replace("/", "\\/") if chance.is_so(0.2) else made
-
-
-def spelled(chance, value):
-    """The same value spelled otherwise: with spaces, escapes, and keys that stood there before with another value."""
-    space = chance.choice(("", "", " ", "\n", "\t", "\r\n  "))
-    if isinstance(value, str):
-        return letters(chance, value)
-    if isinstance(value, list):
-        return "[" + space + ("," + space).join(spelled(chance, it) for it in value) + space + "]"
-    if not isinstance(value, dict):
-        return json.dumps(value)
-    members = []
-    for key, it in value.items():
-        if chance.is_so(0.03):
-            members.append(f"{letters(chance, key)}{space}:{json.dumps(chance.choice(JUNK))}")
-        members.append(f"{letters(chance, key)}{space}:{space}{spelled(chance, it)}")
-    return "{" + space + ("," + space).join(members) + space + "}"
-
-
-def text_of(chance, value):
-    if chance.is_so(0.1):
-        return spelled(chance, value).encode()
-    return json.dumps(value, ensure_ascii=chance.is_so(0.5), indent=chance.choice((None, None, 1))).encode()
-
-
 def put_documents(chance, made, prefix, request, found):
     """Writes each catalogue into a document of its own or into the workflow, or into both, where the first one counts."""
     share = chance.choice((0, 0, 0.03))
@@ -567,7 +381,8 @@ def ensemble(chance):
     members = []
     for number in range(chance.randint(1, 3)):
         made.add(one(chance, f"m{number}/", 6, names))
-        members.append({"name": chance.choice((f"m{number}", f"member {number}", f".{number}%")), "request": f"m{number}/request.json"})
+        name = chance.choice((f"m{number}", f"member {number}", f".{number}%"))
+        members.append({"name": name, "request": f"m{number}/request.json"})
     if chance.is_so(0.05):
         members.append({"name": "again", "request": "m0/request.json"})
     mode = chance.choice(("none", "horizontal", "label"))
@@ -587,49 +402,6 @@ def joint_plan(made, stated):
         return found_by_model(joint["request"], joint)
     except (KeyError, TypeError):
         return None
-
-
-# Documents with a fault
-
-
-def spots(value, found):
-    """Each place of a tree at which something stands: what holds it, and under which key."""
-    below = value.items() if isinstance(value, dict) else enumerate(value) if isinstance(value, list) else ()
-    for key, it in below:
-        found.append((value, key))
-        spots(it, found)
-    return found
-
-
-def spoil_tree(chance, tree):
-    """Puts something else in a place, takes it out, doubles it, or adds a key."""
-    found = spots(tree, [])
-    if not found:
-        return
-    holder, key = chance.choice(found)
-    kind = chance.choice(("junk", "junk", "out", "more"))
-    if kind == "junk":
-        holder[key] = chance.choice(JUNK)
-    elif kind == "out":
-        del holder[key]
-    elif isinstance(holder, dict):
-        holder[chance.choice(("colour", "a/b", "a0", "~"))] = chance.choice(JUNK)
-    else:
-        holder.insert(chance.randint(0, len(holder)), json.loads(json.dumps(chance.choice(holder))))
-
-
-def spoil_documents(chance, made):
-    """A fault in one of the documents, or what looks like one."""
-    name = chance.choice(sorted(made.documents))
-    if chance.is_so(0.1):
-        made.documents[name] = made.documents[name][: chance.randint(0, len(made.documents[name]))]
-    elif chance.is_so(0.05):
-        del made.documents[name]
-    else:
-        tree = json.loads(made.documents[name])
-        for _ in range(chance.choice((1, 1, 2))):
-            spoil_tree(chance, tree)
-        made.documents[name] = text_of(chance, tree)
 
 
 def made_of(chance):

@@ -1,11 +1,21 @@
 """Records that were changed by chance, for tools/random-workflows: some are records still, and some of these are legal."""
 from __future__ import annotations
 
-WORDS = ("grant", "regrant", "arrive", "end", "clean", "fail", "again", "closed", "record", "absent", "hostfailed", "toolfailed",
-         "declined", "memory", "oversize", "toolong", "checksum", "0", "1", "4294967295", "4294967296", "18446744073709551616", "01", "-1", "", "x")
-CAUSES = ("absent", "toolong 99", "checksum " + "0" * 64, "oversize 0 0 99", "declined 0", "toolfailed 0", "hostfailed", "hostfailed 1", "memory", "memory 0")
+WORDS = ("grant", "regrant", "arrive", "end", "clean", "fail", "again", "closed", "record", "absent", "hostfailed",
+         "toolfailed", "declined", "memory", "oversize", "toolong", "checksum", "0", "1", "4294967295", "4294967296",
+         "18446744073709551616", "01", "-1", "", "x")
+CAUSES = ("absent", "toolong 99", "checksum " + "0" * 64, "oversize 0 0 99", "declined 0", "toolfailed 0", "hostfailed",
+          "hostfailed 1", "memory", "memory 0")
+CHANGES = []
 
 
+def change(made):
+    """One of the ways in which lines are changed."""
+    CHANGES.append(made)
+    return made
+
+
+@change
 def swap(chance, lines):
     """Two lines change places, mostly neighbours."""
     one = chance.randrange(len(lines))
@@ -13,15 +23,18 @@ def swap(chance, lines):
     lines[one], lines[other] = lines[other], lines[one]
 
 
+@change
 def take_out(chance, lines):
     del lines[chance.randrange(len(lines))]
 
 
+@change
 def double(chance, lines):
     at = chance.randrange(len(lines))
     lines.insert(at, lines[at])
 
 
+@change
 def change_word(chance, lines):
     at = chance.randrange(len(lines))
     words = lines[at].split(" ")
@@ -33,11 +46,13 @@ def change_word(chance, lines):
     lines[at] = " ".join(words)
 
 
+@change
 def add_word(chance, lines):
     at = chance.randrange(len(lines))
     lines[at] += " " + chance.choice(WORDS)
 
 
+@change
 def put_failure(chance, lines):
     """A task that was granted fails in place of its end, or before it."""
     grants = [at for at, line in enumerate(lines) if line.startswith(("grant ", "regrant "))]
@@ -54,6 +69,7 @@ def put_failure(chance, lines):
         lines[0] = "record 2"
 
 
+@change
 def cut(chance, lines):
     """The first entries, which are a record again with the line `closed`."""
     at = chance.randrange(1, len(lines) + 1)
@@ -66,6 +82,6 @@ def changed(chance, text):
     lines = (record + "closed").split("\n")
     for _ in range(chance.choice((1, 1, 2))):
         if lines:
-            chance.choice((swap, take_out, double, change_word, change_word, add_word, put_failure, put_failure, cut))(chance, lines)
+            chance.choice(CHANGES)(chance, lines)
     made = "\n".join(lines) + "\n" * chance.is_so(0.97)
     return made + (rest if chance.is_so(0.7) else "")

@@ -12,11 +12,12 @@ sys.dont_write_bytecode = True
 sys.path.insert(0, "tools")
 import beside
 import random_documents
+import random_jobs
 
 PROGRAM = pathlib.Path("crates/pegasus/out/pegasus").absolute()
 CASES = pathlib.Path("crates/cases/out/cases").absolute()
 # How long workflows are begun, and of how many there are cases.
-SECONDS, CASED = 35, 120
+SECONDS, CASED = 25, 80
 cases = beside.load("random-cases")
 # Stands in the program's place and says that nothing went wrong.
 WRONG = """#!/bin/sh
@@ -27,7 +28,7 @@ WRONG = """#!/bin/sh
 def again(seed):
     """A seed makes the same workflow, and the same cases, each time."""
     for number in range(20):
-        first, second = (random_documents.made_of(random_documents.Chance(f"{seed}/{number}")) for _ in range(2))
+        first, second = (random_documents.made_of(random_jobs.Chance(f"{seed}/{number}")) for _ in range(2))
         assert first == second, (seed, number)
         assert cases.text_of(seed, number) == cases.text_of(seed, number), (seed, number)
 
