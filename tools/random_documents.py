@@ -130,7 +130,7 @@ def dependencies(work, written):
 def declare(work, written, request):
     """Says a size of each file somewhere: in the request, at the first use that has one, or by default."""
     chance = work.chance
-    slack = chance.choice((0, 0, 3, 20))
+    slack = 60 if work.is_crowded else chance.choice((0, 0, 3, 20))
     for file in work.files:
         file.size = len(file.data if file.data is not None else b"1234567890") + (chance.randint(0, slack) if slack else 0)
         file.stated = chance.choice(("sizes", "use", "use", "default"))
@@ -306,9 +306,9 @@ def bound(chance, peak, kind):
     return max(0, peak + more)
 
 
-def set_bounds(chance, request, plan):
+def set_bounds(chance, request, plan, is_crowded=False):
     """Bounds around what the plan needs, where there is one."""
-    kind = chance.choices(("wide", "tight", "roomy", "under"), (3, 4, 6, 1))[0]
+    kind = "tight" if is_crowded else chance.choices(("wide", "tight", "roomy", "under"), (3, 4, 6, 1))[0]
     for site, peak in zip(request["execute"], plan.made.peak if plan else []):
         site["bound"] = bound(chance, peak, kind)
     if plan and chance.is_so(0.2):
@@ -345,12 +345,15 @@ def site_names(work):
 
 def one(chance, prefix="", most=12, names=None):
     """A workflow with its documents and replicas."""
-    work, made = grown(chance, prefix, most), Made()
+    # At one site that holds just what the order needs workers wait for each other, and have orders made afresh.
+    is_crowded = chance.is_so(0.2)
+    work, made = grown(chance, prefix, most, 6 if is_crowded else 1), Made()
+    work.is_crowded = is_crowded
     work.transformations, work.pinned = {}, chance.choice((0, 0, 0.2, 0.5))
     names = names or site_names(work)
     sites = chance.some(names, 1, 3)
     mode = chance.choice(("none", "none", "horizontal", "horizontal", "label"))
-    if mode == "label" and chance.is_so(0.7):
+    if work.is_crowded or mode == "label" and chance.is_so(0.7):
         sites = sites[:1]
     written = [written_job(work, job, number, sites, mode) for number, job in enumerate(work.jobs)]
     workflow = {"pegasus": chance.choice(("5.0", "5.0.4")), "name": work.name("w"), "jobs": written}
@@ -367,7 +370,9 @@ def one(chance, prefix="", most=12, names=None):
     }
     if work.tools or chance.is_so(0.1):
         request["tools"] = {**work.tools, **({"of no workflow": "none"} if chance.is_so(0.1) else {})}
-    set_bounds(chance, request, found_by_model(request, found))
+    if work.is_crowded:
+        request["fresh"] = True
+    set_bounds(chance, request, found_by_model(request, found), work.is_crowded)
     put_documents(chance, made, prefix, request, found)
     return made
 

@@ -143,10 +143,11 @@ class Workflow:
         self.jobs.append({"tool": tool, "arguments": arguments, "inputs": inputs, "outputs": outputs})
 
 
-def grown(chance, prefix, most):
+def grown(chance, prefix, most, least=1):
+    """So many jobs at most, over a few files that none of them makes."""
     made = Workflow(chance, prefix)
     for _ in range(chance.randint(0, 4)):
         made.add_base()
-    for _ in range(chance.randint(1, most) if chance.is_so(0.99) else 0):
+    for _ in range(chance.randint(least, most) if chance.is_so(0.99) else 0):
         made.add_job()
     return made

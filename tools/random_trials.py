@@ -11,6 +11,7 @@ import sys
 
 import beside
 import random_jobs
+import random_plays
 import random_records
 from random_calls import want, want_answer, want_run
 from random_subjects import engine, fault_of, joint_of, planner, reader, resume, subject_of, text_of
@@ -21,10 +22,10 @@ RECORD = "record.json"
 WORKERS = (1, 2, 4, 16)
 MAKE = pathlib.Path(__file__).resolve().parent.parent / "examples" / "montage" / "make"
 # What is done with a workflow, and how often.
-STEPS = (("rehearses", 0.01), ("reads", 1), ("alone", 1), ("many", 1), ("judges", 0.6), ("produces", 0.4), ("fails", 0.4),
-         ("fails_once", 0.25), ("goes_on_from_its_own", 1))
+STEPS = (("rehearses", 0.01), ("reads", 1), ("alone", 1), ("many", 1), ("judges", 0.6), ("plays", 0.4), ("produces", 0.4),
+         ("fails", 0.4), ("fails_once", 0.25), ("goes_on_from_its_own", 1))
 OF_ALL = ("rehearses", "reads", "alone", "many")
-OF_REQUESTS = ("reads", "judges", "produces")
+OF_REQUESTS = ("reads", "judges", "plays", "produces")
 OF_FAILING_CALLS = ("fails", "fails_once")
 # How the text of a run begins.
 FIRST = ("record 1\n", "record 2\n")
@@ -145,12 +146,29 @@ class Trial:
         text = self.chance.choice(self.texts)
         self.folder.clear()
         for record in (text, random_records.changed(self.chance, text)):
-            (self.folder.place / RECORD).write_bytes(record.encode("utf-8", "surrogateescape"))
-            for command in ("audit", "stat"):
-                want_answer(self.folder.call(command, "request.json", RECORD), self.subject.judged(command, record))
-        self.kinds.append("audit")
+            self.is_judged(record)
         if self.chance.is_so(0.3):
             self.resumes("changed")
+
+    def is_judged(self, record):
+        (self.folder.place / RECORD).write_bytes(record.encode("utf-8", "surrogateescape"))
+        for command in ("audit", "stat"):
+            want_answer(self.folder.call(command, "request.json", RECORD), self.subject.judged(command, record))
+        self.kinds.append("audit")
+
+    def plays(self):
+        """The same with the record of a run that nobody ran; where its files are short enough it is gone on with."""
+        self.folder.clear()
+        play = random_plays.played(self.chance, self.subject.to_judge)
+        self.kinds.extend(["audit with a fresh order"] * any(entry.startswith("regrant ") for entry in play.entries))
+        self.is_judged(random_records.changed(self.chance, play.text()))
+        self.is_judged(play.text())
+        stored, plan = random_plays.stored(play), self.subject.planned[0]
+        if sum(stored.values()) < 10**6:
+            for (site, file), length in stored.items():
+                content = (b"1\n2\n" * length)[:length]
+                self.folder.put((plan.sites[site]["site"],), plan.workflow.files[file], content)
+            self.resumes("played")
 
     def resumes(self, kind):
         """Goes on from the record that stands in the folder and what is at the sites: the text is known."""

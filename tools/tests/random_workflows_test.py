@@ -19,9 +19,9 @@ CASES = pathlib.Path("crates/cases/out/cases").absolute()
 # How long workflows are begun, and of how many there are cases.
 SECONDS, CASED = 25, 80
 cases = beside.load("random-cases")
-# Stands in the program's place and says that nothing went wrong.
+# Stands in the program's place, tells other digests, and says that nothing went wrong.
 WRONG = """#!/bin/sh
-"{program}" "$@" | sed -e 's/^failed .*/done/' -e 's/^delivered \\(.*\\)0$/delivered \\11/'
+"{program}" "$@" | sed -e 's/^failed .*/done/' -e 's/^delivered \\(.*\\)[0-7]$/delivered \\18/'
 """
 
 
