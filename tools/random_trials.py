@@ -23,10 +23,10 @@ WORKERS = (1, 2, 4, 16)
 MAKE = pathlib.Path(__file__).resolve().parent.parent / "examples" / "montage" / "make"
 # What is done with a workflow, and how often.
 STEPS = (("rehearses", 0.01), ("reads", 1), ("alone", 1), ("many", 1), ("judges", 0.6), ("plays", 0.4), ("produces", 0.4),
-         ("fails", 0.4), ("fails_once", 0.25), ("goes_on_from_its_own", 1))
-OF_ALL = ("rehearses", "reads", "alone", "many")
-OF_REQUESTS = ("reads", "judges", "plays", "produces")
-OF_FAILING_CALLS = ("fails", "fails_once")
+         ("fails", 0.4), ("fails_once", 0.25), ("reads_failing", 0.15), ("goes_on_from_its_own", 1))
+OF_ALL = ("rehearses", "reads", "reads_failing", "alone", "many")
+OF_REQUESTS = ("reads", "reads_failing", "judges", "plays", "produces")
+OF_FAILING_CALLS = ("fails", "fails_once", "reads_failing")
 # How the text of a run begins.
 FIRST = ("record 1\n", "record 2\n")
 
@@ -50,15 +50,35 @@ class Trial:
 
     def reads(self):
         """What only reads documents, and replicas for the values."""
-        fetch = reader.folder_of(self.folder.place)
-        status, lines = reader.answer("request.json", fetch)
-        want_answer(self.folder.fresh("check", "request.json"), (status, text_of(lines)))
-        planned, fault = self.subject.planned
-        want_answer(self.folder.call("plan", "request.json"), fault or (0, text_of(planner.text(planned))))
+        want_answer(self.folder.fresh("check", "request.json"), self.checked())
+        want_answer(self.folder.call("plan", "request.json"), self.planned())
         if self.chance.is_so(0.5):
             want_answer(self.folder.call("schedule", "request.json"), self.scheduled())
         if self.chance.is_so(0.5):
             self.values()
+
+    def checked(self):
+        status, lines = reader.answer("request.json", reader.folder_of(self.folder.place))
+        return status, text_of(lines)
+
+    def planned(self):
+        planned, fault = self.subject.planned
+        return fault or (0, text_of(planner.text(planned)))
+
+    def reads_failing(self):
+        """The same where one call of the system fails."""
+        command = self.chance.choice(("check", "plan", "schedule", "eval"))
+        told = self.folder.fresh(command, "request.json", **self.failing.one(self.chance))
+        names = {f"document failed {printed(name)}\n" for name in self.made.documents}
+        if command == "eval":
+            names.add("failed host -\n")
+        if told.status in (3, 6) and told.text in names:
+            want(told, "status", told.status, 6 if told.text == "failed host -\n" else 3)
+            want(told, "files", (told.delivered, told.sites), ({}, {}))
+        elif command != "eval":
+            status, text = {"check": self.checked, "plan": self.planned, "schedule": self.scheduled}[command]()
+            want_answer(told, (7, text[:len(told.text)]) if told.status == 7 else (status, text))
+        self.kinds.append("reading under a failing call")
 
     def scheduled(self):
         if self.subject.fault:
@@ -146,11 +166,12 @@ class Trial:
         text = self.chance.choice(self.texts)
         self.folder.clear()
         for record in (text, random_records.changed(self.chance, text)):
-            self.is_judged(record)
+            self.judge(record)
         if self.chance.is_so(0.3):
             self.resumes("changed")
 
-    def is_judged(self, record):
+    def judge(self, record):
+        """One record, by both commands."""
         (self.folder.place / RECORD).write_bytes(record.encode("utf-8", "surrogateescape"))
         for command in ("audit", "stat"):
             want_answer(self.folder.call(command, "request.json", RECORD), self.subject.judged(command, record))
@@ -161,8 +182,8 @@ class Trial:
         self.folder.clear()
         play = random_plays.played(self.chance, self.subject.to_judge)
         self.kinds.extend(["audit with a fresh order"] * any(entry.startswith("regrant ") for entry in play.entries))
-        self.is_judged(random_records.changed(self.chance, play.text()))
-        self.is_judged(play.text())
+        self.judge(random_records.changed(self.chance, play.text()))
+        self.judge(play.text())
         stored, plan = random_plays.stored(play), self.subject.planned[0]
         if sum(stored.values()) < 10**6:
             for (site, file), length in stored.items():

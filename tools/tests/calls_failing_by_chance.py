@@ -56,7 +56,7 @@ static void tell(const char *kind, const char *path) {
     size_t length = 0;
     for (const char *from = kind; *from && length < 100; from++) line[length++] = *from;
     line[length++] = ' ';
-    for (const char *from = path; *from && length < sizeof line - 1; from++) line[length++] = *from;
+    for (const char *from = path; *from && length < sizeof line - 1; from++) line[length++] = *from == '\n' ? ' ' : *from;
     line[length++] = '\n';
     if (at >= 0) {
         if (put(at, line, length) < 0) abort();
