@@ -51,6 +51,13 @@ class Folder:
         for name in made.folders:
             (self.place / name).mkdir(parents=True, exist_ok=True)
 
+    def exchange(self, before, after):
+        """Puts documents in the place of others."""
+        for name in before:
+            (self.place / name).unlink(missing_ok=True)
+        for name, content in after.items():
+            (self.place / name).write_bytes(content)
+
     def mend(self):
         """Puts there what ought to stand at the replicas that are missing or wrong."""
         for name, content in self.made.mended.items():

@@ -3,6 +3,7 @@ then with a fault.
 """
 from __future__ import annotations
 
+import copy
 import json
 
 JUNK = (None, True, False, "", "x", "input", "job", "5.1", 0, 1, -1, 1.5, 2**41, 2**61, 2**64, 11,
@@ -58,6 +59,18 @@ def text_of(chance, value):
 # Faults
 
 
+def junk(chance):
+    return copy.deepcopy(chance.choice(JUNK))
+
+
+def tree_of(content):
+    """What a document says, unless it was cut off before."""
+    try:
+        return json.loads(content)
+    except ValueError:
+        return None
+
+
 def spots(value, found):
     """Each place of a tree at which something stands: what holds it, and under which key."""
     below = value.items() if isinstance(value, dict) else enumerate(value) if isinstance(value, list) else ()
@@ -75,13 +88,13 @@ def spoil_tree(chance, tree):
     holder, key = chance.choice(found)
     kind = chance.choice(("junk", "junk", "out", "more"))
     if kind == "junk":
-        holder[key] = chance.choice(JUNK)
+        holder[key] = junk(chance)
     elif kind == "out":
         del holder[key]
     elif isinstance(holder, dict):
-        holder[chance.choice(("colour", "a/b", "a0", "~"))] = chance.choice(JUNK)
+        holder[chance.choice(("colour", "a/b", "a0", "~"))] = junk(chance)
     else:
-        holder.insert(chance.randint(0, len(holder)), json.loads(json.dumps(chance.choice(holder))))
+        holder.insert(chance.randint(0, len(holder)), copy.deepcopy(chance.choice(holder)))
 
 
 def spoil_documents(chance, made):
@@ -91,8 +104,7 @@ def spoil_documents(chance, made):
         made.documents[name] = made.documents[name][: chance.randint(0, len(made.documents[name]))]
     elif chance.is_so(0.05):
         del made.documents[name]
-    else:
-        tree = json.loads(made.documents[name])
+    elif (tree := tree_of(made.documents[name])) is not None:
         for _ in range(chance.choice((1, 1, 2))):
             spoil_tree(chance, tree)
         made.documents[name] = text_of(chance, tree)

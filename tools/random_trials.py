@@ -10,9 +10,11 @@ import subprocess
 import sys
 
 import beside
+import random_documents
 import random_jobs
 import random_plays
 import random_records
+import random_spelling
 from random_calls import want, want_answer, want_run
 from random_subjects import engine, fault_of, joint_of, planner, reader, resume, subject_of, text_of
 
@@ -22,9 +24,9 @@ RECORD = "record.json"
 WORKERS = (1, 2, 4, 16)
 MAKE = pathlib.Path(__file__).resolve().parent.parent / "examples" / "montage" / "make"
 # What is done with a workflow, and how often.
-STEPS = (("rehearses", 0.01), ("reads", 1), ("alone", 1), ("many", 1), ("judges", 0.6), ("plays", 0.4), ("produces", 0.4),
-         ("fails", 0.4), ("fails_once", 0.25), ("reads_failing", 0.15), ("goes_on_from_its_own", 1))
-OF_ALL = ("rehearses", "reads", "reads_failing", "alone", "many")
+STEPS = (("rehearses", 0.01), ("spoils", 0.5), ("reads", 1), ("alone", 1), ("many", 1), ("judges", 0.6), ("plays", 0.4),
+         ("produces", 0.4), ("fails", 0.4), ("fails_once", 0.25), ("reads_failing", 0.15), ("goes_on_from_its_own", 1))
+OF_ALL = ("rehearses", "spoils", "reads", "reads_failing", "alone", "many")
 OF_REQUESTS = ("reads", "reads_failing", "judges", "plays", "produces")
 OF_FAILING_CALLS = ("fails", "fails_once", "reads_failing")
 # How the text of a run begins.
@@ -79,6 +81,21 @@ class Trial:
             status, text = {"check": self.checked, "plan": self.planned, "schedule": self.scheduled}[command]()
             want_answer(told, (7, text[:len(told.text)]) if told.status == 7 else (status, text))
         self.kinds.append("reading under a failing call")
+
+    def spoils(self):
+        """Documents with a fault, or what looks like one, one after the other in the place of those that there are."""
+        for _ in range(3):
+            spoiled = random_documents.Made(documents=dict(self.made.documents))
+            random_spelling.spoil_documents(self.chance, spoiled)
+            self.folder.exchange(self.made.documents, spoiled.documents)
+            if self.made.is_ensemble:
+                fault = joint_of(self.folder.place).engine()[1]
+                if fault:
+                    want_answer(self.folder.fresh("ensemble", "ensemble.json"), fault)
+            else:
+                want_answer(self.folder.fresh("check", "request.json"), self.checked())
+            self.folder.exchange(spoiled.documents, self.made.documents)
+            self.kinds.append("spoiled documents")
 
     def scheduled(self):
         if self.subject.fault:
