@@ -19,9 +19,10 @@ CASES = pathlib.Path("crates/cases/out/cases").absolute()
 # How long workflows are begun, and of how many there are cases.
 SECONDS, CASED = 25, 80
 cases = beside.load("random-cases")
-# Stands in the program's place, tells other digests, and says that nothing went wrong.
-WRONG = """#!/bin/sh
-"{program}" "$@" | sed -e 's/^failed .*/done/' -e 's/^delivered \\(.*\\)[0-7]$/delivered \\18/'
+# Stands in the program's place and tells other digests than it does; all else is as it should be.
+WRONG = """#!/usr/bin/env bash
+"{program}" "$@" | sed -e 's/^delivered \\(.*\\)[0-7]$/delivered \\18/'
+exit "${{PIPESTATUS[0]}}"
 """
 
 
@@ -46,7 +47,7 @@ def are_the_same(seed):
 
 
 def is_found_out(seed, work):
-    """A program that tells another digest, or that a run failed as one that is done."""
+    """A program that tells another digest."""
     wrong = work / "wrong"
     wrong.write_text(WRONG.format(program=PROGRAM))
     wrong.chmod(0o755)
@@ -63,11 +64,11 @@ def cases_end_alike(seed, work):
     status, text = call("tools/random-cases", "--seed", seed, "--count", CASED, file)
     assert status == 0, text
     done = subprocess.run([CASES, file.name], cwd=work, capture_output=True, text=True, check=False)
-    wrong = [line for line in done.stdout.splitlines() if not line.startswith("ok ")]
-    if done.returncode != 0 or len(wrong) != 1:
+    others = [line for line in done.stdout.splitlines() if not line.startswith("ok ")]
+    if done.returncode != 0 or len(others) != 1 or not others[0].endswith(" cases, 0 differ"):
         kept = pathlib.Path(tempfile.mkdtemp(prefix="differs-"))
         shutil.copy(file, kept)
-        raise AssertionError((f"seed {seed}, kept in {kept}", done.returncode, wrong[:20]))
+        raise AssertionError((f"seed {seed}, kept in {kept}", done.returncode, others[:20]))
     return text.strip()
 
 
