@@ -3,7 +3,7 @@ from __future__ import annotations
 
 WORDS = ("grant", "regrant", "arrive", "end", "clean", "fail", "again", "closed", "record", "absent", "hostfailed",
          "toolfailed", "declined", "memory", "oversize", "toolong", "checksum", "0", "1", "4294967295", "4294967296",
-         "18446744073709551616", "01", "-1", "", "x")
+         "18446744073709551616", "01", "-1", "+1", "1e3", "", "x", "\u00e9", "\t", "\r", "\0")
 CAUSES = ("absent", "toolong 99", "checksum " + "0" * 64, "oversize 0 0 99", "declined 0", "toolfailed 0", "hostfailed",
           "hostfailed 1", "memory", "memory 0")
 CHANGES = []

@@ -27,7 +27,7 @@ def strewn(chance, value, table, share):
 def letters(chance, text):
     """A text in quotes, now and then with each letter as its number."""
     if chance.is_so(0.1):
-        units = text.encode("utf-16-be")
+        units = text.encode("utf-16-be", "surrogatepass")
         return '"' + "".join(f"\\u{units[at]:02x}{units[at + 1]:02X}" for at in range(0, len(units), 2)) + '"'
     made = json.dumps(text, ensure_ascii=chance.is_so(0.5))
     return made.replace("/", "\\/") if chance.is_so(0.2) else made
@@ -52,8 +52,9 @@ def spelled(chance, value):
 
 def text_of(chance, value):
     if chance.is_so(0.1):
-        return spelled(chance, value).encode()
-    return json.dumps(value, ensure_ascii=chance.is_so(0.5), indent=chance.choice((None, None, 1))).encode()
+        return spelled(chance, value).encode("utf-8", "surrogatepass")
+    text = json.dumps(value, ensure_ascii=chance.is_so(0.5), indent=chance.choice((None, None, 1)))
+    return text.encode("utf-8", "surrogatepass")
 
 
 # Faults
@@ -97,11 +98,23 @@ def spoil_tree(chance, tree):
         holder.insert(chance.randint(0, len(holder)), copy.deepcopy(chance.choice(holder)))
 
 
+def with_other_bytes(chance, content):
+    """A byte or two put in, taken out or exchanged, mostly for one that means something in a document."""
+    made = bytearray(content)
+    for _ in range(chance.choice((1, 1, 2))):
+        at = chance.randint(0, max(0, len(made) - 1))
+        new = chance.choice(b'"\\{}[],:-+.0123eEtfn /\n\r\t') if chance.is_so(0.7) else chance.randrange(256)
+        made[at:at + chance.randint(0, 1)] = bytes([new]) if chance.is_so(0.8) else b""
+    return bytes(made)
+
+
 def spoil_documents(chance, made):
     """A fault in one of the documents, or what looks like one."""
     name = chance.choice(sorted(made.documents))
-    if chance.is_so(0.1):
+    if chance.is_so(0.07):
         made.documents[name] = made.documents[name][: chance.randint(0, len(made.documents[name]))]
+    elif chance.is_so(0.25):
+        made.documents[name] = with_other_bytes(chance, made.documents[name])
     elif chance.is_so(0.05):
         del made.documents[name]
     elif (tree := tree_of(made.documents[name])) is not None:
