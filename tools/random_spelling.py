@@ -105,7 +105,8 @@ def with_other_bytes(chance, content):
         at = chance.randint(0, max(0, len(made) - 1))
         new = chance.choice(b'"\\{}[],:-+.0123eEtfn /\n\r\t') if chance.is_so(0.7) else chance.randrange(256)
         made[at:at + chance.randint(0, 1)] = bytes([new]) if chance.is_so(0.8) else b""
-    return bytes(made)
+    # No name has a NUL: no file can be called so.
+    return bytes(made).replace(b"\\u0000", b"\\u0001")
 
 
 def spoil_documents(chance, made):
