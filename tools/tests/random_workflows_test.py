@@ -17,7 +17,7 @@ import random_jobs
 PROGRAM = pathlib.Path("crates/pegasus/out/pegasus").absolute()
 CASES = pathlib.Path("crates/cases/out/cases").absolute()
 # How long workflows are begun, and of how many there are cases.
-SECONDS, CASED = 25, 80
+SECONDS, CASED = 30, 80
 cases = beside.load("random-cases")
 # Stands in the program's place and tells other digests than it does; all else is as it should be.
 WRONG = """#!/usr/bin/env bash
