@@ -46,15 +46,15 @@ def are_the_same(seed):
     return text.splitlines()[-1]
 
 
-def is_found_out(seed, work):
-    """A program that tells another digest."""
+def is_found_out(work):
+    """A program that tells another digest, over workflows that are always the same."""
     wrong = work / "wrong"
     wrong.write_text(WRONG.format(program=PROGRAM))
     wrong.chmod(0o755)
-    words = ("--seed", seed, "--count", 60, "--program", wrong, "--keep", work / "kept")
+    words = ("--seed", 1, "--count", 12, "--program", wrong, "--keep", work / "kept")
     status, text = call("tools/random-workflows", *words)
     kept = list((work / "kept").iterdir()) if (work / "kept").exists() else []
-    assert status == 1 and kept and f"seed {seed} differs, kept in {kept[0].parent}" in text, (seed, status, text)
+    assert status == 1 and kept and f"seed 1 differs, kept in {kept[0].parent}" in text, (status, text)
     assert all((it / "what-differs").exists() for it in kept), kept
 
 
@@ -80,7 +80,7 @@ def main():
         print("random: skipped, no program is built")
         return
     with tempfile.TemporaryDirectory() as work:
-        is_found_out(seed, pathlib.Path(work))
+        is_found_out(pathlib.Path(work))
         if CASES.exists():
             print(cases_end_alike(seed, pathlib.Path(work)))
     print(are_the_same(seed))
