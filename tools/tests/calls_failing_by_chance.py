@@ -1,5 +1,5 @@
-"""Runs a program over files of which some calls fail: a small library, made here with the C compiler, stands before the
-system's open, read, write, rename and unlink. Documents and standard output are let be."""
+"""Runs a program over files of which some calls fail, or take their time: a small library, made here with the C compiler,
+stands before the system's open, read, write, rename and unlink. Documents and standard output are let be."""
 import os
 import pathlib
 import shutil
@@ -56,12 +56,19 @@ static void tell(const char *kind, const char *path) {
     size_t length = 0;
     for (const char *from = kind; *from && length < 100; from++) line[length++] = *from;
     line[length++] = ' ';
-    for (const char *from = path; *from && length < sizeof line - 1; from++) line[length++] = *from;
+    for (const char *from = path; *from && length < sizeof line - 1; from++) line[length++] = *from == '\n' ? ' ' : *from;
     line[length++] = '\n';
     if (at >= 0) {
         if (put(at, line, length) < 0) abort();
         close(at);
     }
+}
+
+/* A read or a write takes some time, up to so many microseconds. */
+static void linger(void) {
+    static long lingered;
+    long most = number("LINGERING");
+    if (most > 0) usleep((useconds_t)(mixed((uint64_t)__atomic_add_fetch(&lingered, 1, __ATOMIC_SEQ_CST)) % (uint64_t)most));
 }
 
 /* Counts a call of a kind that may fail, and tells whether it is to. */
@@ -103,13 +110,17 @@ int open(const char *path, int flags, ...) {
 ssize_t read(int file, void *into, size_t size) {
     static ssize_t (*real)(int, void *, size_t);
     if (real == NULL) real = (ssize_t (*)(int, void *, size_t))dlsym(RTLD_NEXT, "read");
-    return file >= 0 && file < MOST_FILES && is_watched[file] && fails("read", "-") ? -1 : real(file, into, size);
+    if (file < 0 || file >= MOST_FILES || !is_watched[file]) return real(file, into, size);
+    linger();
+    return fails("read", "-") ? -1 : real(file, into, size);
 }
 
 ssize_t write(int file, const void *from, size_t size) {
     static ssize_t (*real)(int, const void *, size_t);
     if (real == NULL) real = (ssize_t (*)(int, const void *, size_t))dlsym(RTLD_NEXT, "write");
-    return file >= 0 && file < MOST_FILES && is_watched[file] && fails("write", "-") ? -1 : real(file, from, size);
+    if (file < 0 || file >= MOST_FILES || !is_watched[file]) return real(file, from, size);
+    linger();
+    return fails("write", "-") ? -1 : real(file, from, size);
 }
 
 int rename(const char *from, const char *to) {
@@ -146,3 +157,8 @@ def surroundings(library, log, kinds, every, seed=0, is_once=False):
     once = {"FAILING_ONCE": "1"} if is_once else {}
     stated = {"FAILING_LOG": str(log), "FAILING_KINDS": " ".join(kinds), "FAILING_EVERY": str(every), "FAILING_SEED": str(seed)}
     return {**os.environ, "LD_PRELOAD": library, **stated, **once}
+
+
+def taking_time(library, microseconds):
+    """What has to stand there so that each read and write of a file takes up to so many microseconds; none fails."""
+    return {"LD_PRELOAD": library, "LINGERING": str(microseconds)}

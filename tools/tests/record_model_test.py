@@ -15,7 +15,7 @@ sys.path.insert(0, "tools")
 import beside
 from documents import INLINED
 
-planner, model = beside.load("plan-model"), beside.load("record-model")
+planner, model, resume = beside.load("plan-model"), beside.load("record-model"), beside.load("resume-model")
 
 PLAN = subprocess.run([sys.executable, "tools/plan-model", "examples/diamond/request.json"], capture_output=True, text=True, check=True).stdout
 PRINTED = re.search(r"    record 1\n(.*?)    closed\n", pathlib.Path("docs/COMMANDS.md").read_text(encoding="utf-8"), re.DOTALL)
@@ -144,9 +144,10 @@ def answers(case):
         _, command, request, record = line.split(" ")
         stated = documents[request]
         found = {kind: catalogue(documents, stated, kind) for kind in ("replicas", "transformations")}
-        plan = planner.plan(stated, {"workflow": documents[stated["workflow"]], **found})
-        assert is_ordered("\n".join(plan)), (case.name, request)
-        yield model.answer(command, "\n".join(plan) + "\n", case.documents[record])
+        made = planner.make_plan(stated, {"workflow": documents[stated["workflow"]], **found})
+        assert is_ordered("\n".join(planner.text(made))), (case.name, request)
+        plan = resume.plan_to_judge(made, resume.engine.registered_sums(found["replicas"]["replicas"]))
+        yield model.told(command, plan, case.documents[record])
 
 
 def is_ordered(text):
@@ -162,10 +163,9 @@ def catalogue(documents, request, kind):
 
 
 def is_judged(case):
-    """Whether its calls judge records. What a plan's text doesn't say is which checksum is registered, and the other answers
-    come before the record is looked at."""
+    """Whether its calls judge records. The other answers come before the record is looked at."""
     is_judgement = all(line.startswith(("words audit ", "words stat ")) for line in case.words)
-    return is_judgement and case.status in (0, 8) and not case.name.startswith("checksum")
+    return is_judgement and case.status in (0, 8)
 
 
 def judged_cases(name, least):
