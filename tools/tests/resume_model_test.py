@@ -31,6 +31,8 @@ def compare(path, case):
         request, record = words.split(" ")[2:]
         store = model.engine.Store(case.replicas, scratch=dict(case.scratch), failing=case.failing("host"), failing_parts=case.failing_parts())
         status, lines = model.answer(request, record, fetcher(case), store, case.failing("run"))
+        if case.is_after_record:
+            lines = lines[lines.index("closed") + 1 :]
         text = "".join(line + "\n" for line in lines)
         assert (status, text) == (case.status, case.text), (path, case.name, status, text)
         for name, content in case.delivered.items():
