@@ -55,7 +55,7 @@ def add_word(chance, lines):
 @change
 def put_failure(chance, lines):
     """A task that was granted fails in place of its end, or before it."""
-    grants = [at for at, line in enumerate(lines) if line.startswith(("grant ", "regrant "))]
+    grants = [at for at, line in enumerate(lines) if line.startswith(("grant ", "regrant ")) and len(line.split(" ")) >= 3]
     if not grants:
         return
     at = chance.choice(grants)
