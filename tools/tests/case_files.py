@@ -114,3 +114,13 @@ def read(path):
         found.replicas = {**common.replicas, **found.replicas}
         found.scratch = {**common.scratch, **found.scratch}
         yield found
+
+
+def look_at_store(path, case, store):
+    """Whether a model's store has what a case wants to be delivered, left at sites and done, in this order."""
+    for name, content in case.delivered.items():
+        assert store.delivered.get(name) == content, (path, case.name, name)
+    for place, content in case.stored.items():
+        assert store.scratch.get(place) == content, (path, case.name, place)
+    if case.trace is not None:
+        assert case.trace == "".join(line + "\n" for line in store.trace), (path, case.name, store.trace)

@@ -35,12 +35,7 @@ def compare(path, case):
             lines = lines[lines.index("closed") + 1 :]
         text = "".join(line + "\n" for line in lines)
         assert (status, text) == (case.status, case.text), (path, case.name, status, text)
-        for name, content in case.delivered.items():
-            assert store.delivered.get(name) == content, (path, case.name, name)
-        for place, content in case.stored.items():
-            assert store.scratch.get(place) == content, (path, case.name, place)
-        if case.trace is not None:
-            assert case.trace == "".join(line + "\n" for line in store.trace), (path, case.name, store.trace)
+        case_files.look_at_store(path, case, store)
 
 
 count = 0

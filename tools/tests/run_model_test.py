@@ -65,12 +65,7 @@ def compare(path, case, name):
     if case.is_after_record:
         text = text.split("\nclosed\n", 1)[1]
     assert (case.status, case.text) == (status, text), (path, case.name, status, text)
-    for name, content in case.delivered.items():
-        assert store.delivered.get(name) == content, (path, case.name, name)
-    for place, content in case.stored.items():
-        assert store.scratch.get(place) == content, (path, case.name, place)
-    if case.trace is not None:
-        assert case.trace == "".join(line + "\n" for line in store.trace), (path, case.name, store.trace)
+    case_files.look_at_store(path, case, store)
 
 
 def page_run(request, scratch):
