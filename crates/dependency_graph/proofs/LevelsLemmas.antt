@@ -45,11 +45,11 @@ parents_at (l ∷ ls) zero = refl
 parents_at (l ∷ ls) (suc a) = parents_at ls a
 
 -- a graph's order: its number of jobs, each one new where it stands, after its parents
-abbrev tally : ℕ → List ℕ → ℕ
+abbrev pub tally : ℕ → List ℕ → ℕ
 tally zero ns = 0
 tally (suc n) ns = times n ns + tally n ns
 
-tally_none : (n : ℕ) → tally n [] ≡ 0
+pub tally_none : (n : ℕ) → tally n [] ≡ 0
 tally_none zero = refl
 tally_none (suc n) = let rest = tally_none n in omega (arith, rest)
 
@@ -60,7 +60,7 @@ tally_past (suc n) a ns past =
     let here : cond {A = ℕ} (nat_eq a n) 1 0 ≡ 0 = ap (λ (t : Bool). cond {A = ℕ} t 1 0) (ne_eqb a n (λ e. omega arith)) in
     omega (arith, rest, here)
 
-tally_more : (n a : ℕ) (ns : List ℕ) → a < n → tally n (a ∷ ns) ≡ suc (tally n ns)
+pub tally_more : (n a : ℕ) (ns : List ℕ) → a < n → tally n (a ∷ ns) ≡ suc (tally n ns)
 tally_more zero a ns low = absurd (omega arith)
 tally_more (suc n) a ns low = by (nat_eq a n) refl (λ l. tally_more n a ns l)
   where

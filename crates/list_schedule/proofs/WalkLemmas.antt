@@ -1,7 +1,7 @@
 -- The walk over an order: what the board keeps besides.
 use Rattle.std.proofs.Common.{◌≡◌, ℕ, zero, suc, ◌+◌, ◌<◌, ◌≤◌, ◌||◌, Bool, true, false, cond, List, [], ◌∷◌, length, take, get_or, refl, sym, ap, subst, ◌∙◌, nat_eq, arith}
 use Rattle.std.specs.Prelude.{replicate, Option, Some, None}
-use Rattle.std.proofs.lemmas.Bool.{eqb-true, eqb-false, eq-eqb, ne_eqb}
+use Rattle.std.proofs.lemmas.Bool.{eqb-true, eq-eqb}
 use Rattle.std.proofs.lemmas.List.{length-map, length-set, length-replicate, get_or-map}
 use Rattle.values.specs.declared.numbers.JobId.{JobId}
 use Rattle.values.specs.declared.numbers.SiteId.{SiteId}
@@ -11,6 +11,7 @@ use Rattle.digraph.specs.Adjacency.{has, times}
 use Rattle.dependency_graph.specs.Graph.{IsGraphOf, Links, numbers}
 use Rattle.dependency_graph.specs.Levels.{is_kept}
 use Rattle.dependency_graph.specs.Ranking.{AreOnce}
+use Rattle.dependency_graph.proofs.LevelsLemmas.{tally, tally_more, tally_none}
 use Rattle.dependency_graph.proofs.TestLemmas.{has_at, has_more}
 use Rattle.list_schedule.specs.declared.choice.Slot.{Slot}
 use Rattle.list_schedule.specs.declared.board.Board.{Board}
@@ -23,36 +24,6 @@ use Rattle.list_schedule.proofs.SetLemmas.{set_at, set_small}
 use Rattle.list_schedule.proofs.GraphLemmas.{none_times}
 
 -- ---- an order of few jobs is short
-
-abbrev tally : ℕ → List ℕ → ℕ
-tally zero ns = 0
-tally (suc n) ns = times n ns + tally n ns
-
-tally_none : (n : ℕ) → tally n [] ≡ 0
-tally_none zero = refl
-tally_none (suc n) = let rest = tally_none n in omega (arith, rest)
-
-tally_past : (n a : ℕ) (ns : List ℕ) → n ≤ a → tally n (a ∷ ns) ≡ tally n ns
-tally_past zero a ns past = refl
-tally_past (suc n) a ns past =
-    let rest = tally_past n a ns (omega arith) in
-    let here : cond {A = ℕ} (nat_eq a n) 1 0 ≡ 0 = ap (λ (t : Bool). cond {A = ℕ} t 1 0) (ne_eqb a n (λ e. omega arith)) in
-    omega (arith, rest, here)
-
-tally_more : (n a : ℕ) (ns : List ℕ) → a < n → tally n (a ∷ ns) ≡ suc (tally n ns)
-tally_more zero a ns low = absurd (omega arith)
-tally_more (suc n) a ns low = by (nat_eq a n) refl (λ l. tally_more n a ns l)
-  where
-    by : (t : Bool) → nat_eq a n ≡ t → (a < n → tally n (a ∷ ns) ≡ suc (tally n ns)) → (cond {A = ℕ} (nat_eq a n) 1 0 + times n ns) + tally n (a ∷ ns) ≡ suc (times n ns + tally n ns)
-    by true e rest =
-        let one : cond {A = ℕ} (nat_eq a n) 1 0 ≡ 1 = ap (λ (t : Bool). cond {A = ℕ} t 1 0) e in
-        let past : tally n (a ∷ ns) ≡ tally n ns = tally_past n a ns (let s : a ≡ n = eqb-true a n e in omega arith) in
-        omega (arith, one, past)
-    by false e rest =
-        let none : cond {A = ℕ} (nat_eq a n) 1 0 ≡ 0 = ap (λ (t : Bool). cond {A = ℕ} t 1 0) e in
-        let differ = eqb-false a n e in
-        let more : tally n (a ∷ ns) ≡ suc (tally n ns) = rest (omega arith) in
-        omega (arith, none, more)
 
 tally_length : (n : ℕ) (ns : List ℕ) → ((a : ℕ) → has a ns ≡ true → a < n) → tally n ns ≡ length ns
 tally_length n [] low = tally_none n

@@ -1,14 +1,11 @@
 -- The part that makes a file, and the site at which it is made.
-use Rattle.std.proofs.Common.{◌≡◌, ℕ, zero, suc, ◌+◌, ◌<◌, ◌≤◌, Bool, true, false, cond, ◌||◌, List, [], ◌∷◌, length, map, refl, sym, ap, ◌∙◌, nat_eq, arith}
+use Rattle.std.proofs.Common.{◌≡◌, ℕ, zero, suc, ◌<◌, ◌≤◌, Bool, true, false, cond, ◌||◌, List, [], ◌∷◌, length, refl, sym, ap, ◌∙◌, nat_eq, arith}
 use Rattle.std.specs.Prelude.{Option, Some, None, is_some, slice_get, slice_index_or}
 use Rattle.std.specs.List.{list_any}
-use Rattle.std.proofs.lemmas.Bool.{eq-eqb, ne_eqb}
 use Rattle.std.proofs.lemmas.Option.{get_or_from_slice_get}
 use Rattle.values.specs.declared.numbers.JobId.{JobId}
-use Rattle.workflow_core.specs.declared.workflow.Workflow.{Workflow}
-use Rattle.workflow_core.specs.declared.workflow.Job.{Job}
-use Rattle.workflow_core.specs.WellFormed.{outputs_of}
-use Rattle.dependency_graph.specs.Edges.{has_output, is_among, makers, makers_from, written_by}
+use Rattle.dependency_graph.specs.Edges.{makers, written_by}
+use Rattle.dependency_graph.proofs.EdgesLemmas.{makes as makers_are}
 use Rattle.plan_core.specs.Numbers.{has}
 use Rattle.plan_core.specs.Words.{job_numbers}
 use Rattle.plan_core.proofs.TestLemmas.{same_number, is_itself, or_left, or_right, by_bool}
@@ -19,42 +16,6 @@ use Rattle.transfer_refiner.specs.Draft.{Draft, makes, site_of, made_at, home, h
 use Rattle.transfer_refiner.specs.Tasks.{count_files, is_made, part_of}
 use Rattle.transfer_refiner.specs.Conditions.{IsDraft}
 use Rattle.transfer_refiner.specs.Listing.{is_at, first_site_of}
-
--- the numbers of the jobs that make a file
-later_makers : (f i a : ℕ) (js : List Job) → a < i → is_among a (makers_from f i js) ≡ false
-later_makers f i a [] h = refl
-later_makers f i a (j ∷ js) h = by (has_output f j) (later_makers f (suc i) a js (omega arith))
-  where
-    by : (t : Bool) → is_among a (makers_from f (suc i) js) ≡ false → is_among a (cond t (i ∷ makers_from f (suc i) js) (makers_from f (suc i) js)) ≡ false
-    by true e = ap (λ (b : Bool). b || is_among a (makers_from f (suc i) js)) (ne_eqb i a (λ s. omega arith)) ∙ e
-    by false e = e
-
-among_makers : (f i k : ℕ) (js : List Job) → is_among (i + k) (makers_from f i js) ≡ is_among f (slice_index_or (map outputs_of js) k [])
-among_makers f i k [] = refl
-among_makers f i zero (j ∷ js) = by (has_output f j) refl
-  where
-    same : i + 0 ≡ i
-    same = omega arith
-
-    rest : is_among (i + 0) (makers_from f (suc i) js) ≡ false
-    rest = later_makers f (suc i) (i + 0) js (omega arith)
-
-    by : (t : Bool) → has_output f j ≡ t → is_among (i + 0) (cond (has_output f j) (i ∷ makers_from f (suc i) js) (makers_from f (suc i) js)) ≡ has_output f j
-    by true e = ap (λ (b : Bool). is_among (i + 0) (cond b (i ∷ makers_from f (suc i) js) (makers_from f (suc i) js))) e ∙ ap (λ (b : Bool). b || is_among (i + 0) (makers_from f (suc i) js)) (ap (nat_eq i) same ∙ eq-eqb i i refl) ∙ sym e
-    by false e = ap (λ (b : Bool). is_among (i + 0) (cond b (i ∷ makers_from f (suc i) js) (makers_from f (suc i) js))) e ∙ rest ∙ sym e
-among_makers f i (suc k) (j ∷ js) =
-    by (has_output f j) ∙ ap (λ (n : ℕ). is_among n (makers_from f (suc i) js)) shift ∙ among_makers f (suc i) k js
-  where
-    shift : i + suc k ≡ suc i + k
-    shift = omega arith
-
-    by : (t : Bool) → is_among (i + suc k) (cond t (i ∷ makers_from f (suc i) js) (makers_from f (suc i) js)) ≡ is_among (i + suc k) (makers_from f (suc i) js)
-    by true = ap (λ (b : Bool). b || is_among (i + suc k) (makers_from f (suc i) js)) (ne_eqb i (i + suc k) (λ s. omega arith))
-    by false = refl
-
-pub makers_are : (w : Workflow) (f a : ℕ) → is_among a (makers w f) ≡ is_among f (written_by w a)
-unfolding makers
-makers_are w f a = let z : a ≡ 0 + a = omega arith in ap (λ (n : ℕ). is_among n (makers_from f 0 w.jobs)) z ∙ among_makers f 0 a w.jobs
 
 -- a job of some that passes is one of their numbers
 pub job_of_any : (test : ℕ → Bool) (js : List JobId) → list_any (λ (j : JobId). test j.0) js ≡ true → (j : ℕ) × (has (job_numbers js) j ≡ true) × (test j ≡ true)
