@@ -1,6 +1,7 @@
 """Tests of what the pages show of the repository: each file of a crate that a page names and each file that it links to is
 there, in the table of rules each name stands in the file before it, a document that stands below the name of an example's is
-that one, or keys of it, and the crates of a build are as many as the pages say."""
+that one, or keys of it, and the crates of a build are as many as the pages say. And of the crates: none names what would hide
+a value that isn't `Drop`, as a part of a host's, from the compiler."""
 import json
 import pathlib
 import re
@@ -52,4 +53,7 @@ order = built("pegasus", {name: rest.split() for name, rest in lines}, {})
 guide, measured = (pathlib.Path("docs", name).read_text(encoding="utf-8") for name in ("GUIDE.md", "MEASURED.md"))
 assert f"pegasus: proving {order[0]}, crate 1 of {len(order)}, after" in guide, (order[0], len(order))
 assert f"proves the {len(order)} crates of the program" in measured, len(order)
+for source in pathlib.Path("crates").glob("*/src/**/*.rt"):
+    hides = re.search(r"\b(?:forget|leak)\s*(?:::<[^()]*>)?\(|\bManuallyDrop\b|\bunsafe\b", source.read_text(encoding="utf-8"))
+    assert not hides, f"{source}: {hides[0]}"
 print(f"rules: ok, {paths} paths, {links} links, {names} names and {shown} documents")

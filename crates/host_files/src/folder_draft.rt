@@ -11,8 +11,7 @@ use std::io;
 use std::io::{ErrorKind, Write};
 use std::rt::Files;
 
-/// A file of its own, and where it is to stand. What it holds isn't told.
-#[derive(Drop)]
+/// A file of its own, and where it is to stand. What it holds isn't told. It isn't `Drop`: it is placed or removed.
 pub struct FolderDraft<F> {
     file: F,
     part: String,
@@ -44,8 +43,9 @@ impl<F: Write + Drop> FolderDraft<F> {
             file,
             part,
             target,
+            size: _,
+            limit: _,
             faults,
-            ..
         } = self;
         drop(file);
         if faults > 0 {
@@ -57,7 +57,14 @@ impl<F: Write + Drop> FolderDraft<F> {
 
     /// Closes the file, and removes it.
     pub(crate) fn remove<R: Files>(self, rt: &R) {
-        let FolderDraft { file, part, .. } = self;
+        let FolderDraft {
+            file,
+            part,
+            target: _target,
+            size: _,
+            limit: _,
+            faults: _,
+        } = self;
         drop(file);
         remove_part(rt, part.as_str());
     }

@@ -59,7 +59,7 @@ impl<R: Files + Drop> FolderHost<R> {
 }
 
 /// Counts a call that was done or failed.
-fn count_call<T: Drop>(counts: &mut Counts, made: io::Result<T>) -> Result<T, HostFault>
+fn count_call<T>(counts: &mut Counts, made: io::Result<T>) -> Result<T, HostFault>
     ensures made { IfOk result (λ t. made ≡ Ok t) }
     ensures done { OnOk result (counts.new ≡ one_done counts.old) }
     ensures failed { IfErr result (λ e. e ≡ HostFault.Failed) }

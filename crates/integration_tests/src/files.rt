@@ -132,7 +132,7 @@ fn scratch_of_a_folder(rt: HostRuntime) -> Result<(), Fail> {
     Ok(())
 }
 
-/// A draft of a site's file `x`, with these bytes.
+/// A draft of a site's file `x`, with these bytes; it is discarded where it doesn't take them.
 fn drafted<H: Host>(
     alloc: Global,
     host: &mut H,
@@ -141,8 +141,13 @@ fn drafted<H: Host>(
 ) -> Result<H::Draft, HostFault> {
     let place = Place::Scratch(Text::copy_of(alloc, site)?, Text::copy_of(alloc, "x")?);
     let mut draft = host.draft(alloc, &place, 5)?;
-    draft.append(alloc, bytes)?;
-    Ok(draft)
+    match draft.append(alloc, bytes) {
+        Ok(()) => Ok(draft),
+        Err(fault) => {
+            host.discard(draft);
+            Err(fault)
+        }
+    }
 }
 
 /// Reads a file in pieces of three bytes, and tells how many came each time.
@@ -154,18 +159,32 @@ fn pieces_of<I: ReadPart>(reading: &mut I) -> Result<[usize; 3], HostFault> {
     Ok([first, second, third])
 }
 
+/// Publishes a draft of two bytes once three more were appended, beside another one that is discarded; tells what came of
+/// an append past the limit, and of a look at the site before the publication.
+fn published<H: Host>(
+    alloc: Global,
+    host: &mut H,
+    site: &str,
+) -> Result<(Result<(), HostFault>, Result<bool, HostFault>), HostFault> {
+    let other = drafted(alloc, host, site, b"other")?;
+    host.discard(other);
+    let mut kept = drafted(alloc, host, site, b"he")?;
+    let past = kept.append(alloc, b"llo!");
+    let rest = kept.append(alloc, b"llo");
+    let empty = host.scratch_empty(alloc, site);
+    host.publish(alloc, kept)?;
+    rest?;
+    Ok((past, empty))
+}
+
 #[test]
 fn drafts_of_a_folder(rt: HostRuntime) -> Result<(), Fail> {
     let alloc = rt.alloc();
     let mut host = FolderHost::new(rt);
     let site = "host_files_drafts";
-    let mut kept = drafted(alloc, &mut host, site, b"he")?;
-    let other = drafted(alloc, &mut host, site, b"other")?;
-    assert!(rt; kept.append(alloc, b"llo!") == Err(HostFault::Over(5, 6)));
-    kept.append(alloc, b"llo")?;
-    assert!(rt; host.scratch_empty(alloc, site) == Ok(true));
-    host.publish(alloc, kept)?;
-    host.discard(other);
+    let (past, empty) = published(alloc, &mut host, site)?;
+    assert!(rt; past == Err(HostFault::Over(5, 6)));
+    assert!(rt; empty == Ok(true));
     assert!(rt; !fs::exists(&rt, ".pegasus.part.1")?);
     assert!(rt; !fs::exists(&rt, ".pegasus.part.2")?);
     assert_eq!(rt;
@@ -173,27 +192,52 @@ fn drafts_of_a_folder(rt: HostRuntime) -> Result<(), Fail> {
         "hello"
     );
     let mut reading = host.open_scratch(alloc, site, "x", 5)?;
-    assert!(rt; pieces_of(&mut reading) == Ok([3, 2, 0]));
+    let pieces = pieces_of(&mut reading);
     host.finish(reading);
+    assert!(rt; pieces == Ok([3, 2, 0]));
     assert_eq!(rt; host.faults(), 0);
     fs::remove_dir_all(&rt, "sites/host_files_drafts")?;
     Ok(())
 }
 
-/// What stands in the file `x` of a site, and in two drafts' files: the length of each, if it is there.
-fn standing<R: Files>(rt: &R) -> Result<[Option<u64>; 3], Fail> {
-    let mut lengths = [None; 3];
-    let paths = [
-        "sites/host_files_parts/x",
-        ".pegasus.part.1",
-        ".pegasus.part.2",
-    ];
-    for k in 0..3 {
-        if fs::exists(rt, paths[k])? {
-            lengths[k] = Some(fs::metadata(rt, paths[k])?.len());
-        }
+/// The length of a file, if it is there.
+fn length_at<R: Files>(rt: &R, path: &str) -> Option<u64> {
+    match fs::metadata(rt, path) {
+        Ok(found) => Some(found.len()),
+        Err(_) => None,
     }
-    Ok(lengths)
+}
+
+/// What stands in the file `x` of a site, and in two drafts' files: the length of each, if it is there.
+fn standing<R: Files>(rt: &R) -> [Option<u64>; 3] {
+    [
+        length_at(rt, "sites/host_files_parts/x"),
+        length_at(rt, ".pegasus.part.1"),
+        length_at(rt, ".pegasus.part.2"),
+    ]
+}
+
+/// What stands while two drafts of one file are there, once the second was published, and once the first was.
+fn published_in_turn<H: Host, R: Files>(
+    rt: &R,
+    alloc: Global,
+    host: &mut H,
+    site: &str,
+) -> Result<[[Option<u64>; 3]; 3], HostFault> {
+    let first = drafted(alloc, host, site, b"one")?;
+    let second = match drafted(alloc, host, site, b"three") {
+        Ok(second) => second,
+        Err(fault) => {
+            host.discard(first);
+            return Err(fault);
+        }
+    };
+    let both = standing(rt);
+    let came = host.publish(alloc, second);
+    let one = standing(rt);
+    host.publish(alloc, first)?;
+    came?;
+    Ok([both, one, standing(rt)])
 }
 
 #[test]
@@ -204,28 +248,22 @@ fn two_drafts_of_one_name(rt: HostRuntime) -> Result<(), Fail> {
     fs::write(&rt, ".pegasus.part.1", "of an earlier run")?;
     symlink(&rt, "host_files_elsewhere", ".pegasus.part.2")?;
     let mut host = FolderHost::new(rt);
-    let first = drafted(alloc, &mut host, site, b"one")?;
-    let second = drafted(alloc, &mut host, site, b"three")?;
-    assert!(rt; standing(&rt)? == [None, Some(3), Some(5)]);
-    host.publish(alloc, second)?;
-    assert!(rt; standing(&rt)? == [Some(5), Some(3), None]);
-    host.publish(alloc, first)?;
-    assert!(rt; standing(&rt)? == [Some(3), None, None]);
-    let mut later = FolderHost::new(rt);
-    let dropped = drafted(alloc, &mut later, site, b"four")?;
-    drop(dropped);
-    assert!(rt; standing(&rt)? == [Some(3), Some(4), None]);
+    let [both, one, two] = published_in_turn(&rt, alloc, &mut host, site)?;
+    assert!(rt; both == [None, Some(3), Some(5)]);
+    assert!(rt; one == [Some(5), Some(3), None]);
+    assert!(rt; two == [Some(3), None, None]);
+    fs::write(&rt, ".pegasus.part.1", "left by a run that was killed")?;
     let mut last = FolderHost::new(rt);
     let discarded = drafted(alloc, &mut last, site, b"five!")?;
-    assert!(rt; standing(&rt)? == [Some(3), Some(5), None]);
+    let written = standing(&rt);
     last.discard(discarded);
-    assert!(rt; standing(&rt)? == [Some(3), None, None]);
+    assert!(rt; written == [Some(3), Some(5), None]);
+    assert!(rt; standing(&rt) == [Some(3), None, None]);
     assert_eq!(rt;
         fs::read_to_string(&rt, "host_files_elsewhere")?.as_str(),
         "hello"
     );
     assert_eq!(rt; host.faults(), 0);
-    assert_eq!(rt; later.faults(), 0);
     assert_eq!(rt; last.faults(), 0);
     fs::remove_dir_all(&rt, "sites/host_files_parts")?;
     fs::remove_file(&rt, "host_files_elsewhere")?;
@@ -234,7 +272,13 @@ fn two_drafts_of_one_name(rt: HostRuntime) -> Result<(), Fail> {
 
 /// Why a site's file isn't opened.
 fn refusal<H: Host>(alloc: Global, host: &mut H, site: &str, name: &str) -> Option<HostFault> {
-    host.open_scratch(alloc, site, name, 5).err()
+    match host.open_scratch(alloc, site, name, 5) {
+        Ok(reading) => {
+            host.finish(reading);
+            None
+        }
+        Err(fault) => Some(fault),
+    }
 }
 
 #[test]

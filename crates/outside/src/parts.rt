@@ -5,8 +5,8 @@ ghost use Rattle.std.specs.Prelude.{◌≡◌};
 use crate::host::HostFault;
 use std::alloc::Global;
 
-/// A file that is being read. It was opened at its first byte.
-pub trait ReadPart: Drop {
+/// A file that is being read. It was opened at its first byte. It isn't `Drop`: it goes back to its host and nowhere else.
+pub trait ReadPart {
     ghost use Rattle.outside.specs.Parts.{ReadState, ReadsOn};
 
     /// Its bytes, where they are told, its place in them, its length, and how many of its calls failed.
@@ -24,8 +24,9 @@ pub trait ReadPart: Drop {
         ensures answer { ReadsOn (state self.old) (state self.new) into.old into.new result };
 }
 
-/// A file that is being written. It is no file of the store before it is published.
-pub trait WritePart: Drop {
+/// A file that is being written. It is no file of the store before it is published. It isn't `Drop`: it is published or
+/// discarded by its host, and nothing else can become of it.
+pub trait WritePart {
     ghost use Rattle.outside.specs.Parts.{AppendsOn, DraftState};
 
     /// Its place and its bytes, where they are told, its length, its limit, and how many of its calls failed.

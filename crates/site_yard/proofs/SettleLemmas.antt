@@ -85,9 +85,12 @@ take_again [] (suc k) = refl
 take_again (x ∷ xs) zero = refl
 take_again (x ∷ xs) (suc k) = ap (λ l. x ∷ l) (take_again xs k)
 
-settled : (p : Plan) (b : Bool) (w t : ℕ) (sizes : List ℕ) (k : ℕ) (cause : Cause) → IsStop cause → IsSettled p w t sizes (failed b w t cause (take k sizes))
-settled p true w t sizes k cause h = (refl, refl, h, take_again sizes k)
-settled p false w t sizes k cause h = (refl, refl, h, take_again sizes k)
+short : (xs : List ℕ) (k : ℕ) → k < length xs → length (take k xs) < length xs
+short xs k l = subst (λ n. n < length xs) (sym (length_take xs k (omega (arith, l)))) l
+
+settled : (p : Plan) (b : Bool) (w t : ℕ) (sizes : List ℕ) (k : ℕ) (cause : Cause) → IsStop cause → k < length sizes → IsSettled p w t sizes (failed b w t cause (take k sizes))
+settled p true w t sizes k cause h less = (refl, refl, h, take_again sizes k, short sizes k less)
+settled p false w t sizes k cause h less = (refl, refl, h, take_again sizes k, short sizes k less)
 
 pub stop_shows : (o : Option Store) (count : ℕ) (before now_ : Counts) (w t : ℕ) (cause : Cause) (ns : List ℕ) → IsLater before now_ → IsHostCause (λ f m. AreMore count f m before now_) cause → IsCounted o before now_ (Fail w t cause ns)
 stop_shows o count before now_ w t HostFailed ns later why = shows o count 1 0 before now_ (Fail w t HostFailed ns) refl refl why later
@@ -103,14 +106,14 @@ failed_takes : (all count : ℕ) (b : Bool) (w t : ℕ) (cause : Cause) (sizes :
 failed_takes all count true w t cause sizes l = sym (length_take sizes count l)
 failed_takes all count false w t cause sizes l = sym (length_take sizes count l)
 
-pub stop_adds : (b : Book) (o : Option Store) (before now_ : Counts) (w t all : ℕ) (sizes : List ℕ) (k : ℕ) (cause : Cause) (new : List Event) → IsLater before now_ → IsHostCause (λ f m. AreMore k f m before now_) cause → IsStop cause → k ≤ length sizes → new ≡ b.history.events ++ failure b.plan (state_at b) w t cause (take k sizes) ∷ [] → Adds b.history.events new (IsSettled b.plan w t sizes) (TakesPublished all) o before now_
+pub stop_adds : (b : Book) (o : Option Store) (before now_ : Counts) (w t all : ℕ) (sizes : List ℕ) (k : ℕ) (cause : Cause) (new : List Event) → IsLater before now_ → IsHostCause (λ f m. AreMore k f m before now_) cause → IsStop cause → k < length sizes → new ≡ b.history.events ++ failure b.plan (state_at b) w t cause (take k sizes) ∷ [] → Adds b.history.events new (IsSettled b.plan w t sizes) (TakesPublished all) o before now_
 stop_adds b o before now_ w t all sizes k cause new later why stop less is = record {
   entry = failure b.plan (state_at b) w t cause (take k sizes);
   is = is;
-  kind = settled b.plan (is_tried_again b.plan (state_at b) t cause) w t sizes k cause stop;
+  kind = settled b.plan (is_tried_again b.plan (state_at b) t cause) w t sizes k cause stop less;
   counted = failed_counted o before now_ (is_tried_again b.plan (state_at b) t cause) w t cause (take k sizes) (stop_shows o k before now_ w t cause (take k sizes) later why);
   calls = k;
-  takes = failed_takes all k (is_tried_again b.plan (state_at b) t cause) w t cause sizes less;
+  takes = failed_takes all k (is_tried_again b.plan (state_at b) t cause) w t cause sizes (omega (arith, less));
   asked = stop_done k before now_ cause why;
 }
 

@@ -1,5 +1,5 @@
 -- What a call of a yard adds to its record.
-use Rattle.std.specs.Prelude.{◌≡◌, ℕ, ◌≤◌, ◌⊎◌, true, false, List, [], ◌∷◌, ◌++◌, length, take, Option, IfSome}
+use Rattle.std.specs.Prelude.{◌≡◌, ℕ, ◌≤◌, ◌<◌, ◌⊎◌, true, false, List, [], ◌∷◌, ◌++◌, length, take, Option, IfSome}
 use Rattle.std.specs.FinMap as files
 use Rattle.values.specs.Apply.{Apply}
 use Rattle.outside.specs.declared.counts.Counts.{Counts}
@@ -101,10 +101,10 @@ abbrev pub IsTold : Apply → Plan → Store → Option Store → ℕ → Cause 
 IsTold apply p marked told t cause = IfSome told (λ s. IsCause apply (λ pfn. files.get marked.replicas pfn) p (carries apply p marked) t cause)
 
 -- What settling adds: of a Transfer an Arrive, of a Run an End, with these sizes; or a failure of the host or want of
--- memory after the first drafts were published.
+-- memory after the first drafts were published, and not all of them.
 abbrev pub IsSettled : Plan → ℕ → ℕ → List ℕ → Event → Type 0
 IsSettled p w t sizes (Arrive v u n) = (v ≡ w) × (u ≡ t) × (is_transfer p t ≡ true) × (sizes ≡ n ∷ [])
 IsSettled p w t sizes (End v u ns) = (v ≡ w) × (u ≡ t) × (is_transfer p t ≡ false) × (ns ≡ sizes)
-IsSettled p w t sizes (Fail v u c ns) = (v ≡ w) × (u ≡ t) × IsStop c × (ns ≡ take (length ns) sizes)
-IsSettled p w t sizes (Again v u c ns) = (v ≡ w) × (u ≡ t) × IsStop c × (ns ≡ take (length ns) sizes)
+IsSettled p w t sizes (Fail v u c ns) = (v ≡ w) × (u ≡ t) × IsStop c × (ns ≡ take (length ns) sizes) × (length ns < length sizes)
+IsSettled p w t sizes (Again v u c ns) = (v ≡ w) × (u ≡ t) × IsStop c × (ns ≡ take (length ns) sizes) × (length ns < length sizes)
 IsSettled p w t sizes _ = ⊥

@@ -17,8 +17,8 @@ use run_record::Cause;
 use std::alloc::Global;
 
 /// What a task reads and writes, outside the lock: one reading for each of its reads, in order, of a Transfer from a pfn
-/// the one of the replica; one draft for each of its writes, in order, of a delivery the one of the delivery.
-#[derive(Drop)]
+/// the one of the replica; one draft for each of its writes, in order, of a delivery the one of the delivery. It isn't
+/// `Drop`, since its parts aren't: who has one has to settle or to abandon it.
 pub struct Loan<H: Host> {
     pub readings: Vec<H::Reading>,
     pub drafts: Vec<H::Draft>,
@@ -228,12 +228,14 @@ pub(crate) fn make_loan<H: Host>(
         return Err(Cause::Memory);
     };
     let Ok(mut drafts) = Vec::with_capacity(alloc, plan.writes(task).len() + 1) else {
+        readings.destroy_empty();
         return Err(Cause::Memory);
     };
     match open_readings(plan, host, alloc, task, &mut readings) {
         Ok(()) => {}
         Err(cause) => {
             finish_all(host, readings);
+            drafts.destroy_empty();
             return Err(cause);
         }
     }

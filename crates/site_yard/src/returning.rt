@@ -28,6 +28,7 @@ pub(crate) fn finish_all<H: Host>(host: &mut H, readings: Vec<H::Reading>)
     while let Some(reading) = readings.pop() {
         host.finish(reading);
     }
+    readings.destroy_empty();
 }
 
 /// Gives drafts back that aren't published.
@@ -41,6 +42,7 @@ pub(crate) fn discard_all<H: Host>(host: &mut H, drafts: Vec<H::Draft>)
     while let Some(draft) = drafts.pop() {
         host.discard(draft);
     }
+    drafts.destroy_empty();
 }
 
 /// Gives the drafts back that follow one that was refused.
@@ -54,6 +56,7 @@ fn discard_left<H: Host>(host: &mut H, drafts: VecDeque<H::Draft>)
     while let Some(draft) = drafts.pop_front() {
         host.discard(draft);
     }
+    drafts.destroy_empty();
 }
 
 /// Publishes drafts in order. After a refusal the others are discarded.
@@ -80,6 +83,7 @@ pub(crate) fn publish_all<H: Host>(
             }
         }
     }
+    drafts.destroy_empty();
     Publication {
         count,
         refused: None,

@@ -25,7 +25,7 @@ for_each_mut-requires-send-T g c κs within =
     let yard : IsSend (Yard.the_row H T R D g.H.Host g.H.Reading.ReadPart g.H.Draft.WritePart g.T.Tool) = yard_send H T R D g.H.Host g.H.Reading.ReadPart g.H.Draft.WritePart g.T.Tool c.type_bounds.send-H in
     let member : IsSend (crew.the_row T G) = Crew.the_send T G c.type_bounds.send-T c.type_bounds.send-G in
     param_send 1 _ (arg_send _ no _ (Hand.the_send (Yard.the_row H T R D g.H.Host g.H.Reading.ReadPart g.H.Draft.WritePart g.T.Tool) (crew.the_row T G) Charter.the_row JournalEntry.the_row
-    (ghosts H T R D g.H.Host no_dict g.H.Reading.ReadPart no_dict g.H.Draft.WritePart no_dict g.T.Tool no_dict no_dict no_dict no_dict no_dict) yard member))
+    (ghosts H T R D g.H.Host no_dict g.H.Reading.ReadPart no_dict g.H.Draft.WritePart no_dict g.T.Tool no_dict no_dict no_dict) yard member))
 
 pub for_each_mut-requires-sync-F : goal.for_each_mut-requires-sync-F
 for_each_mut-requires-sync-F g c κs within =
@@ -36,4 +36,4 @@ for_each_mut-requires-sync-F g c κs within =
     let yard : IsSend (Yard.the_row H T R D g.H.Host g.H.Reading.ReadPart g.H.Draft.WritePart g.T.Tool) = yard_send H T R D g.H.Host g.H.Reading.ReadPart g.H.Draft.WritePart g.T.Tool c.type_bounds.send-H in
     param_sync 2 _ (arg_sync _ yes _ (three_sync _ _ _ _ (shr_sync _ _ (param 0 g.row.R) c.type_bounds.sync-R) (shr_sync _ _ _ Heap.sync)
     (shr_sync _ _ _ (RuledLock.the_sync (Yard.the_row H T R D g.H.Host g.H.Reading.ReadPart g.H.Draft.WritePart g.T.Tool) Charter.the_row JournalEntry.the_row
-    (ghosts H T R D g.H.Host no_dict g.H.Reading.ReadPart no_dict g.H.Draft.WritePart no_dict g.T.Tool no_dict no_dict no_dict no_dict no_dict) yard))))
+    (ghosts H T R D g.H.Host no_dict g.H.Reading.ReadPart no_dict g.H.Draft.WritePart no_dict g.T.Tool no_dict no_dict no_dict) yard))))
