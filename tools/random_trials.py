@@ -266,7 +266,8 @@ class Trial:
     def is_stopped_again(self):
         """A `resume` under a failing call, and whether there is something to go on with after it."""
         told = self.resumes_failing()
-        if told.status == 6 and told.parts() is not None:
+        # (where a look at the start failed, nothing was done, and the same record is handed in again)
+        if told.status == 6 and told.parts() is not None and not told.text.startswith("record 1\nclosed\n"):
             (self.folder.place / RECORD).write_text(told.text)
         return told.status in (3, 6)
 

@@ -17,6 +17,7 @@ import each_call_failing
 PROGRAM = pathlib.Path("crates/pegasus/out/pegasus").absolute()
 EXAMPLES = pathlib.Path("examples").absolute()
 judge = beside.load("record-model").judge
+NOTHING_DONE = "record 1\nclosed\nfailed host -\n"
 
 
 def files(folder):
@@ -86,11 +87,13 @@ def stopped_twice(example, wanted, first, number):
     """The same of a run that was stopped at one call, where the call that went on with it was stopped at another."""
     with example.place() as folder:
         at = pathlib.Path(folder)
-        (at / "first.txt").write_text(example.stop(folder, example.run, first))
+        stopped = example.stop(folder, example.run, first)
+        (at / "first.txt").write_text(stopped)
         text = example.stop(folder, ["resume", example.request, "first.txt"], number)
         if text is None:
             return False
-        example.resume(folder, text)
+        # Where a look at the start failed, nothing was done: no entry is printed, and the same record is handed in again.
+        example.resume(folder, stopped if text == NOTHING_DONE else text)
         assert files(at / "output") == wanted and not files(at / "sites"), (number, files(at))
         return True
 

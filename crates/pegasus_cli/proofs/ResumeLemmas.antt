@@ -148,9 +148,9 @@ since_so w p first r Shows shown so = by w.before.told w.after.told shown
     by (Some m) None h = absurd h
     by (Some m) (Some x) h = λ opening. so m x opening (h.holds opening)
 
-all_since : (w : Work) (s : Surveyed) (p : Plan) (order : List ℕ) (first r : List Event) (e : Ending) → HasDeliveryLaws p order → DeliversRequests s.request s.survey p → Legal p order (first ++ r) → Tells w p order first r e → AllDelivered s p (first ++ r) (resumed_answer e)
-all_since w s p order first r (Ok ended) laws requests legal tells = λ f asked. let task = requests.delivered f asked in laws.complete (first ++ r) legal tells.1 task.0 f task.1
-all_since w s p order first r (Err fault) laws requests legal tells = tt
+all_since : (w : Work) (s : Surveyed) (p : Plan) (order : List ℕ) (first r : List Event) (text : List ℕ) (e : Ending) → HasDeliveryLaws p order → DeliversRequests s.request s.survey p → Legal p order (first ++ r) → Tells w p order first r text e → AllDelivered s p (first ++ r) (resumed_answer e)
+all_since w s p order first r text (Ok ended) laws requests legal tells = λ f asked. let task = requests.delivered f asked in laws.complete (first ++ r) legal tells.complete task.0 f task.1
+all_since w s p order first r text (Err fault) laws requests legal tells = tt
 
 -- ---- the answer
 
@@ -162,7 +162,7 @@ resumed_is w t i p order given text e is_given laws requests means h =
     let first = without_fails given in
     let r = h.gone_on.r in
     let shown = h.gone_on.run.shown in
-    let all = all_since w s p (task_numbers order) first r e laws requests h.gone_on.run.legal h.gone_on.tells in
+    let all = all_since w s p (task_numbers order) first r text e laws requests h.gone_on.run.legal h.gone_on.tells in
     record {
       plan = p;
       order = order;

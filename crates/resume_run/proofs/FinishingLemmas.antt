@@ -62,8 +62,8 @@ one_size : (o : Option (List ℕ)) (n m : ℕ) → option_map length o ≡ Some 
 unfolding size_of
 one_size o n m a b = ap size_of (sym b ∙ a)
 
-no_refusal : (w : Work) (p : Plan) (held : ℕ → Held) (store : Store) (fault : RunFault) → w.before.told ≡ Some store → AreRecorded p held (Some store) → (Rose w.before.counts.faults w.after.counts.faults → ⊥) → IsUnopened w p held fault → fault ≡ faults.Memory
-no_refusal w p held store fault told recorded still h = by h.opening h.refuses h.fault_is
+no_refusal : (w : Work) (p : Plan) (held : ℕ → Held) (store : Store) (text : List ℕ) (fault : RunFault) → w.before.told ≡ Some store → AreRecorded p held (Some store) → (Rose w.before.counts.faults w.after.counts.faults → ⊥) → IsUnopened w p held text fault → fault ≡ faults.Memory
+no_refusal w p held store text fault told recorded still h = by h.opening h.refuses h.fault_is
   where
     by : (opening : OpenFault) → RefusesAgain p held w.before.told w.before.counts w.after.counts opening → fault ≡ fault_of_opening p opening → fault ≡ faults.Memory
     by (openings.ScratchInUse x) refuses is = absurd refuses
@@ -111,12 +111,12 @@ of_memory fault is = subst (λ (f : RunFault). IsDoneOrMemory (Err (Failed f))) 
 resumed_short : (law : NothingElseFails) (w : Work) (t : Tools) (p : Plan) (order : List ℕ) (given : List Event) (text : List ℕ) (end : End) → IsProper p → CanEnd w p order given → NoneFailed w t 16 → HasResumed w t p order given text end → IsDoneOrMemory end
 resumed_short law w t p order given text end proper can none h = by end h.gone_on.tells
   where
-    by : (e : End) → Tells w p order (without_fails given) h.gone_on.r e → IsDoneOrMemory e
+    by : (e : End) → Tells w p order (without_fails given) h.gone_on.r text e → IsDoneOrMemory e
     by (Ok done) tells = tt
     by (Err (Illegal k)) tells = absurd tells
     by (Err (Failed faults.Memory)) tells = tt
-    by (Err (Failed fault)) (inl failed) = of_memory fault (no_fail law w t p order given h.gone_on.r fault proper can h.gone_on.run (fault_since p given h.gone_on.r fault failed.1) none)
-    by (Err (Failed fault)) (inr refused) = of_memory fault (no_refusal w p (held_after p order (without_fails given)) can.store fault can.told can.recorded none.host refused.1)
+    by (Err (Failed fault)) (inl failed) = of_memory fault (no_fail law w t p order given h.gone_on.r fault proper can h.gone_on.run (fault_since p given h.gone_on.r fault failed.fault_is) none)
+    by (Err (Failed fault)) (inr refused) = of_memory fault (no_refusal w p (held_after p order (without_fails given)) can.store text fault can.told can.recorded none.host refused.1)
 
 -- a Legal record isn't refused
 why_short : (p : Plan) (order : List ℕ) (given : List Event) (end : End) → Legal p order given → IsWhy p order given end → IsDoneOrMemory end

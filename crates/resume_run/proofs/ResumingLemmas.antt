@@ -29,10 +29,9 @@ use Rattle.site_yard.specs.Faults.{AllBelow}
 use Rattle.site_yard.specs.Kept.{IsOpening}
 use Rattle.site_yard.specs.Law.{AgreesSince}
 use Rattle.site_yard.specs.Opening.{fault_of_opening}
-use Rattle.site_yard.specs.Reopening.{AreRecorded, AreRecordedBelow, RefusesAgain, measures}
+use Rattle.site_yard.specs.Reopening.{RefusesAgain, measures}
 use Rattle.site_yard.specs.declared.delivered.Delivered.{Delivered}
 use Rattle.site_yard.specs.declared.opening.OpenFault.{OpenFault}
-use Rattle.site_yard.specs.declared.opening.OpenFault.TheVariants as openings
 use Rattle.worker_gate.specs.Alone.{IsOver}
 use Rattle.worker_gate.specs.Calls.{AddsCalls, AreAllCalls}
 use Rattle.worker_gate.specs.Inputs.{AddsOfInputs, AreOfInputs}
@@ -110,11 +109,11 @@ reports_so : (w : Work) (p : Plan) (first r : List Event) (new : Option Store) (
 reports_so w p first r new m text (Err (FailedBy faults.Memory)) tells marked h = tt
 reports_so w p first r new m text a tells marked h = record { entries = h.entries; delivered = h.delivered; are = deliveries_so w.apply p first r w.before.told new m h.delivered tells marked h.are; text_is = h.text_is }
 
-tells_so : (w : Work) (p : Plan) (order : List ℕ) (first r : List Event) (a : End) → IsReopened w p (held_after p order first) → EndsAs p order (first ++ r) a → Tells w p order first r a
-tells_so w p order first r (Ok done) reopened h = (reopened, h)
-tells_so w p order first r (Err (FailedBy faults.Memory)) reopened h = tt
-tells_so w p order first r (Err (FailedBy fault)) reopened h = inl (reopened, h)
-tells_so w p order first r (Err (Illegal k)) reopened h = h
+tells_so : (w : Work) (p : Plan) (order : List ℕ) (first r : List Event) (text : List ℕ) (a : End) → IsReopened w p (held_after p order first) → EndsAs p order (first ++ r) a → Reports w.apply p first r w.before.told text a → Tells w p order first r text a
+tells_so w p order first r text (Ok done) reopened h reports = record { reopened = reopened; complete = h; text_is = reports }
+tells_so w p order first r text (Err (FailedBy faults.Memory)) reopened h reports = tt
+tells_so w p order first r text (Err (FailedBy fault)) reopened h reports = inl (record { reopened = reopened; fault_is = h; text_is = reports })
+tells_so w p order first r text (Err (Illegal k)) reopened h reports = h
 
 -- the state that a book shows
 state_is : (b : Book) (p : Plan) (ts : List TaskId) → b.plan ≡ p → b.order.items ≡ ts → state_at b ≡ now p (task_numbers ts) b.history.events
@@ -189,8 +188,7 @@ went_on w t p order first r told marked faults misses text a end laws legal agre
     gates = end.gates;
     asked = inl end.asked;
   };
-  tells = tells_so w p order first r a end.reopened answers;
-  reports = reports_so w p first r told marked text a end.tells end.marked_is reports;
+  tells = tells_so w p order first r text a end.reopened answers (reports_so w p first r told marked text a end.tells end.marked_is reports);
 }
 
 -- what the host was asked for
@@ -243,8 +241,8 @@ pub legal_none : (p : Plan) (order : List ℕ) (first : List Event) → Legal p 
 legal_none p order first legal = subst (Legal p order) (sym (append-nil first)) legal
 
 not_begun : (w : Work) (t : Tools) (p : Plan) (order : List ℕ) (first : List Event) (text : List ℕ) (a : End) → HasLaws p order first → Legal p order first → ((m : Store) → AgreesSince w.apply p first [] m m) → w.after.told ≡ w.before.told → t.after ≡ t.before → WasRefused w p (held_after p order first)
-    → Tells w p order first [] a → Reports w.apply p first [] w.before.told text a → HasGoneOn w t p order first text a
-not_begun w t p order first text a laws legal agrees told tools refused tells reports =
+    → Tells w p order first [] text a → HasGoneOn w t p order first text a
+not_begun w t p order first text a laws legal agrees told tools refused tells =
     let after = laws_none p order first laws in
     record {
       r = [];
@@ -264,57 +262,21 @@ not_begun w t p order first text a laws legal agrees told tools refused tells re
         asked = inr (refl, refused);
       };
       tells = tells;
-      reports = reports;
     }
 
--- want of memory before the opening
-none_more : (c : Counts) → AreMore 0 0 0 c c
-none_more c = record { done_is = λ x. omega arith; faults_is = λ x. omega arith; misses_is = λ x. omega arith }
-
-none_below : (p : Plan) (held : ℕ → Held) (o : Option Store) → AreRecordedBelow p held o 0
-none_below p held o q l = absurd (omega (arith, l))
-
-wanted : (w : Work) (p : Plan) (held : ℕ → Held) → w.after.counts ≡ w.before.counts → WasRefused w p held
-wanted w p held same = record {
-  opening = openings.Memory;
-  refuses = subst (λ (c : Counts). RefusesAgain p held w.before.told w.before.counts c openings.Memory) (sym same)
-      (record { pair = 0; below = omega arith; first = record { recorded = none_below p held w.before.told; asked = none_more w.before.counts } });
-}
-
-pub wants_memory : (w : Work) (t : Tools) (p : Plan) (order : List ℕ) (first : List Event) (text : List ℕ) (a : End) → HasLaws p order first → Legal p order first → ((m : Store) → AgreesSince w.apply p first [] m m) → w.after ≡ w.before → t.after ≡ t.before → a ≡ Err (FailedBy faults.Memory) → HasGoneOn w t p order first text a
-wants_memory w t p order first text a laws legal agrees same tools is =
-    subst (HasGoneOn w t p order first text) (sym is)
-    (not_begun w t p order first text (Err (FailedBy faults.Memory)) laws legal agrees (ap (λ m. m.told) same) tools (wanted w p (held_after p order first) (ap (λ m. m.counts) same)) tt tt)
-
 -- an opening that was refused
-no_deliveries : (apply : Apply) (p : Plan) (first : List Event) (told : Option Store) → AreDeliveriesSince apply p first [] told []
-no_deliveries apply p first told = record { files = refl; lengths = refl; of_bytes = λ k d l. absurd (omega (arith, l)); digests = by told }
+refusal_tells : (w : Work) (p : Plan) (order : List ℕ) (first : List Event) (opening : OpenFault) (text : List ℕ) (a : End) → RefusesAgain p (held_after p order first) w.before.told w.before.counts w.after.counts opening → IsRefusal p opening text a → Tells w p order first [] text a
+refusal_tells w p order first opening text a refuses (inl e) = subst (Tells w p order first [] text) (sym e) tt
+refusal_tells w p order first opening text a refuses (inr h) = subst (Tells w p order first [] text) (sym h.0) (by (fault_of_opening p opening) refl)
   where
-    by : (o : Option Store) → IfSome o (λ m. IsOpening apply p first m → AreDigests (carries apply p m) [] (arrivals p []))
-    by None = tt
-    by (Some m) = λ opening. refl
-
-empty_text : (apply : Apply) (p : Plan) (first : List Event) (told : Option Store) (text : List ℕ) → AreEntries first → text ≡ run_text p first [] → IsResumedText apply p first [] told text
-empty_text apply p first told text entries is = record {
-  entries = subst AreEntries (sym (append-nil first)) entries;
-  delivered = [];
-  are = no_deliveries apply p first told;
-  text_is = is ∙ ap (λ (l : List Event). run_text p l []) (sym (append-nil first));
-}
-
-refusal_tells : (w : Work) (p : Plan) (order : List ℕ) (first : List Event) (opening : OpenFault) (a : End) → RefusesAgain p (held_after p order first) w.before.told w.before.counts w.after.counts opening → (a ≡ Err (FailedBy faults.Memory)) ⊎ (a ≡ Err (FailedBy (fault_of_opening p opening))) → Tells w p order first [] a
-refusal_tells w p order first opening a refuses (inl e) = subst (Tells w p order first []) (sym e) tt
-refusal_tells w p order first opening a refuses (inr e) = subst (Tells w p order first []) (sym e) (by (fault_of_opening p opening) refl)
-  where
-    by : (fault : RunFault) → fault ≡ fault_of_opening p opening → Tells w p order first [] (Err (FailedBy fault))
+    by : (fault : RunFault) → fault ≡ fault_of_opening p opening → Tells w p order first [] text (Err (FailedBy fault))
     by faults.Memory is = tt
-    by fault is = inr (refl, record { opening = opening; refuses = refuses; fault_is = is })
+    by fault is = inr (refl, record { opening = opening; refuses = refuses; fault_is = is; text_is = h.1 })
 
-pub was_refused : (w : Work) (t : Tools) (p : Plan) (order : List ℕ) (first : List Event) (opening : OpenFault) (written text : List ℕ) (a : End) → HasLaws p order first → Legal p order first → ((m : Store) → AgreesSince w.apply p first [] m m) → w.after.told ≡ w.before.told → t.after ≡ t.before
-    → RefusesAgain p (held_after p order first) w.before.told w.before.counts w.after.counts opening → AreEntries first → written ≡ run_text p first [] → IsRefusal p opening written text a → HasGoneOn w t p order first text a
-was_refused w t p order first opening written text a laws legal agrees told tools refuses entries is refusal =
-    not_begun w t p order first text a laws legal agrees told tools (record { opening = opening; refuses = refuses }) (refusal_tells w p order first opening a refuses refusal.ends)
-    (reports_all w.apply p first [] w.before.told text a (empty_text w.apply p first w.before.told text entries (refusal.text_is ∙ is)))
+pub was_refused : (w : Work) (t : Tools) (p : Plan) (order : List ℕ) (first : List Event) (opening : OpenFault) (text : List ℕ) (a : End) → HasLaws p order first → Legal p order first → ((m : Store) → AgreesSince w.apply p first [] m m) → w.after.told ≡ w.before.told → t.after ≡ t.before
+    → RefusesAgain p (held_after p order first) w.before.told w.before.counts w.after.counts opening → IsRefusal p opening text a → HasGoneOn w t p order first text a
+was_refused w t p order first opening text a laws legal agrees told tools refuses refusal =
+    not_begun w t p order first text a laws legal agrees told tools (record { opening = opening; refuses = refuses }) (refusal_tells w p order first opening text a refuses refusal)
 
 -- ---- a record without its Fails
 

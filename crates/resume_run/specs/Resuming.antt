@@ -95,23 +95,6 @@ pub record IsResumption (w : Work) (t : Tools) (p : Plan) (order : List ℕ) (fi
 abbrev pub IsReopened : Work → Plan → (ℕ → Held) → Type 0
 IsReopened w p held = AreRecorded p held w.before.told
 
--- the opening was refused, with this fault
-pub record IsUnopened (w : Work) (p : Plan) (held : ℕ → Held) (fault : RunFault) : Type 0 where
-  pub opening : OpenFault
-  pub refuses : RefusesAgain p held w.before.told w.before.counts w.after.counts opening
-  pub fault_is : fault ≡ fault_of_opening p opening
-
--- The fault is that of the record's first Fail, which was added, or of an opening that was refused.
-abbrev pub Fails : Work → Plan → List ℕ → List Event → List Event → RunFault → Type 0
-Fails w p order first r fault = (IsReopened w p (held_after p order first) × (first_fault p (first ++ r) ≡ Some fault)) ⊎ ((r ≡ []) × IsUnopened w p (held_after p order first) fault)
-
--- The end of a resumed run, read off its record. Want of memory is free.
-abbrev pub Tells : Work → Plan → List ℕ → List Event → List Event → End → Type 0
-Tells w p order first r (Ok done) = IsReopened w p (held_after p order first) × IsComplete p (now p order (first ++ r))
-Tells w p order first r (Err (Failed faults.Memory)) = Unit {0}
-Tells w p order first r (Err (Failed fault)) = Fails w p order first r fault
-Tells w p order first r (Err (Illegal k)) = ⊥
-
 -- What was delivered by the added entries, in order: the files and sizes of their arrivals, with the digests of what tasks
 -- carry over a store, where that is told and held what the record before says.
 pub record AreDeliveriesSince (apply : Apply) (p : Plan) (first r : List Event) (told : Option Store) (ds : List Delivered) : Type 0 where
@@ -127,17 +110,42 @@ pub record IsResumedText (apply : Apply) (p : Plan) (first r : List Event) (told
   pub are : AreDeliveriesSince apply p first r told delivered
   pub text_is : text ≡ run_text p (first ++ r) delivered
 
--- The text of a resumed run. At want of memory nothing is written, so it is free.
-abbrev pub Reports : Apply → Plan → List Event → List Event → Option Store → List ℕ → End → Type 0
-Reports apply p first r told text (Err (Failed faults.Memory)) = Unit {0}
-Reports apply p first r told text end = IsResumedText apply p first r told text
+-- ---- how it ends
+
+-- The opening was refused, with this fault; what is written is the text of a record without entries.
+pub record IsUnopened (w : Work) (p : Plan) (held : ℕ → Held) (text : List ℕ) (fault : RunFault) : Type 0 where
+  pub opening : OpenFault
+  pub refuses : RefusesAgain p held w.before.told w.before.counts w.after.counts opening
+  pub fault_is : fault ≡ fault_of_opening p opening
+  pub text_is : text ≡ run_text p [] []
+
+-- Something failed: this is the fault of the record's first Fail, which was added.
+pub record HasFailed (w : Work) (p : Plan) (order : List ℕ) (first r : List Event) (text : List ℕ) (fault : RunFault) : Type 0 where
+  pub reopened : IsReopened w p (held_after p order first)
+  pub fault_is : first_fault p (first ++ r) ≡ Some fault
+  pub text_is : IsResumedText w.apply p first r w.before.told text
+
+-- All was done.
+pub record HasEnded (w : Work) (p : Plan) (order : List ℕ) (first r : List Event) (text : List ℕ) : Type 0 where
+  pub reopened : IsReopened w p (held_after p order first)
+  pub complete : IsComplete p (now p order (first ++ r))
+  pub text_is : IsResumedText w.apply p first r w.before.told text
+
+abbrev pub Fails : Work → Plan → List ℕ → List Event → List Event → List ℕ → RunFault → Type 0
+Fails w p order first r text fault = HasFailed w p order first r text fault ⊎ ((r ≡ []) × IsUnopened w p (held_after p order first) text fault)
+
+-- The end of a resumed run and its text, read off its record. At want of memory nothing is written, so both are free.
+abbrev pub Tells : Work → Plan → List ℕ → List Event → List Event → List ℕ → End → Type 0
+Tells w p order first r text (Ok done) = HasEnded w p order first r text
+Tells w p order first r text (Err (Failed faults.Memory)) = Unit {0}
+Tells w p order first r text (Err (Failed fault)) = Fails w p order first r text fault
+Tells w p order first r text (Err (Illegal k)) = ⊥
 
 -- A run was gone on with from a record, by these entries, and ended so with its text.
 pub record HasGoneOn (w : Work) (t : Tools) (p : Plan) (order : List ℕ) (first : List Event) (text : List ℕ) (end : End) : Type 0 where
   pub r : List Event
   pub run : IsResumption w t p order first r
-  pub tells : Tells w p order first r end
-  pub reports : Reports w.apply p first r w.before.told text end
+  pub tells : Tells w p order first r text end
 
 -- The record that was given is Legal, and was gone on with without its Fails.
 pub record HasResumed (w : Work) (t : Tools) (p : Plan) (order : List ℕ) (given : List Event) (text : List ℕ) (end : End) : Type 0 where
@@ -160,7 +168,7 @@ pub record IsUnresumed (w : Work) (t : Tools) (p : Plan) (order : List ℕ) (giv
 abbrev pub Resumes : Work → Tools → Plan → List ℕ → List Event → List ℕ → End → Type 0
 Resumes w t p order given text end = IsUnresumed w t p order given text end ⊎ HasResumed w t p order given text end
 
--- ---- the end of a resumed run
+-- ---- what a yard that is over, and an opening that was refused, come to
 
 -- the end of a yard's whole record that is over
 abbrev pub EndsAs : Plan → List ℕ → List Event → End → Type 0
@@ -169,7 +177,11 @@ EndsAs p order whole (Err (Failed faults.Memory)) = Unit {0}
 EndsAs p order whole (Err (Failed fault)) = first_fault p whole ≡ Some fault
 EndsAs p order whole (Err (Illegal k)) = ⊥
 
--- the end and the text of a run whose opening was refused, where `text` is that of the record that it would go on from
-pub record IsRefusal (p : Plan) (opening : OpenFault) (record_text text : List ℕ) (end : End) : Type 0 where
-  pub ends : (end ≡ Err (Failed faults.Memory)) ⊎ (end ≡ Err (Failed (fault_of_opening p opening)))
-  pub text_is : text ≡ record_text
+-- the text of such a record; at want of memory nothing is written, so it is free
+abbrev pub Reports : Apply → Plan → List Event → List Event → Option Store → List ℕ → End → Type 0
+Reports apply p first r told text (Err (Failed faults.Memory)) = Unit {0}
+Reports apply p first r told text end = IsResumedText apply p first r told text
+
+-- the end and the text of a run whose opening was refused; the text is that of a record without entries
+abbrev pub IsRefusal : Plan → OpenFault → List ℕ → End → Type 0
+IsRefusal p opening text end = (end ≡ Err (Failed faults.Memory)) ⊎ ((end ≡ Err (Failed (fault_of_opening p opening))) × (text ≡ run_text p [] []))

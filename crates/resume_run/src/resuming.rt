@@ -6,6 +6,7 @@ ghost use Rattle.plan_core.specs.Words.{count_tasks, retries, task_numbers};
 ghost use Rattle.lease_book.specs.Book.{state_at};
 ghost use Rattle.lease_rules.specs.Legal.{IsComplete};
 ghost use Rattle.plan_run.specs.Moments.{counting, crew_moment, first_count, work_moment, working};
+ghost use Rattle.plan_run.specs.RunText.{run_text};
 ghost use Rattle.plan_run.specs.Running.{marked_if};
 ghost use Rattle.resume_run.specs.Lost.{lost_below};
 ghost use Rattle.resume_run.specs.Resuming.{EndsAs, HasGoneOn, IsRefusal, IsResumedText, Reports, Resumes};
@@ -15,6 +16,7 @@ use crate::working::work_on;
 use craft::{Crew, Gate};
 use lease_rules::{legal_records_are_safe, ordered_plans_fit};
 use outside::{Host, Memory, Tool};
+use plan_core::Plan;
 use plan_run::{deliveries_stay_within_the_output, print_run};
 use run_record::{Record, RunFault};
 use site_yard::{
@@ -37,7 +39,8 @@ pub enum ResumeFault {
 pub struct Resumed<H> {
     /// Whether all was done, else why not; want of memory is one of the reasons.
     pub end: Result<(), ResumeFault>,
-    /// The whole record, and what was delivered since; nothing is said of it at want of memory.
+    /// The whole record, and what was delivered since; a record without entries where the opening was refused; nothing is
+    /// said of it at want of memory.
     pub text: Vec<u8>,
     pub host: H,
 }
@@ -92,16 +95,27 @@ fn end_resumed<H: Host, T: Tool>(alloc: Global, yard: Yard<H, T>) -> Resumed<H>
     }
 }
 
+/// The text of a record without entries.
+fn empty_text(alloc: Global, plan: &Plan) -> Result<Vec<u8>, Memory>
+    ensures { IfOk result (λ x. x.items ≡ run_text plan.now [] []) }
+{
+    let record = Record::with_room(alloc, 0, 0)?;
+    print_run(alloc, plan, &record, &[])
+}
+
 /// The end and the text of a run whose opening was refused, and its host.
-fn refuse<H: Host>(alloc: Global, refused: OpenRefused<H>, text: Vec<u8>) -> Resumed<H>
-    ensures refusal { IsRefusal refused.ordered.plan refused.fault text.items result.text.items result.end }
+fn refuse<H: Host>(alloc: Global, refused: OpenRefused<H>) -> Resumed<H>
+    ensures refusal { IsRefusal refused.ordered.plan refused.fault result.text.items result.end }
     ensures host { result.host ≡ refused.host }
 {
     let fault = opening_fault(refused.ordered.plan(), alloc, refused.fault);
-    Resumed {
-        end: Err(ResumeFault::Failed(fault)),
-        text,
-        host: refused.host,
+    match empty_text(alloc, refused.ordered.plan()) {
+        Ok(text) => Resumed {
+            end: Err(ResumeFault::Failed(fault)),
+            text,
+            host: refused.host,
+        },
+        Err(Memory) => unresumed(alloc, ResumeFault::Failed(RunFault::Memory), refused.host),
     }
 }
 
@@ -132,11 +146,8 @@ fn go_on<H: Host, T: Tool, G: Gate>(
     empty_records();
     nothing_else_fails();
     let Replayed { book, lost } = replayed;
-    let record = book.record();
-    record.has_entries();
-    let Ok(text) = print_run(alloc, ordered.plan(), record, &[]) else {
-        return unresumed(alloc, ResumeFault::Failed(RunFault::Memory), host);
-    };
+    // What holds of every book, for the proof.
+    let _ = book.record();
     match Yard::<H, T>::reopen(alloc, ordered, book, host) {
         Ok(yard) => {
             let yard = work_on(alloc, yard, lost.as_slice(), crew);
@@ -144,7 +155,7 @@ fn go_on<H: Host, T: Tool, G: Gate>(
             yard.agrees();
             end_resumed(alloc, yard)
         }
-        Err(refused) => refuse(alloc, refused, text),
+        Err(refused) => refuse(alloc, refused),
     }
 }
 

@@ -3,44 +3,24 @@ use Rattle.std.specs.Prelude.{is_some}
 use Rattle.std.proofs.Math.Logic.{∥∥₁_elim, ∥∥₁_map, ∥∥₁_prop}
 use Rattle.plan_core.specs.Words.{task_numbers}
 use Rattle.lease_book.specs.Book.{state_at}
-use Rattle.run_record.specs.Events.{Log}
-use Rattle.run_record.specs.RecordText.{AreEntries}
 use Rattle.site_yard.specs.Failures.{AreMore}
 use Rattle.site_yard.specs.Reopening.{AreRecorded, RefusesAgain, measures}
 use Rattle.plan_run.specs.Moments.{counting, crew_moment, first_count, work_moment, working}
 use Rattle.resume_run.specs.Resuming.{held_after}
-use Rattle.resume_run.proofs.ResumingLemmas.{asked_same, below_by, held_in, inputs_added, marked_so, over_since, takes_calls, wants_memory, was_refused, went_on_from}
+use Rattle.resume_run.proofs.ResumingLemmas.{asked_same, below_by, held_in, inputs_added, marked_so, over_since, takes_calls, was_refused, went_on_from}
 use Rattle.resume_run.proofs.resuming.go_on.Goals as goal
 
-pub returns-in_default-clause-gone_on : goal.returns-in_default-clause-gone_on
-returns-in_default-clause-gone_on g c =
-    let p = c.args.ordered.plan in
-    let order = task_numbers c.args.ordered.tasks.items in
-    let first = c.args.replayed.book.history.events in
-    let fits = c.ordered_plans_fit.ensures c.args.ordered in
-    let moments = crew_moment g.T.Tool g.G.Gate c.args.crew.now.items in
-    let before = work_moment g.H.Host c.args.host (first_count moments) in
-    let w = working g.T.Tool.apply g.T.Tool.known before (work_moment g.H.Host c.unresumed.result.host (first_count moments)) in
-    let legal = rw (c.record-record.ensures.value, c.requires.plan, c.requires.order) at c.record-record.ensures.legal in
-    ∥∥₁_map legal (λ l. wants_memory w (counting moments moments) p order first c.unresumed.result.text.items c.unresumed.result.end
-    (record {
-      safe = λ n. c.legal_records_are_safe.ensures.always p order first c.args.ordered.proper fits l n;
-      output = c.deliveries_stay_within_the_output.ensures p order first c.args.ordered.proper fits l;
-      left = λ n site. c.what_is_left_is_held.ensures p order first c.args.ordered.proper fits l n site;
-    })
-    l (c.empty_records.ensures.agrees g.T.Tool.apply p first) (ap (λ h. work_moment g.H.Host h (first_count moments)) c.unresumed.ensures.host) refl c.unresumed.ensures.end)
-
-pub returns-in-Ok-reopen-clause-gone_on : goal.returns-in-Ok-reopen-clause-gone_on
-returns-in-Ok-reopen-clause-gone_on g c =
+pub returns-in-Ok-clause-gone_on : goal.returns-in-Ok-clause-gone_on
+returns-in-Ok-clause-gone_on g c =
     let p = c.args.ordered.plan in
     let ts = c.args.ordered.tasks.items in
     let order = task_numbers ts in
     let b = c.args.replayed.book in
     let first = b.history.events in
-    let x = c.in-Ok-reopen.yard in
+    let x = c.in-Ok.yard in
     let y = c.work_on-yard.result in
     let whole = y.book.history.events in
-    let e = c.in-Ok-reopen.ensures in
+    let e = c.in-Ok.ensures in
     let f = c.work_on-yard.ensures in
     let old = crew_moment g.T.Tool g.G.Gate c.args.crew.now.items in
     let new = crew_moment g.T.Tool g.G.Gate c.work_on-yard.new.crew.items in
@@ -96,16 +76,14 @@ returns-clause-gone_on g c =
     let moments = crew_moment g.T.Tool g.G.Gate c.args.crew.now.items in
     let before = work_moment g.H.Host c.args.host (first_count moments) in
     let w = working g.T.Tool.apply g.T.Tool.known before (work_moment g.H.Host c.in-Err.refused.host (first_count moments)) in
-    let legal = rw (c.record-record.ensures.value, c.requires.plan, c.requires.order) at c.record-record.ensures.legal in
-    let entries = rw c.record-record.ensures.value at c.has_entries.ensures in
-    let printed = rw (c.plan.ensures, c.record-record.ensures.value) at c.in-Ok.ensures in
+    let legal = rw (c.record.ensures.value, c.requires.plan, c.requires.order) at c.record.ensures.legal in
     let held = held_in b p ts c.requires.plan c.requires.order in
     let refuses = subst (λ h. RefusesAgain p h (g.H.Host.told c.args.host) (g.H.Host.counts c.args.host) (g.H.Host.counts c.in-Err.refused.host) c.in-Err.refused.fault) held e.refused in
     let refusal = rw e.back.0 at c.refuse.ensures.refusal in
-    rw c.refuse.ensures.host (∥∥₁_map legal (λ l. was_refused w (counting moments moments) p order first c.in-Err.refused.fault c.in-Ok.text.items c.refuse.result.text.items c.refuse.result.end
+    rw c.refuse.ensures.host (∥∥₁_map legal (λ l. was_refused w (counting moments moments) p order first c.in-Err.refused.fault c.refuse.result.text.items c.refuse.result.end
     (record {
       safe = λ n. c.legal_records_are_safe.ensures.always p order first c.args.ordered.proper fits l n;
       output = c.deliveries_stay_within_the_output.ensures p order first c.args.ordered.proper fits l;
       left = λ n site. c.what_is_left_is_held.ensures p order first c.args.ordered.proper fits l n site;
     })
-    l (c.empty_records.ensures.agrees g.T.Tool.apply p first) e.back.1 refl refuses entries printed refusal))
+    l (c.empty_records.ensures.agrees g.T.Tool.apply p first) e.back.1 refl refuses refusal))
