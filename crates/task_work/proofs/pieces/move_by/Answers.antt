@@ -1,6 +1,6 @@
 use Rattle.std.proofs.Common.{arith, refl, take}
 use Rattle.task_work.proofs.PieceLemmas.{append_fault, moved_more, piece_long, read_fault}
-use Rattle.task_work.proofs.pieces.move_pieces.Goals as goal
+use Rattle.task_work.proofs.pieces.move_by.Goals as goal
 
 pub returns-in-Err-clause-reading : goal.returns-in-Err-clause-reading
 returns-in-Err-clause-reading g c =

@@ -1,6 +1,6 @@
 use Rattle.std.proofs.Common.{refl, subst, sym, take}
 use Rattle.task_work.proofs.PieceLemmas.{ReadSo, read_fault, read_more}
-use Rattle.task_work.proofs.pieces.read_whole.Goals as goal
+use Rattle.task_work.proofs.pieces.read_by.Goals as goal
 
 pub returns-in-Err-clause-reading : goal.returns-in-Err-clause-reading
 returns-in-Err-clause-reading g c =
