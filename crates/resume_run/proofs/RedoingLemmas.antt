@@ -4,8 +4,6 @@ use Rattle.std.proofs.Math.Logic.{∥∥₁_elim}
 use Rattle.std.proofs.Props.{props}
 use Rattle.std.proofs.lemmas.List.{append-nil}
 use Rattle.std.specs.Prelude.{Option, Some, None, slice_get}
-use Rattle.outside.specs.Counts.{IsLater}
-use Rattle.outside.specs.declared.counts.Counts.{Counts}
 use Rattle.plan_core.specs.declared.plan.Plan.{Plan}
 use Rattle.plan_core.specs.Words.{count_tasks, task_numbers}
 use Rattle.plan_core.proofs.TestLemmas.{by_bool, is_itself, not_itself}
@@ -345,17 +343,3 @@ next_open b o r lost k l rest before later plan order so at =
 -- what stands where there is no task
 abbrev pub nobody : Lost
 nobody = record { worker = 0; task = record { 0 = 0 } }
-
--- counts that never fall
-pub still : (a : Counts) → IsLater a a
-still a = record { done = omega arith; faults = omega arith; misses = omega arith }
-
-pub later_both : (a b c : Counts) → IsLater a b → IsLater b c → IsLater a c
-later_both a b c x y =
-    let xd : a.done ≤ b.done = x.done in
-    let xf : a.faults ≤ b.faults = x.faults in
-    let xm : a.misses ≤ b.misses = x.misses in
-    let yd : b.done ≤ c.done = y.done in
-    let yf : b.faults ≤ c.faults = y.faults in
-    let ym : b.misses ≤ c.misses = y.misses in
-    record { done = omega (arith, xd, yd); faults = omega (arith, xf, yf); misses = omega (arith, xm, ym) }

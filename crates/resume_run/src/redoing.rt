@@ -1,13 +1,13 @@
 //! The tasks that were lost when a run stopped, done before it goes on.
 
-ghost use Rattle.std.specs.Prelude.{◌≡◌, ◌≤◌, ◌<◌, ◌++◌, ◌∷◌, [], List, is_some, length, map};
-ghost use Rattle.outside.specs.Counts.{IsLater};
+ghost use Rattle.std.specs.Prelude.{◌≡◌, ◌≤◌, ◌<◌, ◌++◌, ◌∷◌, [], List, length, map};
 ghost use Rattle.craft.specs.declared.crew.Crew.{Crew};
 ghost use Rattle.plan_core.specs.Words.{count_tasks, task_numbers};
 ghost use Rattle.run_record.specs.Events.{Event};
 ghost use Rattle.lease_book.specs.Book.{state_at};
 ghost use Rattle.lease_rules.specs.Legal.{IsOpen};
 ghost use Rattle.lease_rules.specs.Reading.{is_fail};
+ghost use Rattle.site_yard.specs.Yard.{IsSameYard};
 ghost use Rattle.worker_gate.specs.Calls.{AddsCalls};
 ghost use Rattle.worker_gate.specs.Inputs.{AddsOfInputs};
 ghost use Rattle.plan_run.specs.Moments.{crew_moment};
@@ -45,13 +45,7 @@ fn redo_one<H: Host, T: Tool, G: Gate>(
     ensures inputs { AddsOfInputs T.apply yard.old.ordered.plan yard.old.book.history.events yard.new.book.history.events }
     ensures crew { length crew.new.items ≡ length crew.old.items }
     ensures gates { map (λ (c : Crew T G). c.gate) crew.new.items ≡ map (λ (c : Crew T G). c.gate) crew.old.items }
-    ensures ordered { yard.new.ordered ≡ yard.old.ordered }
-    ensures opened { yard.new.opened ≡ yard.old.opened }
-    ensures marked { H.marked yard.new.host ≡ H.marked yard.old.host }
-    ensures faults { yard.new.faults ≡ yard.old.faults }
-    ensures misses { yard.new.misses ≡ yard.old.misses }
-    ensures tells { is_some (H.told yard.new.host) ≡ is_some (H.told yard.old.host) }
-    ensures later { IsLater (H.counts yard.old.host) (H.counts yard.new.host) }
+    ensures same { IsSameYard yard.old yard.new }
 {
     let member = &mut crew[lost.worker as usize];
     do_task(alloc, yard, &mut member.tool, lost.worker, lost.task);
@@ -74,13 +68,7 @@ pub fn redo<H: Host, T: Tool, G: Gate>(
     ensures tools { AddsFaults yard.book.history.events result.book.history.events (crew_moment T.Tool G.Gate crew.old.items) (crew_moment T.Tool G.Gate crew.new.items) }
     ensures crew { length crew.new.items ≡ length crew.old.items }
     ensures gates { map (λ (c : Crew T G). c.gate) crew.new.items ≡ map (λ (c : Crew T G). c.gate) crew.old.items }
-    ensures ordered { result.ordered ≡ yard.ordered }
-    ensures opened { result.opened ≡ yard.opened }
-    ensures marked { H.marked result.host ≡ H.marked yard.host }
-    ensures faults { result.faults ≡ yard.faults }
-    ensures misses { result.misses ≡ yard.misses }
-    ensures tells { is_some (H.told result.host) ≡ is_some (H.told yard.host) }
-    ensures later { IsLater (H.counts yard.host) (H.counts result.host) }
+    ensures same { IsSameYard yard result }
 {
     let mut yard = yard;
     for one in lost {

@@ -1,10 +1,10 @@
 //! The work of a run that is gone on with.
 
-ghost use Rattle.std.specs.Prelude.{◌≡◌, ◌≤◌, is_some, length, map};
-ghost use Rattle.outside.specs.Counts.{IsLater};
+ghost use Rattle.std.specs.Prelude.{◌≡◌, ◌≤◌, length, map};
 ghost use Rattle.craft.specs.declared.crew.Crew.{Crew};
 ghost use Rattle.plan_core.specs.Words.{count_tasks, task_numbers};
 ghost use Rattle.lease_book.specs.Book.{state_at};
+ghost use Rattle.site_yard.specs.Yard.{IsSameYard};
 ghost use Rattle.worker_gate.specs.Calls.{AddsCalls};
 ghost use Rattle.worker_gate.specs.Inputs.{AddsOfInputs};
 ghost use Rattle.plan_run.specs.Moments.{crew_moment};
@@ -33,13 +33,7 @@ pub(crate) fn work_on<H: Host, T: Tool, G: Gate>(
     ensures inputs { AddsOfInputs T.apply yard.ordered.plan yard.book.history.events result.book.history.events }
     ensures crew { length crew.new.items ≡ length crew.old.items }
     ensures gates { map (λ (c : Crew T G). c.gate) crew.new.items ≡ map (λ (c : Crew T G). c.gate) crew.old.items }
-    ensures ordered { result.ordered ≡ yard.ordered }
-    ensures opened { result.opened ≡ yard.opened }
-    ensures marked { H.marked result.host ≡ H.marked yard.host }
-    ensures faults { result.faults ≡ yard.faults }
-    ensures misses { result.misses ≡ yard.misses }
-    ensures tells { is_some (H.told result.host) ≡ is_some (H.told yard.host) }
-    ensures later { IsLater (H.counts yard.host) (H.counts result.host) }
+    ensures same { IsSameYard yard result }
 {
     let yard = redo(alloc, yard, lost, crew);
     if yard.book().is_failing() {

@@ -36,3 +36,4 @@ mod SettleLemmas
 mod PlacedLemmas
 mod SettledLemmas
 mod ReturnLemmas
+pub mod YardLemmas

@@ -1,8 +1,10 @@
--- What a call of a yard adds to its record.
-use Rattle.std.specs.Prelude.{◌≡◌, ℕ, ◌≤◌, ◌<◌, ◌⊎◌, true, false, List, [], ◌∷◌, ◌++◌, length, take, Option, IfSome}
+-- What a call of a yard adds to its record, and what it keeps of the yard.
+use Rattle.std.specs.Prelude.{◌≡◌, ℕ, ◌≤◌, ◌<◌, ◌⊎◌, true, false, List, [], ◌∷◌, ◌++◌, length, take, Option, is_some, IfSome}
 use Rattle.std.specs.FinMap as files
 use Rattle.values.specs.Apply.{Apply}
+use Rattle.outside.specs.Counts.{IsLater}
 use Rattle.outside.specs.declared.counts.Counts.{Counts}
+use Rattle.outside.specs.declared.host.Host as host
 use Rattle.outside.specs.declared.store.Store.{Store}
 use Rattle.plan_core.specs.declared.plan.Plan.{Plan}
 use Rattle.plan_core.specs.Words.{is_clean, is_transfer}
@@ -19,6 +21,7 @@ use Rattle.site_yard.specs.Failures.{AreMore, IsCounted, IsMore}
 use Rattle.site_yard.specs.Truthful.{IsCause}
 use Rattle.site_yard.specs.declared.leased.Leased.{Leased}
 use Rattle.site_yard.specs.declared.leased.Leased.TheVariants as leased
+use Rattle.site_yard.specs.declared.yard.Yard.{Yard}
 
 -- a failure of the host, or want of memory
 abbrev pub IsStop : Cause → Type 0
@@ -108,3 +111,15 @@ IsSettled p w t sizes (End v u ns) = (v ≡ w) × (u ≡ t) × (is_transfer p t 
 IsSettled p w t sizes (Fail v u c ns) = (v ≡ w) × (u ≡ t) × IsStop c × (ns ≡ take (length ns) sizes) × (length ns < length sizes)
 IsSettled p w t sizes (Again v u c ns) = (v ≡ w) × (u ≡ t) × IsStop c × (ns ≡ take (length ns) sizes) × (length ns < length sizes)
 IsSettled p w t sizes _ = ⊥
+
+-- The yard `new` is `old` later on: it has the plan with its order, the number of entries with which it was opened, what its
+-- host told and counted then, and a host that tells where the other told. No count of the host has fallen.
+module _ {H T Reading Draft : Type 0} {h : host.Ghosts H Reading Draft} {r : _} {w : _} {t : _} where
+  pub record IsSameYard (old new : Yard H T Reading Draft h r w t) : Type 0 where
+    pub ordered : new.ordered ≡ old.ordered
+    pub opened : new.opened ≡ old.opened
+    pub marked : h.marked new.host ≡ h.marked old.host
+    pub faults : new.faults ≡ old.faults
+    pub misses : new.misses ≡ old.misses
+    pub tells : is_some (h.told new.host) ≡ is_some (h.told old.host)
+    pub later : IsLater (h.counts old.host) (h.counts new.host)

@@ -1,12 +1,11 @@
 //! Leases of a yard: a task granted, or a Clean done at once.
 
-ghost use Rattle.std.specs.Prelude.{◌≡◌, ◌<◌, Some, is_some};
-ghost use Rattle.outside.specs.Counts.{IsLater};
+ghost use Rattle.std.specs.Prelude.{◌≡◌, ◌<◌, Some};
 ghost use Rattle.plan_core.specs.declared.plan.TaskKind.TheVariants.{Clean};
 ghost use Rattle.plan_core.specs.Words.{kind};
 ghost use Rattle.lease_book.specs.Book.{state_at};
 ghost use Rattle.lease_rules.specs.Choice.{IsChoice};
-ghost use Rattle.site_yard.specs.Yard.{Leases};
+ghost use Rattle.site_yard.specs.Yard.{IsSameYard, Leases};
 
 use crate::law::{plan_laws, record_laws};
 use crate::leased::{Leased, failed};
@@ -24,13 +23,7 @@ impl<H: Host, T: Tool> Yard<H, T> {
         requires choice { IsChoice self.old.book.plan (state_at self.old.book) task.0 }
         requires kind { kind self.old.book.plan task.0 ≡ Some (Clean pair) }
         ensures leased { Leases self.old.book.plan (state_at self.old.book) worker self.old.book.history.events self.new.book.history.events (H.told self.old.host) (H.counts self.old.host) (H.counts self.new.host) result }
-        ensures ordered { self.new.ordered ≡ self.old.ordered }
-        ensures opened { self.new.opened ≡ self.old.opened }
-        ensures tells { is_some (H.told self.new.host) ≡ is_some (H.told self.old.host) }
-        ensures later { IsLater (H.counts self.old.host) (H.counts self.new.host) }
-        ensures marked { H.marked self.new.host ≡ H.marked self.old.host }
-        ensures faults { self.new.faults ≡ self.old.faults }
-        ensures misses { self.new.misses ≡ self.old.misses }
+        ensures same { IsSameYard self.old self.new }
     {
         plan_laws();
         record_laws();
@@ -51,13 +44,7 @@ impl<H: Host, T: Tool> Yard<H, T> {
     pub fn lease(&mut self, alloc: Global, worker: u32) -> Leased
         requires { worker < 16 }
         ensures leased { Leases self.old.ordered.plan (state_at self.old.book) worker self.old.book.history.events self.new.book.history.events (H.told self.old.host) (H.counts self.old.host) (H.counts self.new.host) result }
-        ensures ordered { self.new.ordered ≡ self.old.ordered }
-        ensures opened { self.new.opened ≡ self.old.opened }
-        ensures tells { is_some (H.told self.new.host) ≡ is_some (H.told self.old.host) }
-        ensures later { IsLater (H.counts self.old.host) (H.counts self.new.host) }
-        ensures marked { H.marked self.new.host ≡ H.marked self.old.host }
-        ensures faults { self.new.faults ≡ self.old.faults }
-        ensures misses { self.new.misses ≡ self.old.misses }
+        ensures same { IsSameYard self.old self.new }
     {
         match self.book.next(worker) {
             Next::Task(task) => {

@@ -1,7 +1,6 @@
 //! Loans of a yard: made, settled or abandoned. Each adds one entry at most.
 
-ghost use Rattle.std.specs.Prelude.{◌≡◌, ◌++◌, ◌∷◌, [], IfErr, IfNone, IfOk, IfSome, is_some, length, map, take};
-ghost use Rattle.outside.specs.Counts.{IsLater};
+ghost use Rattle.std.specs.Prelude.{◌≡◌, ◌++◌, ◌∷◌, [], IfErr, IfNone, IfOk, IfSome, length, map, take};
 ghost use Rattle.plan_core.specs.Words.{kind, reads};
 ghost use Rattle.lease_book.specs.Book.{failure, state_at};
 ghost use Rattle.lease_rules.specs.Legal.{CauseFits, IsOpen};
@@ -9,7 +8,7 @@ ghost use Rattle.site_yard.specs.Failures.{AreMore, IsCounted, IsMore};
 ghost use Rattle.site_yard.specs.Kept.{IsOpening};
 ghost use Rattle.site_yard.specs.Lending.{RefusesLoan, count_parts};
 ghost use Rattle.site_yard.specs.Loan.{AreReadings, CanSettle, IsLent, IsLoan, fresh_at, targets};
-ghost use Rattle.site_yard.specs.Yard.{Adds, IsBehind, IsFailure, IsSettled, IsTold, IsWorkers, TakesPublished, TakesWithin};
+ghost use Rattle.site_yard.specs.Yard.{Adds, IsBehind, IsFailure, IsSameYard, IsSettled, IsTold, IsWorkers, TakesPublished, TakesWithin};
 
 use crate::delivered::keep;
 use crate::law::{plan_laws, record_laws};
@@ -34,17 +33,12 @@ impl<H: Host, T: Tool> Yard<H, T> {
     /// knows nothing of it.
     pub fn lend(&mut self, alloc: Global, worker: u32, task: TaskId) -> Option<Loan<H>>
         requires open { IsOpen (state_at self.old.book) worker task.0 }
-        ensures same { IfSome result (λ l. self.new.book.history.events ≡ self.old.book.history.events) }
+        ensures history { IfSome result (λ l. self.new.book.history.events ≡ self.old.book.history.events) }
         ensures lent { IfSome result (λ l. IsLent T.apply self.old.ordered.plan (take self.old.opened self.old.book.history.events) (H.marked self.old.host) (H.told self.old.host) task.0 (map H.Reading.state l.readings.items) (map H.Draft.state l.drafts.items)) }
         ensures asked { IfSome result (λ l. AreMore (count_parts self.old.ordered.plan task.0) 0 0 (H.counts self.old.host) (H.counts self.new.host)) }
         ensures none { IfNone result (Adds self.old.book.history.events self.new.book.history.events (IsFailure worker task.0) (TakesWithin (count_parts self.old.ordered.plan task.0)) (H.told self.old.host) (H.counts self.old.host) (H.counts self.new.host)) }
         ensures told { H.told self.new.host ≡ H.told self.old.host }
-        ensures ordered { self.new.ordered ≡ self.old.ordered }
-        ensures opened { self.new.opened ≡ self.old.opened }
-        ensures later { IsLater (H.counts self.old.host) (H.counts self.new.host) }
-        ensures marked { H.marked self.new.host ≡ H.marked self.old.host }
-        ensures faults { self.new.faults ≡ self.old.faults }
-        ensures misses { self.new.misses ≡ self.old.misses }
+        ensures same { IsSameYard self.old self.new }
     {
         plan_laws();
         record_laws();
@@ -70,13 +64,7 @@ impl<H: Host, T: Tool> Yard<H, T> {
         requires open { IsOpen (state_at self.old.book) worker task.0 }
         requires settles { CanSettle T.apply self.old.ordered.plan (take self.old.opened self.old.book.history.events) (H.marked self.old.host) (H.told self.old.host) task.0 (map H.Reading.state loan.readings.items) (map H.Draft.state loan.drafts.items) sizes.now digest }
         ensures entry { Adds self.old.book.history.events self.new.book.history.events (IsSettled self.old.ordered.plan worker task.0 sizes.now) (TakesPublished (length (targets self.old.ordered.plan task.0))) (H.told self.old.host) (H.counts self.old.host) (H.counts self.new.host) }
-        ensures ordered { self.new.ordered ≡ self.old.ordered }
-        ensures opened { self.new.opened ≡ self.old.opened }
-        ensures tells { is_some (H.told self.new.host) ≡ is_some (H.told self.old.host) }
-        ensures later { IsLater (H.counts self.old.host) (H.counts self.new.host) }
-        ensures marked { H.marked self.new.host ≡ H.marked self.old.host }
-        ensures faults { self.new.faults ≡ self.old.faults }
-        ensures misses { self.new.misses ≡ self.old.misses }
+        ensures same { IsSameYard self.old self.new }
     {
         plan_laws();
         record_laws();
@@ -114,12 +102,7 @@ impl<H: Host, T: Tool> Yard<H, T> {
         ensures counted { IsCounted (H.told self.old.host) (H.counts self.old.host) (H.counts self.new.host) (failure self.old.ordered.plan (state_at self.old.book) worker task.0 cause.now []) }
         ensures asked { IsMore 0 (H.counts self.old.host).done (H.counts self.new.host).done }
         ensures told { H.told self.new.host ≡ H.told self.old.host }
-        ensures ordered { self.new.ordered ≡ self.old.ordered }
-        ensures opened { self.new.opened ≡ self.old.opened }
-        ensures later { IsLater (H.counts self.old.host) (H.counts self.new.host) }
-        ensures marked { H.marked self.new.host ≡ H.marked self.old.host }
-        ensures faults { self.new.faults ≡ self.old.faults }
-        ensures misses { self.new.misses ≡ self.old.misses }
+        ensures same { IsSameYard self.old self.new }
     {
         let Loan { readings, drafts } = loan;
         finish_all(&mut self.host, readings);

@@ -2,8 +2,6 @@
 use Rattle.std.proofs.Common.{◌≡◌, ℕ, ◌+◌, ◌≤◌, ◌<◌, List, [], ◌∷◌, ◌++◌, length, take, refl, sym, ap, subst, ◌∙◌, arith, append_assoc, length-append, None}
 use Rattle.std.proofs.Math.Logic.{∥∥₁_elim}
 use Rattle.std.proofs.Props.{props}
-use Rattle.outside.specs.Counts.{IsLater}
-use Rattle.outside.specs.declared.counts.Counts.{Counts}
 use Rattle.plan_core.specs.declared.plan.Plan.{Plan}
 use Rattle.plan_core.specs.Words.{task_numbers}
 use Rattle.run_record.specs.Events.{Event}
@@ -124,20 +122,7 @@ works_alone a b c p order x y laws plan tasks same_b none works is over =
         ∙ ap (λ os. now a.plan (task_numbers os) b.history.events) same_b.order
         ∙ ap (λ r. now a.plan (task_numbers a.order.items) r) (sym is)
 
--- counts that never fall
-pub still : (a : Counts) → IsLater a a
-still a = record { done = omega arith; faults = omega arith; misses = omega arith }
-
-pub later_both : (a b c : Counts) → IsLater a b → IsLater b c → IsLater a c
-later_both a b c x y =
-    let xd : a.done ≤ b.done = x.done in
-    let xf : a.faults ≤ b.faults = x.faults in
-    let xm : a.misses ≤ b.misses = x.misses in
-    let yd : b.done ≤ c.done = y.done in
-    let yf : b.faults ≤ c.faults = y.faults in
-    let ym : b.misses ≤ c.misses = y.misses in
-    record { done = omega (arith, xd, yd); faults = omega (arith, xf, yf); misses = omega (arith, xm, ym) }
-
+-- a count that never falls
 pub same_count : (x : ℕ) → x ≤ x
 same_count x = omega arith
 

@@ -12,6 +12,7 @@ use Rattle.run_record.specs.declared.entry.Cause.TheVariants as why
 use Rattle.run_record.specs.Events.{Event, Grant, Regrant}
 use Rattle.lease_rules.specs.Owning.{is_open_after}
 use Rattle.ruled_lock.specs.Pass.{IsSamePass}
+use Rattle.ruled_lock.specs.declared.lock.RuledLock.{RuledLock}
 use Rattle.ruled_lock.specs.declared.pass.Pass.{Pass}
 use Rattle.site_yard.specs.Failures.{RoseBy, tool_faults, tool_faults_of}
 use Rattle.site_yard.specs.Law.{HasPlanLaws}
@@ -21,7 +22,7 @@ use Rattle.task_work.specs.Making.{AreBegun, AreEmpty}
 use Rattle.task_work.specs.declared.filling.Filled.{Filled}
 use Rattle.worker_gate.specs.Inputs.{IsFilledOf}
 use Rattle.worker_gate.specs.Tending.{CanFinish, Fills, Finishes, failures_in}
-use Rattle.worker_gate.specs.Turning.{IsHeldFor, IsOverFor, IsPlanOf, NoneOpenBy, plan_of, told_of}
+use Rattle.worker_gate.specs.Turning.{IsHeldFor, IsOverFor, IsPlanOf, KeepsTurn, NoneOpenBy, plan_of, told_of}
 use Rattle.worker_gate.specs.Working.{DoesOwn, FillsWith, Works, WorksOwn}
 use Rattle.worker_gate.proofs.RunLemmas.{faults_append, no_faults, nothing_more}
 use Rattle.worker_gate.proofs.FillingLemmas.{fills_finish, fills_of, fills_rose}
@@ -111,6 +112,9 @@ does_made_by w v t n mine mid after x y number same f rose = does_made w t n min
 -- a pass later on, and later still
 pub same_as : {C G I : Type 0} {k : _} (a b c : Pass C G I k) → IsSamePass a b → IsSamePass b c → IsSamePass a c
 same_as a b c x y = record { worker = y.worker ∙ x.worker; charter = y.charter ∙ x.charter; count = y.count ∙ x.count; joined = y.joined ∙ x.joined }
+
+pub keeps_on : {C G I : Type 0} {k : _} (lock : RuledLock C G I) (a b c : Pass C G I k) → KeepsTurn lock a b → KeepsTurn lock b c → KeepsTurn lock a c
+keeps_on lock a b c x y = record { of = y.of; idle = y.idle; same = same_as a b c x.same y.same }
 
 -- from lease to lease
 pub own_first : (w : ℕ) (mine after : List Event) (x : ℕ) → after ≡ mine → NoneOpenBy mine → WorksOwn w mine after x x

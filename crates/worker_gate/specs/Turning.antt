@@ -11,6 +11,10 @@ use Rattle.run_record.specs.Events.{Event, Grant, Regrant}
 use Rattle.lease_rules.specs.Legal.{IsOpen}
 use Rattle.lease_rules.specs.Owning.{is_open_after}
 use Rattle.lease_rules.specs.State.{State, now}
+use Rattle.ruled_lock.specs.declared.lock.RuledLock.{RuledLock}
+use Rattle.ruled_lock.specs.declared.pass.Pass.{Pass}
+use Rattle.ruled_lock.specs.Lock.{IsOf}
+use Rattle.ruled_lock.specs.Pass.{IsIdle, IsSamePass}
 use Rattle.site_yard.specs.declared.chronicle.Charter.{Charter}
 use Rattle.site_yard.specs.declared.leased.Leased.{Leased}
 use Rattle.site_yard.specs.declared.leased.Leased.TheVariants as leased
@@ -62,3 +66,10 @@ LeasesOwn g w mine after seen leased.Stopped = (after ≡ mine) × IfSome g (λ 
 abbrev pub IsPlanOf : Option Charter → Result Plan Memory → Type 0
 IsPlanOf g (Ok p) = IfSome g (λ c. p ≡ plan_of c)
 IsPlanOf g (Err refused) = Unit {0}
+
+-- The pass q is p later on, of the lock still and between two turns.
+module _ {C G I : Type 0} {g : _} where
+  pub record KeepsTurn (lock : RuledLock C G I) (p q : Pass C G I g) : Type 0 where
+    pub of : IsOf lock q
+    pub idle : IsIdle q
+    pub same : IsSamePass p q

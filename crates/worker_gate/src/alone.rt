@@ -1,9 +1,9 @@
 //! One worker alone.
 
-ghost use Rattle.std.specs.Prelude.{◌≡◌, ◌≤◌, is_some};
-ghost use Rattle.outside.specs.Counts.{IsLater};
+ghost use Rattle.std.specs.Prelude.{◌≡◌, ◌≤◌};
 ghost use Rattle.plan_core.specs.Words.{task_numbers};
 ghost use Rattle.lease_book.specs.Book.{state_at};
+ghost use Rattle.site_yard.specs.Yard.{IsSameYard};
 ghost use Rattle.worker_gate.specs.Alone.{NoneOpen, WorksAlone};
 ghost use Rattle.worker_gate.specs.Calls.{AddsCalls};
 ghost use Rattle.worker_gate.specs.Inputs.{AddsOfInputs};
@@ -27,13 +27,7 @@ pub fn run_alone<H: Host, T: Tool, G: Gate>(
     ensures inputs { AddsOfInputs T.apply yard.ordered.plan yard.book.history.events result.book.history.events }
     ensures tool { T.faults crew.old.tool ≤ T.faults crew.new.tool }
     ensures gate { crew.new.gate ≡ crew.old.gate }
-    ensures ordered { result.ordered ≡ yard.ordered }
-    ensures opened { result.opened ≡ yard.opened }
-    ensures marked { H.marked result.host ≡ H.marked yard.host }
-    ensures faults { result.faults ≡ yard.faults }
-    ensures misses { result.misses ≡ yard.misses }
-    ensures tells { is_some (H.told result.host) ≡ is_some (H.told yard.host) }
-    ensures later { IsLater (H.counts yard.host) (H.counts result.host) }
+    ensures same { IsSameYard yard result }
 {
     // A law for the proof: it does nothing.
     lease_laws();

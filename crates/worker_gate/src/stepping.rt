@@ -1,9 +1,9 @@
 //! One task of a worker alone, from its lease to its end, or from its loan if it is open already.
 
-ghost use Rattle.std.specs.Prelude.{◌≡◌, ◌≤◌, is_some};
-ghost use Rattle.outside.specs.Counts.{IsLater};
+ghost use Rattle.std.specs.Prelude.{◌≤◌};
 ghost use Rattle.lease_book.specs.Book.{state_at};
 ghost use Rattle.lease_rules.specs.Legal.{IsOpen};
+ghost use Rattle.site_yard.specs.Yard.{IsSameYard};
 ghost use Rattle.worker_gate.specs.Alone.{NoneOpen};
 ghost use Rattle.worker_gate.specs.Calls.{AddsCalls};
 ghost use Rattle.worker_gate.specs.Inputs.{AddsOfInputs};
@@ -29,13 +29,7 @@ pub fn do_task<H: Host, T: Tool>(
     ensures calls { AddsCalls yard.old.ordered.plan yard.old.book.history.events yard.new.book.history.events (H.counts yard.old.host) (H.counts yard.new.host) }
     ensures inputs { AddsOfInputs T.apply yard.old.ordered.plan yard.old.book.history.events yard.new.book.history.events }
     ensures tool { T.faults tool.old ≤ T.faults tool.new }
-    ensures ordered { yard.new.ordered ≡ yard.old.ordered }
-    ensures opened { yard.new.opened ≡ yard.old.opened }
-    ensures marked { H.marked yard.new.host ≡ H.marked yard.old.host }
-    ensures faults { yard.new.faults ≡ yard.old.faults }
-    ensures misses { yard.new.misses ≡ yard.old.misses }
-    ensures tells { is_some (H.told yard.new.host) ≡ is_some (H.told yard.old.host) }
-    ensures later { IsLater (H.counts yard.old.host) (H.counts yard.new.host) }
+    ensures same { IsSameYard yard.old yard.new }
 {
     // Laws for the proof: they do nothing.
     plan_laws();
@@ -53,13 +47,7 @@ pub(crate) fn step<H: Host, T: Tool>(alloc: Global, yard: &mut Yard<H, T>, tool:
     ensures calls { AddsCalls yard.old.ordered.plan yard.old.book.history.events yard.new.book.history.events (H.counts yard.old.host) (H.counts yard.new.host) }
     ensures inputs { AddsOfInputs T.apply yard.old.ordered.plan yard.old.book.history.events yard.new.book.history.events }
     ensures tool { T.faults tool.old ≤ T.faults tool.new }
-    ensures ordered { yard.new.ordered ≡ yard.old.ordered }
-    ensures opened { yard.new.opened ≡ yard.old.opened }
-    ensures marked { H.marked yard.new.host ≡ H.marked yard.old.host }
-    ensures faults { yard.new.faults ≡ yard.old.faults }
-    ensures misses { yard.new.misses ≡ yard.old.misses }
-    ensures tells { is_some (H.told yard.new.host) ≡ is_some (H.told yard.old.host) }
-    ensures later { IsLater (H.counts yard.old.host) (H.counts yard.new.host) }
+    ensures same { IsSameYard yard.old yard.new }
 {
     // For the proof: a law, and that the record's state is safe.
     lease_laws();

@@ -1,11 +1,11 @@
 //! One task at a yard, as the worker that it is open for ends it.
 
-ghost use Rattle.std.specs.Prelude.{◌≡◌, is_some, map, take};
+ghost use Rattle.std.specs.Prelude.{map, take};
 ghost use Rattle.plan_core.specs.Proper.{IsProper};
 ghost use Rattle.plan_core.specs.Words.{kind};
-ghost use Rattle.outside.specs.Counts.{IsLater};
 ghost use Rattle.lease_book.specs.Book.{state_at};
 ghost use Rattle.lease_rules.specs.Legal.{IsOpen};
+ghost use Rattle.site_yard.specs.Yard.{IsSameYard};
 ghost use Rattle.task_work.specs.Filling.{AreParts};
 ghost use Rattle.task_work.specs.Making.{AreBegun, AreEmpty};
 ghost use Rattle.worker_gate.specs.Calls.{EndsCalls};
@@ -58,13 +58,7 @@ pub(crate) fn finish_at<H: Host, T: Tool>(
     ensures ends { EndsTask worker task.0 (failures_in filled) yard.old.book.history.events yard.new.book.history.events }
     ensures calls { EndsCalls yard.old.ordered.plan task.0 yard.old.book.history.events yard.new.book.history.events (H.counts yard.old.host) (H.counts yard.new.host) }
     ensures inputs { AddsOfInputs T.apply yard.old.ordered.plan yard.old.book.history.events yard.new.book.history.events }
-    ensures ordered { yard.new.ordered ≡ yard.old.ordered }
-    ensures opened { yard.new.opened ≡ yard.old.opened }
-    ensures marked { H.marked yard.new.host ≡ H.marked yard.old.host }
-    ensures faults { yard.new.faults ≡ yard.old.faults }
-    ensures misses { yard.new.misses ≡ yard.old.misses }
-    ensures tells { is_some (H.told yard.new.host) ≡ is_some (H.told yard.old.host) }
-    ensures later { IsLater (H.counts yard.old.host) (H.counts yard.new.host) }
+    ensures same { IsSameYard yard.old yard.new }
 {
     match filled {
         Ok(Filled::Moved(length, digest)) => {

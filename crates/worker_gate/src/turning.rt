@@ -4,11 +4,11 @@
 ghost use Rattle.std.specs.Prelude.{◌≡◌, ◌<◌, ◌++◌, ◌∷◌, [], ℕ, IfNone, IfOk, IfSome, List, false, map, true};
 ghost use Rattle.lease_rules.specs.Owning.{is_open_after};
 ghost use Rattle.ruled_lock.specs.Lock.{IsOf};
-ghost use Rattle.ruled_lock.specs.Pass.{IsIdle, IsSamePass, charter_of, mine_of, seen_of, worker_of};
+ghost use Rattle.ruled_lock.specs.Pass.{IsIdle, charter_of, mine_of, seen_of, worker_of};
 ghost use Rattle.worker_gate.specs.Asking.{AsksOwn};
 ghost use Rattle.worker_gate.specs.Inputs.{AddsOfInputs, IsFilledOf};
 ghost use Rattle.worker_gate.specs.Tending.{CanFinish, Finishes, failures_in};
-ghost use Rattle.worker_gate.specs.Turning.{IsHeldFor, IsPlanOf, LeasesOwn, NoneOpenBy, NoneOpenFor, plan_of, told_of};
+ghost use Rattle.worker_gate.specs.Turning.{IsHeldFor, IsPlanOf, KeepsTurn, LeasesOwn, NoneOpenBy, NoneOpenFor, plan_of, told_of};
 
 use crate::tending::finish_at;
 use lease_rules::own_entries_tell_open_tasks;
@@ -31,9 +31,7 @@ pub(crate) fn copy_plan<R: Wait, H: Host, T: Tool>(
     requires of { IsOf lock.now pass.old }
     requires idle { IsIdle pass.old }
     requires none_open { IfSome (charter_of pass.old) (λ g. NoneOpenFor g (worker_of pass.old) (seen_of pass.old)) }
-    ensures of { IsOf lock.now pass.new }
-    ensures idle { IsIdle pass.new }
-    ensures same { IsSamePass pass.old pass.new }
+    ensures keeps { KeepsTurn lock.now pass.old pass.new }
     ensures mine { mine_of pass.new ≡ mine_of pass.old }
     ensures none_open { NoneOpenBy (mine_of pass.old) }
     ensures plan { IsPlanOf (charter_of pass.old) result }
@@ -57,9 +55,7 @@ pub(crate) fn lease<R: Wait, H: Host, T: Tool>(
     requires idle { IsIdle pass.old }
     requires worker { worker_of pass.old < 16 }
     requires none_open { NoneOpenBy (mine_of pass.old) }
-    ensures of { IsOf lock.now pass.new }
-    ensures idle { IsIdle pass.new }
-    ensures same { IsSamePass pass.old pass.new }
+    ensures keeps { KeepsTurn lock.now pass.old pass.new }
     ensures leased { LeasesOwn (charter_of pass.old) (worker_of pass.old) (mine_of pass.old) (mine_of pass.new) (seen_of pass.new) result }
     ensures inputs { IfSome (charter_of pass.old) (λ g. AddsOfInputs T.apply (plan_of g) (mine_of pass.old) (mine_of pass.new)) }
     ensures asked { (ts : List ℕ) → AsksOwn (mine_of pass.old) (mine_of pass.new) ts ts }
@@ -82,9 +78,7 @@ pub(crate) fn begin<R: Wait, H: Host, T: Tool>(
     requires of { IsOf lock.now pass.old }
     requires idle { IsIdle pass.old }
     requires open { is_open_after task.0 false (mine_of pass.old) ≡ true }
-    ensures of { IsOf lock.now pass.new }
-    ensures idle { IsIdle pass.new }
-    ensures same { IsSamePass pass.old pass.new }
+    ensures keeps { KeepsTurn lock.now pass.old pass.new }
     ensures held { IfSome result (λ l. IsHeldFor T.apply (charter_of pass.old) task.0 (map H.Reading.state l.readings.items) (map H.Draft.state l.drafts.items)) }
     ensures mine { IfSome result (λ l. mine_of pass.new ≡ mine_of pass.old) }
     ensures none { IfNone result (Finishes (worker_of pass.old) task.0 0 (mine_of pass.old) (mine_of pass.new)) }
@@ -114,9 +108,7 @@ pub(crate) fn finish<R: Wait, H: Host, T: Tool>(
     requires open { is_open_after task.0 false (mine_of pass.old) ≡ true }
     requires can { IfSome (charter_of pass.old) (λ g. CanFinish T.apply (plan_of g) g.opened g.marked (told_of g) task.0 (map H.Reading.state loan.readings.items) (map H.Draft.state loan.drafts.items) filled) }
     requires inputs { IfSome (charter_of pass.old) (λ g. IsFilledOf T.apply (plan_of g) task.0 filled) }
-    ensures of { IsOf lock.now pass.new }
-    ensures idle { IsIdle pass.new }
-    ensures same { IsSamePass pass.old pass.new }
+    ensures keeps { KeepsTurn lock.now pass.old pass.new }
     ensures finishes { Finishes (worker_of pass.old) task.0 (failures_in filled) (mine_of pass.old) (mine_of pass.new) }
     ensures inputs { IfSome (charter_of pass.old) (λ g. AddsOfInputs T.apply (plan_of g) (mine_of pass.old) (mine_of pass.new)) }
     ensures asked { (ts : List ℕ) → AsksOwn (mine_of pass.old) (mine_of pass.new) ts (ts ++ task.0 ∷ []) }

@@ -5,10 +5,10 @@ ghost use Rattle.plan_core.specs.Proper.{IsProper};
 ghost use Rattle.plan_core.specs.Words.{kind};
 ghost use Rattle.lease_rules.specs.Owning.{is_open_after};
 ghost use Rattle.ruled_lock.specs.Lock.{IsOf};
-ghost use Rattle.ruled_lock.specs.Pass.{IsIdle, IsSamePass, charter_of, mine_of, seen_of, worker_of};
+ghost use Rattle.ruled_lock.specs.Pass.{IsIdle, charter_of, mine_of, seen_of, worker_of};
 ghost use Rattle.worker_gate.specs.Asking.{AsksOwn};
 ghost use Rattle.worker_gate.specs.Inputs.{AddsOfInputs};
-ghost use Rattle.worker_gate.specs.Turning.{IsPlanOf, NoneOpenFor, plan_of};
+ghost use Rattle.worker_gate.specs.Turning.{IsPlanOf, KeepsTurn, NoneOpenFor, plan_of};
 ghost use Rattle.task_work.specs.Filling.{AreParts};
 ghost use Rattle.task_work.specs.Making.{AreBegun, AreEmpty};
 ghost use Rattle.worker_gate.specs.Working.{DoesOwn, FillsWith, Works};
@@ -59,9 +59,7 @@ fn do_task<R: Wait, H: Host, T: Tool, G: Gate>(
     requires idle { IsIdle pass.old }
     requires open { is_open_after task.0 false (mine_of pass.old) ≡ true }
     requires plan { IsPlanOf (charter_of pass.old) plan.now }
-    ensures of { IsOf lock.now pass.new }
-    ensures idle { IsIdle pass.new }
-    ensures same { IsSamePass pass.old pass.new }
+    ensures keeps { KeepsTurn lock.now pass.old pass.new }
     ensures does { DoesOwn (worker_of pass.old) task.0 (mine_of pass.old) (mine_of pass.new) (T.faults crew.old.tool) (T.faults crew.new.tool) }
     ensures inputs { IfSome (charter_of pass.old) (λ g. AddsOfInputs T.apply (plan_of g) (mine_of pass.old) (mine_of pass.new)) }
     ensures tool { T.faults crew.old.tool ≤ T.faults crew.new.tool }
@@ -91,9 +89,7 @@ pub fn work<R: Wait, H: Host, T: Tool, G: Gate>(
     requires idle { IsIdle pass.old }
     requires worker { worker_of pass.old < 16 }
     requires none_open { IfSome (charter_of pass.old) (λ g. NoneOpenFor g (worker_of pass.old) (seen_of pass.old)) }
-    ensures of { IsOf lock.now pass.new }
-    ensures idle { IsIdle pass.new }
-    ensures same { IsSamePass pass.old pass.new }
+    ensures keeps { KeepsTurn lock.now pass.old pass.new }
     ensures works { IfSome (charter_of pass.old) (λ g. Works g (worker_of pass.old) (mine_of pass.old) (mine_of pass.new) (seen_of pass.new) (T.faults crew.old.tool) (T.faults crew.new.tool)) }
     ensures inputs { IfSome (charter_of pass.old) (λ g. AddsOfInputs T.apply (plan_of g) (mine_of pass.old) (mine_of pass.new)) }
     ensures tool { T.faults crew.old.tool ≤ T.faults crew.new.tool }

@@ -15,9 +15,9 @@ returns-in-Ok-clause-ran g c =
     let r = y.book.history.events in
     let x = reporting c.end_run.result.history c.end_run.result.text.items c.end_run.result.delivered.items in
     let end_ = c.end_run.result.end in
-    let same = c.run_alone-yard.ensures.ordered ∙ c.in-Ok.ensures.ordered in
+    let same = c.run_alone-yard.ensures.same.ordered ∙ c.in-Ok.ensures.ordered in
     let legal = rw same at c.agrees.ensures.legal in
-    let fresh = ap (λ n. take n r) (c.run_alone-yard.ensures.opened ∙ c.in-Ok.ensures.opened) in
+    let fresh = ap (λ n. take n r) (c.run_alone-yard.ensures.same.opened ∙ c.in-Ok.ensures.opened) in
     let shows = rw same at c.agrees.ensures.shows_all fresh in
     let ends = rw same at c.end_run.ensures.ends in
     let reports = rw same at c.end_run.ensures.reports in
@@ -32,16 +32,16 @@ returns-in-Ok-clause-ran g c =
     ran_alone w p order r (g.H.Host.told y.host) (g.H.Host.marked y.host) y.faults y.misses x end_
     (record {
       told_is = refl;
-      tells = c.run_alone-yard.ensures.tells ∙ ap is_some c.in-Ok.ensures.told;
-      marked_is = marked_so (g.H.Host.told c.args.host) _ _ c.run_alone-yard.ensures.marked c.in-Ok.ensures.marked;
-      faults_are = c.run_alone-yard.ensures.faults ∙ c.in-Ok.ensures.faults;
-      misses_are = c.run_alone-yard.ensures.misses ∙ c.in-Ok.ensures.misses;
+      tells = c.run_alone-yard.ensures.same.tells ∙ ap is_some c.in-Ok.ensures.told;
+      marked_is = marked_so (g.H.Host.told c.args.host) _ _ c.run_alone-yard.ensures.same.marked c.in-Ok.ensures.marked;
+      faults_are = c.run_alone-yard.ensures.same.faults ∙ c.in-Ok.ensures.faults;
+      misses_are = c.run_alone-yard.ensures.same.misses ∙ c.in-Ok.ensures.misses;
       unused = c.in-Ok.ensures.unused;
       works = works;
       inputs = inputs;
       opened = g.H.Host.counts c.in-Ok.yard.host;
       looked = c.in-Ok.ensures.asked;
-      later = c.run_alone-yard.ensures.later;
+      later = c.run_alone-yard.ensures.same.later;
       calls = calls;
     })
     (record {
@@ -70,4 +70,4 @@ returns-in-Err-clause-ran g c =
     c.in-Err.ensures.back.1 refl c.in-Err.ensures.refused refusal ∣₁)
 
 pub end_run-requires-clause-fresh : goal.end_run-requires-clause-fresh
-end_run-requires-clause-fresh g c = ap (λ n. take n c.run_alone-yard.result.book.history.events) (c.run_alone-yard.ensures.opened ∙ c.in-Ok.ensures.opened)
+end_run-requires-clause-fresh g c = ap (λ n. take n c.run_alone-yard.result.book.history.events) (c.run_alone-yard.ensures.same.opened ∙ c.in-Ok.ensures.opened)

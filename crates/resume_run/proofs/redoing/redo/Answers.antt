@@ -1,13 +1,14 @@
 use Rattle.std.proofs.Common.{◌∙◌, ◌+◌, ◌<◌, ap, arith, drop, get_or, refl, subst}
 use Rattle.std.proofs.lemmas.List.{drop_more}
 use Rattle.plan_core.specs.Words.{count_tasks, task_numbers}
+use Rattle.site_yard.proofs.YardLemmas.{same_yard, still_yard}
 use Rattle.worker_gate.specs.Calls.{AddsCalls}
 use Rattle.worker_gate.specs.Inputs.{AddsOfInputs}
 use Rattle.worker_gate.proofs.CallsLemmas.{calls_both, calls_none}
 use Rattle.worker_gate.proofs.InputsLemmas.{adds_both, adds_none}
 use Rattle.plan_run.specs.Moments.{crew_moment}
 use Rattle.resume_run.specs.Lost.{lost_below}
-use Rattle.resume_run.proofs.RedoingLemmas.{faults_fails, later_both, next_open, nobody, redone_all, redone_fails, redone_more, redone_none, state_of, still, worker_low}
+use Rattle.resume_run.proofs.RedoingLemmas.{faults_fails, next_open, nobody, redone_all, redone_fails, redone_more, redone_none, state_of, worker_low}
 use Rattle.resume_run.proofs.redoing.redo.Goals as goal
 
 pub loop-one-init : goal.loop-one-init
@@ -21,13 +22,7 @@ loop-one-init g c =
       inputs = adds_none g.T.Tool.apply p y.book.history.events;
       crew = refl;
       gates = refl;
-      ordered = refl;
-      opened = refl;
-      marked = refl;
-      faults = refl;
-      misses = refl;
-      tells = refl;
-      later = still n;
+      same = still_yard y;
     }
 
 pub redo_one-requires-clause-open : goal.redo_one-requires-clause-open
@@ -37,7 +32,7 @@ redo_one-requires-clause-open g c =
     let i = c.loop-one.invariant in
     let lost = c.args.lost.now in
     let k = c.loop-one.one-index in
-    next_open z.book a.ordered a.book.history.events lost k (get_or lost k nobody) (drop (k + 1) lost) (crew_moment g.T.Tool g.G.Gate c.args.crew.now.items) (crew_moment g.T.Tool g.G.Gate c.loop-one.crew.items) (z.same_plan ∙ ap (λ o. o.plan) i.ordered) (z.same_order ∙ ap (λ o. o.tasks.items) i.ordered) i.redone (drop_more lost k nobody c.loop-one-test.true)
+    next_open z.book a.ordered a.book.history.events lost k (get_or lost k nobody) (drop (k + 1) lost) (crew_moment g.T.Tool g.G.Gate c.args.crew.now.items) (crew_moment g.T.Tool g.G.Gate c.loop-one.crew.items) (z.same_plan ∙ ap (λ o. o.plan) i.same.ordered) (z.same_order ∙ ap (λ o. o.tasks.items) i.same.ordered) i.redone (drop_more lost k nobody c.loop-one-test.true)
 
 pub redo_one-requires-clause-member : goal.redo_one-requires-clause-member
 redo_one-requires-clause-member g c =
@@ -47,7 +42,7 @@ redo_one-requires-clause-member g c =
     let lost = c.args.lost.now in
     let k = c.loop-one.one-index in
     let l = get_or lost k nobody in
-    let open_ = next_open z.book a.ordered a.book.history.events lost k l (drop (k + 1) lost) (crew_moment g.T.Tool g.G.Gate c.args.crew.now.items) (crew_moment g.T.Tool g.G.Gate c.loop-one.crew.items) (z.same_plan ∙ ap (λ o. o.plan) i.ordered) (z.same_order ∙ ap (λ o. o.tasks.items) i.ordered) i.redone (drop_more lost k nobody c.loop-one-test.true) in
+    let open_ = next_open z.book a.ordered a.book.history.events lost k l (drop (k + 1) lost) (crew_moment g.T.Tool g.G.Gate c.args.crew.now.items) (crew_moment g.T.Tool g.G.Gate c.loop-one.crew.items) (z.same_plan ∙ ap (λ o. o.plan) i.same.ordered) (z.same_order ∙ ap (λ o. o.tasks.items) i.same.ordered) i.redone (drop_more lost k nobody c.loop-one-test.true) in
     let low : l.worker < 16 = worker_low z.book l.worker l.task.0 open_ in
     let same = i.crew in
     let many = c.requires.members in
@@ -67,7 +62,7 @@ returns-then-redo_one-clause-calls g c =
     let d = c.redo_one.new.yard in
     let i = c.loop-one.invariant in
     let e = c.redo_one.ensures in
-    calls_both a.ordered.plan a.book.history.events b.book.history.events d.book.history.events (g.H.Host.counts a.host) (g.H.Host.counts b.host) (g.H.Host.counts d.host) i.calls (subst (λ p. AddsCalls p b.book.history.events d.book.history.events (g.H.Host.counts b.host) (g.H.Host.counts d.host)) (ap (λ o. o.plan) i.ordered) e.calls) e.later
+    calls_both a.ordered.plan a.book.history.events b.book.history.events d.book.history.events (g.H.Host.counts a.host) (g.H.Host.counts b.host) (g.H.Host.counts d.host) i.calls (subst (λ p. AddsCalls p b.book.history.events d.book.history.events (g.H.Host.counts b.host) (g.H.Host.counts d.host)) (ap (λ o. o.plan) i.same.ordered) e.calls) e.same.later
 
 pub returns-then-redo_one-clause-inputs : goal.returns-then-redo_one-clause-inputs
 returns-then-redo_one-clause-inputs g c =
@@ -75,7 +70,7 @@ returns-then-redo_one-clause-inputs g c =
     let b = c.loop-one.yard in
     let d = c.redo_one.new.yard in
     let i = c.loop-one.invariant in
-    adds_both g.T.Tool.apply a.ordered.plan a.book.history.events b.book.history.events d.book.history.events i.inputs (subst (λ p. AddsOfInputs g.T.Tool.apply p b.book.history.events d.book.history.events) (ap (λ o. o.plan) i.ordered) c.redo_one.ensures.inputs)
+    adds_both g.T.Tool.apply a.ordered.plan a.book.history.events b.book.history.events d.book.history.events i.inputs (subst (λ p. AddsOfInputs g.T.Tool.apply p b.book.history.events d.book.history.events) (ap (λ o. o.plan) i.same.ordered) c.redo_one.ensures.inputs)
 
 pub returns-then-redo_one-clause-tools : goal.returns-then-redo_one-clause-tools
 returns-then-redo_one-clause-tools g c =
@@ -95,17 +90,11 @@ loop-one-preserved g c =
     let k = c.loop-one.one-index in
     record {
       redone = redone_more a.ordered.plan (task_numbers a.ordered.tasks.items) a.book.history.events b.book.history.events d.book.history.events lost k (get_or lost k nobody) (drop (k + 1) lost) (crew_moment g.T.Tool g.G.Gate c.args.crew.now.items) (crew_moment g.T.Tool g.G.Gate c.loop-one.crew.items) (crew_moment g.T.Tool g.G.Gate c.redo_one.new.crew.items) c.redo_one.result i.redone e.redoes (drop_more lost k nobody c.loop-one-test.true) refl c.if-redo_one.false;
-      calls = calls_both a.ordered.plan a.book.history.events b.book.history.events d.book.history.events (g.H.Host.counts a.host) (g.H.Host.counts b.host) (g.H.Host.counts d.host) i.calls (subst (λ p. AddsCalls p b.book.history.events d.book.history.events (g.H.Host.counts b.host) (g.H.Host.counts d.host)) (ap (λ o. o.plan) i.ordered) e.calls) e.later;
-      inputs = adds_both g.T.Tool.apply a.ordered.plan a.book.history.events b.book.history.events d.book.history.events i.inputs (subst (λ p. AddsOfInputs g.T.Tool.apply p b.book.history.events d.book.history.events) (ap (λ o. o.plan) i.ordered) e.inputs);
+      calls = calls_both a.ordered.plan a.book.history.events b.book.history.events d.book.history.events (g.H.Host.counts a.host) (g.H.Host.counts b.host) (g.H.Host.counts d.host) i.calls (subst (λ p. AddsCalls p b.book.history.events d.book.history.events (g.H.Host.counts b.host) (g.H.Host.counts d.host)) (ap (λ o. o.plan) i.same.ordered) e.calls) e.same.later;
+      inputs = adds_both g.T.Tool.apply a.ordered.plan a.book.history.events b.book.history.events d.book.history.events i.inputs (subst (λ p. AddsOfInputs g.T.Tool.apply p b.book.history.events d.book.history.events) (ap (λ o. o.plan) i.same.ordered) e.inputs);
       crew = e.crew ∙ i.crew;
       gates = e.gates ∙ i.gates;
-      ordered = e.ordered ∙ i.ordered;
-      opened = e.opened ∙ i.opened;
-      marked = e.marked ∙ i.marked;
-      faults = e.faults ∙ i.faults;
-      misses = e.misses ∙ i.misses;
-      tells = e.tells ∙ i.tells;
-      later = later_both (g.H.Host.counts a.host) (g.H.Host.counts b.host) (g.H.Host.counts d.host) i.later e.later;
+      same = same_yard a b d i.same e.same;
     }
 
 pub returns-clause-redoes : goal.returns-clause-redoes
@@ -113,4 +102,4 @@ returns-clause-redoes g c =
     let a = c.args.yard in
     let b = c.loop-one.yard in
     let i = c.loop-one.invariant in
-    redone_all b.book a.ordered a.book.history.events c.args.lost.now c.loop-one.one-index (crew_moment g.T.Tool g.G.Gate c.args.crew.now.items) (crew_moment g.T.Tool g.G.Gate c.loop-one.crew.items) (b.same_plan ∙ ap (λ o. o.plan) i.ordered) (b.same_order ∙ ap (λ o. o.tasks.items) i.ordered) c.loop-one-test.false i.redone
+    redone_all b.book a.ordered a.book.history.events c.args.lost.now c.loop-one.one-index (crew_moment g.T.Tool g.G.Gate c.args.crew.now.items) (crew_moment g.T.Tool g.G.Gate c.loop-one.crew.items) (b.same_plan ∙ ap (λ o. o.plan) i.same.ordered) (b.same_order ∙ ap (λ o. o.tasks.items) i.same.ordered) c.loop-one-test.false i.redone

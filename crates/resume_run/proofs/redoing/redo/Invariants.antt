@@ -1,8 +1,7 @@
 use Rattle.std.proofs.Common.{◌≡◌, length, map}
-use Rattle.std.specs.Prelude.{is_some}
 use Rattle.craft.specs.declared.crew.Crew.{Crew}
-use Rattle.outside.specs.Counts.{IsLater}
 use Rattle.plan_core.specs.Words.{task_numbers}
+use Rattle.site_yard.specs.Yard.{IsSameYard}
 use Rattle.worker_gate.specs.Calls.{AddsCalls}
 use Rattle.worker_gate.specs.Inputs.{AddsOfInputs}
 use Rattle.plan_run.specs.Moments.{crew_moment}
@@ -16,11 +15,5 @@ invariant-loop-one g l = record {
   inputs : AddsOfInputs g.T.Tool.apply l.fn.yard.ordered.plan l.fn.yard.book.history.events l.yard.book.history.events;
   crew : length l.crew.items ≡ length l.initial.crew.items;
   gates : map (λ (c : Crew g.row.T.Denot g.row.G.Denot). c.gate) l.crew.items ≡ map (λ (c : Crew g.row.T.Denot g.row.G.Denot). c.gate) l.initial.crew.items;
-  ordered : l.yard.ordered ≡ l.fn.yard.ordered;
-  opened : l.yard.opened ≡ l.fn.yard.opened;
-  marked : g.H.Host.marked l.yard.host ≡ g.H.Host.marked l.fn.yard.host;
-  faults : l.yard.faults ≡ l.fn.yard.faults;
-  misses : l.yard.misses ≡ l.fn.yard.misses;
-  tells : is_some (g.H.Host.told l.yard.host) ≡ is_some (g.H.Host.told l.fn.yard.host);
-  later : IsLater (g.H.Host.counts l.fn.yard.host) (g.H.Host.counts l.yard.host);
+  same : IsSameYard l.fn.yard l.yard;
 }

@@ -27,8 +27,8 @@ returns-in-Ok-clause-gone_on g c =
     let before = work_moment g.H.Host c.args.host (first_count old) in
     let after = work_moment g.H.Host y.host (first_count new) in
     let w = working g.T.Tool.apply g.T.Tool.known before after in
-    let same = f.ordered ∙ e.ordered in
-    let all = f.opened ∙ e.opened in
+    let same = f.same.ordered ∙ e.ordered in
+    let all = f.same.opened ∙ e.opened in
     let works = rw (e.ordered, e.book) at f.works in
     let inputs = rw (e.ordered, e.book) at f.inputs in
     let calls = rw (e.ordered, e.book) at f.calls in
@@ -44,10 +44,10 @@ returns-in-Ok-clause-gone_on g c =
     went_on_from w (counting old new) p order first works.added whole y.opened (g.H.Host.told y.host) (g.H.Host.marked y.host) y.faults y.misses c.end_resumed.result.text.items c.end_resumed.result.end works.is all
     (record {
       told_is = refl;
-      tells = f.tells ∙ ap is_some e.told;
-      marked_is = marked_so (g.H.Host.told c.args.host) _ _ f.marked e.marked;
-      faults_are = f.faults ∙ e.faults;
-      misses_are = f.misses ∙ e.misses;
+      tells = f.same.tells ∙ ap is_some e.told;
+      marked_is = marked_so (g.H.Host.told c.args.host) _ _ f.same.marked e.marked;
+      faults_are = f.same.faults ∙ e.faults;
+      misses_are = f.same.misses ∙ e.misses;
       reopened = recorded;
       below = below_by first works.added whole works.is (c.nothing_else_fails.ensures.workers p order whole l);
       in_order = works.in_order;
@@ -55,7 +55,7 @@ returns-in-Ok-clause-gone_on g c =
       inputs = inputs_added g.T.Tool.apply p first works.added whole works.is inputs;
       tools = works.tools;
       gates = asked_same g.T.Tool g.G.Gate c.args.crew.now.items c.work_on-yard.new.crew.items f.gates;
-      asked = takes_calls w p (held_after p order first) first works.added whole (g.H.Host.counts x.host) (g.H.Host.counts y.host) works.is f.later.done looked calls refl;
+      asked = takes_calls w p (held_after p order first) first works.added whole (g.H.Host.counts x.host) (g.H.Host.counts y.host) works.is f.same.later.done looked calls refl;
     })
     (record {
       safe = λ n. c.legal_records_are_safe.ensures.always p order whole c.args.ordered.proper fits l n;

@@ -1,20 +1,21 @@
-use Rattle.std.proofs.Common.{refl, sym, ap, subst, ◌∙◌}
+use Rattle.std.proofs.Common.{refl, sym, ap, subst}
 use Rattle.plan_core.specs.Words.{task_numbers}
 use Rattle.lease_book.specs.Book.{state_at}
+use Rattle.site_yard.proofs.YardLemmas.{same_yard, still_yard}
 use Rattle.worker_gate.specs.Alone.{IsOver}
 use Rattle.worker_gate.specs.Calls.{AddsCalls}
 use Rattle.worker_gate.specs.Inputs.{AddsOfInputs}
 use Rattle.worker_gate.specs.Stepping.{WorksOn}
 use Rattle.worker_gate.proofs.CallsLemmas.{calls_both, calls_none}
 use Rattle.worker_gate.proofs.InputsLemmas.{adds_none, adds_both}
-use Rattle.worker_gate.proofs.RunLemmas.{both_counts, later_both, room_falls_on, same_count, still, works_alone, works_first, works_then}
+use Rattle.worker_gate.proofs.RunLemmas.{both_counts, room_falls_on, same_count, works_alone, works_first, works_then}
 use Rattle.worker_gate.proofs.WorkLemmas.{one_run_of}
 use Rattle.worker_gate.proofs.alone.run_alone.Goals as goal
 
 pub loop-alloc-init : goal.loop-alloc-init
 loop-alloc-init g c =
     let x = g.T.Tool.faults c.args.crew.now.tool in
-    (works_first c.args.yard.book x c.requires, same_count x, refl, refl, refl, refl, refl, still (g.H.Host.counts c.args.yard.host), adds_none g.T.Tool.apply c.args.yard.ordered.plan c.args.yard.book.history.events, refl, refl, calls_none c.args.yard.ordered.plan c.args.yard.book.history.events (g.H.Host.counts c.args.yard.host) (g.H.Host.counts c.args.yard.host) refl)
+    (works_first c.args.yard.book x c.requires, same_count x, still_yard c.args.yard, adds_none g.T.Tool.apply c.args.yard.ordered.plan c.args.yard.book.history.events, refl, calls_none c.args.yard.ordered.plan c.args.yard.book.history.events (g.H.Host.counts c.args.yard.host) (g.H.Host.counts c.args.yard.host) refl)
 
 pub loop-alloc-smaller : goal.loop-alloc-smaller
 loop-alloc-smaller g c =
@@ -22,7 +23,7 @@ loop-alloc-smaller g c =
     let d = c.step.new.yard in
     let y = g.T.Tool.faults c.loop-alloc.crew.tool in
     let z = g.T.Tool.faults c.step.new.tool in
-    let here = one_run_of b.book d.book b.ordered d.ordered b.same_plan b.same_order d.same_plan d.same_order c.loop-alloc-test.ensures.ordered in
+    let here = one_run_of b.book d.book b.ordered d.ordered b.same_plan b.same_order d.same_plan d.same_order c.loop-alloc-test.ensures.same.ordered in
     let works = subst (λ p. WorksOn p (state_at b.book) b.book.history.events d.book.history.events (state_at d.book) y z) (sym b.same_plan) c.loop-alloc-test.ensures.steps.0 in
     room_falls_on b.book d.book y z (c.lease_laws.ensures b.book.plan b.book.proper) here works c.loop-alloc-test.ensures.steps.1
 
@@ -36,20 +37,14 @@ loop-alloc-preserved g c =
     let z = g.T.Tool.faults c.step.new.tool in
     let i = c.loop-alloc.invariant in
     let e = c.loop-alloc-test.ensures in
-    let before = one_run_of a.book b.book a.ordered b.ordered a.same_plan a.same_order b.same_plan b.same_order i.2 in
+    let before = one_run_of a.book b.book a.ordered b.ordered a.same_plan a.same_order b.same_plan b.same_order i.2.ordered in
     let works = subst (λ p. WorksOn p (state_at b.book) b.book.history.events d.book.history.events (state_at d.book) y z) (sym b.same_plan) e.steps.0 in (
       works_then a.book b.book d.book x y z before e.tool i.0 works,
       both_counts x y z i.1 e.tool,
-      e.ordered ∙ i.2,
-      e.marked ∙ i.3,
-      e.faults ∙ i.4,
-      e.misses ∙ i.5,
-      e.tells ∙ i.6,
-      later_both (g.H.Host.counts a.host) (g.H.Host.counts b.host) (g.H.Host.counts d.host) i.7 e.later,
-      adds_both g.T.Tool.apply a.ordered.plan a.book.history.events b.book.history.events d.book.history.events i.8 (subst (λ p. AddsOfInputs g.T.Tool.apply p b.book.history.events d.book.history.events) (ap (λ o. o.plan) i.2) e.inputs),
-      i.9,
-      e.opened ∙ i.10,
-      calls_both a.ordered.plan a.book.history.events b.book.history.events d.book.history.events (g.H.Host.counts a.host) (g.H.Host.counts b.host) (g.H.Host.counts d.host) i.11 (subst (λ p. AddsCalls p b.book.history.events d.book.history.events (g.H.Host.counts b.host) (g.H.Host.counts d.host)) (ap (λ o. o.plan) i.2) e.calls) e.later,
+      same_yard a b d i.2 e.same,
+      adds_both g.T.Tool.apply a.ordered.plan a.book.history.events b.book.history.events d.book.history.events i.3 (subst (λ p. AddsOfInputs g.T.Tool.apply p b.book.history.events d.book.history.events) (ap (λ o. o.plan) i.2.ordered) e.inputs),
+      i.4,
+      calls_both a.ordered.plan a.book.history.events b.book.history.events d.book.history.events (g.H.Host.counts a.host) (g.H.Host.counts b.host) (g.H.Host.counts d.host) i.5 (subst (λ p. AddsCalls p b.book.history.events d.book.history.events (g.H.Host.counts b.host) (g.H.Host.counts d.host)) (ap (λ o. o.plan) i.2.ordered) e.calls) e.same.later,
     )
 
 pub returns-clause-works : goal.returns-clause-works
@@ -61,7 +56,7 @@ returns-clause-works g c =
     let y = g.T.Tool.faults c.loop-alloc.crew.tool in
     let i = c.loop-alloc.invariant in
     let e = c.loop-alloc-test.ensures in
-    let before = one_run_of a.book b.book a.ordered b.ordered a.same_plan a.same_order b.same_plan b.same_order i.2 in
+    let before = one_run_of a.book b.book a.ordered b.ordered a.same_plan a.same_order b.same_plan b.same_order i.2.ordered in
     rw (e.steps.2)
     (works_alone a.book b.book d.book a.ordered.plan (task_numbers a.ordered.tasks.items) x y (c.lease_laws.ensures a.book.plan a.book.proper) a.same_plan (ap task_numbers a.same_order) before c.requires i.0 e.steps.0
     (subst (λ p. IsOver p (state_at b.book)) (sym b.same_plan) e.steps.1))
@@ -72,7 +67,7 @@ returns-clause-inputs g c =
     let b = c.loop-alloc.yard in
     let i = c.loop-alloc.invariant in
     let e = c.loop-alloc-test.ensures in
-    rw (e.steps.0) i.8
+    rw (e.steps.0) i.3
 
 pub returns-clause-calls : goal.returns-clause-calls
 returns-clause-calls g c =
@@ -81,4 +76,7 @@ returns-clause-calls g c =
     let d = c.step.new.yard in
     let i = c.loop-alloc.invariant in
     let e = c.loop-alloc-test.ensures in
-    calls_both a.ordered.plan a.book.history.events b.book.history.events d.book.history.events (g.H.Host.counts a.host) (g.H.Host.counts b.host) (g.H.Host.counts d.host) i.11 (subst (λ p. AddsCalls p b.book.history.events d.book.history.events (g.H.Host.counts b.host) (g.H.Host.counts d.host)) (ap (λ o. o.plan) i.2) e.calls) e.later
+    calls_both a.ordered.plan a.book.history.events b.book.history.events d.book.history.events (g.H.Host.counts a.host) (g.H.Host.counts b.host) (g.H.Host.counts d.host) i.5 (subst (λ p. AddsCalls p b.book.history.events d.book.history.events (g.H.Host.counts b.host) (g.H.Host.counts d.host)) (ap (λ o. o.plan) i.2.ordered) e.calls) e.same.later
+
+pub returns-clause-same : goal.returns-clause-same
+returns-clause-same g c = same_yard c.args.yard c.loop-alloc.yard c.step.new.yard c.loop-alloc.invariant.2 c.loop-alloc-test.ensures.same

@@ -1,8 +1,7 @@
 use Rattle.std.proofs.Common.{◌≡◌, ◌≤◌}
-use Rattle.std.specs.Prelude.{is_some}
-use Rattle.outside.specs.Counts.{IsLater}
 use Rattle.lease_book.specs.Book.{state_at}
 use Rattle.lease_rules.specs.Room.{entries_room}
+use Rattle.site_yard.specs.Yard.{IsSameYard}
 use Rattle.worker_gate.specs.Calls.{AddsCalls}
 use Rattle.worker_gate.specs.Inputs.{AddsOfInputs}
 use Rattle.worker_gate.specs.Stepping.{WorksOn}
@@ -12,15 +11,9 @@ abbrev pub invariant-loop-alloc : goal.invariant-loop-alloc
 invariant-loop-alloc g l =
     WorksOn l.fn.yard.book.plan (state_at l.fn.yard.book) l.fn.yard.book.history.events l.yard.book.history.events (state_at l.yard.book) (g.T.Tool.faults l.initial.crew.tool) (g.T.Tool.faults l.crew.tool)
     × (g.T.Tool.faults l.initial.crew.tool ≤ g.T.Tool.faults l.crew.tool)
-    × (l.yard.ordered ≡ l.fn.yard.ordered)
-    × (g.H.Host.marked l.yard.host ≡ g.H.Host.marked l.fn.yard.host)
-    × (l.yard.faults ≡ l.fn.yard.faults)
-    × (l.yard.misses ≡ l.fn.yard.misses)
-    × (is_some (g.H.Host.told l.yard.host) ≡ is_some (g.H.Host.told l.fn.yard.host))
-    × IsLater (g.H.Host.counts l.fn.yard.host) (g.H.Host.counts l.yard.host)
+    × IsSameYard l.fn.yard l.yard
     × AddsOfInputs g.T.Tool.apply l.fn.yard.ordered.plan l.fn.yard.book.history.events l.yard.book.history.events
     × (l.crew.gate ≡ l.initial.crew.gate)
-    × (l.yard.opened ≡ l.fn.yard.opened)
     × AddsCalls l.fn.yard.ordered.plan l.fn.yard.book.history.events l.yard.book.history.events (g.H.Host.counts l.fn.yard.host) (g.H.Host.counts l.yard.host)
 
 abbrev pub decreases-loop-alloc : goal.decreases-loop-alloc

@@ -25,7 +25,7 @@ fill_loan-filled-requires-clause-parts g c =
     let rs = map g.H.Reading.ReadPart.state c.in-Some.loan.readings.items in
     let ds = map g.H.Draft.WritePart.state c.in-Some.loan.drafts.items in
     let proper = subst IsProper y.same_plan y.book.proper in
-    subst (λ (q : Plan). AreParts q t (kind q t) rs ds) (sym (c.plan.ensures ∙ ap (λ z. z.plan) c.lend.ensures.ordered))
+    subst (λ (q : Plan). AreParts q t (kind q t) rs ds) (sym (c.plan.ensures ∙ ap (λ z. z.plan) c.lend.ensures.same.ordered))
     (parts_are g.T.Tool.apply p proper (c.plan_laws.ensures p proper) first m o t rs ds (open_loan y.book.plan p (state_at y.book) t y.same_plan (consistent_at y.book).sound c.requires.runs) (lent_held g.T.Tool.apply p first m o t rs ds c.in-Some.ensures.lent))
 
 pub fill_loan-filled-requires-clause-start : goal.fill_loan-filled-requires-clause-start
@@ -70,9 +70,9 @@ finish_at-requires-clause-can g c =
     let a = g.T.Tool.faults c.args.tool.now in
     let b = g.T.Tool.faults filled.new.tool in
     let proper = subst IsProper y.same_plan y.book.proper in
-    let fills = subst (λ (q : Plan). Fills g.T.Tool.apply q t rs rs1 ds ds1 a b filled.result) (c.plan.ensures ∙ ap (λ x. x.plan) c.lend.ensures.ordered) filled.ensures.fills in
+    let fills = subst (λ (q : Plan). Fills g.T.Tool.apply q t rs rs1 ds ds1 a b filled.result) (c.plan.ensures ∙ ap (λ x. x.plan) c.lend.ensures.same.ordered) filled.ensures.fills in
     finish_then g.T.Tool.apply p z.ordered.plan first (take z.opened z.book.history.events) m (g.H.Host.marked z.host) o (g.H.Host.told z.host) t rs1 ds1 filled.result
-    (ap (λ x. x.plan) c.lend.ensures.ordered) (λ i. take (c.lend.ensures.opened i) (e.same i)) c.lend.ensures.marked c.lend.ensures.told
+    (ap (λ x. x.plan) c.lend.ensures.same.ordered) (λ i. take (c.lend.ensures.same.opened i) (e.history i)) c.lend.ensures.same.marked c.lend.ensures.told
     (fills_finish g.T.Tool.apply p proper (c.plan_laws.ensures p proper) (c.runs_carry_what_they_compute.ensures g.T.Tool.apply) first m t rs rs1 ds ds1 o a b filled.result (lent_held g.T.Tool.apply p first m o t rs ds e.lent) fills)
 
 pub finish_at-requires-clause-inputs : goal.finish_at-requires-clause-inputs
@@ -92,8 +92,8 @@ finish_at-requires-clause-inputs g c =
     let a = g.T.Tool.faults c.args.tool.now in
     let b = g.T.Tool.faults filled.new.tool in
     let proper = subst IsProper y.same_plan y.book.proper in
-    let fills = subst (λ (q : Plan). Fills g.T.Tool.apply q t rs rs1 ds ds1 a b filled.result) (c.plan.ensures ∙ ap (λ x. x.plan) c.lend.ensures.ordered) filled.ensures.fills in
-    subst (λ (q : Plan). IsFilledOf g.T.Tool.apply q t filled.result) (sym (ap (λ x. x.plan) c.lend.ensures.ordered))
+    let fills = subst (λ (q : Plan). Fills g.T.Tool.apply q t rs rs1 ds ds1 a b filled.result) (c.plan.ensures ∙ ap (λ x. x.plan) c.lend.ensures.same.ordered) filled.ensures.fills in
+    subst (λ (q : Plan). IsFilledOf g.T.Tool.apply q t filled.result) (sym (ap (λ x. x.plan) c.lend.ensures.same.ordered))
     (fills_of g.T.Tool.apply p proper (c.plan_laws.ensures p proper) (c.runs_carry_what_they_compute.ensures g.T.Tool.apply) first m t rs rs1 ds ds1 o a b filled.result (lent_held g.T.Tool.apply p first m o t rs ds e.lent) fills)
 
 pub returns-in-Some-clause-calls : goal.returns-in-Some-clause-calls
@@ -101,5 +101,5 @@ returns-in-Some-clause-calls g c =
     let y = c.args.yard.now in
     let z = c.lend.new.self in
     let e = c.in-Some.ensures in
-    lent_then y.ordered.plan c.args.task.0 y.book.history.events z.book.history.events _ (g.H.Host.counts y.host) (g.H.Host.counts z.host) _ e.same e.asked
-    (subst (λ (q : Plan). EndsCalls q c.args.task.0 z.book.history.events c.finish_at.new.yard.book.history.events (g.H.Host.counts z.host) (g.H.Host.counts c.finish_at.new.yard.host)) (ap (λ x. x.plan) c.lend.ensures.ordered) c.finish_at.ensures.calls) c.finish_at.ensures.later
+    lent_then y.ordered.plan c.args.task.0 y.book.history.events z.book.history.events _ (g.H.Host.counts y.host) (g.H.Host.counts z.host) _ e.history e.asked
+    (subst (λ (q : Plan). EndsCalls q c.args.task.0 z.book.history.events c.finish_at.new.yard.book.history.events (g.H.Host.counts z.host) (g.H.Host.counts c.finish_at.new.yard.host)) (ap (λ x. x.plan) c.lend.ensures.same.ordered) c.finish_at.ensures.calls) c.finish_at.ensures.same.later

@@ -15,7 +15,7 @@ do_task-requires g c =
     let a = c.args.yard.now in
     let b = c.lease.new.self in
     let safe = subst (λ (x : Book). IsSafeState x.plan (state_at x)) c.book.ensures c.record-record.ensures.safe in
-    let same = one_run_of a.book b.book a.ordered b.ordered a.same_plan a.same_order b.same_plan b.same_order c.lease.ensures.ordered in
+    let same = one_run_of a.book b.book a.ordered b.ordered a.same_plan a.same_order b.same_plan b.same_order c.lease.ensures.same.ordered in
     granted_is_open a.book b.book c.in-Granted.task (g.H.Host.told a.host) (g.H.Host.counts a.host) (g.H.Host.counts b.host) same safe c.requires
     (subst (λ p. Leases p (state_at a.book) 0 a.book.history.events b.book.history.events (g.H.Host.told a.host) (g.H.Host.counts a.host) (g.H.Host.counts b.host) (leased.Granted c.in-Granted.task)) (sym a.same_plan) c.in-Granted.ensures.leased)
 
@@ -26,8 +26,8 @@ returns-in-Granted-clause-steps g c =
     let safe = subst (λ (x : Book). IsSafeState x.plan (state_at x)) c.book.ensures c.record-record.ensures.safe in
     let laws = c.lease_laws.ensures a.book.plan a.book.proper in
     let d = c.do_task.new.yard in
-    let same = one_run_of a.book b.book a.ordered b.ordered a.same_plan a.same_order b.same_plan b.same_order c.lease.ensures.ordered in
-    let then_ = one_run_of b.book d.book b.ordered d.ordered b.same_plan b.same_order d.same_plan d.same_order c.do_task.ensures.ordered in
+    let same = one_run_of a.book b.book a.ordered b.ordered a.same_plan a.same_order b.same_plan b.same_order c.lease.ensures.same.ordered in
+    let then_ = one_run_of b.book d.book b.ordered d.ordered b.same_plan b.same_order d.same_plan d.same_order c.do_task.ensures.same.ordered in
     subst (λ p. WorksOn p (state_at a.book) a.book.history.events d.book.history.events (state_at d.book) (g.T.Tool.faults c.args.tool.now) (g.T.Tool.faults c.do_task.new.tool) × (length a.book.history.events < length d.book.history.events)) a.same_plan
     (granted_works a.book b.book d.book c.in-Granted.task (g.T.Tool.faults c.args.tool.now) (g.T.Tool.faults c.do_task.new.tool) (g.H.Host.told a.host) (g.H.Host.counts a.host) (g.H.Host.counts b.host) laws same then_ safe c.requires
     (subst (λ p. Leases p (state_at a.book) 0 a.book.history.events b.book.history.events (g.H.Host.told a.host) (g.H.Host.counts a.host) (g.H.Host.counts b.host) (leased.Granted c.in-Granted.task)) (sym a.same_plan) c.in-Granted.ensures.leased)
@@ -40,7 +40,7 @@ returns-in-Swept-clause-steps g c =
     let safe = subst (λ (x : Book). IsSafeState x.plan (state_at x)) c.book.ensures c.record-record.ensures.safe in
     let laws = c.lease_laws.ensures a.book.plan a.book.proper in
     let x = g.T.Tool.faults c.args.tool.now in
-    let same = one_run_of a.book b.book a.ordered b.ordered a.same_plan a.same_order b.same_plan b.same_order c.lease.ensures.ordered in
+    let same = one_run_of a.book b.book a.ordered b.ordered a.same_plan a.same_order b.same_plan b.same_order c.lease.ensures.same.ordered in
     subst (λ p. WorksOn p (state_at a.book) a.book.history.events b.book.history.events (state_at b.book) x x × (length a.book.history.events < length b.book.history.events)) a.same_plan
     (swept_works a.book b.book c.in-Swept.field-0 x (g.H.Host.told a.host) (g.H.Host.counts a.host) (g.H.Host.counts b.host) laws same safe c.requires
     (subst (λ p. Leases p (state_at a.book) 0 a.book.history.events b.book.history.events (g.H.Host.told a.host) (g.H.Host.counts a.host) (g.H.Host.counts b.host) (leased.Swept c.in-Swept.field-0)) (sym a.same_plan) c.in-Swept.ensures.leased))
@@ -50,7 +50,7 @@ returns-in-Failed-clause-steps g c =
     let a = c.args.yard.now in
     let b = c.lease.new.self in
     let x = g.T.Tool.faults c.args.tool.now in
-    let same = one_run_of a.book b.book a.ordered b.ordered a.same_plan a.same_order b.same_plan b.same_order c.lease.ensures.ordered in
+    let same = one_run_of a.book b.book a.ordered b.ordered a.same_plan a.same_order b.same_plan b.same_order c.lease.ensures.same.ordered in
     subst (λ p. WorksOn p (state_at a.book) a.book.history.events b.book.history.events (state_at b.book) x x × (length a.book.history.events < length b.book.history.events)) a.same_plan
     (failed_works a.book b.book c.in-Failed.field-0 x (g.H.Host.told a.host) (g.H.Host.counts a.host) (g.H.Host.counts b.host) same c.requires
     (subst (λ p. Leases p (state_at a.book) 0 a.book.history.events b.book.history.events (g.H.Host.told a.host) (g.H.Host.counts a.host) (g.H.Host.counts b.host) (leased.Failed c.in-Failed.field-0)) (sym a.same_plan) c.in-Failed.ensures.leased))
@@ -62,7 +62,7 @@ returns-in-Again-clause-steps g c =
     let safe = subst (λ (x : Book). IsSafeState x.plan (state_at x)) c.book.ensures c.record-record.ensures.safe in
     let laws = c.lease_laws.ensures a.book.plan a.book.proper in
     let x = g.T.Tool.faults c.args.tool.now in
-    let same = one_run_of a.book b.book a.ordered b.ordered a.same_plan a.same_order b.same_plan b.same_order c.lease.ensures.ordered in
+    let same = one_run_of a.book b.book a.ordered b.ordered a.same_plan a.same_order b.same_plan b.same_order c.lease.ensures.same.ordered in
     subst (λ p. WorksOn p (state_at a.book) a.book.history.events b.book.history.events (state_at b.book) x x × (length a.book.history.events < length b.book.history.events)) a.same_plan
     (again_works a.book b.book c.in-Again.field-0 x (g.H.Host.told a.host) (g.H.Host.counts a.host) (g.H.Host.counts b.host) laws same safe c.requires
     (subst (λ p. Leases p (state_at a.book) 0 a.book.history.events b.book.history.events (g.H.Host.told a.host) (g.H.Host.counts a.host) (g.H.Host.counts b.host) (leased.Again c.in-Again.field-0)) (sym a.same_plan) c.in-Again.ensures.leased))
@@ -71,7 +71,7 @@ pub returns-in-Granted-clause-inputs : goal.returns-in-Granted-clause-inputs
 returns-in-Granted-clause-inputs g c =
     let a = c.args.yard.now in
     let b = c.lease.new.self in
-    grants_so g.T.Tool.apply a.ordered.plan b.ordered.plan (state_at a.book) 0 c.in-Granted.task a.book.history.events b.book.history.events _ (g.H.Host.told a.host) (g.H.Host.counts a.host) (g.H.Host.counts b.host) (ap (λ o. o.plan) c.lease.ensures.ordered) c.in-Granted.ensures.leased c.do_task.ensures.inputs
+    grants_so g.T.Tool.apply a.ordered.plan b.ordered.plan (state_at a.book) 0 c.in-Granted.task a.book.history.events b.book.history.events _ (g.H.Host.told a.host) (g.H.Host.counts a.host) (g.H.Host.counts b.host) (ap (λ o. o.plan) c.lease.ensures.same.ordered) c.in-Granted.ensures.leased c.do_task.ensures.inputs
 
 pub returns-in-Swept-clause-inputs : goal.returns-in-Swept-clause-inputs
 returns-in-Swept-clause-inputs g c =
@@ -105,7 +105,7 @@ pub returns-in-Granted-clause-calls : goal.returns-in-Granted-clause-calls
 returns-in-Granted-clause-calls g c =
     let a = c.args.yard.now in
     let b = c.lease.new.self in
-    grants_calls a.ordered.plan b.ordered.plan (state_at a.book) 0 c.in-Granted.task a.book.history.events b.book.history.events _ (g.H.Host.told a.host) (g.H.Host.counts a.host) (g.H.Host.counts b.host) _ (ap (λ o. o.plan) c.lease.ensures.ordered) c.in-Granted.ensures.leased c.do_task.ensures.calls c.do_task.ensures.later
+    grants_calls a.ordered.plan b.ordered.plan (state_at a.book) 0 c.in-Granted.task a.book.history.events b.book.history.events _ (g.H.Host.told a.host) (g.H.Host.counts a.host) (g.H.Host.counts b.host) _ (ap (λ o. o.plan) c.lease.ensures.same.ordered) c.in-Granted.ensures.leased c.do_task.ensures.calls c.do_task.ensures.same.later
 
 pub returns-in-Swept-clause-calls : goal.returns-in-Swept-clause-calls
 returns-in-Swept-clause-calls g c =

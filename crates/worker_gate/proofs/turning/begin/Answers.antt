@@ -1,4 +1,4 @@
-use Rattle.std.proofs.Common.{◌∙◌, ap, map, refl, take}
+use Rattle.std.proofs.Common.{◌∙◌, map, refl, take}
 use Rattle.std.specs.Prelude.{is_some}
 use Rattle.lease_book.specs.Book.{state_at}
 use Rattle.ruled_lock.specs.Pass.{charter_of, mine_of, taken_of, worker_of}
@@ -19,9 +19,9 @@ give-requires-clause-charter g c =
     let y = c.take-yard.result in
     let z = c.lend-lent.new.self in
     let e = c.lend-lent.ensures in
-    charter_kept _ y.ordered z.ordered (take y.opened y.book.history.events) (take z.opened z.book.history.events) (g.H.Host.marked y.host) (g.H.Host.marked z.host) (is_some (g.H.Host.told y.host)) (is_some (g.H.Host.told z.host)) y.faults z.faults y.misses z.misses (c.take-yard.ensures.same.charter ∙ c.take-yard.ensures.charter) e.ordered
-    (opened_kept c.worker.result y.opened z.opened y.book.history.events z.book.history.events y.begun e.opened (lend_adds _ c.worker.result c.args.task.0 y.book.history.events z.book.history.events (g.H.Host.told y.host) (g.H.Host.counts y.host) (g.H.Host.counts z.host) c.lend-lent.result e.same e.none))
-    e.marked (ap is_some e.told) e.faults e.misses
+    charter_kept _ y.ordered z.ordered (take y.opened y.book.history.events) (take z.opened z.book.history.events) (g.H.Host.marked y.host) (g.H.Host.marked z.host) (is_some (g.H.Host.told y.host)) (is_some (g.H.Host.told z.host)) y.faults z.faults y.misses z.misses (c.take-yard.ensures.same.charter ∙ c.take-yard.ensures.charter) e.same.ordered
+    (opened_kept c.worker.result y.opened z.opened y.book.history.events z.book.history.events y.begun e.same.opened (lend_adds _ c.worker.result c.args.task.0 y.book.history.events z.book.history.events (g.H.Host.told y.host) (g.H.Host.counts y.host) (g.H.Host.counts z.host) c.lend-lent.result e.history e.none))
+    e.same.marked e.same.tells e.same.faults e.same.misses
 
 pub give-requires-clause-journal : goal.give-requires-clause-journal
 give-requires-clause-journal g c =
@@ -29,7 +29,7 @@ give-requires-clause-journal g c =
     let z = c.lend-lent.new.self in
     let e = c.lend-lent.ensures in
     adds_there (worker_of c.take-yard.new.pass) c.worker.result (taken_of c.take-yard.new.pass) y.book.history.events z.book.history.events c.worker.ensures.number c.take-yard.ensures.taken
-    (lend_adds _ c.worker.result c.args.task.0 y.book.history.events z.book.history.events (g.H.Host.told y.host) (g.H.Host.counts y.host) (g.H.Host.counts z.host) c.lend-lent.result e.same e.none)
+    (lend_adds _ c.worker.result c.args.task.0 y.book.history.events z.book.history.events (g.H.Host.told y.host) (g.H.Host.counts y.host) (g.H.Host.counts z.host) c.lend-lent.result e.history e.none)
 
 pub returns-clause-held : goal.returns-clause-held
 returns-clause-held g c =
@@ -44,7 +44,7 @@ returns-clause-mine g c =
     let y = c.take-yard.result in
     let z = c.lend-lent.new.self in
     let mid = c.take-yard.new.pass in
-    same_turn (taken_of mid) y.book.history.events z.book.history.events (mine_of c.args.pass.now) (mine_of mid) (mine_of c.give.new.pass) c.lend-lent.result c.take-yard.ensures.taken c.take-yard.ensures.lists.1 c.give.ensures.grown c.lend-lent.ensures.same
+    same_turn (taken_of mid) y.book.history.events z.book.history.events (mine_of c.args.pass.now) (mine_of mid) (mine_of c.give.new.pass) c.lend-lent.result c.take-yard.ensures.taken c.take-yard.ensures.lists.1 c.give.ensures.grown c.lend-lent.ensures.history
 
 pub returns-clause-none : goal.returns-clause-none
 returns-clause-none g c =
@@ -63,9 +63,9 @@ returns-clause-inputs g c =
     let mid = c.take-yard.new.pass in
     inputs_turn g.T.Tool.apply (record { ordered = y.ordered; opened = take y.opened y.book.history.events; marked = g.H.Host.marked y.host; tells = is_some (g.H.Host.told y.host); faults = y.faults; misses = y.misses }) (charter_of old) c.worker.result (taken_of mid) y.book.history.events z.book.history.events (mine_of old) (mine_of mid) (mine_of c.give.new.pass)
     c.take-yard.ensures.charter c.take-yard.ensures.taken c.take-yard.ensures.lists.1
-    (lend_adds _ c.worker.result c.args.task.0 y.book.history.events z.book.history.events (g.H.Host.told y.host) (g.H.Host.counts y.host) (g.H.Host.counts z.host) c.lend-lent.result e.same e.none)
+    (lend_adds _ c.worker.result c.args.task.0 y.book.history.events z.book.history.events (g.H.Host.told y.host) (g.H.Host.counts y.host) (g.H.Host.counts z.host) c.lend-lent.result e.history e.none)
     c.give.ensures.grown
-    (lends_so _ g.T.Tool.apply y.ordered.plan c.worker.result c.args.task.0 y.book.history.events z.book.history.events (g.H.Host.told y.host) (g.H.Host.counts y.host) (g.H.Host.counts z.host) c.lend-lent.result e.same e.none)
+    (lends_so _ g.T.Tool.apply y.ordered.plan c.worker.result c.args.task.0 y.book.history.events z.book.history.events (g.H.Host.told y.host) (g.H.Host.counts y.host) (g.H.Host.counts z.host) c.lend-lent.result e.history e.none)
 
 pub returns-clause-asked : goal.returns-clause-asked
 returns-clause-asked g c =
@@ -74,4 +74,4 @@ returns-clause-asked g c =
     let e = c.lend-lent.ensures in
     let mid = c.take-yard.new.pass in
     λ ts. asks_no_turn (taken_of mid) y.book.history.events z.book.history.events (mine_of c.args.pass.now) (mine_of mid) (mine_of c.give.new.pass) ts c.take-yard.ensures.taken c.take-yard.ensures.lists.1 c.give.ensures.grown
-    (lend_asks _ c.worker.result c.args.task.0 y.book.history.events z.book.history.events (g.H.Host.told y.host) (g.H.Host.counts y.host) (g.H.Host.counts z.host) c.lend-lent.result e.same e.none)
+    (lend_asks _ c.worker.result c.args.task.0 y.book.history.events z.book.history.events (g.H.Host.told y.host) (g.H.Host.counts y.host) (g.H.Host.counts z.host) c.lend-lent.result e.history e.none)

@@ -23,9 +23,9 @@ give-requires-clause-charter g c =
     let y = c.take-yard.result in
     let z = c.finish_at.new.yard in
     let e = c.finish_at.ensures in
-    charter_kept _ y.ordered z.ordered (take y.opened y.book.history.events) (take z.opened z.book.history.events) (g.H.Host.marked y.host) (g.H.Host.marked z.host) (is_some (g.H.Host.told y.host)) (is_some (g.H.Host.told z.host)) y.faults z.faults y.misses z.misses (c.take-yard.ensures.same.charter ∙ c.take-yard.ensures.charter) e.ordered
-    (opened_kept c.worker.result y.opened z.opened y.book.history.events z.book.history.events y.begun e.opened (finishes_adds c.worker.result c.args.task.0 (failures_in c.args.filled) y.book.history.events z.book.history.events (ends_finishes c.worker.result c.args.task.0 (failures_in c.args.filled) y.book.history.events z.book.history.events c.finish_at.ensures.ends)))
-    e.marked e.tells e.faults e.misses
+    charter_kept _ y.ordered z.ordered (take y.opened y.book.history.events) (take z.opened z.book.history.events) (g.H.Host.marked y.host) (g.H.Host.marked z.host) (is_some (g.H.Host.told y.host)) (is_some (g.H.Host.told z.host)) y.faults z.faults y.misses z.misses (c.take-yard.ensures.same.charter ∙ c.take-yard.ensures.charter) e.same.ordered
+    (opened_kept c.worker.result y.opened z.opened y.book.history.events z.book.history.events y.begun e.same.opened (finishes_adds c.worker.result c.args.task.0 (failures_in c.args.filled) y.book.history.events z.book.history.events (ends_finishes c.worker.result c.args.task.0 (failures_in c.args.filled) y.book.history.events z.book.history.events c.finish_at.ensures.ends)))
+    e.same.marked e.same.tells e.same.faults e.same.misses
 
 pub give-requires-clause-journal : goal.give-requires-clause-journal
 give-requires-clause-journal g c =

@@ -12,9 +12,9 @@ give-requires-clause-charter g c =
     let y = c.take-yard.result in
     let z = c.lease-leased.new.self in
     let e = c.lease-leased.ensures in
-    charter_kept _ y.ordered z.ordered (take y.opened y.book.history.events) (take z.opened z.book.history.events) (g.H.Host.marked y.host) (g.H.Host.marked z.host) (is_some (g.H.Host.told y.host)) (is_some (g.H.Host.told z.host)) y.faults z.faults y.misses z.misses (c.take-yard.ensures.same.charter ∙ c.take-yard.ensures.charter) e.ordered
-    (opened_kept c.worker.result y.opened z.opened y.book.history.events z.book.history.events y.begun e.opened (lease_adds y.ordered.plan (state_at y.book) c.worker.result y.book.history.events z.book.history.events (g.H.Host.told y.host) (g.H.Host.counts y.host) (g.H.Host.counts z.host) c.lease-leased.result e.leased))
-    e.marked e.tells e.faults e.misses
+    charter_kept _ y.ordered z.ordered (take y.opened y.book.history.events) (take z.opened z.book.history.events) (g.H.Host.marked y.host) (g.H.Host.marked z.host) (is_some (g.H.Host.told y.host)) (is_some (g.H.Host.told z.host)) y.faults z.faults y.misses z.misses (c.take-yard.ensures.same.charter ∙ c.take-yard.ensures.charter) e.same.ordered
+    (opened_kept c.worker.result y.opened z.opened y.book.history.events z.book.history.events y.begun e.same.opened (lease_adds y.ordered.plan (state_at y.book) c.worker.result y.book.history.events z.book.history.events (g.H.Host.told y.host) (g.H.Host.counts y.host) (g.H.Host.counts z.host) c.lease-leased.result e.leased))
+    e.same.marked e.same.tells e.same.faults e.same.misses
 
 pub give-requires-clause-journal : goal.give-requires-clause-journal
 give-requires-clause-journal g c =

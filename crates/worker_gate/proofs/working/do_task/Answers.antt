@@ -37,7 +37,7 @@ finish-requires-clause-can g c =
     let filled = c.fill_with-filled in
     let rs1 = map g.H.Reading.ReadPart.state filled.new.loan.readings.items in
     let ds1 = map g.H.Draft.WritePart.state filled.new.loan.drafts.items in
-    finish_of c.plan_laws.ensures g.T.Tool.apply (c.runs_carry_what_they_compute.ensures g.T.Tool.apply) (charter_of old) (charter_of c.begin.new.pass) c.args.plan.now t rs rs1 ds ds1 (g.T.Tool.faults c.args.crew.now.tool) (g.T.Tool.faults filled.new.tool) filled.result c.begin.ensures.same.charter c.requires.plan c.in-Some.ensures.held filled.ensures.fills
+    finish_of c.plan_laws.ensures g.T.Tool.apply (c.runs_carry_what_they_compute.ensures g.T.Tool.apply) (charter_of old) (charter_of c.begin.new.pass) c.args.plan.now t rs rs1 ds ds1 (g.T.Tool.faults c.args.crew.now.tool) (g.T.Tool.faults filled.new.tool) filled.result c.begin.ensures.keeps.same.charter c.requires.plan c.in-Some.ensures.held filled.ensures.fills
 
 pub finish-requires-clause-inputs : goal.finish-requires-clause-inputs
 finish-requires-clause-inputs g c =
@@ -48,7 +48,7 @@ finish-requires-clause-inputs g c =
     let filled = c.fill_with-filled in
     let rs1 = map g.H.Reading.ReadPart.state filled.new.loan.readings.items in
     let ds1 = map g.H.Draft.WritePart.state filled.new.loan.drafts.items in
-    inputs_of c.plan_laws.ensures g.T.Tool.apply (c.runs_carry_what_they_compute.ensures g.T.Tool.apply) (charter_of old) (charter_of c.begin.new.pass) c.args.plan.now t rs rs1 ds ds1 (g.T.Tool.faults c.args.crew.now.tool) (g.T.Tool.faults filled.new.tool) filled.result c.begin.ensures.same.charter c.requires.plan c.in-Some.ensures.held filled.ensures.fills
+    inputs_of c.plan_laws.ensures g.T.Tool.apply (c.runs_carry_what_they_compute.ensures g.T.Tool.apply) (charter_of old) (charter_of c.begin.new.pass) c.args.plan.now t rs rs1 ds ds1 (g.T.Tool.faults c.args.crew.now.tool) (g.T.Tool.faults filled.new.tool) filled.result c.begin.ensures.keeps.same.charter c.requires.plan c.in-Some.ensures.held filled.ensures.fills
 
 pub returns-clause-asked : goal.returns-clause-asked
 returns-clause-asked g c =

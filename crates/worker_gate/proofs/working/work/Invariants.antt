@@ -1,18 +1,15 @@
 use Rattle.std.proofs.Common.{◌≤◌}
 use Rattle.std.specs.Prelude.{IfSome}
-use Rattle.ruled_lock.specs.Lock.{IsOf}
-use Rattle.ruled_lock.specs.Pass.{IsIdle, IsSamePass, charter_of, mine_of, worker_of}
+use Rattle.ruled_lock.specs.Pass.{charter_of, mine_of, worker_of}
 use Rattle.worker_gate.specs.Asking.{AsksOwn}
 use Rattle.worker_gate.specs.Inputs.{AddsOfInputs}
-use Rattle.worker_gate.specs.Turning.{IsPlanOf, plan_of}
+use Rattle.worker_gate.specs.Turning.{IsPlanOf, KeepsTurn, plan_of}
 use Rattle.worker_gate.specs.Working.{WorksOwn}
 use Rattle.worker_gate.proofs.working.work.Given as goal
 
 abbrev pub invariant-loop : goal.invariant-loop
 invariant-loop g l =
-    IsOf l.lock l.pass
-    × IsIdle l.pass
-    × IsSamePass l.fn.pass l.pass
+    KeepsTurn l.lock l.fn.pass l.pass
     × WorksOwn (worker_of l.fn.pass) (mine_of l.fn.pass) (mine_of l.pass) (g.T.Tool.faults l.fn.crew.tool) (g.T.Tool.faults l.crew.tool)
     × (g.T.Tool.faults l.fn.crew.tool ≤ g.T.Tool.faults l.crew.tool)
     × IsPlanOf (charter_of l.fn.pass) l.plan
