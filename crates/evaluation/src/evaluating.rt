@@ -20,7 +20,7 @@ use replica_catalog::ReplicaCatalog;
 use run_record::RunFault;
 use std::alloc::Global;
 use workflow_core::Workflow;
-use workflow_eval::{EvalFault, evaluate};
+use workflow_eval::{EvalFault, evaluate_in};
 
 /// The source of each file that no job makes, and the tool of each job, by number.
 #[derive(Drop)]
@@ -113,7 +113,7 @@ pub fn values_of<H: Host, T: Tool>(
         Err(fault) => return Err(fault),
     };
     let tools = prepared.tools.as_slice();
-    match evaluate(alloc, workflow, graph, tools, &bases, tool) {
+    match evaluate_in(alloc, workflow, graph, tools, bases, tool) {
         Ok(values) => Ok(values),
         Err(fault) => Err(of_eval_fault(alloc, workflow, fault)),
     }

@@ -22,7 +22,34 @@ impl Shipped {
     }
 }
 
-/// Makes the one output of each transformation but the dealing one.
+/// Makes the one output of each transformation but the dealing one, of its inputs as one.
+fn output_of(
+    alloc: Global,
+    transformation: Transformation,
+    args: &[Text],
+    ins: &[Blob],
+    input: &[u8],
+) -> Result<Blob, ToolFault>
+    requires { input.now ≡ joined ins.now }
+    ensures { Gives (output transformation args.now ins.now input.now) result }
+{
+    match transformation {
+        Transformation::Text => text::make(alloc, args, ins),
+        Transformation::Join => Ok(join::make(alloc, ins)?),
+        Transformation::Take => take::make(alloc, args, input),
+        Transformation::Drop => drop::make(alloc, args, input),
+        Transformation::Deal => Err(ToolFault::Declined),
+        Transformation::Sorted => Ok(sorted::make(alloc, input)?),
+        Transformation::Distinct => Ok(distinct::make(alloc, input)?),
+        Transformation::Count => Ok(count::make(alloc, input)?),
+        Transformation::Holds => holds::make(alloc, args, input),
+        Transformation::Column => column::make(alloc, args, input),
+        Transformation::Total => total::make(alloc, input),
+        Transformation::Digest => Ok(digest::make(alloc, input)?),
+    }
+}
+
+/// Makes that output; a lone input isn't copied before.
 fn output(
     alloc: Global,
     transformation: Transformation,
@@ -31,20 +58,12 @@ fn output(
 ) -> Result<Blob, ToolFault>
     ensures { Gives (output transformation args.now ins.now (joined ins.now)) result }
 {
-    let input = join::make(alloc, ins)?;
-    match transformation {
-        Transformation::Text => text::make(alloc, args, ins),
-        Transformation::Join => Ok(input),
-        Transformation::Take => take::make(alloc, args, input.as_slice()),
-        Transformation::Drop => drop::make(alloc, args, input.as_slice()),
-        Transformation::Deal => Err(ToolFault::Declined),
-        Transformation::Sorted => Ok(sorted::make(alloc, input.as_slice())?),
-        Transformation::Distinct => Ok(distinct::make(alloc, input.as_slice())?),
-        Transformation::Count => Ok(count::make(alloc, input.as_slice())?),
-        Transformation::Holds => holds::make(alloc, args, input.as_slice()),
-        Transformation::Column => column::make(alloc, args, input.as_slice()),
-        Transformation::Total => total::make(alloc, input.as_slice()),
-        Transformation::Digest => Ok(digest::make(alloc, input.as_slice())?),
+    match ins {
+        [input] => output_of(alloc, transformation, args, ins, input.as_slice()),
+        _ => {
+            let input = join::make(alloc, ins)?;
+            output_of(alloc, transformation, args, ins, input.as_slice())
+        }
     }
 }
 

@@ -46,8 +46,40 @@ fn run_job<T: Tool>(
     }
 }
 
-/// The value of each file, by number. `tools` has the tool's name of each job, `base` the bytes of each file that
-/// no job makes. All values are held at once.
+/// The value of each file, by number, over a table with a place for each file: `tools` has the tool's name of each job,
+/// `table` the bytes of each file that no job makes. All values are held at once, and a job's inputs besides.
+pub fn evaluate_in<T: Tool>(
+    alloc: Global,
+    workflow: &Workflow,
+    graph: &Graph,
+    tools: &[Text],
+    table: Vec<Option<Blob>>,
+    tool: &mut T,
+) -> Result<Vec<Blob>, EvalFault>
+    requires well_formed { IsWellFormed workflow.now }
+    requires graph { IsGraphOf workflow.now graph.now }
+    requires tools { length tools.now ≡ length workflow.now.jobs }
+    requires bases { length table.items ≡ length workflow.now.files }
+    requires based { AllBased (basis T.apply tools.now table.items) workflow.now }
+    ensures answer { Evaluates (basis T.apply tools.now table.items) workflow.now graph.now.ordered (Rose (T.faults tool.old) (T.faults tool.new)) result }
+    ensures reached { (j : JobId) → result ≡ Err (ToolFailed j) → IsReached (basis T.apply tools.now table.items) workflow.now graph.now.ordered j }
+    ensures faults { T.faults tool.old ≤ T.faults tool.new }
+{
+    // A law for the proof: it does nothing.
+    values_flow_in_order();
+    let jobs = workflow.jobs.as_slice();
+    let mut table = table;
+    for number in graph.ordered() {
+        let job = &jobs[number.0 as usize];
+        let inputs = copies_of(alloc, &table, job)?;
+        let name = &tools[number.0 as usize];
+        let outputs = run_job(alloc, *number, name, job, &inputs, tool)?;
+        place(&mut table, job, outputs);
+    }
+    Ok(into_blobs(alloc, table)?)
+}
+
+/// As [`evaluate_in`], over a copy of each base.
 pub fn evaluate<T: Tool>(
     alloc: Global,
     workflow: &Workflow,
@@ -65,16 +97,8 @@ pub fn evaluate<T: Tool>(
     ensures reached { (j : JobId) → result ≡ Err (ToolFailed j) → IsReached (basis T.apply tools.now base.now) workflow.now graph.now.ordered j }
     ensures faults { T.faults tool.old ≤ T.faults tool.new }
 {
-    // A law for the proof: it does nothing.
-    values_flow_in_order();
-    let jobs = workflow.jobs.as_slice();
-    let mut table = table_of(alloc, base)?;
-    for number in graph.ordered() {
-        let job = &jobs[number.0 as usize];
-        let inputs = copies_of(alloc, &table, job)?;
-        let name = &tools[number.0 as usize];
-        let outputs = run_job(alloc, *number, name, job, &inputs, tool)?;
-        place(&mut table, job, outputs);
-    }
-    Ok(into_blobs(alloc, table)?)
+    let Ok(table) = table_of(alloc, base) else {
+        return Err(EvalFault::Memory);
+    };
+    evaluate_in(alloc, workflow, graph, tools, table, tool)
 }

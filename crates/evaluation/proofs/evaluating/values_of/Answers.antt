@@ -24,70 +24,70 @@ returns-in-Err-read_bases-clause-answer g c =
     let s = subject c.args.workflow.now c.args.graph.now.ordered c.args.replicas.now.entries c.args.request.now.tools in
     unread_ends (Vec (Option (List ℕ)) Global) m s c.in-Ok.prepared c.in-Err-read_bases.fault (sym c.in-Ok.ensures) (rw c.as_slice.ensures at c.in-Err-read_bases.ensures.answer)
 
-pub evaluate-requires-clause-tools : goal.evaluate-requires-clause-tools
-evaluate-requires-clause-tools g c =
+pub evaluate_in-requires-clause-tools : goal.evaluate_in-requires-clause-tools
+evaluate_in-requires-clause-tools g c =
     let s = subject c.args.workflow.now c.args.graph.now.ordered c.args.replicas.now.entries c.args.request.now.tools in
     ap length c.as_slice-tools.ensures ∙ (is_ready g.T.Tool.known s c.in-Ok.prepared (sym c.in-Ok.ensures)).tools
 
-pub evaluate-requires-clause-bases : goal.evaluate-requires-clause-bases
-evaluate-requires-clause-bases g c =
+pub evaluate_in-requires-clause-bases : goal.evaluate_in-requires-clause-bases
+evaluate_in-requires-clause-bases g c =
     let s = subject c.args.workflow.now c.args.graph.now.ordered c.args.replicas.now.entries c.args.request.now.tools in
     let read = rw c.as_slice.ensures at c.in-Ok-read_bases.ensures.answer in
     let are = are_bases (g.H.Host.told c.args.host.now) c.in-Ok.prepared.sources (g.H.Host.counts c.args.host.now) (g.H.Host.counts c.read_bases.new.host) _ read c.in-Ok-read_bases.bases.items refl in
-    ap length c.deref.ensures.value ∙ are.many ∙ (is_ready g.T.Tool.known s c.in-Ok.prepared (sym c.in-Ok.ensures)).sources.many
+    are.many ∙ (is_ready g.T.Tool.known s c.in-Ok.prepared (sym c.in-Ok.ensures)).sources.many
 
-pub evaluate-requires-clause-based : goal.evaluate-requires-clause-based
-evaluate-requires-clause-based g c =
+pub evaluate_in-requires-clause-based : goal.evaluate_in-requires-clause-based
+evaluate_in-requires-clause-based g c =
     let s = subject c.args.workflow.now c.args.graph.now.ordered c.args.replicas.now.entries c.args.request.now.tools in
     let read = rw c.as_slice.ensures at c.in-Ok-read_bases.ensures.answer in
     let are = are_bases (g.H.Host.told c.args.host.now) c.in-Ok.prepared.sources (g.H.Host.counts c.args.host.now) (g.H.Host.counts c.read_bases.new.host) _ read c.in-Ok-read_bases.bases.items refl in
-    let on_is = basis_is g.T.Tool.apply _ _ _ _ c.as_slice-tools.ensures c.deref.ensures.value in
+    let on_is = basis_is g.T.Tool.apply _ _ c.in-Ok-read_bases.bases.items _ c.as_slice-tools.ensures refl in
     subst (λ (on : Basis). AllBased on c.args.workflow.now) (sym on_is)
     (all_based g.T.Tool.known s c.in-Ok.prepared g.T.Tool.apply c.in-Ok.prepared.tools c.in-Ok-read_bases.bases.items (is_ready g.T.Tool.known s c.in-Ok.prepared (sym c.in-Ok.ensures)) are)
 
-pub returns-in-Ok-evaluate-clause-answer : goal.returns-in-Ok-evaluate-clause-answer
-returns-in-Ok-evaluate-clause-answer g c =
+pub returns-in-Ok-evaluate_in-clause-answer : goal.returns-in-Ok-evaluate_in-clause-answer
+returns-in-Ok-evaluate_in-clause-answer g c =
     let w = c.args.workflow.now in
     let order = c.args.graph.now.ordered in
-    let m = meeting g.H.Host g.T.Tool c.args.host.now c.args.tool.now c.read_bases.new.host c.evaluate.new.tool in
+    let m = meeting g.H.Host g.T.Tool c.args.host.now c.args.tool.now c.read_bases.new.host c.evaluate_in.new.tool in
     let s = subject w order c.args.replicas.now.entries c.args.request.now.tools in
     let on = basis g.T.Tool.apply c.in-Ok.prepared.tools c.in-Ok-read_bases.bases.items in
     let read = rw c.as_slice.ensures at c.in-Ok-read_bases.ensures.answer in
     let has = based m s c.in-Ok.prepared c.in-Ok-read_bases.bases.items (sym c.in-Ok.ensures) read in
-    let on_is = basis_is g.T.Tool.apply _ _ _ _ c.as_slice-tools.ensures c.deref.ensures.value in
-    let rose = Rose (g.T.Tool.faults c.args.tool.now) (g.T.Tool.faults c.evaluate.new.tool) in
-    let values = c.in-Ok-evaluate.values in
-    let evaluated = subst (λ (b : Basis). Evaluates b w order rose (Ok values)) on_is c.in-Ok-evaluate.ensures.answer in
+    let on_is = basis_is g.T.Tool.apply _ _ c.in-Ok-read_bases.bases.items _ c.as_slice-tools.ensures refl in
+    let rose = Rose (g.T.Tool.faults c.args.tool.now) (g.T.Tool.faults c.evaluate_in.new.tool) in
+    let values = c.in-Ok-evaluate_in.values in
+    let evaluated = subst (λ (b : Basis). Evaluates b w order rose (Ok values)) on_is c.in-Ok-evaluate_in.ensures.answer in
     (on, has, evaluated.0, evaluated.1)
 
-pub returns-in-Ok-evaluate-clause-requested : goal.returns-in-Ok-evaluate-clause-requested
-returns-in-Ok-evaluate-clause-requested g c =
+pub returns-in-Ok-evaluate_in-clause-requested : goal.returns-in-Ok-evaluate_in-clause-requested
+returns-in-Ok-evaluate_in-clause-requested g c =
     let w = c.args.workflow.now in
     let order = c.args.graph.now.ordered in
-    let m = meeting g.H.Host g.T.Tool c.args.host.now c.args.tool.now c.read_bases.new.host c.evaluate.new.tool in
+    let m = meeting g.H.Host g.T.Tool c.args.host.now c.args.tool.now c.read_bases.new.host c.evaluate_in.new.tool in
     let s = subject w order c.args.replicas.now.entries c.args.request.now.tools in
     let on = basis g.T.Tool.apply c.in-Ok.prepared.tools c.in-Ok-read_bases.bases.items in
     let read = rw c.as_slice.ensures at c.in-Ok-read_bases.ensures.answer in
     let has = based m s c.in-Ok.prepared c.in-Ok-read_bases.bases.items (sym c.in-Ok.ensures) read in
-    let on_is = basis_is g.T.Tool.apply _ _ _ _ c.as_slice-tools.ensures c.deref.ensures.value in
-    let rose = Rose (g.T.Tool.faults c.args.tool.now) (g.T.Tool.faults c.evaluate.new.tool) in
-    let values = c.in-Ok-evaluate.values in
-    let evaluated = subst (λ (b : Basis). Evaluates b w order rose (Ok values)) on_is c.in-Ok-evaluate.ensures.answer in
+    let on_is = basis_is g.T.Tool.apply _ _ c.in-Ok-read_bases.bases.items _ c.as_slice-tools.ensures refl in
+    let rose = Rose (g.T.Tool.faults c.args.tool.now) (g.T.Tool.faults c.evaluate_in.new.tool) in
+    let values = c.in-Ok-evaluate_in.values in
+    let evaluated = subst (λ (b : Basis). Evaluates b w order rose (Ok values)) on_is c.in-Ok-evaluate_in.ensures.answer in
     values_are m s on values.items has evaluated.0 evaluated.1
 
 pub returns-clause-answer : goal.returns-clause-answer
 returns-clause-answer g c =
     let w = c.args.workflow.now in
     let order = c.args.graph.now.ordered in
-    let m = meeting g.H.Host g.T.Tool c.args.host.now c.args.tool.now c.read_bases.new.host c.evaluate.new.tool in
+    let m = meeting g.H.Host g.T.Tool c.args.host.now c.args.tool.now c.read_bases.new.host c.evaluate_in.new.tool in
     let s = subject w order c.args.replicas.now.entries c.args.request.now.tools in
     let on = basis g.T.Tool.apply c.in-Ok.prepared.tools c.in-Ok-read_bases.bases.items in
     let read = rw c.as_slice.ensures at c.in-Ok-read_bases.ensures.answer in
     let has = based m s c.in-Ok.prepared c.in-Ok-read_bases.bases.items (sym c.in-Ok.ensures) read in
-    let on_is = basis_is g.T.Tool.apply _ _ _ _ c.as_slice-tools.ensures c.deref.ensures.value in
-    let rose = Rose (g.T.Tool.faults c.args.tool.now) (g.T.Tool.faults c.evaluate.new.tool) in
-    let fault = c.in-Err-evaluate.fault in
-    let evaluated = subst (λ (b : Basis). Evaluates b w order rose (Err fault)) on_is c.in-Err-evaluate.ensures.answer in
+    let on_is = basis_is g.T.Tool.apply _ _ c.in-Ok-read_bases.bases.items _ c.as_slice-tools.ensures refl in
+    let rose = Rose (g.T.Tool.faults c.args.tool.now) (g.T.Tool.faults c.evaluate_in.new.tool) in
+    let fault = c.in-Err-evaluate_in.fault in
+    let evaluated = subst (λ (b : Basis). Evaluates b w order rose (Err fault)) on_is c.in-Err-evaluate_in.ensures.answer in
     let reached : (j : JobId) → fault ≡ ToolFailed j → IsReached on w order j =
-    λ j is. subst (λ (b : Basis). IsReached b w order j) on_is (c.in-Err-evaluate.ensures.reached j (ap Err is)) in
+    λ j is. subst (λ (b : Basis). IsReached b w order j) on_is (c.in-Err-evaluate_in.ensures.reached j (ap Err is)) in
     fault_ends m s on fault c.of_eval_fault.result has evaluated reached c.of_eval_fault.ensures
