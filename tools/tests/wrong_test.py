@@ -1,5 +1,7 @@
 """Tests of tools/wrong over small edits: each fault is told; what a stand-in for rt answers is counted, over a copy in which
-the edits stand in must-fail/, and the repository is as it was."""
+the edits stand in must-fail/, and the repository is as it was; edits are put together by the functions that they change,
+and what the stand-in says of each function is read."""
+import importlib.machinery
 import os
 import pathlib
 import shutil
@@ -36,6 +38,93 @@ echo 'rt: must-fail low/c.edit: NOT REFUSED: the crate is still proved with this
 echo 'rt: must-fail low/d.edit: BAD EDIT: it did not reach the prover'
 exit 1
 """
+# A crate with functions in an impl, in one of another file's type, in a trait's impl and in a cycle of calls.
+TOGETHER = {
+    "src/lib.rt": """const MOST: u64 = 4;
+
+pub struct Pair<T: Copy> {
+    first: T,
+}
+
+impl<T: Copy> Pair<T> {
+    pub fn new(first: T) -> Pair<T>
+        ensures { result.first ≡ first }
+    {
+        Pair { first }
+    }
+
+    fn few(
+        &self,
+        count: u64,
+    ) -> bool {
+        let most = MOST;
+        count < most
+    }
+}
+
+#[cycle(back)]
+fn forth(count: u64) -> u64 {
+    back(count)
+}
+""",
+    "src/below/sums.rt": """impl<T: Copy> Pair<T> {
+    fn sum(&self) -> u64 {
+        7
+    }
+}
+
+impl<T: Copy> Sum<u64> for Pair<T>
+where
+    T: Eq,
+{
+    fn whole(&self) -> u64 {
+        8
+    }
+}
+""",
+}
+# Of each edit the file, the old text, the new text, and the name of the function whose edits it joins.
+PLANTS = {
+    "a.edit": ("src/lib.rt", "        Pair { first }", "        Pair { 1 }", "Pair::new"),
+    "b.edit": ("src/lib.rt", "count < most", "count <= most", "Pair::few"),
+    "c.edit": ("src/lib.rt", "let most = MOST", "let most = 2", "Pair::few"),
+    "d.edit": ("src/lib.rt", "= 4", "= 5", None),
+    "e.edit": ("src/lib.rt", "result.first ≡", "result.first ≤", None),
+    "f.edit": ("src/lib.rt", "back(count)", "back(1)", None),
+    "g.edit": ("src/below/sums.rt", "7", "9", "Pair::sum"),
+    "h.edit": ("src/below/sums.rt", "8", "9", "below::sums::PairSum::whole"),
+}
+# Refuses few with `<=` at a goal, few with 2 at a limit and whole by a name of its proof; sum is proved, and new waits for others.
+# The constant of 5 doesn't compile, the clause is refused at a goal, and what forth does is proved.
+CHECK = """#!/usr/bin/env python3
+import pathlib, sys
+lib, sums = (pathlib.Path("src", it).read_text() for it in ("lib.rt", "below/sums.rt"))
+if "= 5" in lib:
+    sys.exit("error[some]: no such constant")
+if "<= most" in lib:
+    print("note: src/lib.rt:18:9: it is not proved that it holds (`returns`)")
+    print("fn mid::Pair::few: no proof: expected answers in ./proofs; `search` did not prove `returns`; it calls `mid::Pair::new`, which is not proved")
+elif "most = 2" in lib:
+    print("note: src/lib.rt:18:9: it is not proved that it holds (`returns`); `search` gave up at one of its limits")
+    print("fn mid::Pair::few: no proof: expected answers in ./proofs; `search` did not prove `returns`")
+if "Pair { 1 }" in lib:
+    print("fn mid::Pair::new: " + ("not proved; it calls `mid::Pair::few`, which is not proved" if "<= most" in lib else "not proved; it is odd"))
+if "≤" in lib:
+    print("fn mid::Pair::new: no proof: expected answers in ./proofs; `search` did not prove `returns`")
+if "9" in sums.partition("whole")[2]:
+    print("proofs/below/sums/PairSum/+whole/Answers.antt:1:1: error: `returns`: `c.eight` is not in scope")
+    print("fn mid::below::sums::PairSum::whole: not proved")
+print("fn mid::Pair::sum: proved")
+print("only=1" if "--only" in sys.argv else "logic=proved " if "9" in sums or "back(1)" in lib else "logic=not-proved")
+"""
+HEARD = """mid/a.edit: refused otherwise: not proved; it is odd
+mid/b.edit: refused at a goal: returns
+mid/g.edit: NOT REFUSED: the crate is still proved with this edit
+mid/h.edit: refused otherwise: only because a proof names what the edit took away: `returns`: `c.eight` is not in scope
+mid/c.edit: refused otherwise: at a limit of the search: returns
+mid/d.edit: BAD: it doesn't compile
+mid/e.edit: refused at a goal: returns
+mid/f.edit: NOT REFUSED: the crate is still proved with this edit"""
 
 
 def call(top, *words, **env):
@@ -76,4 +165,28 @@ assert lines[-2] == "wrong: low/e.edit: NOT TRIED: rt must-fail ended with statu
 assert lines[-1] == "wrong: 1 refused at a goal, 1 refused otherwise, 1 not refused, 1 bad, 1 not tried", lines
 assert (top / "crates/low/out/rlib/stamp").read_text() == "old\n" and (top / "crates/low/wrong/a.edit").exists()
 assert call(top, "high", PATH=path)[0] == 2
-print(f"wrong: ok, {len(FAULTS)} faults")
+
+(top / "crates.txt").write_text("mid:\n")
+for name, text in TOGETHER.items():
+    (top / "crates/mid" / name).parent.mkdir(parents=True, exist_ok=True)
+    (top / "crates/mid" / name).write_text(text)
+(top / "crates/mid/wrong").mkdir()
+for name, (file, old, new, _) in PLANTS.items():
+    (top / "crates/mid/wrong" / name).write_text(f"file: {file}\nold: {old}\nnew: {new}\n")
+sys.dont_write_bytecode = True
+tool = importlib.machinery.SourceFileLoader("wrong", str(top / "tools/wrong")).load_module()
+places = {it.name: tool.place_of(tool.changes_of(it, "mid"), "mid") for it in tool.edits_of("mid", "wrong")[0]}
+assert {it: place and place.name for it, place in places.items()} == {it: plant[3] for it, plant in PLANTS.items()}, places
+groups, others = tool.grouped(places)
+assert [sorted(it.values()) for it in groups] == [["a.edit", "b.edit", "g.edit", "h.edit"], ["c.edit"]], groups
+assert others == ["d.edit", "e.edit", "f.edit"], others
+rt.write_text(CHECK)
+into = work / "into"
+into.mkdir()
+status, lines, said = call(top, "--together", "--into", str(into), PATH=path)
+assert status == 1 and lines[1:-2] == [f"wrong: {it}" for it in HEARD.splitlines()], (lines, said)
+assert lines[-2].startswith("wrong: mid: 8 edits in 7 checks and "), lines
+assert lines[-1] == "wrong: 2 refused at a goal, 3 refused otherwise, 2 not refused, 1 bad, 0 not tried", lines
+assert (into / "mid.txt").read_text().splitlines()[:-1] == HEARD.splitlines() and (into / "mid.log").exists()
+assert (top / "crates/mid/src/lib.rt").read_text() == TOGETHER["src/lib.rt"]
+print(f"wrong: ok, {len(FAULTS)} faults, {len(PLANTS)} edits together")
