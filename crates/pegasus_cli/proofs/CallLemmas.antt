@@ -1,30 +1,24 @@
 -- The clause of a call.
-use Rattle.std.proofs.Common.{◌≡◌, true, ℕ, ◌++◌, List, [], ◌∷◌, length, map, get_or, drop, take, refl, sym, ap, subst, ◌∙◌, inl, inr, arith}
-use Rattle.std.proofs.lemmas.List.{drop_all}
-use Rattle.std.specs.Prelude.{◌⊎◌, Option, Some, None, Err, is_some, option_map, slice_set}
+use Rattle.std.proofs.Common.{◌≡◌, true, ℕ, ◌++◌, List, [], take, refl, sym, ap, subst, ◌∙◌, inl, inr}
+use Rattle.std.specs.Prelude.{◌⊎◌, Option, Some, None, Err, is_some, option_map}
 use Rattle.std.specs.Io.KnownBytes.{Appends, Keeps}
-use Rattle.craft.specs.declared.crew.Crew.{Crew}
-use Rattle.craft.specs.declared.gate.Gate as gate
 use Rattle.outside.specs.Counts.{Rose}
 use Rattle.outside.specs.Sink.{WroteAll}
 use Rattle.outside.specs.declared.sink.SinkFault.{SinkFault}
 use Rattle.outside.specs.declared.sink.SinkFault.TheVariants as sink_faults
-use Rattle.outside.specs.declared.tool.Tool as tool
-use Rattle.plan_run.specs.Moments.{MemberMoment, crew_moment, first_count, member_moment}
+use Rattle.pegasus_commands.specs.Commands.{has_line, spec_of}
+use Rattle.pegasus_commands.specs.CommandSpec.{Does, NoneRoseIn}
+use Rattle.pegasus_commands.specs.Fault.{Answer, not_for}
+use Rattle.pegasus_commands.specs.declared.fault.CallFault.TheVariants.{Memory}
+use Rattle.pegasus_commands.specs.Moments.{DocsMoment}
+use Rattle.command_words.specs.Words.{Command, command as command_of}
+use Rattle.pegasus_commands.proofs.CommandsLemmas.{Laws, finishes, unbegun}
 use Rattle.pegasus_cli.specs.declared.outcome.Outcome.{Outcome}
 use Rattle.pegasus_cli.specs.declared.outcome.Outcome.TheVariants as outcomes
 use Rattle.pegasus_cli.specs.Call.{Ends, IsAnswered, IsDoneBy, IsDoneOrMemory, IsUsage, NoneRose, doing_of}
-use Rattle.pegasus_cli.specs.Commands.{has_line, spec_of}
-use Rattle.pegasus_cli.specs.CommandSpec.{Does, NoneRoseIn}
-use Rattle.pegasus_cli.specs.Fault.{Answer, not_for}
-use Rattle.pegasus_cli.specs.declared.fault.CallFault.TheVariants.{Memory}
-use Rattle.pegasus_cli.specs.Moments.{Call, DocsMoment, Output}
+use Rattle.pegasus_cli.specs.Moments.{Call, Output}
 use Rattle.pegasus_cli.specs.Outcome.{IsAnswer, closing, line_of, outcome_of}
-use Rattle.command_words.specs.declared.commands.Quick.{Quick as QuickWords}
-use Rattle.command_words.specs.declared.commands.Quick.TheVariants as quick_words
-use Rattle.command_words.specs.Words.{Command, command as command_of, quick_members, quick_of}
-use Rattle.pegasus_cli.proofs.CommandsLemmas.{Laws, finishes, unbegun}
-use Rattle.pegasus_cli.proofs.FaultLemmas.{no_usage, outcome_done}
+use Rattle.pegasus_cli.proofs.OutcomeLemmas.{no_usage, outcome_done}
 
 pub ends_as : (o : Output) (text : List ℕ) (a : Outcome) → (a ≡ outcomes.Memory → ⊥) → IsAnswer a → Appends o.before.written o.after.written text → Ends o text a a
 ends_as o text outcomes.Memory m i h = absurd (m refl)
@@ -104,35 +98,3 @@ no_command_is_usage c outcome none answered = came_so answered.came
     came_so : IsUsage c answered.text answered.answer ⊎ IsDoneBy c answered.text answered.answer → answered.answer ≡ outcomes.Usage
     came_so (inl usage) = usage.answers
     came_so (inr came) = absurd (no_command (command_of c.asked.words) came.command came.is_command none)
-
--- the count of the first member of a crew, before and after it worked
-pub first_is : {A : Type 0} (shown : A → MemberMoment) (crew : List A) (first : A) → length crew ≡ 16 → first ≡ get_or crew 0 first → first_count (map shown crew) ≡ (shown first).faults
-first_is shown [] first long is = absurd (omega (arith, long))
-first_is shown (m ∷ ms) first long is = ap (λ x. (shown x).faults) (sym is)
-
-pub first_set : {A : Type 0} (shown : A → MemberMoment) (crew : List A) (first : A) → length crew ≡ 16 → first_count (map shown (slice_set crew 0 first)) ≡ (shown first).faults
-first_set shown [] first long = absurd (omega (arith, long))
-first_set shown (m ∷ ms) first long = refl
-
--- what stays of the first member of a crew stays of all
-pub all_stay : {A B : Type 0} (part : A → B) (crew : List A) (first last : A) → first ≡ get_or crew 0 first → part last ≡ part first → map part (slice_set crew 0 last) ≡ map part crew
-all_stay part [] first last is same = refl
-all_stay part (m ∷ ms) first last is same = ap (λ x. x ∷ map part ms) (same ∙ ap part is)
-
--- where the first member's count and gate stayed, all members show the same
-pub members_stay : {T G : Type 0} (t : tool.Ghosts T) (g : gate.Ghosts G) (crew : List (Crew T G)) (first last : Crew T G) → first ≡ get_or crew 0 first → last.gate ≡ first.gate → t.faults last.tool ≡ t.faults first.tool → crew_moment t g (slice_set crew 0 last) ≡ crew_moment t g crew
-members_stay t g crew first last is gate_same same = all_stay (member_moment t g) crew first last is (λ i. record { faults = same i; asked = Some (g.asked (gate_same i)) })
-
--- what stands behind the first member stays
-pub rest_stays : {A : Type 0} (crew : List A) (last : A) → drop 1 (slice_set crew 0 last) ≡ drop 1 crew
-rest_stays [] last = refl
-rest_stays (m ∷ ms) last = refl
-
--- nothing is left behind sixteen members
-pub none_left : {A : Type 0} (new old : List A) → length new ≡ 16 → length old ≡ 16 → drop 16 new ≡ drop 16 old
-none_left new old a b = drop_all 16 new (omega (arith, a)) ∙ sym (drop_all 16 old (omega (arith, b)))
-
--- every command but the one that goes on from a record works with the first member alone
-pub first_alone : (c : QuickWords) → ((request record_name : _) → c ≡ quick_words.Resume request record_name → ⊥) → quick_members (quick_of c) ≡ 1
-first_alone (quick_words.Resume request record_name) other = absurd (other request record_name refl)
-first_alone c other = refl

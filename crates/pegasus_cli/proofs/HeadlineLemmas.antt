@@ -10,25 +10,26 @@ use Rattle.site_yard.specs.Law.{IsDeliveryOf}
 use Rattle.site_yard.specs.Trace.{trace_of}
 use Rattle.plan_run.specs.Moments.{Tools, Work}
 use Rattle.plan_run.specs.Running.{IsRunText}
+use Rattle.pegasus_commands.specs.Commands.{has_line, spec_of}
+use Rattle.pegasus_commands.specs.Commands.EnsembleRun.{RunsJoint}
+use Rattle.pegasus_commands.specs.Commands.Run.{RunsMany, run}
+use Rattle.pegasus_commands.specs.CommandSpec.{Does}
+use Rattle.pegasus_commands.specs.Ensembles.{Joined}
+use Rattle.pegasus_commands.specs.Fault.{done}
+use Rattle.pegasus_commands.specs.PlanRun.{AreHonestIn, AreSet, DeliversRequested, HasRunPlan, IsUnrun, value_in}
+use Rattle.pegasus_commands.specs.Survey.{GoesOn}
+use Rattle.command_words.specs.Words.{Command, InThreads, Run, command as command_of}
+use Rattle.pegasus_commands.proofs.DeliveryLemmas.{set_carried, set_valued, told_so}
+use Rattle.pegasus_commands.proofs.FaultLemmas.{no_fault_is_done}
+use Rattle.pegasus_commands.proofs.PlanRunLemmas.{ended_reports, ended_tells}
 use Rattle.pegasus_cli.specs.declared.outcome.Outcome.{Outcome}
 use Rattle.pegasus_cli.specs.declared.outcome.Outcome.TheVariants as outcomes
 use Rattle.pegasus_cli.specs.Call.{Ends, IsAnswered, IsDoneBy, IsUsage, doing_of}
-use Rattle.pegasus_cli.specs.Commands.{has_line, spec_of}
-use Rattle.pegasus_cli.specs.Commands.EnsembleRun.{RunsJoint}
-use Rattle.pegasus_cli.specs.Commands.Run.{RunsMany, run}
-use Rattle.pegasus_cli.specs.CommandSpec.{Does}
-use Rattle.pegasus_cli.specs.Ensembles.{Joined}
-use Rattle.pegasus_cli.specs.Fault.{done}
-use Rattle.pegasus_cli.specs.Headline.{AreSet, EndsSo, Headline, HoldsOf}
+use Rattle.pegasus_cli.specs.Headline.{EndsSo, Headline, HoldsOf}
 use Rattle.pegasus_cli.specs.Moments.{Call}
 use Rattle.pegasus_cli.specs.Outcome.{closing, line_of}
-use Rattle.pegasus_cli.specs.PlanRun.{AreHonestIn, DeliversRequested, HasRunPlan, IsUnrun, value_in}
-use Rattle.pegasus_cli.specs.Survey.{GoesOn}
-use Rattle.command_words.specs.Words.{Command, InThreads, Run, command as command_of}
 use Rattle.pegasus_cli.proofs.CallLemmas.{same_command}
-use Rattle.pegasus_cli.proofs.DeliveryLemmas.{set_carried, set_valued, told_so}
-use Rattle.pegasus_cli.proofs.FaultLemmas.{done_is, no_fault_is_done}
-use Rattle.pegasus_cli.proofs.PlanRunLemmas.{ended_reports, ended_tells}
+use Rattle.pegasus_cli.proofs.OutcomeLemmas.{done_is}
 
 pub headline_of : (w : Work) (t : Tools) (n : ℕ) (s : Surveyed) (text : List ℕ) → HasRunPlan w t n s text done → Headline w n s text
 headline_of w t n s text h = record {

@@ -3,14 +3,14 @@ use Rattle.std.specs.Prelude.{◌≡◌, ◌⊎◌, ◌++◌, ℕ, List, take, S
 use Rattle.std.specs.Io.KnownBytes.{Appends, Keeps}
 use Rattle.outside.specs.Counts.{Rose}
 use Rattle.plan_run.specs.Moments.{count_of}
+use Rattle.pegasus_commands.specs.Commands.{has_line, spec_of}
+use Rattle.pegasus_commands.specs.CommandSpec.{Does, Doing, doing}
+use Rattle.pegasus_commands.specs.Fault.{Answer}
+use Rattle.command_words.specs.Words.{Command, command as command_of}
 use Rattle.pegasus_cli.specs.declared.outcome.Outcome.{Outcome}
 use Rattle.pegasus_cli.specs.declared.outcome.Outcome.TheVariants as outcomes
-use Rattle.pegasus_cli.specs.Commands.{has_line, spec_of}
-use Rattle.pegasus_cli.specs.CommandSpec.{Does, Doing, doing}
-use Rattle.pegasus_cli.specs.Fault.{Answer}
 use Rattle.pegasus_cli.specs.Moments.{Call, Output}
 use Rattle.pegasus_cli.specs.Outcome.{closing, line_of, outcome_of}
-use Rattle.command_words.specs.Words.{Command, command as command_of}
 
 -- what a call's command meets
 abbrev pub doing_of : Call → Doing

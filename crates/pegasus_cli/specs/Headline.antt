@@ -1,14 +1,11 @@
 -- What a run by several workers comes to that ended Done, in whatever order they worked.
-use Rattle.std.specs.Prelude.{◌≡◌, ℕ, ◌+◌, ◌≤◌, ◌<◌, ◌++◌, List, take, Option, Some, None, is_some, true}
-use Rattle.std.specs.FinMap as files
+use Rattle.std.specs.Prelude.{◌≡◌, ℕ, ◌+◌, ◌≤◌, ◌<◌, ◌++◌, List, take, Some, None}
 use Rattle.std.specs.Io.KnownBytes.{Appends}
-use Rattle.values.specs.FileMap.{Files}
 use Rattle.values.specs.declared.numbers.TaskId.{TaskId}
 use Rattle.plan_core.specs.declared.plan.Plan.{Plan}
 use Rattle.plan_core.specs.Words.{task_numbers}
 use Rattle.storage_simulation.specs.Goods.{place_bound, places}
 use Rattle.storage_simulation.specs.Ordering.{IsOrder, at_start}
-use Rattle.planner.specs.Deliveries.{IsRequested}
 use Rattle.planner.specs.Planning.{IsPlanOf}
 use Rattle.run_record.specs.Events.{Event}
 use Rattle.lease_rules.specs.Choice.{Safe}
@@ -23,19 +20,14 @@ use Rattle.site_yard.specs.Trace.{trace_of}
 use Rattle.planner.specs.declared.surveyed.Surveyed.{Surveyed}
 use Rattle.plan_run.specs.Moments.{Work}
 use Rattle.plan_run.specs.Running.{AreWithinOutput, IsRunText}
-use Rattle.pegasus_cli.specs.Commands.Plan.{task_limit}
+use Rattle.pegasus_commands.specs.Commands.Plan.{task_limit}
+use Rattle.pegasus_commands.specs.PlanRun.{AreHonestIn, AreSet, ShownBy, value_in}
+use Rattle.pegasus_commands.specs.Survey.{GoesOn}
+use Rattle.command_words.specs.Words.{InThreads, Run, command}
 use Rattle.pegasus_cli.specs.Moments.{Call}
 use Rattle.pegasus_cli.specs.Outcome.{line_of}
-use Rattle.pegasus_cli.specs.PlanRun.{AreHonestIn, ShownBy, lfn, value_in}
-use Rattle.pegasus_cli.specs.Survey.{GoesOn}
-use Rattle.command_words.specs.Words.{InThreads, Run, command}
 use Rattle.pegasus_cli.specs.declared.outcome.Outcome.{Outcome}
 use Rattle.pegasus_cli.specs.declared.outcome.Outcome.TheVariants.{Done}
-
--- Each requested file stands at its name with content of which this holds, and every other name is as it was.
-pub record AreSet (s : Surveyed) (Holds : ℕ → Option (List ℕ) → Type 0) (old new : Files) : Type 0 where
-  pub each : (f : ℕ) → IsRequested s.survey f → is_some (files.get new (lfn s.survey f)) ≡ true × Holds f (files.get new (lfn s.survey f))
-  pub others : (name : List ℕ) → ((f : ℕ) → IsRequested s.survey f → lfn s.survey f ≡ name → ⊥) → files.get new name ≡ files.get old name
 
 pub record Headline (w : Work) (workers : ℕ) (s : Surveyed) (text : List ℕ) : Type 0 where
   -- the plan and the order that are stated for the documents, and the run's one record

@@ -2,18 +2,12 @@
 use Rattle.std.specs.Prelude.{ℕ, List, Option}
 use Rattle.craft.specs.declared.crew.Crew.{Crew}
 use Rattle.craft.specs.declared.gate.Gate as gate
-use Rattle.values.specs.FileMap.{Files}
-use Rattle.outside.specs.declared.counts.Counts.{Counts}
 use Rattle.outside.specs.declared.docs.Docs as docs
 use Rattle.outside.specs.declared.host.Host as host
 use Rattle.outside.specs.declared.sink.Sink as sink
 use Rattle.outside.specs.declared.tool.Tool as tool
-use Rattle.plan_run.specs.Moments.{Tools, Work, WorkMoment, counting, crew_moment, first_count, work_moment, working}
-
--- the documents, where they are told, and how often they were asked for
-pub record DocsMoment : Type 0 where
-  pub told : Option Files
-  pub counts : Counts
+use Rattle.plan_run.specs.Moments.{Tools, Work, counting, crew_moment, first_count, work_moment, working}
+use Rattle.pegasus_commands.specs.Moments.{DocsMoment, docs_moment}
 
 -- the bytes written, where they are told, and how often the sink has failed
 pub record SinkMoment : Type 0 where
@@ -37,16 +31,9 @@ pub record Call : Type 0 where
   pub tools : Tools
   pub output : Output
 
--- the moments of these objects, by their bounds' ghost members
-abbrev pub docs_moment : {D : Type 0} → docs.Ghosts D → D → DocsMoment
-docs_moment g d = record { told = g.told d; counts = g.counts d }
-
+-- the moment of these objects, by their bound's ghost members
 abbrev pub sink_moment : {K : Type 0} → sink.Ghosts K → K → SinkMoment
 sink_moment g k = record { written = g.written k; faults = g.faults k }
-
--- a moment of the work, with this count of the first tool
-abbrev pub with_tool : WorkMoment → ℕ → WorkMoment
-with_tool m n = record { told = m.told; counts = m.counts; tool = n }
 
 -- a call, by its parts
 abbrev pub asking : List (List ℕ) → DocsMoment → DocsMoment → Asked

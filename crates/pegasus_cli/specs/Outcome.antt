@@ -1,14 +1,14 @@
 -- The line of an outcome, and its status.
 use Rattle.std.specs.Prelude.{ℕ, ◌++◌, Bool, false, List, [], codes, Ok, Err}
 use Rattle.values.specs.Printed.{printed_name}
-use Rattle.pegasus_cli.specs.declared.fault.CallFault.TheVariants as faults
-use Rattle.pegasus_cli.specs.declared.outcome.Outcome.{Outcome}
-use Rattle.pegasus_cli.specs.declared.outcome.Outcome.TheVariants.{Done, Memory, Usage, DocAbsent, DocTooLong, DocFailed, Refused, Exceeds, Failed, BadRecord, IllegalRecord, RefusedEnsemble, RefusedMember, SinkFailed}
+use Rattle.pegasus_commands.specs.declared.fault.CallFault.TheVariants as faults
 use Rattle.values.specs.declared.numbers.TaskId.{TaskId}
 use Rattle.planner.specs.Refused.{and_name, and_number, refused_line}
 use Rattle.run_record.specs.FailedLine.{failed_line}
+use Rattle.pegasus_commands.specs.Fault.{Answer}
+use Rattle.pegasus_cli.specs.declared.outcome.Outcome.{Outcome}
+use Rattle.pegasus_cli.specs.declared.outcome.Outcome.TheVariants.{Done, Memory, Usage, DocAbsent, DocTooLong, DocFailed, Refused, Exceeds, Failed, BadRecord, IllegalRecord, RefusedEnsemble, RefusedMember, SinkFailed}
 use Rattle.pegasus_cli.specs.EnsembleLine.{ensemble_line, member_line}
-use Rattle.pegasus_cli.specs.Fault.{Answer}
 
 abbrev pub exceeds_line : List ℕ → TaskId → ℕ → ℕ → List ℕ
 exceeds_line site task needed bound = codes "exceeds" ++ and_name site ++ and_number task.0 ++ and_number needed ++ and_number bound ++ codes "\n"

@@ -2,18 +2,18 @@
 
 ghost use Rattle.std.specs.Prelude.{◌≡◌, ◌++◌, drop, false, length, map as list_map, string_bytes};
 ghost use Rattle.craft.specs.declared.crew.Crew.{Crew};
+ghost use Rattle.command_words.specs.Words.{command, is_threaded, members_of};
 ghost use Rattle.pegasus_cli.specs.declared.outcome.Outcome.TheVariants.{Usage as IsNoCommand};
 ghost use Rattle.pegasus_cli.specs.Call.{Ends, IsAnswered};
 ghost use Rattle.pegasus_cli.specs.Moments.{call_of, objects, sink_moment, writing};
 ghost use Rattle.pegasus_cli.specs.Outcome.{IsAnswer, closing, line_of, outcome_of};
-ghost use Rattle.command_words.specs.Words.{command, is_threaded, members_of};
 
-use crate::commands::{Told, has_line, work};
 use crate::outcome::{Outcome, of_answer, push_closing};
 use command_words::quick_command;
 use craft::{Crew, Gate};
 use evaluation::evaluations_finish;
 use outside::{Docs, Host, Memory, Sink, SinkFault, Tool, write_all};
+use pegasus_commands::{Told, has_line, work};
 use plan_run::runs_finish;
 use resume_run::resumes_finish;
 use run_record::{malformed_line_is_one, text_is_of_one_record};

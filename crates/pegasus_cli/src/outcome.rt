@@ -4,9 +4,9 @@ ghost use Rattle.std.specs.Prelude.{◌≡◌, ◌++◌, OnOk};
 ghost use Rattle.pegasus_cli.specs.Outcome.{IsAnswer, closing, exceeds_line, line_of, outcome_of};
 
 use crate::ensemble_line::{push_ensemble, push_member};
-use crate::fault::CallFault;
 use ensemble::EnsembleFault;
 use outside::{Memory, TaskId, Text, Word, push_line};
+use pegasus_commands::CallFault;
 use planner::{PlanFault, push_refused};
 use rehearsal::Rehearsal;
 use run_record::{RunFault, push_failed};

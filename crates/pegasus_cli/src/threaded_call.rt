@@ -2,18 +2,18 @@
 
 ghost use Rattle.std.specs.Prelude.{◌≡◌, drop, false, length, map as list_map, string_bytes, true};
 ghost use Rattle.craft.specs.declared.crew.Crew.{Crew};
+ghost use Rattle.command_words.specs.Words.{command, is_threaded, members_of};
 ghost use Rattle.pegasus_cli.specs.Call.{IsAnswered};
 ghost use Rattle.pegasus_cli.specs.Headline.{HoldsOf};
 ghost use Rattle.pegasus_cli.specs.Moments.{call_of, objects};
-ghost use Rattle.command_words.specs.Words.{command, is_threaded, members_of};
 
 use crate::call::{answer, quick, refuse_words};
-use crate::commands::work_in_threads;
 use crate::outcome::Outcome;
 use command_words::{threaded, threaded_command};
 use craft::{Crew, Gate};
 use evaluation::evaluations_finish;
 use outside::{Docs, Host, Memory, Sink, Tool};
+use pegasus_commands::work_in_threads;
 use plan_run::runs_finish;
 use resume_run::resumes_finish;
 use run_record::{malformed_line_is_one, text_is_of_one_record};
@@ -99,7 +99,8 @@ where
     ensures crew { length result.2.items ≡ 16 }
     ensures others { let used = members_of (command (list_map string_bytes words.now)) in
         drop used result.2.items ≡ drop used crew.items }
-    ensures gates { is_threaded (list_map string_bytes words.now) ≡ false → list_map (λ (c : Crew T G). c.gate) result.2.items ≡ list_map (λ (c : Crew T G). c.gate) crew.items }
+    ensures gates { is_threaded (list_map string_bytes words.now) ≡ false
+        → list_map (λ (c : Crew T G). c.gate) result.2.items ≡ list_map (λ (c : Crew T G). c.gate) crew.items }
 {
     if threaded(words) {
         in_threads(rt, alloc, words, docs, out, host, crew)

@@ -1,4 +1,4 @@
-use Rattle.pegasus_cli.proofs.AuditLemmas.{judged_so}
+use Rattle.pegasus_commands.proofs.AuditLemmas.{judged_so}
 use Rattle.pegasus_cli.proofs.law.printed_runs_are_complete.Goals as goal
 
 pub returns : goal.returns

@@ -1,5 +1,5 @@
-use Rattle.pegasus_cli.specs.Course.{documents}
-use Rattle.pegasus_cli.proofs.CourseLemmas.{told_gives}
+use Rattle.pegasus_commands.specs.Course.{documents}
+use Rattle.pegasus_commands.proofs.CourseLemmas.{told_gives}
 use Rattle.pegasus_cli.proofs.law.told_documents_decide.Goals as goal
 
 pub returns : goal.returns

@@ -1,9 +1,0 @@
-use Rattle.pegasus_cli.specs.Commands.Audit.{CanJudge, Judges, PrintsVerdict}
-use Rattle.pegasus_cli.proofs.RecordedLemmas.{record_stops, record_works}
-use Rattle.pegasus_cli.proofs.commands.audit.work.Goals as goal
-
-pub returns-in-Err : goal.returns-in-Err
-returns-in-Err g c = λ w t same unused. record_stops c.args.name.now c.args.history.now (Judges PrintsVerdict) CanJudge _ _ _ c.in-Err.fault c.in-Err.ensures c.at_once.ensures.answer same unused c.at_once.ensures.text
-
-pub returns-in-Ok : goal.returns-in-Ok
-returns-in-Ok g c = λ w t same unused. record_works c.args.name.now c.args.history.now (Judges PrintsVerdict) CanJudge _ _ _ c.in-Ok.recorded c.in-Ok.ensures (record { untouched = same; says = c.judged_text.ensures })

@@ -1,7 +1,0 @@
-use Rattle.std.proofs.Common.{drop}
-use Rattle.pegasus_cli.specs.Moments.{docs_moment}
-use Rattle.pegasus_cli.proofs.EnsemblesLemmas.{AreSoFar}
-use Rattle.pegasus_cli.proofs.ensembles.read_members.Given as goal
-
-abbrev pub invariant-loop-entry : goal.invariant-loop-entry
-invariant-loop-entry g l = AreSoFar l.ensemble l.entry-items (docs_moment g.D.Docs l.initial.docs) (docs_moment g.D.Docs l.docs) (drop l.entry-index l.entry-items) l.members.items

@@ -1,0 +1,9 @@
+use Rattle.pegasus_commands.specs.Commands.Check.{Checks}
+use Rattle.pegasus_commands.proofs.SurveyLemmas.{survey_stops, survey_works}
+use Rattle.pegasus_commands.proofs.commands.check.work.Goals as goal
+
+pub returns-in-Err : goal.returns-in-Err
+returns-in-Err g c = λ w t same unused. survey_stops c.args.name.now Checks (λ w s. Unit {0}) _ _ _ c.in-Err.fault c.in-Err.ensures c.at_once.ensures.answer same unused c.at_once.ensures.text
+
+pub returns-in-Ok-check_text : goal.returns-in-Ok-check_text
+returns-in-Ok-check_text g c = λ w t same unused. survey_works c.args.name.now Checks (λ w s. Unit {0}) _ _ _ c.in-Ok.surveyed c.in-Ok.ensures (record { untouched = same; says = c.in-Ok-check_text.ensures })

@@ -1,0 +1,68 @@
+//! `eval`.
+
+ghost use Rattle.std.specs.Prelude.{◌≡◌};
+ghost use Rattle.plan_run.specs.Moments.{Tools, work_moment, working};
+ghost use Rattle.pegasus_commands.specs.Commands.Eval.{Evaluates, eval};
+ghost use Rattle.pegasus_commands.specs.CommandSpec.{Does, OfFirst, doing};
+ghost use Rattle.pegasus_commands.specs.Moments.{docs_moment};
+
+use crate::commands::{Told, at_once};
+use crate::fault::{CallFault, of_evaluation_fault};
+use crate::survey::read_survey;
+use evaluation::{value_text, values_of};
+use outside::{Docs, Host, Memory, Tool};
+use planner::Surveyed;
+use std::alloc::Global;
+
+/// The lines of the requested files' values, or why there are none.
+fn values_text<H: Host, T: Tool>(
+    alloc: Global,
+    surveyed: &Surveyed,
+    host: &mut H,
+    tool: &mut T,
+) -> Told
+    ensures { (t : Tools) → Evaluates (working T.apply T.known (work_moment H.Host host.old (T.faults tool.old))
+        (work_moment H.Host host.new (T.faults tool.new)))
+        t surveyed.now result.text.items result.answer }
+{
+    let survey = &surveyed.survey;
+    let workflow = &survey.workflow;
+    let values = match values_of(
+        alloc,
+        workflow,
+        &survey.graph,
+        &survey.replicas,
+        &surveyed.request,
+        host,
+        tool,
+    ) {
+        Ok(values) => values,
+        Err(fault) => return at_once(alloc, of_evaluation_fault(fault)),
+    };
+    match value_text(alloc, workflow, &values) {
+        Ok(text) => Told {
+            answer: Ok(None),
+            text,
+        },
+        Err(Memory) => at_once(alloc, CallFault::Memory),
+    }
+}
+
+pub(crate) fn work<D: Docs, H: Host, T: Tool>(
+    alloc: Global,
+    name: &str,
+    docs: &mut D,
+    host: &mut H,
+    tool: &mut T,
+) -> Told
+    ensures { let w = working T.apply T.known (work_moment H.Host host.old (T.faults tool.old))
+        (work_moment H.Host host.new (T.faults tool.new)) in
+        (t : Tools) → OfFirst w t
+        → Does (eval name.now) (doing (docs_moment D.Docs docs.old) (docs_moment D.Docs docs.new) w t)
+        result.text.items result.answer }
+{
+    match read_survey(alloc, docs, name) {
+        Ok(surveyed) => values_text(alloc, &surveyed, host, tool),
+        Err(fault) => at_once(alloc, fault),
+    }
+}

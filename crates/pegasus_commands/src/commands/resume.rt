@@ -1,0 +1,93 @@
+//! `resume`.
+
+ghost use Rattle.std.specs.Prelude.{◌≡◌, length, map};
+ghost use Rattle.craft.specs.declared.crew.Crew.{Crew};
+ghost use Rattle.plan_run.specs.Moments.{counting, crew_moment, first_count, work_moment, working};
+ghost use Rattle.pegasus_commands.specs.Commands.Resume.{ResumesPlan, resume};
+ghost use Rattle.pegasus_commands.specs.CommandSpec.{Does, doing};
+ghost use Rattle.pegasus_commands.specs.Fault.{resumed_answer};
+ghost use Rattle.pegasus_commands.specs.Moments.{docs_moment};
+
+use crate::commands::{Told, Worked};
+use crate::fault::of_resume_fault;
+use crate::judging::record_in;
+use crate::ready_plan::{ready_plan, unrun};
+use crate::recorded::{Recorded, read_recorded};
+use craft::{Crew, Gate};
+use lease_rules::ordered_plans_fit;
+use outside::{Docs, Host, Tool};
+use planner::plans_deliver_requests;
+use resume_run::{Resumed, resume_plan};
+use site_yard::complete_records_deliver;
+use std::alloc::Global;
+
+/// What a command tells of a run that was gone on with.
+fn ended<H: Host>(resumed: Resumed<H>) -> Worked<H>
+    ensures answer { result.told.answer ≡ resumed_answer resumed.end }
+    ensures text { result.told.text.items ≡ resumed.text.items }
+    ensures host { result.host ≡ resumed.host }
+{
+    let Resumed { end, text, host } = resumed;
+    let answer = match end {
+        Ok(()) => Ok(None),
+        Err(fault) => Err(of_resume_fault(fault)),
+    };
+    Worked {
+        told: Told { answer, text },
+        host,
+    }
+}
+
+/// Goes on with a run of the plan of a surveyed request, from the record that was read.
+fn resume_recorded<H: Host, T: Tool, G: Gate>(
+    alloc: Global,
+    recorded: &Recorded,
+    host: H,
+    crew: &mut Vec<Crew<T, G>>,
+) -> Worked<H>
+    requires crew { length crew.old.items ≡ 16 }
+    ensures works { let before = crew_moment T.Tool G.Gate crew.old.items in
+        let after = crew_moment T.Tool G.Gate crew.new.items in
+        ResumesPlan (working T.apply T.known (work_moment H.Host host (first_count before))
+        (work_moment H.Host result.host (first_count after)))
+        (counting before after) recorded.now result.told.text.items result.told.answer }
+    ensures crew { length crew.new.items ≡ 16 }
+    ensures gates { map (λ (c : Crew T G). c.gate) crew.new.items ≡ map (λ (c : Crew T G). c.gate) crew.old.items }
+{
+    // Laws for the proof: they do nothing.
+    ordered_plans_fit();
+    plans_deliver_requests();
+    complete_records_deliver();
+    let ordered = match ready_plan(alloc, &recorded.surveyed, &crew[0].tool) {
+        Ok(ordered) => ordered,
+        Err(fault) => return unrun(alloc, fault, host),
+    };
+    match record_in(alloc, &recorded.bytes) {
+        Ok(history) => ended(resume_plan(alloc, ordered, &history, host, crew)),
+        Err(fault) => unrun(alloc, fault, host),
+    }
+}
+
+pub(crate) fn work<D: Docs, H: Host, T: Tool, G: Gate>(
+    alloc: Global,
+    name: &str,
+    history: &str,
+    docs: &mut D,
+    host: H,
+    crew: &mut Vec<Crew<T, G>>,
+) -> Worked<H>
+    requires crew { length crew.old.items ≡ 16 }
+    ensures does { let before = crew_moment T.Tool G.Gate crew.old.items in
+        let after = crew_moment T.Tool G.Gate crew.new.items in
+        Does (resume name.now history.now) (doing (docs_moment D.Docs docs.old) (docs_moment D.Docs docs.new)
+        (working T.apply T.known (work_moment H.Host host (first_count before))
+        (work_moment H.Host result.host (first_count after)))
+        (counting before after)) result.told.text.items result.told.answer }
+    ensures crew { length crew.new.items ≡ 16 }
+    ensures gates { map (λ (c : Crew T G). c.gate) crew.new.items ≡ map (λ (c : Crew T G). c.gate) crew.old.items }
+{
+    match read_recorded(alloc, docs, name, history) {
+        Ok(recorded) => resume_recorded(alloc, &recorded, host, crew),
+        Err(fault) => unrun(alloc, fault, host),
+    }
+}
