@@ -35,7 +35,7 @@ fn output_of(
 {
     match transformation {
         Transformation::Text => text::make(alloc, args, ins),
-        Transformation::Join => Ok(join::make(alloc, ins)?),
+        Transformation::Join => Ok(Blob::copy_of(alloc, input)?),
         Transformation::Take => take::make(alloc, args, input),
         Transformation::Drop => drop::make(alloc, args, input),
         Transformation::Deal => Err(ToolFault::Declined),
@@ -49,7 +49,7 @@ fn output_of(
     }
 }
 
-/// Makes that output; a lone input isn't copied before.
+/// Makes that output. A lone input isn't put together before, and several are put together once.
 fn output(
     alloc: Global,
     transformation: Transformation,
@@ -58,12 +58,13 @@ fn output(
 ) -> Result<Blob, ToolFault>
     ensures { Gives (output transformation args.now ins.now (joined ins.now)) result }
 {
-    match ins {
-        [input] => output_of(alloc, transformation, args, ins, input.as_slice()),
-        _ => {
-            let input = join::make(alloc, ins)?;
-            output_of(alloc, transformation, args, ins, input.as_slice())
-        }
+    if let [input] = ins {
+        return output_of(alloc, transformation, args, ins, input.as_slice());
+    }
+    let input = join::make(alloc, ins)?;
+    match transformation {
+        Transformation::Join => Ok(input),
+        _ => output_of(alloc, transformation, args, ins, input.as_slice()),
     }
 }
 
