@@ -159,7 +159,7 @@ fn pieces_of<I: ReadPart>(reading: &mut I) -> Result<[usize; 3], HostFault> {
     Ok([first, second, third])
 }
 
-/// Publishes a draft of two bytes once three more were appended, beside another one that is discarded; tells what came of
+/// Publishes a draft of two bytes once three more were appended, after another one was discarded; tells what came of
 /// an append past the limit, and of a look at the site before the publication.
 fn published<H: Host>(
     alloc: Global,
@@ -243,30 +243,46 @@ fn published_in_turn<H: Host, R: Files>(
 #[test]
 fn two_drafts_of_one_name(rt: HostRuntime) -> Result<(), Fail> {
     let alloc = rt.alloc();
-    let site = "host_files_parts";
     fs::write(&rt, "host_files_elsewhere", "hello")?;
     fs::write(&rt, ".pegasus.part.1", "of an earlier run")?;
     symlink(&rt, "host_files_elsewhere", ".pegasus.part.2")?;
     let mut host = FolderHost::new(rt);
-    let [both, one, two] = published_in_turn(&rt, alloc, &mut host, site)?;
+    let [both, one, two] = published_in_turn(&rt, alloc, &mut host, "host_files_parts")?;
     assert!(rt; both == [None, Some(3), Some(5)]);
     assert!(rt; one == [Some(5), Some(3), None]);
     assert!(rt; two == [Some(3), None, None]);
-    fs::write(&rt, ".pegasus.part.1", "left by a run that was killed")?;
-    let mut last = FolderHost::new(rt);
-    let discarded = drafted(alloc, &mut last, site, b"five!")?;
-    let written = standing(&rt);
-    last.discard(discarded);
-    assert!(rt; written == [Some(3), Some(5), None]);
-    assert!(rt; standing(&rt) == [Some(3), None, None]);
     assert_eq!(rt;
         fs::read_to_string(&rt, "host_files_elsewhere")?.as_str(),
         "hello"
     );
     assert_eq!(rt; host.faults(), 0);
-    assert_eq!(rt; last.faults(), 0);
     fs::remove_dir_all(&rt, "sites/host_files_parts")?;
     fs::remove_file(&rt, "host_files_elsewhere")?;
+    Ok(())
+}
+
+/// What stands while a draft is there, and once it was discarded.
+fn discarded<H: Host, R: Files>(
+    rt: &R,
+    alloc: Global,
+    host: &mut H,
+    site: &str,
+) -> Result<[[Option<u64>; 3]; 2], HostFault> {
+    let draft = drafted(alloc, host, site, b"five!")?;
+    let written = standing(rt);
+    host.discard(draft);
+    Ok([written, standing(rt)])
+}
+
+#[test]
+fn draft_that_a_killed_run_left(rt: HostRuntime) -> Result<(), Fail> {
+    let alloc = rt.alloc();
+    fs::write(&rt, ".pegasus.part.1", "left by a run that was killed")?;
+    let mut host = FolderHost::new(rt);
+    let [written, left] = discarded(&rt, alloc, &mut host, "host_files_parts")?;
+    assert!(rt; written == [None, Some(5), None]);
+    assert!(rt; left == [None, None, None]);
+    assert_eq!(rt; host.faults(), 0);
     Ok(())
 }
 

@@ -11,6 +11,7 @@ use lease_book::{Book, Next};
 use plan_core::{Plan, check};
 use run_record::{Cause, print};
 use std::alloc::Global;
+use std::process::Abort;
 use std::test::Fail;
 use storage_simulation::order;
 use values::{Memory, Policy, SiteId, TaskId};
@@ -335,24 +336,54 @@ const FRESH_ORDER: Case = Case {
     ..KEPT_ORDER
 };
 
-const CASES: [Case; 9] = [
-    WAITS_AT_30,
-    LEASES_AT_40,
-    SMALL_END,
-    LARGE_END,
-    TWO_CHAINS,
-    CLEAN_FAILS_TWICE,
-    PUBLISH_TRIED_AGAIN,
-    KEPT_ORDER,
-    FRESH_ORDER,
-];
+/// Whether a book goes on as a case says.
+fn goes_right(rt: &impl Abort, alloc: Global, case: &Case) -> Result<(), Fail> {
+    let name = case.name;
+    assert!(rt; is_right(alloc, case)?, "{name}");
+    Ok(())
+}
 
 #[test]
-fn books_go_on(rt: HostRuntime) -> Result<(), Fail> {
-    let alloc = rt.alloc();
-    for case in &CASES {
-        let name = case.name;
-        assert!(rt; is_right(alloc, case)?, "{name}");
-    }
-    Ok(())
+fn book_waits_at_30(rt: HostRuntime) -> Result<(), Fail> {
+    goes_right(&rt, rt.alloc(), &WAITS_AT_30)
+}
+
+#[test]
+fn book_leases_at_40(rt: HostRuntime) -> Result<(), Fail> {
+    goes_right(&rt, rt.alloc(), &LEASES_AT_40)
+}
+
+#[test]
+fn small_end_leaves_room(rt: HostRuntime) -> Result<(), Fail> {
+    goes_right(&rt, rt.alloc(), &SMALL_END)
+}
+
+#[test]
+fn large_end_leaves_none(rt: HostRuntime) -> Result<(), Fail> {
+    goes_right(&rt, rt.alloc(), &LARGE_END)
+}
+
+#[test]
+fn two_chains_in_order(rt: HostRuntime) -> Result<(), Fail> {
+    goes_right(&rt, rt.alloc(), &TWO_CHAINS)
+}
+
+#[test]
+fn clean_fails_twice(rt: HostRuntime) -> Result<(), Fail> {
+    goes_right(&rt, rt.alloc(), &CLEAN_FAILS_TWICE)
+}
+
+#[test]
+fn publish_tried_again(rt: HostRuntime) -> Result<(), Fail> {
+    goes_right(&rt, rt.alloc(), &PUBLISH_TRIED_AGAIN)
+}
+
+#[test]
+fn kept_order_waits(rt: HostRuntime) -> Result<(), Fail> {
+    goes_right(&rt, rt.alloc(), &KEPT_ORDER)
+}
+
+#[test]
+fn fresh_order_goes_on(rt: HostRuntime) -> Result<(), Fail> {
+    goes_right(&rt, rt.alloc(), &FRESH_ORDER)
 }
