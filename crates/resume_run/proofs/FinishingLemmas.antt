@@ -14,7 +14,6 @@ use Rattle.lease_rules.specs.State.{opened}
 use Rattle.run_record.specs.Events.{Event}
 use Rattle.run_record.specs.declared.run_fault.RunFault.{RunFault}
 use Rattle.run_record.specs.declared.run_fault.RunFault.TheVariants as faults
-use Rattle.record_audit.specs.Verdict.{IsIllegalAt}
 use Rattle.record_audit.proofs.LawLemmas.{legal_at}
 use Rattle.site_yard.specs.Ending.{first_fault}
 use Rattle.site_yard.specs.Failures.{AreCounted, IsMore, RoseBy, host_faults, tool_faults}
@@ -23,7 +22,7 @@ use Rattle.site_yard.specs.Kept.{IsOpening}
 use Rattle.site_yard.specs.Law.{AgreesSince, Holds}
 use Rattle.site_yard.specs.Loan.{at_pair}
 use Rattle.site_yard.specs.Opening.{fault_of_opening}
-use Rattle.site_yard.specs.Reopening.{AreRecorded, IsLackingAt, IsLongAt, RefusesAgain, recorded_size}
+use Rattle.site_yard.specs.Reopening.{AreRecorded, IsLackingAt, IsLongAt, RefusesAgain}
 use Rattle.site_yard.specs.Truthful.{Truthful}
 use Rattle.site_yard.specs.declared.opening.OpenFault.{OpenFault}
 use Rattle.site_yard.specs.declared.opening.OpenFault.TheVariants as openings

@@ -1,16 +1,15 @@
 -- A run that is gone on with: what its yard's record, its host and its tools say of it.
-use Rattle.std.proofs.Common.{◌≡◌, ◌⊎◌, ℕ, zero, suc, ◌+◌, ◌-◌, ◌^◌, ◌≤◌, ◌<◌, true, false, List, [], ◌∷◌, ◌++◌, length, map, take, drop, refl, sym, ap, subst, ◌∙◌, inl, inr, arith}
+use Rattle.std.proofs.Common.{◌≡◌, ◌⊎◌, ℕ, zero, suc, ◌+◌, ◌-◌, ◌≤◌, ◌<◌, true, false, List, [], ◌∷◌, ◌++◌, length, map, take, drop, refl, sym, ap, subst, ◌∙◌, inl, inr, arith}
 use Rattle.std.specs.Prelude.{Option, Some, None, Ok, Err, IfSome, MatchOption, is_some, option_map}
 use Rattle.std.proofs.Math.Seq.{drop-append_seam, take-append_seam}
 use Rattle.std.proofs.lemmas.List.{append-nil}
-use Rattle.outside.specs.Counts.{IsLater}
 use Rattle.values.specs.Apply.{Apply}
 use Rattle.values.specs.declared.numbers.TaskId.{TaskId}
 use Rattle.outside.specs.declared.counts.Counts.{Counts}
 use Rattle.outside.specs.declared.store.Store.{Store}
 use Rattle.plan_core.specs.declared.plan.Plan.{Plan}
 use Rattle.plan_core.specs.Numbers.{or_else}
-use Rattle.plan_core.specs.Words.{count_pairs, task_numbers}
+use Rattle.plan_core.specs.Words.{task_numbers}
 use Rattle.storage_simulation.specs.declared.standing.Held.{Held}
 use Rattle.run_record.specs.Events.{Event, Grant, Arrive, End as Ended, Clean, Fail, Again, Regrant}
 use Rattle.run_record.specs.RecordText.{AreEntries}
@@ -24,7 +23,7 @@ use Rattle.site_yard.specs.Changes.{carries}
 use Rattle.site_yard.specs.Delivered.{AreDigests, AreFiles, AreLengths, AreOfBytes, arrivals}
 use Rattle.site_yard.specs.Ending.{Ends, failed_in, first_failed, first_fault, fault_of}
 use Rattle.site_yard.specs.declared.ending.Failed.{Failed}
-use Rattle.site_yard.specs.Failures.{AreCounted, AreMore, IsMore, RoseBy, host_faults, host_misses, tool_faults}
+use Rattle.site_yard.specs.Failures.{AreCounted, AreMore, IsMore, RoseBy, tool_faults}
 use Rattle.site_yard.specs.Faults.{AllBelow}
 use Rattle.site_yard.specs.Kept.{IsOpening}
 use Rattle.site_yard.specs.Law.{AgreesSince}
@@ -43,7 +42,7 @@ use Rattle.plan_run.specs.Running.{marked_if}
 use Rattle.plan_run.specs.RunText.{run_text}
 use Rattle.plan_run.proofs.RunningLemmas.{HasLaws}
 use Rattle.resume_run.specs.Replaying.{HasFollowed, without_fails}
-use Rattle.resume_run.specs.Resuming.{AreDeliveriesSince, End, EndsAs, HasGoneOn, IsRefusal, IsReopened, IsResumedText, IsResumption, IsShownSince, Reports, ShowsFailures, TakesCalls, Tells, WasRefused, held_after}
+use Rattle.resume_run.specs.Resuming.{AreDeliveriesSince, End, EndsAs, HasGoneOn, IsRefusal, IsReopened, IsResumedText, IsShownSince, Reports, TakesCalls, Tells, WasRefused, held_after}
 use Rattle.resume_run.specs.Working.{IsInOrder}
 use Rattle.resume_run.specs.declared.resuming.ResumeFault.TheVariants.{Failed as FailedBy, Illegal}
 

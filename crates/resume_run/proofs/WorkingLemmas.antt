@@ -1,5 +1,5 @@
 -- The work after the open tasks are done: by the first worker alone, or none where a Fail stands.
-use Rattle.std.proofs.Common.{◌≡◌, ◌⊎◌, ℕ, zero, suc, ◌+◌, ◌-◌, ◌^◌, ◌<◌, ◌≤◌, Bool, true, false, cond, eqb, get_or, List, [], ◌∷◌, ◌++◌, length, map, refl, sym, ap, subst, ◌∙◌, inl, inr, arith, append_assoc, drop}
+use Rattle.std.proofs.Common.{◌≡◌, ◌⊎◌, ℕ, zero, ◌+◌, ◌-◌, ◌<◌, ◌≤◌, Bool, true, false, cond, eqb, get_or, List, [], ◌∷◌, ◌++◌, length, map, refl, sym, ap, subst, ◌∙◌, inl, inr, arith, append_assoc, drop}
 use Rattle.std.specs.Prelude.{slice_set}
 use Rattle.std.proofs.Math.Seq.{drop-append_seam}
 use Rattle.std.proofs.lemmas.List.{append-nil}
@@ -13,12 +13,12 @@ use Rattle.lease_book.specs.Book.{state_at}
 use Rattle.lease_rules.specs.Owning.{worker}
 use Rattle.lease_rules.specs.State.{State, now}
 use Rattle.site_yard.specs.Failures.{RoseBy, tool_fault_in, tool_faults, tool_faults_of}
-use Rattle.worker_gate.specs.Alone.{AllBy, IsOver, NoneOpen, TakeFirst, WorksAlone}
+use Rattle.worker_gate.specs.Alone.{AllBy, NoneOpen, TakeFirst, WorksAlone}
 use Rattle.plan_run.specs.Moments.{MemberMoment, count_of}
 use Rattle.resume_run.specs.declared.lost.Lost.{Lost}
 use Rattle.resume_run.specs.Lost.{lost_below}
 use Rattle.resume_run.specs.Redoing.{AddsFaults, AreDone, HasRisen, Redoes}
-use Rattle.resume_run.specs.Working.{IsInOrder, WorksOn}
+use Rattle.resume_run.specs.Working.{WorksOn}
 use Rattle.resume_run.proofs.FaultsLemmas.{count_here, count_other, count_set, risen_both, stays, turned}
 
 -- an entry of worker 0 counts for no other one's tool

@@ -1,8 +1,7 @@
-use Rattle.std.proofs.Common.{◌∙◌, ap, refl, subst, sym}
+use Rattle.std.proofs.Common.{◌∙◌, ap, refl, subst}
 use Rattle.std.specs.Prelude.{is_some}
 use Rattle.std.proofs.Math.Logic.{∥∥₁_elim, ∥∥₁_map, ∥∥₁_prop}
 use Rattle.plan_core.specs.Words.{task_numbers}
-use Rattle.lease_book.specs.Book.{state_at}
 use Rattle.site_yard.specs.Failures.{AreMore}
 use Rattle.site_yard.specs.Reopening.{AreRecorded, RefusesAgain, measures}
 use Rattle.plan_run.specs.Moments.{counting, crew_moment, first_count, work_moment, working}

@@ -1,5 +1,4 @@
 use Rattle.std.proofs.Common.{ap, ◌∙◌, subst}
-use Rattle.std.specs.Prelude.{IfOk, Vec}
 use Rattle.std.proofs.lemmas.List.{take-append-drop}
 use Rattle.run_record.specs.Events.{Log}
 use Rattle.run_record.specs.RecordText.{AreEntries}
