@@ -80,7 +80,8 @@ def planted(place):
 
 
 def discarded(place):
-    """What a task that failed had written goes: of another digest, of a job that makes more than is declared."""
+    """What a task that failed had written goes: of another digest, of a job that makes more than is declared. An earlier file of
+    its name stays."""
     (place / "a").write_text("brought\n")
     got = hashlib.sha256(b"brought\n").hexdigest()
     wrong = [replica("a", "a", checksum="0" * 64)]
@@ -90,12 +91,18 @@ def discarded(place):
         for jobs in ([delivery("a")], [job("digest", [], ["a"], ["b"])]):
             write(place, jobs, wrong)
             assert call(place, words) == (6, [told]) and not files(place), words
+        (place / "output").mkdir()
+        (place / "output" / "a").write_text("of an earlier run\n")
+        write(place, [delivery("a")], wrong)
+        assert call(place, words) == (6, [told]) and files(place) == ["output/a"], words
+        assert (place / "output" / "a").read_text() == "of an earlier run\n", words
+        shutil.rmtree(place / "output")
         write(place, oversize, size=5)
         status, lines = call(place, words)
         assert status == 6 and lines[-1] == "failed oversize j1 y 5 12" and not parts(place), (words, lines)
         shutil.rmtree(place / "sites", ignore_errors=True)
         shutil.rmtree(place / "output", ignore_errors=True)
-    return 6
+    return 8
 
 
 def amid(place):
