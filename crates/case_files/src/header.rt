@@ -83,29 +83,50 @@ fn header_of(alloc: Global, line: &str) -> Result<Header, Complaint> {
         words.push(word)?;
     }
     match words.as_slice() {
-        ["status", status] => Ok(Header::Status(status_of(status)?)),
-        ["status", status, "after", "the", "record"] => {
+        [] => Err(Complaint::UnknownSection),
+        [first, rest @ ..] => begun_by(alloc, first, rest),
+    }
+}
+
+/// The header that begins with a word, by the words after it.
+fn begun_by(alloc: Global, first: &str, rest: &[&str]) -> Result<Header, Complaint> {
+    match (first, rest) {
+        ("status", [status]) => Ok(Header::Status(status_of(status)?)),
+        ("status", [status, "after", "the", "record"]) => {
             Ok(Header::StatusAfterRecord(status_of(status)?))
         }
-        ["delivered", name] => Ok(Header::Delivered(name_of(alloc, name)?)),
-        ["not", "delivered", name] => Ok(Header::NotDelivered(name_of(alloc, name)?)),
-        ["stored", site, name] => {
-            Ok(Header::Stored(name_of(alloc, site)?, name_of(alloc, name)?))
-        }
-        ["not", "stored", site, name] => {
-            Ok(Header::NotStored(name_of(alloc, site)?, name_of(alloc, name)?))
-        }
-        ["trace"] => Ok(Header::Trace),
-        ["scratch", site, name, rest @ ..] => {
-            let site = name_of(alloc, site)?;
-            Ok(Header::Scratch(site, name_of(alloc, name)?, form_of(rest)?))
-        }
-        ["replica", name, rest @ ..] => {
+        ("trace", []) => Ok(Header::Trace),
+        ("delivered", [name]) => Ok(Header::Delivered(name_of(alloc, name)?)),
+        ("stored", [site, name]) => stored(alloc, site, name),
+        ("not", [first, rest @ ..]) => absent(alloc, first, rest),
+        ("scratch", [site, name, rest @ ..]) => scratch(alloc, site, name, rest),
+        ("replica", [name, rest @ ..]) => {
             Ok(Header::Replica(name_of(alloc, name)?, form_of(rest)?))
         }
-        [name, rest @ ..] => Ok(Header::Document(name_of(alloc, name)?, form_of(rest)?)),
-        [] => Err(Complaint::UnknownSection),
+        _ => Ok(Header::Document(name_of(alloc, first)?, form_of(rest)?)),
     }
+}
+
+fn stored(alloc: Global, site: &str, name: &str) -> Result<Header, Complaint> {
+    let site = name_of(alloc, site)?;
+    Ok(Header::Stored(site, name_of(alloc, name)?))
+}
+
+/// What is not there in the end.
+fn absent(alloc: Global, first: &str, rest: &[&str]) -> Result<Header, Complaint> {
+    match (first, rest) {
+        ("delivered", [name]) => Ok(Header::NotDelivered(name_of(alloc, name)?)),
+        ("stored", [site, name]) => {
+            let site = name_of(alloc, site)?;
+            Ok(Header::NotStored(site, name_of(alloc, name)?))
+        }
+        _ => Err(Complaint::UnknownSection),
+    }
+}
+
+fn scratch(alloc: Global, site: &str, name: &str, rest: &[&str]) -> Result<Header, Complaint> {
+    let site = name_of(alloc, site)?;
+    Ok(Header::Scratch(site, name_of(alloc, name)?, form_of(rest)?))
 }
 
 /// How bytes are written, by the words after their name.

@@ -49,6 +49,27 @@ impl Reader {
         Ok(())
     }
 
+    /// Takes the line of a number.
+    fn take(
+        &mut self,
+        alloc: Global,
+        names: &mut BTreeSet<String>,
+        number: usize,
+        line: &str,
+    ) -> Result<(), Memory> {
+        if let Some(name) = case_name(line) {
+            let answer = self.end_case(alloc);
+            self.note(answer)?;
+            let answer = self.begin_case(alloc, number, take_name(alloc, names, name));
+            return self.note(answer);
+        }
+        if self.skips {
+            return Ok(());
+        }
+        let answer = self.add_line(alloc, number, line);
+        self.note(answer)
+    }
+
     /// Adds a line that begins no case.
     fn add_line(&mut self, alloc: Global, number: usize, line: &str) -> Result<(), FileFault> {
         if let Some(words) = words_between(line) {
@@ -170,15 +191,7 @@ pub fn parse(alloc: Global, text: &str, names: &mut BTreeSet<String>) -> Result<
     let lines = text.strip_suffix('\n').unwrap_or(text);
     for line in lines.split('\n') {
         number = number.saturating_add(1);
-        if let Some(name) = case_name(line) {
-            let answer = reader.end_case(alloc);
-            reader.note(answer)?;
-            let answer = reader.begin_case(alloc, number, take_name(alloc, names, name));
-            reader.note(answer)?;
-        } else if !reader.skips {
-            let answer = reader.add_line(alloc, number, line);
-            reader.note(answer)?;
-        }
+        reader.take(alloc, names, number, line)?;
     }
     let answer = if text.ends_with('\n') {
         reader.end_case(alloc)
