@@ -26,7 +26,11 @@ impl Ended {
         sink: MemorySink,
         held_out: bool,
     ) -> Result<Ended, Memory> {
-        let trace = trace_text(alloc, host.trace())?;
+        let Ok(trace) = trace_text(alloc, host.trace()) else {
+            drop(sink);
+            drop(host);
+            return Err(Memory);
+        };
         Ok(Ended {
             status,
             host,

@@ -41,7 +41,10 @@ fn documents(
             Some((name, end)) if name == document.name => end.min(bytes.len()),
             _ => bytes.len(),
         };
-        docs.put(alloc, document.name, &bytes[..end])?;
+        let Ok(()) = docs.put(alloc, document.name, &bytes[..end]) else {
+            drop(docs);
+            return Err(Memory);
+        };
     }
     Ok(docs)
 }
@@ -51,10 +54,16 @@ fn host(alloc: Global, weather: &Weather, found: &Found<'_>) -> Result<MemoryHos
     let parts = Vec::from_slice(alloc, &weather.parts)?;
     let mut host = MemoryHost::with_parts(alloc, failing, parts);
     for replica in &found.replicas {
-        host.put_replica(alloc, replica.name, &replica.bytes)?;
+        let Ok(()) = host.put_replica(alloc, replica.name, &replica.bytes) else {
+            drop(host);
+            return Err(Memory);
+        };
     }
     for at in &found.scratch {
-        host.put_scratch(alloc, at.site, at.file.name, &at.file.bytes)?;
+        let Ok(()) = host.put_scratch(alloc, at.site, at.file.name, &at.file.bytes) else {
+            drop(host);
+            return Err(Memory);
+        };
     }
     Ok(host)
 }

@@ -90,6 +90,7 @@ fn try_call<'a, R: Threads + Wait + Sync>(
         if difference.is_some() {
             return Ok(difference);
         }
+        drop(difference);
     }
     Ok(None)
 }
@@ -105,6 +106,7 @@ fn try_once<'a, R: Threads + Wait + Sync>(
     let prepared = prepare(alloc, &case.weather, found, cut)?;
     let ended = call(rt, alloc, &line.words, prepared)?;
     if is_met(case, &ended) {
+        drop(ended);
         return Ok(None);
     }
     let front = cut.map(|(_, end)| end);
@@ -113,6 +115,24 @@ fn try_once<'a, R: Threads + Wait + Sync>(
         front,
         ended,
     }))
+}
+
+/// The first of these calls that ends otherwise than the case says.
+fn first_of<'a, R: Threads + Wait + Sync>(
+    rt: &R,
+    alloc: Global,
+    case: &Case,
+    found: &Found<'_>,
+    calls: &'a [CommandLine],
+) -> Result<Option<Difference<'a>>, Memory> {
+    for line in calls {
+        let difference = try_call(rt, alloc, case, found, line)?;
+        if difference.is_some() {
+            return Ok(difference);
+        }
+        drop(difference);
+    }
+    Ok(None)
 }
 
 /// The first of a case's calls that ends otherwise than the case says.
@@ -128,11 +148,7 @@ pub fn first_difference<'a, R: Threads + Wait + Sync>(
     } else {
         &case.setup.calls
     };
-    for line in calls {
-        let difference = try_call(rt, alloc, case, &found, line)?;
-        if difference.is_some() {
-            return Ok(difference);
-        }
-    }
-    Ok(None)
+    let difference = first_of(rt, alloc, case, &found, calls);
+    drop(found);
+    difference
 }

@@ -1,8 +1,8 @@
 //! The lines that tell how the cases went.
 
 use crate::calling::first_difference;
-use case_calls::push_difference;
-use case_files::{Case, Complaint, FileFault, Setup, parse};
+use case_calls::{Difference, push_difference};
+use case_files::{Case, CaseFile, Complaint, FileFault, Setup, parse};
 use outside::{Memory, Word, push_line};
 use std::alloc::Global;
 use std::collections::BTreeSet;
@@ -43,6 +43,18 @@ impl Report {
             return self.add_fault(alloc, file, FileFault { line: 0, complaint });
         };
         let read = parse(alloc, text.as_str(), &mut self.names)?;
+        let told = self.add_cases(rt, alloc, file, &read);
+        drop(read);
+        told
+    }
+
+    fn add_cases<R: Threads + Wait + Sync>(
+        &mut self,
+        rt: &R,
+        alloc: Global,
+        file: &str,
+        read: &CaseFile,
+    ) -> Result<(), Memory> {
         for case in &read.cases {
             self.add_case(rt, alloc, &read.common, case)?;
         }
@@ -73,6 +85,18 @@ impl Report {
     ) -> Result<(), Memory> {
         self.cases = self.cases.saturating_add(1);
         let difference = first_difference(rt, alloc, common, case)?;
+        let told = self.tell(alloc, case, &difference);
+        drop(difference);
+        told
+    }
+
+    /// Tells whether a case ended as it says, and what came instead.
+    fn tell(
+        &mut self,
+        alloc: Global,
+        case: &Case,
+        difference: &Option<Difference<'_>>,
+    ) -> Result<(), Memory> {
         let verdict = if difference.is_some() {
             "differs"
         } else {
@@ -80,7 +104,7 @@ impl Report {
         };
         let name = Word::Plain(case.name.as_str());
         push_line(alloc, &mut self.text, verdict, &[name])?;
-        if let Some(difference) = &difference {
+        if let Some(difference) = difference {
             self.differing = self.differing.saturating_add(1);
             push_difference(alloc, &mut self.text, case, difference)?;
         }

@@ -24,7 +24,10 @@ pub fn member_request(
     ensures sites { IfOk result (λ r. execute_checked r.execute ≡ Ok tt) }
     ensures limits { IfOk result (λ r. IsWithinLimits r) }
 {
-    let execute = executions_copied(alloc, ensemble.execute.as_slice())?;
+    let Ok(execute) = executions_copied(alloc, ensemble.execute.as_slice()) else {
+        drop(request);
+        return Err(Memory);
+    };
     Ok(PlanRequest {
         execute,
         cluster: ensemble.cluster,

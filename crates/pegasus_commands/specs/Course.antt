@@ -3,6 +3,7 @@ use Rattle.std.specs.Prelude.{◌≡◌, ◌⊎◌, ℕ, ◌≤◌, List, [], le
 use Rattle.outside.specs.Counts.{IsLater, Rose, one_done}
 use Rattle.outside.specs.Docs.{Fetched, fetched}
 use Rattle.values.specs.FileMap.{Files}
+use Rattle.values.specs.declared.documents.Documents.{Documents}
 use Rattle.outside.specs.declared.counts.Counts.{Counts}
 use Rattle.outside.specs.declared.docs.DocFault.{DocFault}
 use Rattle.outside.specs.declared.docs.DocFault.TheVariants as doc_faults
@@ -97,16 +98,19 @@ abbrev pub request_in_bytes : List ℕ → Result PlanRequest CallFault
 request_in_bytes bytes = plan_answered (answered Request (read_of bytes))
 
 -- the documents that a request names, the workflow first
-abbrev pub named_documents : PlanRequest → Course Requested
-named_documents request = do
+abbrev pub all_documents : PlanRequest → Course Documents
+all_documents request = do
   workflow ← document request.workflow Ok
   sites ← if_named request.sites
   replicas ← if_named request.replicas
   transformations ← if_named request.transformations
-  Ends (Ok (record {
-    request = request;
-    documents = record { workflow = workflow; sites = sites; replicas = replicas; transformations = transformations };
-  }))
+  Ends (Ok (record { workflow = workflow; sites = sites; replicas = replicas; transformations = transformations }))
+
+abbrev pub with_request : PlanRequest → Documents → Course Requested
+with_request request documents = Ends (Ok (record { request = request; documents = documents }))
+
+abbrev pub named_documents : PlanRequest → Course Requested
+named_documents request = all_documents request >>= with_request request
 
 -- a call's documents: the request, and then those that it names
 abbrev pub documents : List ℕ → Course Requested

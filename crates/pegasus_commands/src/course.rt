@@ -3,7 +3,7 @@
 ghost use Rattle.std.specs.Prelude.{◌≡◌, IfOk, Ok, Err};
 ghost use Rattle.plan_request.specs.Limits.{IsWithinLimits};
 ghost use Rattle.plan_request.specs.Reader.{execute_checked};
-ghost use Rattle.pegasus_commands.specs.Course.{ButMemory, IsStep, doc_answer, document, documents, documents_with, if_named, named_documents, request_in_bytes, with_record};
+ghost use Rattle.pegasus_commands.specs.Course.{ButMemory, IsStep, all_documents, doc_answer, document, documents, documents_with, if_named, named_documents, request_in_bytes, with_record};
 ghost use Rattle.pegasus_commands.specs.Moments.{docs_moment};
 
 use crate::fault::{CallFault, of_plan_fault};
@@ -94,13 +94,12 @@ fn fetch_request<D: Docs>(alloc: Global, docs: &mut D, name: &str) -> Result<Pla
 }
 
 /// Fetches the documents that a request names.
-fn fetch_named<D: Docs>(
+fn fetch_all<D: Docs>(
     alloc: Global,
     docs: &mut D,
-    request: PlanRequest,
-) -> Result<Requested, CallFault>
-    ensures answer { IsStep (named_documents request) (docs_moment D.Docs docs.old) (docs_moment D.Docs docs.new) result }
-    ensures request { IfOk result (λ r. r.request ≡ request) }
+    request: &PlanRequest,
+) -> Result<Documents, CallFault>
+    ensures { IsStep (all_documents request.now) (docs_moment D.Docs docs.old) (docs_moment D.Docs docs.new) result }
 {
     let workflow = match fetch(alloc, docs, request.workflow.as_str()) {
         Ok(workflow) => workflow,
@@ -115,16 +114,31 @@ fn fetch_named<D: Docs>(
         Err(fault) => return Err(fault),
     };
     match fetch_if_named(alloc, docs, &request.transformations) {
-        Ok(transformations) => Ok(Requested {
-            request,
-            documents: Documents {
-                workflow,
-                sites,
-                replicas,
-                transformations,
-            },
+        Ok(transformations) => Ok(Documents {
+            workflow,
+            sites,
+            replicas,
+            transformations,
         }),
         Err(fault) => Err(fault),
+    }
+}
+
+/// Fetches the documents that a request names, and puts them beside it.
+fn fetch_named<D: Docs>(
+    alloc: Global,
+    docs: &mut D,
+    request: PlanRequest,
+) -> Result<Requested, CallFault>
+    ensures answer { IsStep (named_documents request) (docs_moment D.Docs docs.old) (docs_moment D.Docs docs.new) result }
+    ensures request { IfOk result (λ r. r.request ≡ request) }
+{
+    match fetch_all(alloc, docs, &request) {
+        Ok(documents) => Ok(Requested { request, documents }),
+        Err(fault) => {
+            drop(request);
+            Err(fault)
+        }
     }
 }
 
@@ -156,7 +170,10 @@ fn fetch_record<D: Docs>(
 {
     match fetch(alloc, docs, name) {
         Ok(bytes) => Ok(WithRecord { requested, bytes }),
-        Err(fault) => Err(fault),
+        Err(fault) => {
+            drop(requested);
+            Err(fault)
+        }
     }
 }
 

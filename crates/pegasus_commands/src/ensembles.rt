@@ -60,12 +60,18 @@ fn survey_member(
     let Requested { request, documents } = requested;
     let request = member_request(alloc, ensemble, request)?;
     match survey_request(alloc, request, &documents) {
-        Ok(Surveyed { request, survey }) => Ok(Member {
-            name,
-            request,
-            survey,
-        }),
-        Err(fault) => Err(of_member(name, of_plan_fault(fault))),
+        Ok(Surveyed { request, survey }) => {
+            drop(documents);
+            Ok(Member {
+                name,
+                request,
+                survey,
+            })
+        }
+        Err(fault) => {
+            drop(documents);
+            Err(of_member(name, of_plan_fault(fault)))
+        }
     }
 }
 
@@ -111,11 +117,17 @@ fn read_members<D: Docs>(
     for entry in ensemble.members.as_slice() {
         let member = match read_member(alloc, docs, ensemble, entry) {
             Ok(member) => member,
-            Err(fault) => return Err(fault),
+            Err(fault) => {
+                drop(members);
+                return Err(fault);
+            }
         };
         match add(&mut members, member) {
             Ok(()) => {}
-            Err(Memory) => return Err(CallFault::Memory),
+            Err(Memory) => {
+                drop(members);
+                return Err(CallFault::Memory);
+            }
         }
     }
     Ok(members)
@@ -137,8 +149,14 @@ fn join_members(
     joint_means_the_members();
     let request = ensemble_request(alloc, ensemble)?;
     match join(alloc, members, &request) {
-        Ok(joint) => Ok(joint),
-        Err(fault) => Err(of_join_fault(fault)),
+        Ok(joint) => {
+            drop(request);
+            Ok(joint)
+        }
+        Err(fault) => {
+            drop(request);
+            Err(of_join_fault(fault))
+        }
     }
 }
 
@@ -157,10 +175,21 @@ pub(crate) fn read_joint<D: Docs>(
     };
     let members = match read_members(alloc, docs, &ensemble) {
         Ok(members) => members,
-        Err(fault) => return Err(fault),
+        Err(fault) => {
+            drop(ensemble);
+            return Err(fault);
+        }
     };
     match join_members(alloc, &ensemble, &members) {
-        Ok(joint) => Ok(joint),
-        Err(fault) => Err(fault),
+        Ok(joint) => {
+            drop(members);
+            drop(ensemble);
+            Ok(joint)
+        }
+        Err(fault) => {
+            drop(members);
+            drop(ensemble);
+            Err(fault)
+        }
     }
 }

@@ -47,7 +47,10 @@ pub(crate) fn judge(alloc: Global, recorded: &Recorded) -> Result<Judged, CallFa
     };
     let history = match record_in(alloc, &recorded.bytes) {
         Ok(history) => history,
-        Err(fault) => return Err(fault),
+        Err(fault) => {
+            drop(ordered);
+            return Err(fault);
+        }
     };
     match audit(alloc, &ordered, &history) {
         Ok(verdict) => Ok(Judged {
@@ -55,6 +58,10 @@ pub(crate) fn judge(alloc: Global, recorded: &Recorded) -> Result<Judged, CallFa
             history,
             verdict,
         }),
-        Err(Memory) => Err(CallFault::Memory),
+        Err(Memory) => {
+            drop(history);
+            drop(ordered);
+            Err(CallFault::Memory)
+        }
     }
 }

@@ -48,8 +48,14 @@ pub(crate) fn ready_plan<T: Tool>(
     };
     match unknown_tool(alloc, ordered.plan(), tool) {
         Ok(None) => Ok(ordered),
-        Ok(Some(fault)) => Err(CallFault::Refused(fault)),
-        Err(Memory) => Err(CallFault::Memory),
+        Ok(Some(fault)) => {
+            drop(ordered);
+            Err(CallFault::Refused(fault))
+        }
+        Err(Memory) => {
+            drop(ordered);
+            Err(CallFault::Memory)
+        }
     }
 }
 

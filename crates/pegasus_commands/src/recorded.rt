@@ -3,7 +3,7 @@
 ghost use Rattle.pegasus_commands.specs.Moments.{docs_moment};
 ghost use Rattle.pegasus_commands.specs.Recorded.{Surveys};
 
-use crate::course::{WithRecord, fetch_with_record};
+use crate::course::{Requested, WithRecord, fetch_with_record};
 use crate::fault::{CallFault, of_plan_fault};
 use outside::{Blob, Docs};
 use planner::{Surveyed, survey_request};
@@ -30,7 +30,10 @@ pub(crate) fn read_recorded<D: Docs>(
         Err(fault) => return Err(fault),
     };
     let WithRecord { requested, bytes } = given;
-    match survey_request(alloc, requested.request, &requested.documents) {
+    let Requested { request, documents } = requested;
+    let surveyed = survey_request(alloc, request, &documents);
+    drop(documents);
+    match surveyed {
         Ok(surveyed) => Ok(Recorded { surveyed, bytes }),
         Err(fault) => Err(of_plan_fault(fault)),
     }

@@ -3,7 +3,7 @@
 ghost use Rattle.pegasus_commands.specs.Moments.{docs_moment};
 ghost use Rattle.pegasus_commands.specs.Survey.{Surveys};
 
-use crate::course::fetch_documents;
+use crate::course::{Requested, fetch_documents};
 use crate::fault::{CallFault, of_plan_fault};
 use outside::Docs;
 use planner::{Surveyed, survey_request};
@@ -21,7 +21,10 @@ pub(crate) fn read_survey<D: Docs>(
         Ok(requested) => requested,
         Err(fault) => return Err(fault),
     };
-    match survey_request(alloc, requested.request, &requested.documents) {
+    let Requested { request, documents } = requested;
+    let surveyed = survey_request(alloc, request, &documents);
+    drop(documents);
+    match surveyed {
         Ok(surveyed) => Ok(surveyed),
         Err(fault) => Err(of_plan_fault(fault)),
     }

@@ -160,17 +160,46 @@ fn read_documents(
     ensures well_formed { IfOk result (λ d. IsWellFormed d.workflow) }
 {
     let workflow = workflow_in(alloc, &documents.workflow)?;
-    let sites = sites_in(alloc, documents, &workflow)?;
-    let replicas = replicas_in(alloc, documents, &workflow)?;
-    let transformations = transformations_in(alloc, documents, &workflow)?;
-    match check_execution_sites(alloc, sites.sites.as_slice(), request.execute.as_slice()) {
-        Ok(()) => Ok(ReadDocuments {
-            workflow,
-            sites,
-            replicas,
-            transformations,
-        }),
-        Err(fault) => Err(fault),
+    let sites = match sites_in(alloc, documents, &workflow) {
+        Ok(sites) => sites,
+        Err(fault) => {
+            drop(workflow);
+            return Err(fault);
+        }
+    };
+    let replicas = match replicas_in(alloc, documents, &workflow) {
+        Ok(replicas) => replicas,
+        Err(fault) => {
+            drop(sites);
+            drop(workflow);
+            return Err(fault);
+        }
+    };
+    let transformations = match transformations_in(alloc, documents, &workflow) {
+        Ok(transformations) => transformations,
+        Err(fault) => {
+            drop(replicas);
+            drop(sites);
+            drop(workflow);
+            return Err(fault);
+        }
+    };
+    let read = ReadDocuments {
+        workflow,
+        sites,
+        replicas,
+        transformations,
+    };
+    match check_execution_sites(
+        alloc,
+        read.sites.sites.as_slice(),
+        request.execute.as_slice(),
+    ) {
+        Ok(()) => Ok(read),
+        Err(fault) => {
+            drop(read);
+            Err(fault)
+        }
     }
 }
 
@@ -196,6 +225,9 @@ pub fn survey(
             transformations: read.transformations,
             graph,
         }),
-        Err(fault) => Err(PlanFault::from(fault)),
+        Err(fault) => {
+            drop(read);
+            Err(PlanFault::from(fault))
+        }
     }
 }

@@ -53,11 +53,14 @@ pub fn audit(alloc: Global, ordered: &Ordered, history: &Record) -> Result<Verdi
     let mut book = Book::open(alloc, ordered)?;
     for k in 0..history.len() {
         if !replay(ordered.plan(), &mut book, &history.entry(k)) {
+            drop(book);
             return Ok(Verdict::Illegal(k as u64 + 1));
         }
     }
     if is_complete(&mut book) {
+        drop(book);
         return Ok(Verdict::Complete);
     }
+    drop(book);
     Ok(Verdict::Legal)
 }

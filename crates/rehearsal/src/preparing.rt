@@ -45,7 +45,10 @@ fn host_of(alloc: Global, replicas: &[(Text, Blob)]) -> Result<MemoryHost, Memor
 {
     let mut host = MemoryHost::new(alloc, Vec::new(alloc));
     for (pfn, bytes) in replicas {
-        host.put_replica(alloc, pfn.as_str(), bytes.as_slice())?;
+        let Ok(()) = host.put_replica(alloc, pfn.as_str(), bytes.as_slice()) else {
+            drop(host);
+            return Err(Memory);
+        };
     }
     Ok(host)
 }
@@ -80,12 +83,27 @@ pub fn prepare(alloc: Global, images: u32) -> Result<Prepared, PlanFault>
     let workload = montage(alloc, images)?;
     let request = match read_request(alloc, &workload.request) {
         Ok(request) => request,
-        Err(fault) => return Err(fault),
+        Err(fault) => {
+            drop(workload);
+            return Err(fault);
+        }
     };
     let surveyed = match survey_request(alloc, request, &workload.documents) {
         Ok(surveyed) => surveyed,
-        Err(fault) => return Err(fault),
+        Err(fault) => {
+            drop(workload);
+            return Err(fault);
+        }
     };
-    let host = checked_host(alloc, &surveyed, &workload.replicas)?;
-    Ok(Prepared { surveyed, host })
+    match checked_host(alloc, &surveyed, &workload.replicas) {
+        Ok(host) => {
+            drop(workload);
+            Ok(Prepared { surveyed, host })
+        }
+        Err(Memory) => {
+            drop(workload);
+            drop(surveyed);
+            Err(PlanFault::Memory)
+        }
+    }
 }

@@ -145,8 +145,15 @@ fn book_of(alloc: Global, plan: Plan) -> Result<Option<Book>, Memory>
     requires retries { retries plan ≤ 10 }
 {
     match order(alloc, plan) {
-        Ok(ordered) => Ok(Some(Book::open(alloc, &ordered)?)),
-        Err(_) => Ok(None),
+        Ok(ordered) => {
+            let book = Book::open(alloc, &ordered);
+            drop(ordered);
+            Ok(Some(book?))
+        }
+        Err(refused) => {
+            drop(refused);
+            Ok(None)
+        }
     }
 }
 
@@ -157,12 +164,20 @@ fn is_right(alloc: Global, case: &Case) -> Result<bool, Memory> {
         output: None,
     };
     let plan = plan_of(alloc, &case.sketch, policy)?;
-    let proper = check(alloc, &plan)?;
+    let Ok(proper) = check(alloc, &plan) else {
+        drop(plan);
+        return Err(Memory);
+    };
     if !proper || !is_limited(&plan) || plan.retries() > 10 {
+        drop(plan);
         return Ok(false);
     }
     match book_of(alloc, plan)? {
-        Some(mut book) => goes_on(alloc, &mut book, case),
+        Some(mut book) => {
+            let answer = goes_on(alloc, &mut book, case);
+            drop(book);
+            answer
+        }
         None => Ok(false),
     }
 }

@@ -90,11 +90,18 @@ fn is_right(alloc: Global, case: &Case) -> Result<bool, Memory> {
         output: case.2,
     };
     let plan = plan_of(alloc, &case.1, policy)?;
-    let proper = check(alloc, &plan)?;
+    let Ok(proper) = check(alloc, &plan) else {
+        drop(plan);
+        return Err(Memory);
+    };
     if !proper || !is_limited(&plan) {
+        drop(plan);
         return Ok(false);
     }
-    Ok(is_as_said(&order(alloc, plan), &case.3))
+    let found = order(alloc, plan);
+    let answer = is_as_said(&found, &case.3);
+    drop(found);
+    Ok(answer)
 }
 
 #[test]

@@ -157,22 +157,41 @@ fn are_usages(plan: &Plan, standing: &Standing, order: &[TaskId], usages: &[u64]
     true
 }
 
-fn is_right(alloc: Global, case: &Case) -> Result<bool, Memory> {
-    let plan = plan_of(alloc, &DIAMOND_CLEANED, Policy::plain())?;
-    let standing = standing_of(alloc, &plan, &case.standing)?;
-    let order = task_ids(alloc, case.order)?;
-    let proper = check(alloc, &plan)?;
-    if !proper || !is_limited(&plan) || !is_standing(&plan, &standing) {
+/// Whether a case's order goes on from a standing of the plan as it says.
+fn goes_on(
+    alloc: Global,
+    plan: &Plan,
+    standing: &Standing,
+    order: &[TaskId],
+    usages: &[u64],
+) -> Result<bool, Memory> {
+    let proper = check(alloc, plan)?;
+    if !proper || !is_limited(plan) || !is_standing(plan, standing) {
         return Ok(false);
     }
-    if !are_usages(&plan, &standing, &order, case.usages) || !is_within(&plan, &standing) {
+    if !are_usages(plan, standing, order, usages) || !is_within(plan, standing) {
         return Ok(false);
     }
-    let follows = follows(alloc, &plan, &standing, &order)?;
+    let follows = follows(alloc, plan, standing, order)?;
     if !follows {
         return Ok(false);
     }
-    Ok(fits(&plan, &standing, &order).is_ok())
+    Ok(fits(plan, standing, order).is_ok())
+}
+
+fn is_right_of(alloc: Global, plan: &Plan, case: &Case) -> Result<bool, Memory> {
+    let order = task_ids(alloc, case.order)?;
+    let standing = standing_of(alloc, plan, &case.standing)?;
+    let answer = goes_on(alloc, plan, &standing, &order, case.usages);
+    drop(standing);
+    answer
+}
+
+fn is_right(alloc: Global, case: &Case) -> Result<bool, Memory> {
+    let plan = plan_of(alloc, &DIAMOND_CLEANED, Policy::plain())?;
+    let answer = is_right_of(alloc, &plan, case);
+    drop(plan);
+    answer
 }
 
 pub const ORDER: &[u32] = &[4, 0, 6, 1, 7, 2, 8, 3, 9, 10, 5, 11];

@@ -54,7 +54,11 @@ pub(crate) fn work<D: Docs, H: Host, T: Tool, G: Gate>(
     ensures gate { crew.new.gate ≡ crew.old.gate }
 {
     match read_survey(alloc, docs, name) {
-        Ok(surveyed) => run_survey(alloc, &surveyed, host, crew),
+        Ok(surveyed) => {
+            let worked = run_survey(alloc, &surveyed, host, crew);
+            drop(surveyed);
+            worked
+        }
         Err(fault) => unrun(alloc, fault, host),
     }
 }

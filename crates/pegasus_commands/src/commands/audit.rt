@@ -33,11 +33,17 @@ fn judged_text(alloc: Global, recorded: &Recorded) -> Told
         Err(fault) => return at_once(alloc, fault),
     };
     match verdict_text(alloc, judged.verdict) {
-        Ok(text) => Told {
-            answer: Ok(None),
-            text,
-        },
-        Err(Memory) => at_once(alloc, CallFault::Memory),
+        Ok(text) => {
+            drop(judged);
+            Told {
+                answer: Ok(None),
+                text,
+            }
+        }
+        Err(Memory) => {
+            drop(judged);
+            at_once(alloc, CallFault::Memory)
+        }
     }
 }
 
@@ -47,7 +53,11 @@ pub(crate) fn work<D: Docs>(alloc: Global, name: &str, history: &str, docs: &mut
         result.text.items result.answer }
 {
     match read_recorded(alloc, docs, name, history) {
-        Ok(recorded) => judged_text(alloc, &recorded),
+        Ok(recorded) => {
+            let told = judged_text(alloc, &recorded);
+            drop(recorded);
+            told
+        }
         Err(fault) => at_once(alloc, fault),
     }
 }

@@ -32,7 +32,11 @@ pub(crate) fn work<D: Docs, H: Host, T: Tool, G: Gate>(
     ensures gate { crew.new.gate ≡ crew.old.gate }
 {
     match read_joint(alloc, docs, name) {
-        Ok(surveyed) => alone::run_survey(alloc, &surveyed, host, crew),
+        Ok(surveyed) => {
+            let worked = alone::run_survey(alloc, &surveyed, host, crew);
+            drop(surveyed);
+            worked
+        }
         Err(fault) => unrun(alloc, fault, host),
     }
 }
@@ -68,7 +72,11 @@ where
     ensures others { drop workers crew.new.items ≡ drop workers crew.old.items }
 {
     match read_joint(alloc, docs, name) {
-        Ok(surveyed) => run::run_survey(rt, alloc, workers, &surveyed, host, crew),
+        Ok(surveyed) => {
+            let worked = run::run_survey(rt, alloc, workers, &surveyed, host, crew);
+            drop(surveyed);
+            worked
+        }
         Err(fault) => unrun(alloc, fault, host),
     }
 }

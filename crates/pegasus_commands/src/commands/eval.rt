@@ -62,7 +62,11 @@ pub(crate) fn work<D: Docs, H: Host, T: Tool>(
         result.text.items result.answer }
 {
     match read_survey(alloc, docs, name) {
-        Ok(surveyed) => values_text(alloc, &surveyed, host, tool),
+        Ok(surveyed) => {
+            let told = values_text(alloc, &surveyed, host, tool);
+            drop(surveyed);
+            told
+        }
         Err(fault) => at_once(alloc, fault),
     }
 }

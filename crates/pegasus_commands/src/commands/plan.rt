@@ -46,7 +46,9 @@ fn plan_text(alloc: Global, surveyed: &Surveyed) -> Told
         Ok(ordered) => ordered,
         Err(fault) => return at_once(alloc, of_plan_fault(fault)),
     };
-    match text_of(alloc, &ordered) {
+    let text = text_of(alloc, &ordered);
+    drop(ordered);
+    match text {
         Ok(text) => Told {
             answer: Ok(None),
             text,
@@ -61,7 +63,11 @@ pub(crate) fn work<D: Docs>(alloc: Global, name: &str, docs: &mut D) -> Told
         result.text.items result.answer }
 {
     match read_survey(alloc, docs, name) {
-        Ok(surveyed) => plan_text(alloc, &surveyed),
+        Ok(surveyed) => {
+            let told = plan_text(alloc, &surveyed);
+            drop(surveyed);
+            told
+        }
         Err(fault) => at_once(alloc, fault),
     }
 }

@@ -56,10 +56,18 @@ fn tell_run<H: Host>(alloc: Global, plan: &Plan, ran: Ran<H>) -> Worked<H>
     match ran.end {
         Ok(()) => {
             let told = catalogued(alloc, plan, &ran.delivered);
-            Worked {
-                told,
-                host: ran.host,
-            }
+            let Ran {
+                end,
+                history,
+                text,
+                delivered,
+                host,
+            } = ran;
+            drop(end);
+            drop(history);
+            drop(text);
+            drop(delivered);
+            Worked { told, host }
         }
         Err(_) => ended(ran),
     }
@@ -89,8 +97,15 @@ fn run_survey<H: Host, T: Tool, G: Gate>(
         Err(fault) => return unrun(alloc, fault, host),
     };
     match ordered.plan().copy(alloc) {
-        Ok(plan) => tell_run(alloc, &plan, run_plan(alloc, ordered, host, crew)),
-        Err(Memory) => unrun(alloc, CallFault::Memory, host),
+        Ok(plan) => {
+            let worked = tell_run(alloc, &plan, run_plan(alloc, ordered, host, crew));
+            drop(plan);
+            worked
+        }
+        Err(Memory) => {
+            drop(ordered);
+            unrun(alloc, CallFault::Memory, host)
+        }
     }
 }
 
@@ -109,7 +124,11 @@ pub(crate) fn work<D: Docs, H: Host, T: Tool, G: Gate>(
     ensures gate { crew.new.gate ≡ crew.old.gate }
 {
     match read_survey(alloc, docs, name) {
-        Ok(surveyed) => run_survey(alloc, &surveyed, host, crew),
+        Ok(surveyed) => {
+            let worked = run_survey(alloc, &surveyed, host, crew);
+            drop(surveyed);
+            worked
+        }
         Err(fault) => unrun(alloc, fault, host),
     }
 }

@@ -63,12 +63,18 @@ fn close(
     ensures { ClosesOrMemory images figures.now history host result.text.items result.answer }
 {
     let Some(mosaic) = host.delivered("mosaic.txt") else {
+        drop(history);
+        drop(host);
         return at_once(alloc, CallFault::Memory);
     };
     let Ok(text) = summary(alloc, images, figures, mosaic) else {
+        drop(history);
+        drop(host);
         return at_once(alloc, CallFault::Memory);
     };
     let Some(record) = history else {
+        drop(text);
+        drop(host);
         return at_once(alloc, CallFault::Memory);
     };
     Told {
@@ -84,15 +90,23 @@ fn tell_end(alloc: Global, images: u32, figures: &Figures, ran: Ran<MemoryHost>)
     let Ran {
         end,
         history,
+        text,
+        delivered,
         host,
-        ..
     } = ran;
+    drop(text);
+    drop(delivered);
     match end {
         Ok(()) => close(alloc, images, figures, history, host),
         Err(fault) => {
             if is_of_tools(&fault) && host.faults() == 0 {
+                drop(history);
+                drop(host);
                 at_once(alloc, CallFault::Failed(fault))
             } else {
+                drop(fault);
+                drop(history);
+                drop(host);
                 at_once(alloc, CallFault::Memory)
             }
         }
@@ -119,9 +133,14 @@ fn run_workload<T: Tool, G: Gate>(
     complete_records_deliver();
     let ordered = match ready_plan(alloc, surveyed, &crew.tool) {
         Ok(ordered) => ordered,
-        Err(fault) => return at_once(alloc, fault),
+        Err(fault) => {
+            drop(host);
+            return at_once(alloc, fault);
+        }
     };
     let Some(figures) = figures_of(surveyed, &ordered) else {
+        drop(ordered);
+        drop(host);
         return at_once(alloc, CallFault::Memory);
     };
     let ran = run_plan(alloc, ordered, host, crew);
@@ -155,9 +174,14 @@ fn run_workload_by<R: Threads + Wait + Sync, T: Tool + Send, G: Gate + Send>(
     complete_records_deliver();
     let ordered = match ready_plan(alloc, surveyed, &crew[0].tool) {
         Ok(ordered) => ordered,
-        Err(fault) => return at_once(alloc, fault),
+        Err(fault) => {
+            drop(host);
+            return at_once(alloc, fault);
+        }
     };
     let Some(figures) = figures_of(surveyed, &ordered) else {
+        drop(ordered);
+        drop(host);
         return at_once(alloc, CallFault::Memory);
     };
     let ran = run_plan_by(rt, alloc, workers, ordered, host, crew);
@@ -175,7 +199,11 @@ pub(crate) fn work<T: Tool, G: Gate>(alloc: Global, images: u32, crew: &mut Crew
     ensures gate { crew.new.gate ≡ crew.old.gate }
 {
     match prepare(alloc, images) {
-        Ok(Prepared { surveyed, host }) => run_workload(alloc, images, &surveyed, host, crew),
+        Ok(Prepared { surveyed, host }) => {
+            let told = run_workload(alloc, images, &surveyed, host, crew);
+            drop(surveyed);
+            told
+        }
         Err(fault) => at_once(alloc, of_plan_fault(fault)),
     }
 }
@@ -200,7 +228,9 @@ pub(crate) fn work_by<R: Threads + Wait + Sync, T: Tool + Send, G: Gate + Send>(
 {
     match prepare(alloc, images) {
         Ok(Prepared { surveyed, host }) => {
-            run_workload_by(rt, alloc, images, workers, &surveyed, host, crew)
+            let told = run_workload_by(rt, alloc, images, workers, &surveyed, host, crew);
+            drop(surveyed);
+            told
         }
         Err(fault) => at_once(alloc, of_plan_fault(fault)),
     }

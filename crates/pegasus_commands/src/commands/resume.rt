@@ -63,8 +63,15 @@ fn resume_recorded<H: Host, T: Tool, G: Gate>(
         Err(fault) => return unrun(alloc, fault, host),
     };
     match record_in(alloc, &recorded.bytes) {
-        Ok(history) => ended(resume_plan(alloc, ordered, &history, host, crew)),
-        Err(fault) => unrun(alloc, fault, host),
+        Ok(history) => {
+            let resumed = resume_plan(alloc, ordered, &history, host, crew);
+            drop(history);
+            ended(resumed)
+        }
+        Err(fault) => {
+            drop(ordered);
+            unrun(alloc, fault, host)
+        }
     }
 }
 
@@ -87,7 +94,11 @@ pub(crate) fn work<D: Docs, H: Host, T: Tool, G: Gate>(
     ensures gates { map (λ (c : Crew T G). c.gate) crew.new.items ≡ map (λ (c : Crew T G). c.gate) crew.old.items }
 {
     match read_recorded(alloc, docs, name, history) {
-        Ok(recorded) => resume_recorded(alloc, &recorded, host, crew),
+        Ok(recorded) => {
+            let worked = resume_recorded(alloc, &recorded, host, crew);
+            drop(recorded);
+            worked
+        }
         Err(fault) => unrun(alloc, fault, host),
     }
 }

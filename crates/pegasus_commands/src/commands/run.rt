@@ -82,7 +82,11 @@ where
     ensures others { drop workers crew.new.items ≡ drop workers crew.old.items }
 {
     match read_survey(alloc, docs, name) {
-        Ok(surveyed) => run_survey(rt, alloc, workers, &surveyed, host, crew),
+        Ok(surveyed) => {
+            let worked = run_survey(rt, alloc, workers, &surveyed, host, crew);
+            drop(surveyed);
+            worked
+        }
         Err(fault) => unrun(alloc, fault, host),
     }
 }

@@ -21,7 +21,9 @@ fn scheduled(alloc: Global, surveyed: &Surveyed) -> Told
         Ok(schedule) => schedule,
         Err(fault) => return at_once(alloc, of_plan_fault(fault)),
     };
-    match schedule_text(alloc, &surveyed.survey.workflow, &schedule) {
+    let text = schedule_text(alloc, &surveyed.survey.workflow, &schedule);
+    drop(schedule);
+    match text {
         Ok(text) => Told {
             answer: Ok(None),
             text,
@@ -36,7 +38,11 @@ pub(crate) fn work<D: Docs>(alloc: Global, name: &str, docs: &mut D) -> Told
         result.text.items result.answer }
 {
     match read_survey(alloc, docs, name) {
-        Ok(surveyed) => scheduled(alloc, &surveyed),
+        Ok(surveyed) => {
+            let told = scheduled(alloc, &surveyed);
+            drop(surveyed);
+            told
+        }
         Err(fault) => at_once(alloc, fault),
     }
 }

@@ -3,8 +3,8 @@ use Rattle.pegasus_commands.specs.Moments.{docs_moment}
 use Rattle.pegasus_commands.proofs.EnsemblesLemmas.{unjoined}
 use Rattle.pegasus_commands.proofs.ensembles.read_joint.Goals as goal
 
-pub returns-clause-stops : goal.returns-clause-stops
-returns-clause-stops g c =
+pub returns-in-Err-join_members-clause-stops : goal.returns-in-Err-join_members-clause-stops
+returns-in-Err-join_members-clause-stops g c =
     let e = c.in-Ok.ensemble in
     let ms = c.in-Ok-read_members.members.items in
     let start = docs_moment g.D.Docs c.args.docs.now in

@@ -24,16 +24,12 @@ returns-in-Err-survey_request-clause-fault c =
     refuses_documents n request fault (montage_request n w request c.in_ok-workload.ensures c.in-Ok.ensures.answer)
     (subst (λ (d : Documents). Refuses request d fault) (montage_documents n w c.in_ok-workload.ensures) c.in-Err-survey_request.ensures.fault)
 
-pub returns-in_err-host-clause-fault : goal.returns-in_err-host-clause-fault
-returns-in_err-host-clause-fault c =
-    want_of_memory c.args.images c.from_residual-in_err-host.result c.from_residual-in_err-host.ensures.1
-
-pub returns-clause-ready : goal.returns-clause-ready
-returns-clause-ready c =
+pub returns-in-Ok-checked_host-clause-ready : goal.returns-in-Ok-checked_host-clause-ready
+returns-in-Ok-checked_host-clause-ready c =
     let s = c.in-Ok-survey_request.surveyed in
     let same = c.deref.ensures.value in
-    is_prepared c.args.images c.in_ok-workload.workload c.in-Ok.request s c.in_ok-host.host c.in_ok-workload.ensures c.in-Ok.ensures.answer c.in-Ok-survey_request.ensures.request c.in-Ok-survey_request.ensures.survey
-    (subst (RegistersImages s.survey.workflow s.survey.replicas.entries) same c.in_ok-host.ensures.registers)
-    c.in_ok-host.ensures.mosaic
-    (c.in_ok-host.ensures.store ∙ ap (λ (xs : List (List ℕ × List ℕ)). stored xs blank) same)
-    c.in_ok-host.ensures.counts
+    is_prepared c.args.images c.in_ok-workload.workload c.in-Ok.request s c.in-Ok-checked_host.host c.in_ok-workload.ensures c.in-Ok.ensures.answer c.in-Ok-survey_request.ensures.request c.in-Ok-survey_request.ensures.survey
+    (subst (RegistersImages s.survey.workflow s.survey.replicas.entries) same c.in-Ok-checked_host.ensures.registers)
+    c.in-Ok-checked_host.ensures.mosaic
+    (c.in-Ok-checked_host.ensures.store ∙ ap (λ (xs : List (List ℕ × List ℕ)). stored xs blank) same)
+    c.in-Ok-checked_host.ensures.counts

@@ -6,4 +6,4 @@ pub returns-in-Err : goal.returns-in-Err
 returns-in-Err g c = λ w t same unused. record_stops c.args.name.now c.args.history.now (Judges PrintsVerdict) CanJudge _ _ _ c.in-Err.fault c.in-Err.ensures c.at_once.ensures.answer same unused c.at_once.ensures.text
 
 pub returns-in-Ok : goal.returns-in-Ok
-returns-in-Ok g c = λ w t same unused. record_works c.args.name.now c.args.history.now (Judges PrintsVerdict) CanJudge _ _ _ c.in-Ok.recorded c.in-Ok.ensures (record { untouched = same; says = c.judged_text.ensures })
+returns-in-Ok g c = λ w t same unused. record_works c.args.name.now c.args.history.now (Judges PrintsVerdict) CanJudge _ _ _ c.in-Ok.recorded c.in-Ok.ensures (record { untouched = same; says = c.judged_text-told.ensures })

@@ -8,8 +8,8 @@ use Rattle.pegasus_commands.proofs.PlanRunLemmas.{HasDeliveryLaws, unrun_is}
 use Rattle.pegasus_commands.proofs.ProduceLemmas.{HasWriterLaws, can_write, produce_is}
 use Rattle.pegasus_commands.proofs.commands.produce.run_survey.Goals as goal
 
-pub tell_run-requires : goal.tell_run-requires
-tell_run-requires g c =
+pub tell_run-worked-requires : goal.tell_run-worked-requires
+tell_run-worked-requires g c =
     let s = c.args.surveyed.now in
     let o = c.in-Ok.ordered in
     let p = o.plan in
@@ -45,7 +45,7 @@ returns-in-Ok-copy-clause-works g c =
     let before = work_moment g.H.Host c.args.host (g.T.Tool.faults c.args.crew.now.tool) in
     let after = work_moment g.H.Host ran.host (g.T.Tool.faults c.run_plan.new.crew.tool) in
     let w = working g.T.Tool.apply g.T.Tool.known before after in
-    let told = c.tell_run.result.told in
+    let told = c.tell_run-worked.result.told in
     let x = reporting ran.history ran.text.items ran.delivered.items in
     let laws : HasDeliveryLaws p order = record {
       complete = λ r legal complete t f d. c.complete_records_deliver.ensures.complete p order r ready.proper fits legal complete t f d;
@@ -56,10 +56,10 @@ returns-in-Ok-copy-clause-works g c =
       says = λ ds. c.written_files_keep_nothing.ensures.says s.survey.workflow p ds;
       held = λ ds. c.written_files_keep_nothing.ensures.held s.survey.workflow p ds;
     } in
-    λ t. rw c.tell_run.ensures.host (produce_is w t s p o.tasks.items x ran.end told.text.items told.answer ready laws writes fits
+    λ t. rw c.tell_run-worked.ensures.host (produce_is w t s p o.tasks.items x ran.end told.text.items told.answer ready laws writes fits
     (c.plans_deliver_requests.ensures s.request s.survey task_limit p ready.planned)
     (s.means task_limit p (omega arith) ready.planned)
-    c.run_plan.ensures.ran (rw (c.in-Ok-copy.ensures, c.plan.ensures) at c.tell_run.ensures.tells))
+    c.run_plan.ensures.ran (rw (c.in-Ok-copy.ensures, c.plan.ensures) at c.tell_run-worked.ensures.tells))
 
 pub returns-in-Err-copy-clause-works : goal.returns-in-Err-copy-clause-works
 returns-in-Err-copy-clause-works g c =

@@ -9,7 +9,7 @@ pub returns-in-Err-clause-does : goal.returns-in-Err-clause-does
 returns-in-Err-clause-does g c = rw c.unrun.ensures.host (λ t first. survey_stops c.args.name.now Produces CanRun _ _ _ c.in-Err.fault c.in-Err.ensures c.unrun.ensures.answer refl (first refl) c.unrun.ensures.text)
 
 pub returns-in-Ok-clause-does : goal.returns-in-Ok-clause-does
-returns-in-Ok-clause-does g c = λ t first. survey_works c.args.name.now Produces CanRun _ _ _ c.in-Ok.surveyed c.in-Ok.ensures (c.run_survey.ensures.works t)
+returns-in-Ok-clause-does g c = λ t first. survey_works c.args.name.now Produces CanRun _ _ _ c.in-Ok.surveyed c.in-Ok.ensures (c.run_survey-worked.ensures.works t)
 
-pub run_survey-requires : goal.run_survey-requires
-run_survey-requires g c = record { named = surveyed_names _ _ c.in-Ok.surveyed.survey c.in-Ok.ensures.surveyed.survey }
+pub run_survey-worked-requires : goal.run_survey-worked-requires
+run_survey-worked-requires g c = record { named = surveyed_names _ _ c.in-Ok.surveyed.survey c.in-Ok.ensures.surveyed.survey }

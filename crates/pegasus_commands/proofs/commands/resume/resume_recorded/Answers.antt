@@ -15,9 +15,9 @@ returns-in-Ok-record_in-clause-works g c =
     let ready = c.in-Ok.ensures.readies in
     let fits = c.ordered_plans_fit.ensures o in
     let given = c.in-Ok-record_in.history.events in
-    let resumed = c.resume_plan.result in
+    let resumed = c.resume_plan-resumed.result in
     let old = crew_moment g.T.Tool g.G.Gate c.args.crew.now.items in
-    let new = crew_moment g.T.Tool g.G.Gate c.resume_plan.new.crew.items in
+    let new = crew_moment g.T.Tool g.G.Gate c.resume_plan-resumed.new.crew.items in
     let before = work_moment g.H.Host c.args.host (first_count old) in
     let after = work_moment g.H.Host resumed.host (first_count new) in
     let w = working g.T.Tool.apply g.T.Tool.known before after in
@@ -29,7 +29,7 @@ returns-in-Ok-record_in-clause-works g c =
     })
     (c.plans_deliver_requests.ensures s.request s.survey task_limit p ready.planned)
     (s.means task_limit p (omega arith) ready.planned)
-    c.resume_plan.ensures.resumes)
+    c.resume_plan-resumed.ensures.resumes)
 
 pub returns-in-Err-clause-works : goal.returns-in-Err-clause-works
 returns-in-Err-clause-works g c =

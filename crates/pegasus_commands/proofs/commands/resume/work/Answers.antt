@@ -7,4 +7,4 @@ pub returns-in-Err-clause-does : goal.returns-in-Err-clause-does
 returns-in-Err-clause-does g c = rw c.unrun.ensures.host (record_stops c.args.name.now c.args.history.now ResumesPlan CanResume _ _ _ c.in-Err.fault c.in-Err.ensures c.unrun.ensures.answer refl refl c.unrun.ensures.text)
 
 pub returns-in-Ok-clause-does : goal.returns-in-Ok-clause-does
-returns-in-Ok-clause-does g c = record_works c.args.name.now c.args.history.now ResumesPlan CanResume _ _ _ c.in-Ok.recorded c.in-Ok.ensures c.resume_recorded.ensures.works
+returns-in-Ok-clause-does g c = record_works c.args.name.now c.args.history.now ResumesPlan CanResume _ _ _ c.in-Ok.recorded c.in-Ok.ensures c.resume_recorded-worked.ensures.works

@@ -6,4 +6,4 @@ pub returns-in-Err : goal.returns-in-Err
 returns-in-Err g c = λ w t same unused. survey_stops c.args.name.now Schedules (λ w s. HasSites s) _ _ _ c.in-Err.fault c.in-Err.ensures c.at_once.ensures.answer same unused c.at_once.ensures.text
 
 pub returns-in-Ok : goal.returns-in-Ok
-returns-in-Ok g c = λ w t same unused. survey_works c.args.name.now Schedules (λ w s. HasSites s) _ _ _ c.in-Ok.surveyed c.in-Ok.ensures (record { untouched = same; says = c.scheduled.ensures })
+returns-in-Ok g c = λ w t same unused. survey_works c.args.name.now Schedules (λ w s. HasSites s) _ _ _ c.in-Ok.surveyed c.in-Ok.ensures (record { untouched = same; says = c.scheduled-told.ensures })
