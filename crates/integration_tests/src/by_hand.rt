@@ -63,12 +63,16 @@ fn workflow_of(
     })
 }
 
-/// A job writes p and q; the second reads both and makes r, which is requested.
-pub fn workflow(alloc: Global) -> Result<Workflow, Memory> {
+fn files(alloc: Global) -> Result<Vec<Text>, Memory> {
     let mut files = Vec::new(alloc);
     for name in ["p", "q", "r"] {
         files.push(Text::copy_of(alloc, name)?)?;
     }
+    Ok(files)
+}
+
+/// A job writes p and q; the second reads both and makes r, which is requested.
+fn jobs(alloc: Global) -> Result<Vec<Job>, Memory> {
     let mut jobs = Vec::new(alloc);
     jobs.push(job(alloc, "first", "t", &[], &[FileId(0), FileId(1)], false)?)?;
     jobs.push(job(
@@ -79,5 +83,11 @@ pub fn workflow(alloc: Global) -> Result<Workflow, Memory> {
         &[FileId(2)],
         true,
     )?)?;
-    workflow_of(alloc, jobs, files, vec![in alloc; None, Some(2), Some(3)]?)
+    Ok(jobs)
+}
+
+/// The workflow of the two jobs.
+pub fn workflow(alloc: Global) -> Result<Workflow, Memory> {
+    let sizes = vec![in alloc; None, Some(2), Some(3)]?;
+    workflow_of(alloc, jobs(alloc)?, files(alloc)?, sizes)
 }

@@ -277,12 +277,15 @@ fn discarded<H: Host, R: Files>(
 #[test]
 fn draft_that_a_killed_run_left(rt: HostRuntime) -> Result<(), Fail> {
     let alloc = rt.alloc();
-    fs::write(&rt, ".pegasus.part.1", "left by a run that was killed")?;
+    fs::write(&rt, ".pegasus.part.2", "left by a run that was killed")?;
     let mut host = FolderHost::new(rt);
-    let [written, left] = discarded(&rt, alloc, &mut host, "host_files_parts")?;
-    assert!(rt; written == [None, Some(5), None]);
-    assert!(rt; left == [None, None, None]);
+    let site = "host_files_parts";
+    assert!(rt; host.write_scratch(alloc, site, "x", b"one") == Ok(()));
+    let [written, left] = discarded(&rt, alloc, &mut host, site)?;
+    assert!(rt; written == [Some(3), None, Some(5)]);
+    assert!(rt; left == [Some(3), None, None]);
     assert_eq!(rt; host.faults(), 0);
+    fs::remove_dir_all(&rt, "sites/host_files_parts")?;
     Ok(())
 }
 
