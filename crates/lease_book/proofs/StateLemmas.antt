@@ -3,7 +3,7 @@ use Rattle.std.proofs.Common.{◌≡◌, ℕ, false, List, [], ◌∷◌, ◌++�
 use Rattle.std.specs.Prelude.{filter, replicate}
 use Rattle.lease_rules.proofs.ListLemmas.{has_head}
 use Rattle.lease_rules.specs.Choice.{HasNoChoice}
-use Rattle.place_peaks.proofs.AgainLemmas.{first_is_choice}
+use Rattle.lease_rules.proofs.StartLemmas.{first_is_choice}
 use Rattle.place_peaks.specs.Peaks.{left_of, line_of, stack_of}
 use Rattle.plan_core.specs.Numbers.{has}
 use Rattle.storage_simulation.specs.declared.standing.Held.TheVariants.{Nothing}

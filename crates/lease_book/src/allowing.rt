@@ -56,11 +56,8 @@ impl Book {
     }
 
     /// Whether the Clean of a task is allowed.
-    pub fn allows_clean(&mut self, worker: u32, task: TaskId) -> bool
-        ensures value { Decides result (Allowed self.old.plan (state_at self.old) (Clean worker task.0)) }
-        ensures history { self.new.history ≡ self.old.history }
-        ensures plan { self.new.plan ≡ self.old.plan }
-        ensures order { self.new.order ≡ self.old.order }
+    pub fn allows_clean(&self, worker: u32, task: TaskId) -> bool
+        ensures { Decides result (Allowed self.now.plan (state_at self.now) (Clean worker task.0)) }
     {
         if worker >= MOST_WORKERS || !self.plan.is_clean(task) {
             return false;
@@ -69,11 +66,8 @@ impl Book {
     }
 
     /// Whether a task may fail.
-    pub fn may_fail(&mut self, worker: u32, task: TaskId) -> bool
-        ensures value { Decides result (MayFail self.old.plan (state_at self.old) worker task.0) }
-        ensures history { self.new.history ≡ self.old.history }
-        ensures plan { self.new.plan ≡ self.old.plan }
-        ensures order { self.new.order ≡ self.old.order }
+    pub fn may_fail(&self, worker: u32, task: TaskId) -> bool
+        ensures { Decides result (MayFail self.now.plan (state_at self.now) worker task.0) }
     {
         if self.holds(worker, task) {
             return true;

@@ -2,14 +2,14 @@
 use Rattle.std.proofs.Common.{◌≡◌, ℕ, zero, suc, ◌+◌, ◌≤◌, ◌<◌, ◌||◌, Bool, true, false, cond, eqb, eqb-true, List, [], ◌∷◌, ◌++◌, length, take, drop, get_or, refl, sym, ap, subst, ◌∙◌, arith}
 use Rattle.std.proofs.lemmas.List.{take_more}
 use Rattle.std.proofs.lemmas.List.Folds.{list_any-append}
-use Rattle.lease_rules.proofs.FitLemmas.{usage_by_weight}
-use Rattle.lease_rules.proofs.ListLemmas.{any_without, front_of_without, has_take, has_without, once_without, or_case, place_of_without, without_has}
-use Rattle.lease_rules.proofs.SoundLemmas.{clean_weight, cleaned_held, false_of, has_split, not_both, put_at, put_off}
+use Rattle.lease_rules.proofs.FitLemmas.{fit_tail, usage_by_weight}
+use Rattle.lease_rules.proofs.ListLemmas.{any_without, front_of_without, has_head, has_take, has_without, once_without, or_case, place_of_without, without_has, without_head}
+use Rattle.lease_rules.proofs.SoundLemmas.{clean_weight, cleaned_held, false_of, grant_weight, has_split, not_both, put_at, put_off}
 use Rattle.lease_rules.proofs.SafeLemmas.{maker_of}
 use Rattle.lease_rules.proofs.TotalLemmas.{total_same}
 use Rattle.lease_rules.specs.Choice.{CanStart, HasNoChoice, HaveParentsEnded, IsChoice, Safe}
 use Rattle.lease_rules.specs.Law.{HasStorageLaws, IsSoundState}
-use Rattle.lease_rules.specs.State.{State, after, put, without}
+use Rattle.lease_rules.specs.State.{State, after, put, reserved_for, without}
 use Rattle.plan_core.specs.Numbers.{below, has}
 use Rattle.plan_core.specs.Words.{cleans, is_clean, kind}
 use Rattle.plan_core.specs.declared.plan.Plan.{Plan}
@@ -22,7 +22,7 @@ use Rattle.storage_simulation.specs.Standings.{sizes, waits}
 use Rattle.storage_simulation.specs.Usage.{IsWithin, cleaned, made, usage}
 use Rattle.storage_simulation.specs.declared.standing.Held.{Held}
 use Rattle.storage_simulation.specs.declared.standing.Phase.{Phase}
-use Rattle.storage_simulation.specs.declared.standing.Phase.TheVariants.{Ended}
+use Rattle.storage_simulation.specs.declared.standing.Phase.TheVariants.{Ended, Runs}
 
 usage_without : (p : Plan) (size : ℕ → ℕ) (t : ℕ) (front : List ℕ) (s : ℕ) → usage p size (t ∷ front) s ≡ usage p size (t ∷ without t front) s
 usage_without p size t front s = total_same _ _ (goods p) (λ g l.
@@ -140,3 +140,32 @@ none_starts p s unfailed none (suc k) l = subst (NoneStarts p s) (let e : k + 1 
 pub no_ready_clean : (p : Plan) (s : State) (t : ℕ) → HasStorageLaws p → IsSoundState p s → s.failing ≡ false → HasNoChoice p s → has s.rest t ≡ true → is_clean p t ≡ true → HaveParentsEnded p s t → ⊥
 no_ready_clean p s t proper sound unfailed none there kind parents_ended =
     none_starts p s unfailed none (length s.rest) (omega arith) t (ap (λ (l : List ℕ). has l t) (take_all s.rest) ∙ there) (clean_can_start p s t proper sound there kind parents_ended)
+
+-- The first task of rest can start as soon as its parents have ended, whatever runs.
+pub first_can_start : (p : Plan) (s : State) (t : ℕ) (ts : List ℕ) → HasStorageLaws p → IsSoundState p s → s.rest ≡ t ∷ ts → HaveParentsEnded p s t → CanStart p s t
+first_can_start p s t ts laws sound is parents_ended = by (is_clean p t) refl
+  where
+    fit : Fits p s.phase s.held (t ∷ ts)
+    fit = subst (λ (xs : List ℕ). Fits p s.phase s.held xs) is sound.safe
+
+    tail : without t s.rest ≡ ts
+    tail = ap (without t) is ∙ without_head t ts fit.once
+
+    by : (b : Bool) → is_clean p t ≡ b → CanStart p s t
+    by true e = clean_can_start p s t laws sound (ap (λ (xs : List ℕ). has xs t) is ∙ has_head t ts) e parents_ended
+    by false e = record {
+      parents_ended = parents_ended;
+      leaves_safe = λ w. subst (λ (b : Bool). Safe p (after p s (cond b (Clean w t) (Grant w t)))) (sym e) (subst (λ (xs : List ℕ). Fits p (put s.phase t Runs) (reserved_for p t s.held) xs) (sym tail)
+          (fit_tail p s.phase (put s.phase t Runs) s.held (reserved_for p t s.held) t ts (λ u off. ap waits (put_off s.phase t Runs u off)) (ap waits (put_at s.phase t Runs))
+          (λ k g. grant_weight (cleans p t g) (cleaned p (take k ts) g) (has (makes p t) g) (made p (take k ts) g) (good_size p g) (s.held g) (laws.cleans_only t g e)) fit));
+    }
+
+pub first_is_choice : (p : Plan) (s : State) (t : ℕ) (ts : List ℕ) → HasStorageLaws p → IsSoundState p s → s.failing ≡ false → s.rest ≡ t ∷ ts → HaveParentsEnded p s t → IsChoice p s t
+first_is_choice p s t ts laws sound unfailed is parents_ended = record {
+  no_fail = unfailed;
+  before = [];
+  later = ts;
+  is = is;
+  can = first_can_start p s t ts laws sound is parents_ended;
+  first = λ u h. absurd cc;
+}

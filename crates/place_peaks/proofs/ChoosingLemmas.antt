@@ -5,7 +5,7 @@ use Rattle.values.specs.declared.numbers.TaskId.{TaskId}
 use Rattle.std.proofs.lemmas.List.{take_more}
 use Rattle.std.proofs.lemmas.List.Folds.{list_any-append}
 use Rattle.lease_rules.proofs.SoundLemmas.{choice_in}
-use Rattle.lease_rules.proofs.StartLemmas.{clean_can_start}
+use Rattle.lease_rules.proofs.StartLemmas.{clean_can_start, first_is_choice}
 use Rattle.lease_rules.specs.Choice.{CanStart, HasNoChoice, IsChoice}
 use Rattle.lease_rules.specs.State.{State}
 use Rattle.peak_tree.specs.Numbers.{greatest}
@@ -24,7 +24,6 @@ use Rattle.place_peaks.specs.Tree.{HasRoom}
 use Rattle.place_peaks.specs.Values.{values}
 use Rattle.place_peaks.proofs.DecisionLemmas.{HasPlaceFor, IsSpot, can_has_place, place_can}
 use Rattle.place_peaks.proofs.ValuesLemmas.{values_before, values_long}
-use Rattle.place_peaks.proofs.AgainLemmas.{first_is_choice}
 use Rattle.place_peaks.proofs.CountLemmas.{none_open, open_none}
 
 -- lists

@@ -37,7 +37,7 @@ use Rattle.place_peaks.specs.Links.{AreLinks}
 use Rattle.place_peaks.specs.Settling.{CanSettle, IsSettled}
 use Rattle.place_peaks.specs.Stack.{IsFirstOf, stacked}
 use Rattle.place_peaks.specs.Waiting.{CanFree, IsAgain, IsMoved}
-use Rattle.place_peaks.proofs.AgainLemmas.{first_is_choice}
+use Rattle.lease_rules.proofs.StartLemmas.{first_is_choice}
 use Rattle.place_peaks.proofs.ChoosingLemmas.{behind_none, last_first, none_stacked}
 use Rattle.place_peaks.proofs.CleaningLemmas.{cleaned_good, swept_at}
 use Rattle.place_peaks.proofs.FirstLemmas.{granted_again, swept_again}

@@ -11,7 +11,7 @@ use Rattle.lease_rules.proofs.ListLemmas.{few_once}
 use Rattle.lease_rules.proofs.ListLemmas.{has_head, has_without, once_filter, once_more, once_parts}
 use Rattle.lease_rules.proofs.NumbersLemmas.{count_tasks_in}
 use Rattle.lease_rules.proofs.SoundLemmas.{fresh_among, is_waiting, sound_more}
-use Rattle.lease_rules.proofs.StartLemmas.{follows_of}
+use Rattle.lease_rules.proofs.StartLemmas.{first_is_choice, follows_of}
 use Rattle.lease_rules.specs.Choice.{HasNoChoice, HaveParentsEnded, IsCandidate}
 use Rattle.lease_rules.specs.Law.{HasStorageLaws, IsSoundState}
 use Rattle.lease_rules.specs.Legal.{Allowed}
@@ -48,7 +48,6 @@ use Rattle.group_index.specs.Index.{AreAsMany, count_before}
 use Rattle.place_peaks.specs.Ready.{group_of, groups_of}
 use Rattle.place_peaks.specs.declared.ready.Ready.{Ready}
 use Rattle.place_peaks.proofs.ReadyLemmas.{HaveTrees}
-use Rattle.place_peaks.proofs.AgainLemmas.{first_is_choice}
 use Rattle.place_peaks.proofs.ChoosingLemmas.{filter_both, placed_there, spot_of, take_past}
 use Rattle.place_peaks.proofs.CleaningLemmas.{cleaned_good}
 use Rattle.place_peaks.proofs.CountLemmas.{counts_run, open_none}

@@ -1,7 +1,7 @@
 -- What becomes of a task that is to be tried again.
-use Rattle.std.specs.Prelude.{◌≡◌, ℕ, ◌-◌, ◌==◌, ◌&&◌, ◌<◌, ◌≤◌, ◌^◌, ◌++◌, ◌∷◌, cond, not, [], length, get_or, set, None, vec_capacity}
+use Rattle.std.specs.Prelude.{◌≡◌, ℕ, ◌-◌, ◌==◌, ◌&&◌, ◌<◌, ◌≤◌, ◌^◌, cond, not, [], length, get_or, set, None, vec_capacity}
 use Rattle.plan_core.specs.declared.plan.Plan.{Plan}
-use Rattle.plan_core.specs.Words.{count_tasks, task_numbers}
+use Rattle.plan_core.specs.Words.{count_tasks}
 use Rattle.place_peaks.specs.declared.peaks.Peaks.{Peaks}
 use Rattle.place_peaks.specs.Peaks.{HasPassed, left_of}
 use Rattle.place_peaks.specs.Places.{is_place}
@@ -10,11 +10,6 @@ use Rattle.place_peaks.specs.Tree.{AllFirst, CanFall, front_changed}
 -- the stack has room for every task
 abbrev pub HasStackRoom : Plan → Peaks → Type 0
 HasStackRoom p b = count_tasks p ≤ vec_capacity b.again
-
--- one task more stands on the stack
-pub record IsPushed (old new : Peaks) (t : ℕ) : Type 0 where
-  pub again : task_numbers new.again.items ≡ task_numbers old.again.items ++ t ∷ []
-  pub room : vec_capacity new.again ≡ vec_capacity old.again
 
 -- A task that ran waits again: it stands on the stack, and brings nothing.
 pub record IsAgain (old new : Peaks) (t : ℕ) : Type 0 where

@@ -11,12 +11,13 @@ ghost use Rattle.place_peaks.specs.Tree.{AllFirst, CanFall, front_changed};
 ghost use Rattle.place_peaks.specs.Waiting.{CanFree};
 
 use crate::granting::unmark;
-use crate::links::{Links, count_down};
+use crate::links::Links;
 use crate::peaks::Peaks;
 use crate::stack::pop;
 use crate::tree::sweep;
 use peak_tree::PeakTree;
 use plan_core::Plan;
+use storage_simulation::count_down;
 
 /// A task has ended: each of its children has one open parent less.
 pub(crate) fn end_for_children(plan: &Plan, missing: &mut Vec<u32>, links: &Links, task: u32)

@@ -10,9 +10,9 @@ ghost use Rattle.storage_simulation.specs.Law.{KeepsGoods};
 ghost use Rattle.place_peaks.specs.Links.{AreCleanersBefore, AreLinks, IsCleaner};
 
 use digraph::Digraph;
-use plan_core::{Plan, parents_come_before};
+use plan_core::Plan;
 use std::alloc::Global;
-use storage_simulation::{cleaned_by, proper_plans_keep_goods};
+use storage_simulation::{children_of, cleaned_by, parent_graph, proper_plans_keep_goods};
 use values::{Memory, TaskId};
 
 /// A graph that leads from each parent to its children, and by good the Clean of it.
@@ -20,46 +20,6 @@ use values::{Memory, TaskId};
 pub struct Links {
     pub(crate) children: Digraph,
     pub(crate) cleaners: Vec<Option<u32>>,
-}
-
-fn numbers_of(alloc: Global, tasks: &[TaskId]) -> Result<Vec<u32>, Memory>
-    ensures { IfOk result (λ v. v.items ≡ task_numbers tasks.now) }
-{
-    let numbers: Vec<u32> = tasks.iter().map(|task| task.0).collect(alloc)?;
-    Ok(numbers)
-}
-
-/// The parents of each task.
-fn parent_lists(alloc: Global, plan: &Plan) -> Result<Vec<Vec<u32>>, Memory>
-    requires few { count_tasks plan.now < 2 ^ 32 }
-    ensures long { IfOk result (λ v. length v.items ≡ count_tasks plan.now) }
-    ensures each { IfOk result (λ v. (t : ℕ) → t < count_tasks plan.now → neighbours (lists_of v.items) t ≡ parents plan.now t) }
-{
-    let mut lists = Vec::new(alloc);
-    for task in 0..plan.tasks.as_slice().len() {
-        lists.push(numbers_of(alloc, plan.parents(TaskId(task as u32)))?)?;
-    }
-    Ok(lists)
-}
-
-fn parent_graph(alloc: Global, plan: &Plan) -> Result<Digraph, Memory>
-    requires proper { IsProper plan.now }
-    ensures nodes { IfOk result (λ g. count g ≡ count_tasks plan.now) }
-    ensures edges { IfOk result (λ g. (u t : ℕ) → edge g u t ≡ has (parents plan.now t) u) }
-{
-    parents_come_before();
-    let lists = parent_lists(alloc, plan)?;
-    let graph = Digraph::new(alloc, &lists)?;
-    Ok(graph)
-}
-
-fn list_at(lists: &[Vec<u32>], at: u32) -> &[u32]
-    ensures { result.now ≡ neighbours (lists_of lists.now) at }
-{
-    match lists.get(at as usize) {
-        Some(found) => found,
-        None => &[],
-    }
 }
 
 /// Notes the good that a task cleans.
@@ -117,19 +77,6 @@ impl Links {
         ensures same { (c : ℕ) → has result.now c ≡ edge self.now.children task c }
         ensures in_range { (c : ℕ) → has result.now c ≡ true → c < count self.now.children }
     {
-        list_at(self.children.successors(), task)
-    }
-}
-
-/// One open parent less for each of some tasks.
-pub(crate) fn count_down(counts: &mut Vec<u32>, tasks: &[u32])
-    requires rises { RisesFrom 0 tasks.now }
-    requires in_range { (c : ℕ) → has tasks.now c ≡ true → c < length counts.old.items }
-    requires enough { (c : ℕ) → has tasks.now c ≡ true → 0 < get_or counts.old.items c 0 }
-    ensures long { length counts.new.items ≡ length counts.old.items }
-    ensures each { (c : ℕ) → get_or counts.new.items c 0 + cond (has tasks.now c) 1 0 ≡ get_or counts.old.items c 0 }
-{
-    for task in tasks {
-        counts[*task as usize] -= 1;
+        children_of(&self.children, TaskId(task))
     }
 }

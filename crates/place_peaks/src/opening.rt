@@ -24,11 +24,11 @@ use crate::choosing::task_at;
 use crate::law::tasks_change_one_place;
 use crate::peaks::Peaks;
 use crate::ready::Ready;
-use crate::sizing::{level_next, made_size, place_of};
+use crate::sizing::{level_next, made_size};
 use peak_tree::PeakTree;
 use plan_core::{Plan, files_are_listed_by_pair, parents_come_before};
 use std::alloc::Global;
-use storage_simulation::{places, proper_plans_keep_goods, steps_fit, sums_are_small};
+use storage_simulation::{place_of, places, proper_plans_keep_goods, steps_fit, sums_are_small};
 use values::{Memory, TaskId};
 
 /// The seats of the tasks of the order, and how many each place has.

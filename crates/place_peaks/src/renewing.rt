@@ -28,13 +28,12 @@ use crate::choosing::task_at;
 use crate::granting::add_base;
 use crate::opening::seat_next;
 use crate::peaks::Peaks;
-use crate::sizing::makes_good;
 use crate::tree::refill;
 use peak_tree::PeakTree;
 use plan_core::Plan;
 use storage_simulation::{
-    Held, Phase, Standing, cleaned_by, good_size, lies_at, places, proper_plans_keep_goods,
-    sums_are_small,
+    Held, Phase, Standing, cleaned_by, finds_made, good_size, lies_at, places,
+    proper_plans_keep_goods, sums_are_small,
 };
 use values::TaskId;
 
@@ -70,7 +69,7 @@ fn any_waits(plan: &Plan, standing: &Standing, some: &[TaskId], good: u32) -> bo
     requires goods { KeepsGoods plan.now }
     ensures { result ≡ list_any (λ (u : TaskId). waits (phase_of standing.now u.0) && has (makes plan.now u.0) good) some.now }
 {
-    some.iter().any(|task| waits(standing, *task) && makes_good(plan, *task, good))
+    some.iter().any(|task| waits(standing, *task) && finds_made(plan, *task, good))
 }
 
 /// Whether a parent of a task waits that makes the good.

@@ -15,47 +15,9 @@ ghost use Rattle.place_peaks.specs.Opening.{nothing};
 
 use crate::choosing::task_at;
 use crate::goods::{count_made, made_at};
-use plan_core::{Plan, Target, TaskKind};
-use storage_simulation::{cleaned_by, good_size, is_delivery, lies_at, sums_are_small};
-use values::{PairId, TaskId};
-
-/// The site of a pair.
-fn pair_site(plan: &Plan, number: PairId) -> Option<u32>
-    ensures { result ≡ pair_site (pair plan.now number.0) }
-{
-    match plan.pair(number) {
-        Some(found) => Some(found.site.0),
-        None => None,
-    }
-}
-
-/// The number of the output, where it has a bound.
-fn output_place(plan: &Plan) -> Option<u32>
-    requires { IsWithinLimits plan.now }
-    ensures { result ≡ cond (is_some (output_bound plan.now)) (Some (count_sites plan.now)) None }
-{
-    match plan.output_bound() {
-        Some(_) => Some(plan.sites.as_slice().len() as u32),
-        None => None,
-    }
-}
-
-/// The place at which a task changes usage.
-#[tactic(auto, unfolding(storage_simulation::specs::Goods::place))]
-pub(crate) fn place_of(plan: &Plan, task: TaskId) -> Option<u32>
-    requires { IsWithinLimits plan.now }
-    ensures { result ≡ place plan.now task.0 }
-{
-    match plan.kind(task) {
-        Some(TaskKind::Transfer { to, .. }) => match to {
-            Target::Site(site) => Some(site.0),
-            Target::Delivery => output_place(plan),
-        },
-        Some(TaskKind::Run { site, .. }) => Some(site.0),
-        Some(TaskKind::Clean { pair }) => pair_site(plan, *pair),
-        None => None,
-    }
-}
+use plan_core::Plan;
+use storage_simulation::{cleaned_by, finds_made, good_size, lies_at, sums_are_small};
+use values::TaskId;
 
 /// The declared size of a good at a place.
 pub(crate) fn size_at(plan: &Plan, place: u32, good: u32) -> u64
@@ -81,33 +43,12 @@ pub(crate) fn made_size(plan: &Plan, place: u32, task: u32) -> u64
     sum
 }
 
-/// Whether a good is among some pairs in rising order.
-fn is_among_rising(pairs: &[PairId], good: u32) -> bool
-    requires { RisesFrom 0 (pair_numbers pairs.now) }
-    ensures { result ≡ has (pair_numbers pairs.now) good }
-{
-    pairs.binary_search_by_key(&good, |pair| pair.0).is_ok()
-}
-
-/// Whether a task of a plan that lists goods in rising order makes a good.
-#[tactic(auto, unfolding(storage_simulation::specs::Goods::makes))]
-pub(crate) fn makes_good(plan: &Plan, task: TaskId, good: u32) -> bool
-    requires limits { IsWithinLimits plan.now }
-    requires rises { RisesFrom 0 (makes plan.now task.0) }
-    ensures { result ≡ has (makes plan.now task.0) good }
-{
-    if is_delivery(plan, task) {
-        return plan.pairs.as_slice().len() + task.0 as usize == good as usize;
-    }
-    is_among_rising(plan.writes(task), good)
-}
-
 fn any_makes(plan: &Plan, some: &[TaskId], good: u32) -> bool
     requires limits { IsWithinLimits plan.now }
     requires goods { KeepsGoods plan.now }
     ensures { result ≡ list_any (λ (u : TaskId). has (makes plan.now u.0) good) some.now }
 {
-    some.iter().any(|task| makes_good(plan, *task, good))
+    some.iter().any(|task| finds_made(plan, *task, good))
 }
 
 /// Whether a parent of a task makes the good.

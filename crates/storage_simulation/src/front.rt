@@ -46,8 +46,8 @@ fn parent_lists(alloc: Global, plan: &Plan) -> Result<Vec<Vec<u32>>, Memory>
     Ok(lists)
 }
 
-/// The graph that leads from each parent to its child.
-fn parent_graph(alloc: Global, plan: &Plan) -> Result<Digraph, Memory>
+/// The graph that leads from each parent to its children.
+pub fn parent_graph(alloc: Global, plan: &Plan) -> Result<Digraph, Memory>
     requires proper { IsProper plan.now }
     ensures nodes { IfOk result (λ g. count g ≡ count_tasks plan.now) }
     ensures edges { IfOk result (λ g. (u t : ℕ) → edge g u t ≡ has (parents plan.now t) u) }
@@ -68,7 +68,7 @@ fn list_at(lists: &[Vec<u32>], at: u32) -> &[u32]
 }
 
 /// The tasks to which an edge leads from a task.
-pub(crate) fn children_of(graph: &Digraph, task: TaskId) -> &[u32]
+pub fn children_of(graph: &Digraph, task: TaskId) -> &[u32]
     ensures rises { RisesFrom 0 result.now }
     ensures same { (c : ℕ) → has result.now c ≡ edge graph.now task.0 c }
     ensures in_range { (c : ℕ) → has result.now c ≡ true → c < count graph.now }

@@ -118,7 +118,7 @@ fn output_place(plan: &Plan) -> Option<u32>
 
 /// The place at which a task changes usage.
 #[tactic(auto, unfolding(crate::specs::Goods::place))]
-pub(crate) fn place_of(plan: &Plan, task: TaskId) -> Option<u32>
+pub fn place_of(plan: &Plan, task: TaskId) -> Option<u32>
     requires { IsWithinLimits plan.now }
     ensures { result ≡ place plan.now task.0 }
 {
@@ -204,7 +204,7 @@ fn is_among_rising(pairs: &[PairId], good: u32) -> bool
 
 /// Whether a task of a plan that lists goods in rising order makes a good.
 #[tactic(auto, unfolding(crate::specs::Goods::makes))]
-pub(crate) fn finds_made(plan: &Plan, task: TaskId, good: u32) -> bool
+pub fn finds_made(plan: &Plan, task: TaskId, good: u32) -> bool
     requires limits { IsWithinLimits plan.now }
     requires rises { RisesFrom 0 (makes plan.now task.0) }
     ensures { result ≡ has (makes plan.now task.0) good }

@@ -34,7 +34,10 @@ mod usage;
 pub use bench::Bench;
 pub use fitting::{Exceeds, fits};
 pub use following::follows;
-pub use goods::{cleaned_by, good_size, is_delivery, lies_at, place_bound, places};
+pub use front::{children_of, parent_graph};
+pub use goods::{
+    cleaned_by, finds_made, good_size, is_delivery, lies_at, place_bound, place_of, places,
+};
 pub use law::{
     pairs_are_few, plain_policy_counts_pairs, proper_plans_keep_goods, sums_are_small,
     usage_is_a_sum,
@@ -44,5 +47,6 @@ pub use order_law::{
 };
 pub use ordered::{OrderFault, OrderRefused, Ordered, order};
 pub use ordering::order_from;
+pub use placing::count_down;
 pub use standing::{Held, Phase, Standing};
 pub use usage::usage_after;

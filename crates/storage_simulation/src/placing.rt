@@ -61,7 +61,7 @@ fn raise(peaks: &mut Vec<u64>, change: Option<Change>)
 }
 
 /// One parent less for each of some tasks.
-fn count_down(counts: &mut Vec<u32>, tasks: &[u32])
+pub fn count_down(counts: &mut Vec<u32>, tasks: &[u32])
     requires rises { RisesFrom 0 tasks.now }
     requires in_range { (c : ℕ) → has tasks.now c ≡ true → c < length counts.old.items }
     requires enough { (c : ℕ) → has tasks.now c ≡ true → 0 < get_or counts.old.items c 0 }

@@ -1,7 +1,0 @@
-use Rattle.std.proofs.Common.{◌≡◌, ◌<◌, ℕ, length}
-use Rattle.digraph.specs.Adjacency.{lists_of, neighbours}
-use Rattle.plan_core.specs.Words.{parents}
-use Rattle.place_peaks.proofs.links.parent_lists.Given as goal
-
-abbrev pub invariant-loop-task : goal.invariant-loop-task
-invariant-loop-task l = (length l.lists.items ≡ l.task) × ((t : ℕ) → t < l.task → neighbours (lists_of l.lists.items) t ≡ parents l.plan t)
