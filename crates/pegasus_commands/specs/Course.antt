@@ -106,9 +106,11 @@ all_documents request = do
   transformations ← if_named request.transformations
   Ends (Ok (record { workflow = workflow; sites = sites; replicas = replicas; transformations = transformations }))
 
+-- the value of the whole: the request beside its documents
 abbrev pub with_request : PlanRequest → Documents → Course Requested
 with_request request documents = Ends (Ok (record { request = request; documents = documents }))
 
+-- once the request is read, all documents that it names
 abbrev pub named_documents : PlanRequest → Course Requested
 named_documents request = all_documents request >>= with_request request
 
