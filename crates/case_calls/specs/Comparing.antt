@@ -20,8 +20,10 @@ IsWrittenAs written ending = IsWritten written (string_bytes ending.text) ending
 
 -- What is delivered under the file's name is these bytes, or nothing where there are none.
 abbrev pub IsHeld : MemoryHost → Delivered → Type 0
-IsHeld host file = map.get (host_store host).delivered (string_bytes file.name) ≡ option_map string_bytes file.bytes
+IsHeld host file = map.get (host_store host).delivered (string_bytes file.name)
+    ≡ option_map string_bytes file.bytes
 
 -- What stands at the site under the file's name is these bytes, or nothing where there are none.
 abbrev pub IsStored : MemoryHost → Stored → Type 0
-IsStored host file = pair_at (host_store host).scratch (string_bytes file.site) (string_bytes file.name) ≡ option_map string_bytes file.bytes
+IsStored host file = pair_at (host_store host).scratch (string_bytes file.site) (string_bytes file.name)
+    ≡ option_map string_bytes file.bytes

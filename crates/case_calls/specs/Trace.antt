@@ -7,9 +7,12 @@ use Rattle.outside.specs.declared.operation.Operation.TheVariants.{Publish, Deli
 
 -- a change as a line of words
 abbrev pub operation_line : Operation → List ℕ
-operation_line (Publish site name length) = codes "publish" ++ codes " " ++ printed_name site ++ codes " " ++ printed_name name ++ codes " " ++ decimal length ++ codes "\n"
-operation_line (Deliver name length) = codes "deliver" ++ codes " " ++ printed_name name ++ codes " " ++ decimal length ++ codes "\n"
-operation_line (Remove site name) = codes "remove" ++ codes " " ++ printed_name site ++ codes " " ++ printed_name name ++ codes "\n"
+operation_line (Publish site name length) = codes "publish" ++ codes " " ++ printed_name site ++ codes " "
+    ++ printed_name name ++ codes " " ++ decimal length ++ codes "\n"
+operation_line (Deliver name length) = codes "deliver" ++ codes " " ++ printed_name name ++ codes " "
+    ++ decimal length ++ codes "\n"
+operation_line (Remove site name) = codes "remove" ++ codes " " ++ printed_name site ++ codes " "
+    ++ printed_name name ++ codes "\n"
 
 abbrev pub operation_lines : List Operation → List ℕ
 operation_lines [] = []

@@ -60,7 +60,8 @@ pub fn is_met(case: &Case, ended: &Ended) -> bool
     ensures text { IsTrue result → IsWrittenAs (sink_bytes ended.now.sink) case.now.ending }
     ensures files { IsTrue result → All (IsHeld ended.now.host) case.now.delivered.items }
     ensures stored { IsTrue result → All (IsStored ended.now.host) case.now.stored.items }
-    ensures trace { IsTrue result → IfSome case.now.trace (λ text. ended.now.trace.items ≡ string_bytes text) }
+    ensures trace { IsTrue result
+        → IfSome case.now.trace (λ text. ended.now.trace.items ≡ string_bytes text) }
 {
     ended.status == case.ending.status
         && is_written(ended.sink.bytes(), &case.ending)

@@ -33,7 +33,12 @@ fn task_ids(alloc: Global, numbers: &[u32]) -> Result<Vec<TaskId>, Memory>
 
 /// The Clean of a pair after these tasks.
 fn clean_after(alloc: Global, pair: PairId, tasks: &[u32]) -> Result<Task, Memory>
-    ensures { IfOk result (λ t. t ≡ record { kind = Clean pair; reads = []; writes = []; parents = map task tasks.now }) }
+    ensures { IfOk result (λ t. t ≡ record {
+      kind = Clean pair;
+      reads = [];
+      writes = [];
+      parents = map task tasks.now;
+    }) }
 {
     let parents = task_ids(alloc, tasks)?;
     Ok(Task {

@@ -33,7 +33,8 @@ fn touched(alloc: Global, plan: &Plan, task: TaskId) -> Result<Vec<u32>, Memory>
 fn touched_lists(alloc: Global, plan: &Plan, nodes: usize) -> Result<Vec<Vec<u32>>, Memory>
     requires few { nodes < 2 ^ 32 }
     ensures long { IfOk result (λ v. length v.items ≡ nodes) }
-    ensures lists { IfOk result (λ v. (t : ℕ) → t < nodes → neighbours (lists_of v.items) t ≡ touched plan.now t) }
+    ensures lists { IfOk result (λ v. (t : ℕ) → t < nodes
+        → neighbours (lists_of v.items) t ≡ touched plan.now t) }
 {
     let mut all = Vec::new(alloc);
     for t in 0..nodes {

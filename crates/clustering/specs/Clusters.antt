@@ -57,7 +57,8 @@ pub record AreLabels (w : Workflow) (b : Basis) (kept : List Bool) (c : Clusters
   pub parts : c.parts ≡ labels_of b jobs
 
 -- the first of these jobs at another site than the first job with its label
-pub record IsFirstApart (w : Workflow) (b : Basis) (ps : List (List JobId)) (jobs : List JobId) (label one two : List ℕ) : Type 0 where
+pub record IsFirstApart (w : Workflow) (b : Basis) (ps : List (List JobId)) (jobs : List JobId)
+    (label one two : List ℕ) : Type 0 where
   pub first : JobId
   pub job : JobId
   pub apart : first_apart b ps jobs ≡ Some (label, first, job)
@@ -77,7 +78,8 @@ pub record IsClusterCycle (w : Workflow) (b : Basis) (kept : List Bool) (ids : L
   pub one_site : first_apart b (labels_of b jobs) jobs ≡ None
   pub cycle : IsPartCycle w (labels_of b jobs) ids
 
-abbrev pub ChecksSites : Workflow → Basis → List (List JobId) → List JobId → Result (Unit {0}) ClusterFault → Type 0
+abbrev pub ChecksSites : Workflow → Basis → List (List JobId) → List JobId → Result (Unit {0}) ClusterFault
+    → Type 0
 ChecksSites w b ps jobs (Ok u) = first_apart b ps jobs ≡ None
 ChecksSites w b ps jobs (Err Memory) = Unit {0}
 ChecksSites w b ps jobs (Err (LabelOverSites label one two)) = IsFirstApart w b ps jobs label one two

@@ -36,7 +36,8 @@ other_parts table part (j ∷ js) = unless_part part (holder_in table j) (other_
 -- the parts other than this one that hold parents of some jobs
 abbrev pub part_sources : List (Option ℕ) → List (List JobId) → ℕ → List JobId → List ℕ
 part_sources table parents part [] = []
-part_sources table parents part (j ∷ js) = other_parts table part (jobs_at parents j.0) ++ part_sources table parents part js
+part_sources table parents part (j ∷ js) = other_parts table part (jobs_at parents j.0)
+    ++ part_sources table parents part js
 
 -- the same for each part, from this number on
 abbrev pub sources_from : List (Option ℕ) → List (List JobId) → ℕ → List (List JobId) → List (List ℕ)

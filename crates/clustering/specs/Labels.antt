@@ -61,12 +61,14 @@ first_of ps (Some c) = slice_get (slice_index_or ps c []) 0
 abbrev pub apart_by : Basis → JobId → Option (List ℕ) → Option JobId → Option (List ℕ × JobId)
 apart_by b j None first = None
 apart_by b j (Some label) None = None
-apart_by b j (Some label) (Some first) = if option_eq nat_eq (site_at b first.0) (site_at b j.0) then None else Some (label, first)
+apart_by b j (Some label) (Some first) = if option_eq nat_eq (site_at b first.0) (site_at b j.0) then None
+    else Some (label, first)
 
 abbrev pub apart : Basis → List (List JobId) → JobId → Option (List ℕ × JobId)
 apart b ps j = apart_by b j (label_at b j.0) (first_of ps (holder ps j))
 
-abbrev pub or_further : JobId → Option (List ℕ × JobId) → Option (List ℕ × JobId × JobId) → Option (List ℕ × JobId × JobId)
+abbrev pub or_further : JobId → Option (List ℕ × JobId) → Option (List ℕ × JobId × JobId)
+    → Option (List ℕ × JobId × JobId)
 or_further j None later = later
 or_further j (Some found) later = Some (found.0, found.1, j)
 

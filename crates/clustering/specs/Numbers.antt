@@ -51,7 +51,10 @@ abbrev pub size_by : Option TransformationEntry → Job → Option (List ℕ)
 size_by e j = option_or j.cluster_size (size_in e)
 
 abbrev pub numbers_by : Option TransformationEntry → Job → Numbers
-numbers_by e j = record { num = option_and_then number_in (num_by e j); size = option_and_then number_in (size_by e j) }
+numbers_by e j = record {
+  num = option_and_then number_in (num_by e j);
+  size = option_and_then number_in (size_by e j);
+}
 
 abbrev pub numbers_of : List TransformationEntry → Job → Numbers
 numbers_of es j = numbers_by (entry_of es j.transformation) j

@@ -21,7 +21,8 @@ run_length n q r = length_by n.num n.size q r
 -- the run of the job so many places on, from run r of which so many jobs are left
 abbrev pub run_from : Numbers → ℕ → ℕ → ℕ → ℕ → ℕ
 run_from n q r left zero = r
-run_from n q r left (suc p) = if nat_le left 1 then run_from n q (suc r) (run_length n q (suc r)) p else run_from n q r (left - 1) p
+run_from n q r left (suc p) = if nat_le left 1 then run_from n q (suc r) (run_length n q (suc r)) p
+    else run_from n q r (left - 1) p
 
 -- the run of the job at place p
 abbrev pub run_at : Numbers → ℕ → ℕ → ℕ
@@ -36,7 +37,8 @@ run_in n group j = run_at n (length group) (position_or_len (is_job j) group)
 
 abbrev pub run_among : Basis → List (List JobId) → JobId → ℕ
 run_among c [] j = 0
-run_among c (group ∷ groups) j = if list_any (is_job j) group then run_in (group_numbers c group) group j else run_among c groups j
+run_among c (group ∷ groups) j = if list_any (is_job j) group then run_in (group_numbers c group) group j
+    else run_among c groups j
 
 abbrev pub run_of : Basis → List JobId → JobId → ℕ
 run_of c jobs j = run_among c (gathered (same_group c) jobs) j

@@ -29,7 +29,12 @@ impl<'a> Model for Basis<'a> {
 
     ghost Value = { declared.Basis };
 
-    ghost view = { λ b. record { jobs = b.jobs.now; levels = b.levels.now; sites = b.sites.now; entries = b.entries.now } };
+    ghost view = { λ b. record {
+      jobs = b.jobs.now;
+      levels = b.levels.now;
+      sites = b.sites.now;
+      entries = b.entries.now;
+    } };
 
     ghost invariant = { λ b. b.index ≡ b.entries.now };
 }

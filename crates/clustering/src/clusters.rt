@@ -31,7 +31,8 @@ pub fn cluster(
     requires few { length kept.now ≤ 10000 }
     requires long { length kept.now ≡ length workflow.now.jobs }
     requires graph { IsGraphOf workflow.now graph.now }
-    ensures { ClustersAre mode workflow.now (basis workflow.now levels.now sites.now transformations.now) kept.now result }
+    ensures { ClustersAre mode workflow.now
+        (basis workflow.now levels.now sites.now transformations.now) kept.now result }
 {
     let order = ranked(alloc, kept, levels)?;
     let jobs = ids(alloc, &order)?;

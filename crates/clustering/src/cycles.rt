@@ -57,8 +57,10 @@ pub fn sources(
     parts: &[Vec<JobId>],
 ) -> Result<Vec<Vec<u32>>, Memory>
     requires few { length parts.now ≤ 10000 }
-    requires each { (k : ℕ) → All (λ j. j.0 < length graph.now.parents) (slice_index_or (job_lists parts.now) k []) }
-    ensures { IfOk result (λ lists. lists_of lists.items ≡ sources_from holders.now graph.now.parents 0 (job_lists parts.now)) }
+    requires each { (k : ℕ) → All (λ j. j.0 < length graph.now.parents)
+        (slice_index_or (job_lists parts.now) k []) }
+    ensures { IfOk result (λ lists. lists_of lists.items
+        ≡ sources_from holders.now graph.now.parents 0 (job_lists parts.now)) }
 {
     let mut lists = Vec::new(alloc);
     let mut number = 0;

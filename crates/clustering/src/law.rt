@@ -18,12 +18,16 @@ ghost use Rattle.clustering.specs.Singles.{job_numbers};
 
 /// Each kept job is in a cluster.
 pub fn kept_jobs_are_clustered()
-    ensures { (mode : ClusterMode) (w : Workflow) (b : Basis) (kept : List Bool) (c : Clusters) → ClustersAre mode w b kept (Ok c) → (a : ℕ) → is_kept kept a ≡ true → list_any (λ (js : List JobId). is_among a (job_numbers js)) c.parts ≡ true }
+    ensures { (mode : ClusterMode) (w : Workflow) (b : Basis) (kept : List Bool) (c : Clusters)
+        → ClustersAre mode w b kept (Ok c) → (a : ℕ) → is_kept kept a ≡ true
+        → list_any (λ (js : List JobId). is_among a (job_numbers js)) c.parts ≡ true }
 {}
 
 /// Clusters of kept jobs can be made tasks: each job is in one at most, after those of it whose files it reads, and no
 /// clusters lead round.
 pub fn clusters_are_parts()
-    ensures { (mode : ClusterMode) (w : Workflow) (g : Links) (kept : List Bool) (levels : List ℕ) (sites : List (Option SiteId)) (t : TransformationCatalog) (c : Clusters)
-        → IsGraphOf w g → AreLevels g kept levels → ClustersAre mode w (basis w levels sites t) kept (Ok c) → AreParts w kept c.parts }
+    ensures { (mode : ClusterMode) (w : Workflow) (g : Links) (kept : List Bool) (levels : List ℕ)
+        (sites : List (Option SiteId)) (t : TransformationCatalog) (c : Clusters)
+        → IsGraphOf w g → AreLevels g kept levels → ClustersAre mode w (basis w levels sites t) kept (Ok c)
+        → AreParts w kept c.parts }
 {}

@@ -75,7 +75,8 @@ fn own_or<'a>(own: &'a Option<Text>, other: Option<&'a Text>) -> Option<&'a Text
 }
 
 fn num_of<'a>(job: &'a Job, found: Option<&'a TransformationEntry>) -> Option<&'a Text>
-    ensures { option_map (λ t. t.now) result ≡ option_or job.now.cluster_num (num_in (option_map (λ e. e.now) found.entry)) }
+    ensures { option_map (λ t. t.now) result
+        ≡ option_or job.now.cluster_num (num_in (option_map (λ e. e.now) found.entry)) }
 {
     match found {
         Some(entry) => own_or(&job.cluster_num, entry.cluster_num.as_ref()),
@@ -84,7 +85,8 @@ fn num_of<'a>(job: &'a Job, found: Option<&'a TransformationEntry>) -> Option<&'
 }
 
 fn size_of<'a>(job: &'a Job, found: Option<&'a TransformationEntry>) -> Option<&'a Text>
-    ensures { option_map (λ t. t.now) result ≡ option_or job.now.cluster_size (size_in (option_map (λ e. e.now) found.entry)) }
+    ensures { option_map (λ t. t.now) result
+        ≡ option_or job.now.cluster_size (size_in (option_map (λ e. e.now) found.entry)) }
 {
     match found {
         Some(entry) => own_or(&job.cluster_size, entry.cluster_size.as_ref()),

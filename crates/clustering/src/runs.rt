@@ -53,7 +53,8 @@ fn following(numbers: Numbers, jobs: u32, run: u32, left: u32) -> (u32, u32)
     requires jobs { 0 < jobs }
     requires few { run < 10000 }
     requires positive { IfSome numbers.num (λ n. 0 < n) }
-    ensures runs { (p : ℕ) → run_from numbers jobs result.0 result.1 p ≡ run_from numbers jobs run left (suc p) }
+    ensures runs { (p : ℕ) → run_from numbers jobs result.0 result.1 p
+        ≡ run_from numbers jobs run left (suc p) }
     ensures slow { result.0 ≤ run + 1 }
 {
     if left <= 1 {
@@ -69,7 +70,8 @@ fn note_runs(runs: &mut Vec<u32>, group: &[JobId], numbers: Numbers)
     requires positive { IfSome numbers.num (λ n. 0 < n) }
     ensures long { length runs.new.items ≡ length runs.old.items }
     ensures noted { (j : JobId) → slice_index_or runs.new.items j.0 0
-        ≡ (if list_any (is_job j) group.now then run_in numbers group.now j else slice_index_or runs.old.items j.0 0) }
+        ≡ (if list_any (is_job j) group.now then run_in numbers group.now j
+        else slice_index_or runs.old.items j.0 0) }
 {
     if group.is_empty() {
         return;
@@ -91,7 +93,8 @@ fn run_table(
     jobs: usize,
 ) -> Result<Vec<u32>, Memory>
     requires { (k : ℕ) → IsGroup jobs (slice_index_or (job_lists groups.now) k []) }
-    ensures { IfOk result (λ v. (j : JobId) → slice_index_or v.items j.0 0 ≡ run_among basis.now (job_lists groups.now) j) }
+    ensures { IfOk result (λ v. (j : JobId)
+        → slice_index_or v.items j.0 0 ≡ run_among basis.now (job_lists groups.now) j) }
 {
     let mut runs = vec![in alloc; 0; jobs]?;
     let mut left = groups.len();

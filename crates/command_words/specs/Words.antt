@@ -67,7 +67,8 @@ value_of a b c d = (a - 48) * 1000 + (b - 48) * 100 + (c - 48) * 10 + (d - 48)
 
 abbrev pub four_digits : ℕ → ℕ → ℕ → ℕ → ℕ → ℕ → Option ℕ
 four_digits low high a b c d =
-    if is_ascii_digit a && (is_ascii_digit b && (is_ascii_digit c && is_ascii_digit d)) && (nat_le low (value_of a b c d) && nat_le (value_of a b c d) high)
+    if is_ascii_digit a && (is_ascii_digit b && (is_ascii_digit c && is_ascii_digit d))
+    && (nat_le low (value_of a b c d) && nat_le (value_of a b c d) high)
     then Some (value_of a b c d) else None
 
 -- one to four digits, of a number between the bounds
@@ -113,17 +114,20 @@ keeps_the_rule word = is_name word || (bytes_eq word workers_option || begins_wi
 
 -- the option as one word `--workers=N`, and as two words
 abbrev pub joined : List ℕ → List ℕ → List ℕ → Option Said
-joined word name option = if is_name name && begins_with (codes "--workers=") option then Some (WithWorkers word name (drop 10 option)) else None
+joined word name option = if is_name name && begins_with (codes "--workers=") option
+    then Some (WithWorkers word name (drop 10 option)) else None
 
 abbrev pub apart : List ℕ → List ℕ → List ℕ → List ℕ → Option Said
-apart word name option digits = if is_name name && bytes_eq option workers_option then Some (WithWorkers word name digits) else None
+apart word name option digits = if is_name name && bytes_eq option workers_option
+    then Some (WithWorkers word name digits) else None
 
 abbrev pub one_more : List ℕ → List ℕ → Option Said
 one_more word a = if is_name a then Some (One word a) else None
 
 -- the option stands before or after the name
 abbrev pub two_more : List ℕ → List ℕ → List ℕ → Option Said
-two_more word a b = if is_name a then (if is_name b then Some (Two word a b) else joined word a b) else joined word b a
+two_more word a b = if is_name a then (if is_name b then Some (Two word a b) else joined word a b)
+    else joined word b a
 
 abbrev pub three_more : List ℕ → List ℕ → List ℕ → List ℕ → Option Said
 three_more word a b c = if is_name a then apart word a b c else apart word c a b
@@ -181,7 +185,9 @@ threaded_command words = option_and_then threaded_in (said_in words)
 -- words of a call that may start threads and wait: a run's, and a rehearsal's or an ensemble's by several workers
 abbrev pub is_threaded : List (List ℕ) → Bool
 is_threaded [] = false
-is_threaded (word ∷ words) = bytes_eq word (codes "run") || ((bytes_eq word (codes "rehearse") || bytes_eq word (codes "ensemble")) && list_any (begins_with workers_option) words)
+is_threaded (word ∷ words) = bytes_eq word (codes "run")
+    || ((bytes_eq word (codes "rehearse") || bytes_eq word (codes "ensemble"))
+    && list_any (begins_with workers_option) words)
 
 abbrev pub command_if : Bool → List (List ℕ) → Option Command
 command_if true words = option_map InThreads (threaded_command words)

@@ -61,13 +61,19 @@ impl<T: Tool> Tool for Faulty<T> {
         ins: &[Blob],
         outs: usize,
     ) -> Result<Vec<Blob>, ToolFault>
-        ensures answer { Ran (T.apply name.now args.now ins.now outs) (⟦<Faulty<T> as Tool>⟧.faults self.old) (⟦<Faulty<T> as Tool>⟧.faults self.new) result }
+        ensures answer { Ran (T.apply name.now args.now ins.now outs) (⟦<Faulty<T> as Tool>⟧.faults self.old)
+            (⟦<Faulty<T> as Tool>⟧.faults self.new) result }
         ensures faults { ⟦<Faulty<T> as Tool>⟧.faults self.old ≤ ⟦<Faulty<T> as Tool>⟧.faults self.new }
         // A listed run fails, and the wrapped tool isn't asked; any other run is the wrapped tool's.
         ensures listed { fails_next (runs_to_fail self.old) ≡ true → IsErrOf result ToolFault.Failed }
-        ensures one_failed { fails_next (runs_to_fail self.old) ≡ true → (runs_failed self.new ≡ next_count (runs_failed self.old)) × (wrapped self.new ≡ wrapped self.old) }
-        ensures none_failed { fails_next (runs_to_fail self.old) ≡ false → runs_failed self.new ≡ runs_failed self.old }
-        ensures others { fails_next (runs_to_fail self.old) ≡ false → Ran (T.apply name.now args.now ins.now outs) (T.faults (wrapped self.old)) (T.faults (wrapped self.new)) result }
+        ensures one_failed { fails_next (runs_to_fail self.old) ≡ true
+            → (runs_failed self.new ≡ next_count (runs_failed self.old))
+            × (wrapped self.new ≡ wrapped self.old) }
+        ensures none_failed { fails_next (runs_to_fail self.old) ≡ false
+            → runs_failed self.new ≡ runs_failed self.old }
+        ensures others { fails_next (runs_to_fail self.old) ≡ false
+            → Ran (T.apply name.now args.now ins.now outs) (T.faults (wrapped self.old))
+            (T.faults (wrapped self.new)) result }
         ensures call { IsNextCall (runs_to_fail self.old) (runs_to_fail self.new) }
     {
         if self.failing.call() {

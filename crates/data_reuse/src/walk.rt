@@ -28,7 +28,8 @@ fn visit(job: &Job, absent: &[bool], needed: &mut Vec<bool>) -> bool
     requires { IsJobOver (length needed.old.items) job.now }
     ensures kept { result ≡ has_both absent.now needed.old.items job.now }
     ensures long { length needed.new.items ≡ length needed.old.items }
-    ensures each { (f : ℕ) → is_set needed.new.items f ≡ ((result && reads f job.now) || is_set needed.old.items f) }
+    ensures each { (f : ℕ) → is_set needed.new.items f
+        ≡ ((result && reads f job.now) || is_set needed.old.items f) }
 {
     let kept = is_needed(job, absent, needed);
     if kept {
@@ -47,7 +48,8 @@ pub fn kept(
 ) -> Result<Vec<bool>, Memory>
     requires well_formed { IsWellFormed workflow.now }
     requires graph { IsGraphOf workflow.now graph.now }
-    ensures { IfOk result (λ v. AreKept (absent_in workflow.now replicas.now.entries force) workflow.now v.items) }
+    ensures { IfOk result (λ v. AreKept
+        (absent_in workflow.now replicas.now.entries force) workflow.now v.items) }
 {
     let absent = absent_files(alloc, workflow.files.as_slice(), replicas, force)?;
     let mut needed = requested_files(alloc, workflow)?;

@@ -44,7 +44,8 @@ pub record AreCycle (w : Workflow) (ids : List (List ℕ)) : Type 0 where
 -- what the search for two producers answers: the one producer of each file, if it has one
 pub record AreProducers (w : Workflow) (producers : List (Option JobId)) : Type 0 where
   pub long : length producers ≡ length w.files
-  pub each : (f : ℕ) → f < length w.files → MatchOption (made_at producers f) (makers w f ≡ []) (λ (j : JobId). makers w f ≡ j.0 ∷ [])
+  pub each : (f : ℕ) → f < length w.files
+      → MatchOption (made_at producers f) (makers w f ≡ []) (λ (j : JobId). makers w f ≡ j.0 ∷ [])
 
 abbrev pub FindsProducers : Workflow → Result (Vec (Option JobId) Global) GraphFault → Type 0
 FindsProducers w (Ok v) = AreProducers w v.items

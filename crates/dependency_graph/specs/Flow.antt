@@ -23,7 +23,10 @@ is_there w js f = is_base w f || is_written w js f
 
 -- What a job reads is there before it, and all is there at the end. A file that no job makes is worth its base, an output of a job its part of what the job makes.
 pub record FlowsAlong (w : Workflow) (order : List JobId) : Type 0 where
-  pub inputs : (i : ℕ) (a : JobId) → i < length order → slice_index_or order i a ≡ a → (f : ℕ) → is_among f (read_by w a.0) ≡ true → is_there w (take i order) f ≡ true
+  pub inputs : (i : ℕ) (a : JobId) → i < length order → slice_index_or order i a ≡ a → (f : ℕ)
+      → is_among f (read_by w a.0) ≡ true → is_there w (take i order) f ≡ true
   pub files : (f : ℕ) → f < length w.files → is_there w order f ≡ true
   pub bases : (b : Basis) (f : ℕ) → is_base w f ≡ true → value b w f ≡ base_at b f
-  pub outputs : (b : Basis) (a f : ℕ) (j : Job) → a < length w.jobs → slice_index_or w.jobs a j ≡ j → has_output f j ≡ true → value b w f ≡ option_and_then (part f (outputs_of j)) (made_by b w (tool_at b a) j)
+  pub outputs : (b : Basis) (a f : ℕ) (j : Job) → a < length w.jobs → slice_index_or w.jobs a j ≡ j
+      → has_output f j ≡ true → value b w f ≡ option_and_then (part f (outputs_of j))
+      (made_by b w (tool_at b a) j)

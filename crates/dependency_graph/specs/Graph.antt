@@ -39,7 +39,8 @@ pub record IsSound (w : Workflow) : Type 0 where
 pub record IsGraphOf (w : Workflow) (g : Links) : Type 0 where
   pub sound : IsSound w
   pub files : length g.producers ≡ length w.files
-  pub producer : (f : ℕ) → f < length w.files → MatchOption (made_at g.producers f) (makers w f ≡ []) (λ (j : JobId). makers w f ≡ j.0 ∷ [])
+  pub producer : (f : ℕ) → f < length w.files
+      → MatchOption (made_at g.producers f) (makers w f ≡ []) (λ (j : JobId). makers w f ≡ j.0 ∷ [])
   pub parents : AreNeighbours (λ b a. edge w a b) (length w.jobs) (map numbers g.parents)
   pub children : AreNeighbours (edge w) (length w.jobs) (map numbers g.children)
   pub in_range : All (λ (j : JobId). j.0 < length w.jobs) g.ordered

@@ -25,7 +25,10 @@ or_job (Some a) j = Some a
 -- one job more, unless it is the first one
 abbrev pub noted_after : Option JobId → Option JobId → JobId → Makers
 noted_after None second j = record { first = Some j; second = second }
-noted_after (Some a) second j = record { first = Some a; second = if a.0 == j.0 then second else or_job second j }
+noted_after (Some a) second j = record {
+  first = Some a;
+  second = if a.0 == j.0 then second else or_job second j;
+}
 
 abbrev pub noted : JobId → Makers → Makers
 noted j m = noted_after m.first m.second j

@@ -35,7 +35,8 @@ run_of apply tool j ins = option_and_then (λ vs. apply tool j.arguments vs (len
 
 -- what a file's producer makes for it of what stands at the producer's inputs
 abbrev pub made_for : Basis → List Job → (ℕ → Option (List ℕ)) → ℕ → Job → Option (List ℕ)
-made_for b js v f j = option_and_then (part f (outputs_of j)) (run_of b.apply (tool_for js b.tools f) j (all_of (map v (inputs_of j))))
+made_for b js v f j = option_and_then (part f (outputs_of j))
+    (run_of b.apply (tool_for js b.tools f) j (all_of (map v (inputs_of j))))
 
 -- what is made by a file's producer, or the base
 abbrev pub by_producer : Option Job → Option (List ℕ) → (Job → Option (List ℕ)) → Option (List ℕ)
@@ -45,7 +46,8 @@ by_producer (Some j) base make = make j
 -- The value of a file, down at most k edges. A workflow of n jobs without a cycle has no way of more than n jobs.
 unfoldable pub value_within : Basis → List Job → ℕ → ℕ → Option (List ℕ)
 value_within b js zero f = by_producer (producer js f) (base_at b f) (λ j. None)
-value_within b js (suc k) f = by_producer (producer js f) (base_at b f) (made_for b js (value_within b js k) f)
+value_within b js (suc k) f = by_producer (producer js f) (base_at b f)
+    (made_for b js (value_within b js k) f)
 
 abbrev pub value : Basis → Workflow → ℕ → Option (List ℕ)
 value b w f = value_within b w.jobs (length w.jobs) f
@@ -56,8 +58,10 @@ made_by b w tool j = run_of b.apply tool j (all_of (map (value b w) (inputs_of j
 
 -- each file that no job makes has its base
 abbrev pub AllBased : Basis → Workflow → Type 0
-AllBased b w = (f : ℕ) → f < length w.files → is_some (producer w.jobs f) ≡ false → is_some (base_at b f) ≡ true
+AllBased b w = (f : ℕ) → f < length w.files → is_some (producer w.jobs f) ≡ false
+    → is_some (base_at b f) ≡ true
 
 -- what stands at each file is its base, or what its producer makes for it
 abbrev pub IsValuation : Basis → Workflow → (ℕ → Option (List ℕ)) → Type 0
-IsValuation b w v = (f : ℕ) → f < length w.files → v f ≡ by_producer (producer w.jobs f) (base_at b f) (made_for b w.jobs v f)
+IsValuation b w v = (f : ℕ) → f < length w.files
+    → v f ≡ by_producer (producer w.jobs f) (base_at b f) (made_for b w.jobs v f)

@@ -44,7 +44,8 @@ fn two_producers(
     requires file { file.0 < length workflow.now.files }
     requires first { first.0 < length workflow.now.jobs }
     requires second { second.0 < length workflow.now.jobs }
-    ensures { IfOk result (λ e. e ≡ TwoProducers (name_of workflow.now file.0) (id_of workflow.now first.0) (id_of workflow.now second.0)) }
+    ensures { IfOk result (λ e. e ≡ TwoProducers (name_of workflow.now file.0) (id_of workflow.now first.0)
+        (id_of workflow.now second.0)) }
 {
     let name = workflow.files.as_slice()[file.0 as usize].copied(alloc)?;
     let one = id_of(alloc, workflow, first.0)?;
@@ -72,7 +73,8 @@ fn producers_of(alloc: Global, workflow: &Workflow) -> Result<Vec<Option<JobId>>
 fn cycle_fault(alloc: Global, workflow: &Workflow, digraph: &Digraph) -> Result<GraphFault, Memory>
     requires jobs { count digraph.now ≡ length workflow.now.jobs }
     requires returns { (a : ℕ) × Returns (edge digraph.now) a }
-    ensures { IfOk result (λ e. (ns : List ℕ) × IsNamedCycle (edge digraph.now) ns × (e ≡ Cycle (map (id_of workflow.now) ns))) }
+    ensures { IfOk result (λ e. (ns : List ℕ) × IsNamedCycle (edge digraph.now) ns
+        × (e ≡ Cycle (map (id_of workflow.now) ns))) }
 {
     match digraph.named_cycle(alloc)? {
         Some(nodes) => Ok(GraphFault::Cycle(ids_of(alloc, workflow, &nodes)?)),

@@ -23,8 +23,10 @@ pub fn sources_of(
     requires well_formed { IsWellFormed workflow.now }
     requires producers { AreProducers workflow.now producers.now }
     ensures long { IfOk result (λ lists. length lists.items ≡ length workflow.now.jobs) }
-    ensures in_range { IfOk result (λ lists. (k : ℕ) → All (λ n. n < length workflow.now.jobs) (neighbours (lists_of lists.items) k)) }
-    ensures edges { IfOk result (λ lists. (a b : ℕ) → has a (neighbours (lists_of lists.items) b) ≡ edge workflow.now a b) }
+    ensures in_range { IfOk result (λ lists. (k : ℕ)
+        → All (λ n. n < length workflow.now.jobs) (neighbours (lists_of lists.items) k)) }
+    ensures edges { IfOk result (λ lists. (a b : ℕ)
+        → has a (neighbours (lists_of lists.items) b) ≡ edge workflow.now a b) }
 {
     let mut lists = sources(alloc, producers, workflow.jobs.as_slice())?;
     let pairs = numbered(alloc, workflow.pairs.as_slice())?;
@@ -35,5 +37,6 @@ pub fn sources_of(
 /// A file without a producing job has no producer; else the first job that makes it is its producer.
 pub fn producer_is_the_first_maker()
     ensures none { (w : Workflow) (f : ℕ) → makers w f ≡ [] → producer w.jobs f ≡ None }
-    ensures some { (w : Workflow) (f a : ℕ) (later : List ℕ) → makers w f ≡ a ∷ later → (j : Job) × (producer w.jobs f ≡ Some j) × (slice_index_or w.jobs a j ≡ j) }
+    ensures some { (w : Workflow) (f a : ℕ) (later : List ℕ) → makers w f ≡ a ∷ later
+        → (j : Job) × (producer w.jobs f ≡ Some j) × (slice_index_or w.jobs a j ≡ j) }
 {}

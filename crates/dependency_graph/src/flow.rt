@@ -11,8 +11,10 @@ ghost use Rattle.dependency_graph.specs.Flow.{FlowsAlong};
 
 /// In a graph's order, who makes an input of a job comes before it.
 pub fn makers_come_before()
-    ensures { (w : Workflow) (g : Links) → IsGraphOf w g → (i : ℕ) (a : JobId) → i < length g.ordered → slice_index_or g.ordered i a ≡ a
-        → (f p : ℕ) → is_among f (read_by w a.0) ≡ true → is_among p (makers w f) ≡ true → has p (numbers (take i g.ordered)) ≡ true }
+    ensures { (w : Workflow) (g : Links) → IsGraphOf w g → (i : ℕ) (a : JobId) → i < length g.ordered
+        → slice_index_or g.ordered i a ≡ a
+        → (f p : ℕ) → is_among f (read_by w a.0) ≡ true → is_among p (makers w f) ≡ true
+        → has p (numbers (take i g.ordered)) ≡ true }
 {}
 
 /// Values flow along a graph's order.

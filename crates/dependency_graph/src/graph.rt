@@ -26,7 +26,12 @@ impl Model for Graph {
 
     ghost Value = { Links };
 
-    ghost view = { λ g. record { producers = g.producers.items; parents = job_lists g.parents.items; children = job_lists g.children.items; ordered = g.ordered.items } };
+    ghost view = { λ g. record {
+      producers = g.producers.items;
+      parents = job_lists g.parents.items;
+      children = job_lists g.children.items;
+      ordered = g.ordered.items;
+    } };
 }
 
 impl Graph {
@@ -98,8 +103,10 @@ pub fn graph_of(
     order: &[u32],
 ) -> Result<Graph, Memory>
     ensures producers { IfOk result (λ g. g.producers ≡ producers.items) }
-    ensures parents { IfOk result (λ g. AreNeighbours (λ b a. edge digraph.now a b) (count digraph.now) (map numbers g.parents)) }
-    ensures children { IfOk result (λ g. AreNeighbours (edge digraph.now) (count digraph.now) (map numbers g.children)) }
+    ensures parents { IfOk result (λ g. AreNeighbours (λ b a. edge digraph.now a b) (count digraph.now)
+        (map numbers g.parents)) }
+    ensures children { IfOk result (λ g. AreNeighbours (edge digraph.now) (count digraph.now)
+        (map numbers g.children)) }
     ensures ordered { IfOk result (λ g. numbers g.ordered ≡ order.now) }
 {
     let parents = job_lists(alloc, digraph.predecessors())?;

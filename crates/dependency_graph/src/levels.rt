@@ -73,5 +73,7 @@ impl Graph {
 
 /// Two lists of levels are the same one.
 pub fn levels_are_determined()
-    ensures { (w : Workflow) (g : Links) → IsGraphOf w g → (kept : List Bool) → length kept ≡ length g.parents → (one two : List ℕ) → AreLevels g kept one → AreLevels g kept two → one ≡ two }
+    ensures { (w : Workflow) (g : Links) → IsGraphOf w g → (kept : List Bool)
+        → length kept ≡ length g.parents → (one two : List ℕ) → AreLevels g kept one → AreLevels g kept two
+        → one ≡ two }
 {}

@@ -57,7 +57,8 @@ pub fn makers_of(alloc: Global, jobs: &[Job], files: usize) -> Result<Vec<Makers
     requires few { length jobs.now ≤ 10000 }
     requires in_range { All (λ j. All (λ f. f < files) (outputs_of j)) jobs.now }
     ensures long { IfOk result (λ table. length table.items ≡ files) }
-    ensures first { IfOk result (λ table. (f : ℕ) → f < files → known table.items f ≡ first_two (makers_from f 0 jobs.now)) }
+    ensures first { IfOk result (λ table. (f : ℕ) → f < files
+        → known table.items f ≡ first_two (makers_from f 0 jobs.now)) }
 {
     let nobody = Makers {
         first: None,
@@ -73,7 +74,10 @@ pub fn makers_of(alloc: Global, jobs: &[Job], files: usize) -> Result<Vec<Makers
 /// The first file with two jobs that make it, and these.
 pub fn contested(table: &[Makers]) -> Option<(FileId, JobId, JobId)>
     requires { length table.now < 2 ^ 32 }
-    ensures { MatchOption result ((f : ℕ) → f < length table.now → are_two (known table.now f) ≡ false) (λ (x : FileId × JobId × JobId). (x.0.0 < length table.now) × ((known table.now x.0.0).first ≡ Some x.1) × ((known table.now x.0.0).second ≡ Some x.2) × ((f : ℕ) → f < x.0.0 → are_two (known table.now f) ≡ false)) }
+    ensures { MatchOption result ((f : ℕ) → f < length table.now → are_two (known table.now f) ≡ false)
+        (λ (x : FileId × JobId × JobId). (x.0.0 < length table.now)
+        × ((known table.now x.0.0).first ≡ Some x.1) × ((known table.now x.0.0).second ≡ Some x.2)
+        × ((f : ℕ) → f < x.0.0 → are_two (known table.now f) ≡ false)) }
 {
     for (i, makers) in table.iter().enumerate() {
         if let (Some(first), Some(second)) = (makers.first, makers.second) {

@@ -30,7 +30,8 @@ pub fn sources(
     producers: &[Option<JobId>],
     jobs: &[Job],
 ) -> Result<Vec<Vec<u32>>, Memory>
-    ensures { IfOk result (λ lists. lists_of lists.items ≡ map (λ j. found producers.now (inputs_of j)) jobs.now) }
+    ensures { IfOk result (λ lists. lists_of lists.items
+        ≡ map (λ j. found producers.now (inputs_of j)) jobs.now) }
 {
     let mut lists = Vec::new(alloc);
     for job in jobs {

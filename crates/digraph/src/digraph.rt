@@ -9,5 +9,6 @@ pub struct Digraph {
     pub(crate) predecessors: Vec<Vec<u32>>,
     pub(crate) successors: Vec<Vec<u32>>,
     ghost few: { length predecessors.items < 2 ^ 32 },
-    ghost linked: { AreLinked (lists_of predecessors.items) (lists_of successors.items) } by { AreLinked-prop (lists_of predecessors.items) (lists_of successors.items) },
+    ghost linked: { AreLinked (lists_of predecessors.items) (lists_of successors.items) } by { AreLinked-prop
+        (lists_of predecessors.items) (lists_of successors.items) },
 }

@@ -62,7 +62,8 @@ pub record IsIndex (x : GroupIndex) : Type 0 where
   pub in_groups : (k : ℕ) → k < count x → group x k < length x.trees.items
   pub places : (k : ℕ) → k < count x → seat x k ≡ count_before x.groups.items (group x k) k
   pub trees : AreTrees x.trees.items
-  pub wide : (g : ℕ) → g < length x.trees.items → width_at x.trees.items g ≡ count_before x.groups.items g (count x)
+  pub wide : (g : ℕ) → g < length x.trees.items
+      → width_at x.trees.items g ≡ count_before x.groups.items g (count x)
   pub keys : (g i : ℕ) (key : Key) → key_at x.trees.items g i ≡ Some key → IsPlace x key.number g i
 
 -- how many places of a group stand before a position of it, or at all

@@ -23,7 +23,8 @@ pub(crate) fn put(trees: &mut Vec<Tree>, group: usize, at: usize, key: Option<Ke
     ensures long { length trees.new.items ≡ length trees.old.items }
     ensures trees { AreTrees trees.new.items }
     ensures wide { (g : ℕ) → width_at trees.new.items g ≡ width_at trees.old.items g }
-    ensures each { (g i : ℕ) → key_at trees.new.items g i ≡ cond ((g == group) && (i == at)) key (key_at trees.old.items g i) }
+    ensures each { (g i : ℕ) → key_at trees.new.items g i
+        ≡ cond ((g == group) && (i == at)) key (key_at trees.old.items g i) }
 {
     trees[group].set(at, key);
 }
@@ -67,7 +68,8 @@ impl GroupIndex {
         ensures index { IsIndex self.new }
         ensures groups { self.new.groups.items ≡ self.old.groups.items }
         ensures long { length self.new.trees.items ≡ length self.old.trees.items }
-        ensures numbers { (j : ℕ) → j < count self.old → number self.new j ≡ cond (j == k) score (number self.old j) }
+        ensures numbers { (j : ℕ) → j < count self.old
+            → number self.new j ≡ cond (j == k) score (number self.old j) }
     {
         let group = self.group(k) as usize;
         let seat = self.seat(k) as usize;

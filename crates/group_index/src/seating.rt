@@ -45,7 +45,8 @@ fn trees_of(alloc: Global, used: &[u32]) -> Result<Vec<Tree>, Memory>
     requires { (g : ℕ) → get_or used.now g 0 ≤ 200000 }
     ensures long { IfOk result (λ v. length v.items ≡ length used.now) }
     ensures trees { IfOk result (λ v. AreTrees v.items) }
-    ensures wide { IfOk result (λ v. (g : ℕ) → g < length used.now → width_at v.items g ≡ get_or used.now g 0) }
+    ensures wide { IfOk result (λ v. (g : ℕ) → g < length used.now
+        → width_at v.items g ≡ get_or used.now g 0) }
     ensures bare { IfOk result (λ v. AreBare v.items) }
 {
     let mut trees = Vec::new(alloc);
@@ -62,7 +63,8 @@ fn clear_group(trees: &mut Vec<Tree>, group: usize)
     ensures long { length trees.new.items ≡ length trees.old.items }
     ensures trees { AreTrees trees.new.items }
     ensures wide { (g : ℕ) → width_at trees.new.items g ≡ width_at trees.old.items g }
-    ensures each { (g i : ℕ) → key_at trees.new.items g i ≡ cond (g == group) None (key_at trees.old.items g i) }
+    ensures each { (g i : ℕ) → key_at trees.new.items g i
+        ≡ cond (g == group) None (key_at trees.old.items g i) }
 {
     for at in 0..width(trees.as_slice(), group) {
         put(trees, group, at, None);
@@ -122,7 +124,8 @@ impl GroupIndex {
     pub fn renew(&mut self, groups: &[u32])
         requires index { IsIndex self.old }
         requires long { length groups.now ≡ count self.old }
-        requires in_groups { (j : ℕ) → j < length groups.now → get_or groups.now j 0 < length self.old.trees.items }
+        requires in_groups { (j : ℕ) → j < length groups.now
+            → get_or groups.now j 0 < length self.old.trees.items }
         requires as_many { AreAsMany (length self.old.trees.items) groups.now self.old.groups.items }
         ensures index { IsIndex self.new }
         ensures groups { self.new.groups.items ≡ groups.now }

@@ -15,11 +15,13 @@ is_scheme (b ∷ bs) = is_ascii_alphabetic b && list_all is_scheme_byte bs
 -- the texts before and behind the first `://`
 abbrev pub around_marks : List ℕ → Option (List ℕ × List ℕ)
 around_marks [] = None
-around_marks (b ∷ bs) = if bytes_eq (take 3 (b ∷ bs)) (codes "://") then Some ([], drop 2 bs) else option_map (λ p. (b ∷ p.0, p.1)) (around_marks bs)
+around_marks (b ∷ bs) = if bytes_eq (take 3 (b ∷ bs)) (codes "://") then Some ([], drop 2 bs)
+    else option_map (λ p. (b ∷ p.0, p.1)) (around_marks bs)
 
 -- the path of a pfn that has this before and behind the first `://`
 abbrev pub url_path : List ℕ → List ℕ → List ℕ → Option (List ℕ)
-url_path pfn scheme path = if bytes_eq scheme (codes "file") then Some path else (if is_scheme scheme then None else Some pfn)
+url_path pfn scheme path = if bytes_eq scheme (codes "file") then Some path
+    else (if is_scheme scheme then None else Some pfn)
 
 abbrev pub path_by : List ℕ → Option (List ℕ × List ℕ) → Option (List ℕ)
 path_by pfn None = Some pfn

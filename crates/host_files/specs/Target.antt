@@ -20,6 +20,7 @@ output_path name = path_in (codes "output") name
 
 -- the paths of a place
 abbrev pub IsTarget : Place → Target → Type 0
-IsTarget (Scratch site name) (Site p) = (string_bytes p.folder ≡ site_folder site) × (string_bytes p.path ≡ site_path site name)
+IsTarget (Scratch site name) (Site p) = (string_bytes p.folder ≡ site_folder site)
+    × (string_bytes p.path ≡ site_path site name)
 IsTarget (Delivery name) (Output path) = string_bytes path ≡ output_path name
 IsTarget _ _ = ⊥

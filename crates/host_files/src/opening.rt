@@ -105,7 +105,8 @@ pub fn open_file<R: Files>(
     path: &str,
     limit: u64,
 ) -> Result<FolderReading<R::File>, HostFault>
-    ensures answer { Opens ⟦<FolderReading<R::File> as ReadPart>⟧.state None limit counts.old counts.new result }
+    ensures answer { Opens ⟦<FolderReading<R::File> as ReadPart>⟧.state None limit counts.old counts.new
+        result }
     ensures later { IsLater counts.old counts.new }
 {
     let mut opened = open_within(rt, counts, path, limit)?;

@@ -18,10 +18,12 @@ state_at b = now b.plan (task_numbers b.order.items) b.history.events
 
 -- what `next` answers a worker, and the entries before and after
 abbrev pub IsNext : Plan → State → ℕ → Next → List Event → List Event → Type 0
-IsNext p s w (Task t) r new = (IsChoice p s t.0 × (new ≡ cond (is_clean p t.0) r (r ++ Grant w t.0 ∷ []))) ⊎ (IsFresh p s t.0 × (new ≡ r ++ Regrant w t.0 ∷ []))
+IsNext p s w (Task t) r new = (IsChoice p s t.0 × (new ≡ cond (is_clean p t.0) r (r ++ Grant w t.0 ∷ [])))
+    ⊎ (IsFresh p s t.0 × (new ≡ r ++ Regrant w t.0 ∷ []))
 IsNext p s w Done r new = IsComplete p s × (new ≡ r)
 IsNext p s w Stopped r new = (s.failing ≡ true) × (new ≡ r)
-IsNext p s w NotYet r new = (s.failing ≡ false) × HasNoChoice p s × ((t : ℕ) → IsFresh p s t → ⊥) × ((u : ℕ) × (s.phase u ≡ Runs)) × (new ≡ r)
+IsNext p s w NotYet r new = (s.failing ≡ false) × HasNoChoice p s × ((t : ℕ) → IsFresh p s t → ⊥)
+    × ((u : ℕ) × (s.phase u ≡ Runs)) × (new ≡ r)
 
 -- A failure is tried again where its cause may be, no Fail stands and the policy has retries left.
 abbrev pub is_tried_again : Plan → State → ℕ → Cause → Bool

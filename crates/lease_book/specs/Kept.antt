@@ -38,5 +38,6 @@ cleaner-prop : (p : Plan) (g : ℕ) (o : Option ℕ) → IsProp (IsCleaner p g o
 cleaner-prop p g None = Prim.hlevel props
 cleaner-prop p g (Some c) = Prim.hlevel props
 
-pub IsBook-prop : (p : Plan) (order : List ℕ) (history : Log) (s : RunState) → IsProp (IsBook p order history s)
+pub IsBook-prop : (p : Plan) (order : List ℕ) (history : Log) (s : RunState)
+    → IsProp (IsBook p order history s)
 IsBook-prop p order history s = Prim.hlevel (props, rises-prop, cleaner-prop)

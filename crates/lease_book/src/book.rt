@@ -29,7 +29,8 @@ pub struct Book {
     pub(crate) trial: Trial,
     pub(crate) bench: Bench,
     ghost proper: { IsProper plan } by { IsProper-prop plan },
-    ghost kept: { IsBook plan (task_numbers order.items) history state } by { IsBook-prop plan (task_numbers order.items) history state },
+    ghost kept: { IsBook plan (task_numbers order.items) history state } by { IsBook-prop plan
+        (task_numbers order.items) history state },
     ghost place: { HasPlace plan trial },
     ghost fresh: { IsFor plan bench },
 }

@@ -49,7 +49,8 @@ pub(crate) fn choose(plan: &Plan, state: &RunState) -> Option<u32>
     requires limits { IsWithinLimits plan.now }
     requires peaks { HasPeaks plan.now state.now }
     requires unfailed { (state_of state.now).failing ≡ false }
-    ensures { MatchOption result (HasNoChoice plan.now (state_of state.now)) (λ t. IsChoice plan.now (state_of state.now) t) }
+    ensures { MatchOption result (HasNoChoice plan.now (state_of state.now))
+        (λ t. IsChoice plan.now (state_of state.now) t) }
 {
     peaks_are_seated();
     state.peaks.choose(plan)

@@ -31,7 +31,8 @@ impl Book {
     /// A Transfer has moved its file.
     pub fn arrive(&mut self, worker: u32, task: TaskId, size: u64)
         requires { Allowed self.old.plan (state_at self.old) (Arrive worker task.0 size) }
-        ensures history { self.new.history.events ≡ self.old.history.events ++ Arrive worker task.0 size ∷ [] }
+        ensures history { self.new.history.events
+            ≡ self.old.history.events ++ Arrive worker task.0 size ∷ [] }
         ensures plan { self.new.plan ≡ self.old.plan }
         ensures order { self.new.order ≡ self.old.order }
     {
@@ -42,7 +43,8 @@ impl Book {
     /// A Run has made its files, of these sizes.
     pub fn end(&mut self, worker: u32, task: TaskId, sizes: &[u64])
         requires { Allowed self.old.plan (state_at self.old) (End worker task.0 sizes.now) }
-        ensures history { self.new.history.events ≡ self.old.history.events ++ End worker task.0 sizes.now ∷ [] }
+        ensures history { self.new.history.events
+            ≡ self.old.history.events ++ End worker task.0 sizes.now ∷ [] }
         ensures plan { self.new.plan ≡ self.old.plan }
         ensures order { self.new.order ≡ self.old.order }
     {
@@ -66,8 +68,10 @@ impl Book {
     }
 
     fn add_again(&mut self, worker: u32, task: u32, cause: &Cause, published: &[u64])
-        requires { Allowed self.old.plan (state_of self.old.state) (Again worker task cause.now published.now) }
-        ensures history { self.new.history.events ≡ self.old.history.events ++ Again worker task cause.now published.now ∷ [] }
+        requires { Allowed self.old.plan (state_of self.old.state)
+            (Again worker task cause.now published.now) }
+        ensures history { self.new.history.events
+            ≡ self.old.history.events ++ Again worker task cause.now published.now ∷ [] }
         ensures plan { self.new.plan ≡ self.old.plan }
         ensures order { self.new.order ≡ self.old.order }
     {
@@ -81,8 +85,10 @@ impl Book {
     }
 
     fn add_fail(&mut self, worker: u32, task: u32, cause: &Cause, published: &[u64])
-        requires { Allowed self.old.plan (state_of self.old.state) (Fail worker task cause.now published.now) }
-        ensures history { self.new.history.events ≡ self.old.history.events ++ Fail worker task cause.now published.now ∷ [] }
+        requires { Allowed self.old.plan (state_of self.old.state)
+            (Fail worker task cause.now published.now) }
+        ensures history { self.new.history.events
+            ≡ self.old.history.events ++ Fail worker task cause.now published.now ∷ [] }
         ensures plan { self.new.plan ≡ self.old.plan }
         ensures order { self.new.order ≡ self.old.order }
     {
@@ -100,7 +106,9 @@ impl Book {
         requires worker { worker < 16 }
         requires task { MayFail self.old.plan (state_at self.old) worker task.0 }
         requires cause { CauseFits self.old.plan task.0 cause.now published.now }
-        ensures history { self.new.history.events ≡ self.old.history.events ++ failure self.old.plan (state_at self.old) worker task.0 cause.now published.now ∷ [] }
+        ensures history { self.new.history.events
+            ≡ self.old.history.events ++ failure self.old.plan
+            (state_at self.old) worker task.0 cause.now published.now ∷ [] }
         ensures plan { self.new.plan ≡ self.old.plan }
         ensures order { self.new.order ≡ self.old.order }
     {
@@ -112,7 +120,9 @@ impl Book {
         requires worker { worker < 16 }
         requires task { MayFail self.old.plan (state_of self.old.state) worker task }
         requires cause { CauseFits self.old.plan task cause.now published.now }
-        ensures history { self.new.history.events ≡ self.old.history.events ++ failure self.old.plan (state_of self.old.state) worker task cause.now published.now ∷ [] }
+        ensures history { self.new.history.events
+            ≡ self.old.history.events ++ failure self.old.plan
+            (state_of self.old.state) worker task cause.now published.now ∷ [] }
         ensures plan { self.new.plan ≡ self.old.plan }
         ensures order { self.new.order ≡ self.old.order }
     {

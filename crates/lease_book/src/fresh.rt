@@ -28,7 +28,8 @@ fn has_order(plan: &Plan, state: &RunState, trial: &Trial, bench: &mut Bench, ta
     requires candidate { IsCandidate plan.now (state_of state.now) task }
     requires tried { IsTrialWithin plan.now (state_of state.now) task trial.now }
     requires bench { IsFor plan.now bench.old }
-    ensures gives { result ≡ true → order_with plan.now (state_of state.now) task ≡ Some (front_of bench.new.front) }
+    ensures gives { result ≡ true
+        → order_with plan.now (state_of state.now) task ≡ Some (front_of bench.new.front) }
     ensures none { result ≡ false → order_with plan.now (state_of state.now) task ≡ None }
     ensures bench { IsFor plan.now bench.new }
 {
@@ -50,8 +51,10 @@ fn is_candidate_at(plan: &Plan, state: &RunState, trial: &mut Trial, k: usize) -
     requires place { HasPlace plan.now trial.old }
     requires line { LineIsRest state.now }
     requires within { k < length (line_of state.now.peaks) }
-    ensures value { Decides result ((left_of state.now.peaks (get_or (line_of state.now.peaks) k 0) ≡ true) × IsCandidate plan.now (state_of state.now) (get_or (line_of state.now.peaks) k 0)) }
-    ensures tried { result ≡ true → IsTrialWithin plan.now (state_of state.now) (get_or (line_of state.now.peaks) k 0) trial.new }
+    ensures value { Decides result ((left_of state.now.peaks (get_or (line_of state.now.peaks) k 0) ≡ true)
+        × IsCandidate plan.now (state_of state.now) (get_or (line_of state.now.peaks) k 0)) }
+    ensures tried { result ≡ true
+        → IsTrialWithin plan.now (state_of state.now) (get_or (line_of state.now.peaks) k 0) trial.new }
     ensures place { HasPlace plan.now trial.new }
 {
     let task = state.peaks.line_task(k);
@@ -76,8 +79,11 @@ fn first_with_order(
     requires line { LineIsRest state.now }
     requires place { HasPlace plan.now trial.old }
     requires bench { IsFor plan.now bench.old }
-    ensures among { MatchOption result ((t : ℕ) → IsFreshAmong plan.now (state_of state.now) 4 (state_of state.now).rest t → ⊥) (λ t. IsFreshAmong plan.now (state_of state.now) 4 (state_of state.now).rest t) }
-    ensures order { MatchOption result (Unit {0}) (λ t. order_with plan.now (state_of state.now) t ≡ Some (front_of bench.new.front)) }
+    ensures among { MatchOption result ((t : ℕ)
+        → IsFreshAmong plan.now (state_of state.now) 4 (state_of state.now).rest t → ⊥)
+        (λ t. IsFreshAmong plan.now (state_of state.now) 4 (state_of state.now).rest t) }
+    ensures order { MatchOption result (Unit {0})
+        (λ t. order_with plan.now (state_of state.now) t ≡ Some (front_of bench.new.front)) }
     ensures place { HasPlace plan.now trial.new }
     ensures bench { IsFor plan.now bench.new }
 {
@@ -114,8 +120,10 @@ pub(crate) fn fresh_task(
     requires bench { IsFor plan.now bench.old }
     requires unfailed { (state_of state.now).failing ≡ false }
     requires no_choice { HasNoChoice plan.now (state_of state.now) }
-    ensures fresh { MatchOption result ((t : ℕ) → IsFresh plan.now (state_of state.now) t → ⊥) (λ t. IsFresh plan.now (state_of state.now) t) }
-    ensures order { MatchOption result (Unit {0}) (λ t. order_with plan.now (state_of state.now) t ≡ Some (front_of bench.new.front)) }
+    ensures fresh { MatchOption result ((t : ℕ) → IsFresh plan.now (state_of state.now) t → ⊥)
+        (λ t. IsFresh plan.now (state_of state.now) t) }
+    ensures order { MatchOption result (Unit {0})
+        (λ t. order_with plan.now (state_of state.now) t ≡ Some (front_of bench.new.front)) }
     ensures place { HasPlace plan.now trial.new }
     ensures bench { IsFor plan.now bench.new }
 {

@@ -68,7 +68,8 @@ fn store(alloc: Global, plan: &Plan, standing: &mut Standing, task: u32, size: u
     requires limits { IsWithinLimits plan.now }
     requires laws { HasStorageLaws plan.now }
     requires long { HasLengths plan.now standing.old }
-    ensures held { (g : ℕ) → held_of standing.new g ≡ cond (has (makes plan.now task) g) (Stored size) (held_of standing.old g) }
+    ensures held { (g : ℕ) → held_of standing.new g
+        ≡ cond (has (makes plan.now task) g) (Stored size) (held_of standing.old g) }
     ensures phase { phase_of standing.new ≡ phase_of standing.old }
     ensures long { HasLengths plan.now standing.new }
 {
@@ -84,7 +85,8 @@ fn store_each(alloc: Global, plan: &Plan, standing: &mut Standing, task: u32, si
     requires laws { HasStorageLaws plan.now }
     requires long { HasLengths plan.now standing.old }
     requires sizes { length sizes.now ≡ length (makes plan.now task) }
-    ensures held { (g : ℕ) → held_of standing.new g ≡ stored_among (makes plan.now task) sizes.now g (held_of standing.old g) }
+    ensures held { (g : ℕ) → held_of standing.new g
+        ≡ stored_among (makes plan.now task) sizes.now g (held_of standing.old g) }
     ensures phase { phase_of standing.new ≡ phase_of standing.old }
     ensures long { HasLengths plan.now standing.new }
 {
@@ -100,7 +102,8 @@ fn store_each(alloc: Global, plan: &Plan, standing: &mut Standing, task: u32, si
 fn sweep(alloc: Global, plan: &Plan, standing: &mut Standing, task: u32)
     requires laws { HasStorageLaws plan.now }
     requires long { HasLengths plan.now standing.old }
-    ensures held { (g : ℕ) → held_of standing.new g ≡ cond (cleans plan.now task g) Nothing (held_of standing.old g) }
+    ensures held { (g : ℕ) → held_of standing.new g
+        ≡ cond (cleans plan.now task g) Nothing (held_of standing.old g) }
     ensures phase { phase_of standing.new ≡ phase_of standing.old }
     ensures long { HasLengths plan.now standing.new }
 {
@@ -142,7 +145,8 @@ pub(crate) fn arrive(alloc: Global, plan: &Plan, standing: &mut Standing, task: 
     requires long { HasLengths plan.now standing.old }
     requires task { task < count_tasks plan.now }
     ensures phase { (t : ℕ) → phase_of standing.new t ≡ put (phase_of standing.old) task Ended t }
-    ensures held { (g : ℕ) → held_of standing.new g ≡ cond (has (makes plan.now task) g) (Stored size) (held_of standing.old g) }
+    ensures held { (g : ℕ) → held_of standing.new g
+        ≡ cond (has (makes plan.now task) g) (Stored size) (held_of standing.old g) }
     ensures long { HasLengths plan.now standing.new }
 {
     set_phase(alloc, standing, task, Phase::Ended);
@@ -157,7 +161,8 @@ pub(crate) fn end(alloc: Global, plan: &Plan, standing: &mut Standing, task: u32
     requires task { task < count_tasks plan.now }
     requires sizes { length sizes.now ≡ length (makes plan.now task) }
     ensures phase { (t : ℕ) → phase_of standing.new t ≡ put (phase_of standing.old) task Ended t }
-    ensures held { (g : ℕ) → held_of standing.new g ≡ stored_among (makes plan.now task) sizes.now g (held_of standing.old g) }
+    ensures held { (g : ℕ) → held_of standing.new g
+        ≡ stored_among (makes plan.now task) sizes.now g (held_of standing.old g) }
     ensures long { HasLengths plan.now standing.new }
 {
     set_phase(alloc, standing, task, Phase::Ended);
@@ -170,7 +175,8 @@ pub(crate) fn clean(alloc: Global, plan: &Plan, standing: &mut Standing, task: u
     requires long { HasLengths plan.now standing.old }
     requires task { task < count_tasks plan.now }
     ensures phase { (t : ℕ) → phase_of standing.new t ≡ put (phase_of standing.old) task Ended t }
-    ensures held { (g : ℕ) → held_of standing.new g ≡ cond (cleans plan.now task g) Nothing (held_of standing.old g) }
+    ensures held { (g : ℕ) → held_of standing.new g
+        ≡ cond (cleans plan.now task g) Nothing (held_of standing.old g) }
     ensures long { HasLengths plan.now standing.new }
 {
     set_phase(alloc, standing, task, Phase::Ended);

@@ -43,7 +43,8 @@ impl Book {
 
     fn regrant(&mut self, worker: u32, task: u32)
         requires allowed { Allowed self.old.plan (state_of self.old.state) (Regrant worker task) }
-        requires order { order_with self.old.plan (state_of self.old.state) task ≡ Some (front_of self.old.bench.front) }
+        requires order { order_with self.old.plan (state_of self.old.state) task
+            ≡ Some (front_of self.old.bench.front) }
         ensures history { self.new.history.events ≡ self.old.history.events ++ Regrant worker task ∷ [] }
         ensures plan { self.new.plan ≡ self.old.plan }
         ensures order { self.new.order ≡ self.old.order }
@@ -59,7 +60,8 @@ impl Book {
     /// The Choice, with its Grant unless it is a Clean; without a Choice the task of a fresh order, with its Regrant.
     pub fn next(&mut self, worker: u32) -> Next
         requires { worker < 16 }
-        ensures next { IsNext self.old.plan (state_at self.old) worker result self.old.history.events self.new.history.events }
+        ensures next { IsNext self.old.plan
+            (state_at self.old) worker result self.old.history.events self.new.history.events }
         ensures plan { self.new.plan ≡ self.old.plan }
         ensures order { self.new.order ≡ self.old.order }
     {
@@ -69,7 +71,8 @@ impl Book {
     /// The same, of the state that the arrays show.
     fn go_on(&mut self, worker: u32) -> Next
         requires { worker < 16 }
-        ensures next { IsNext self.old.plan (state_of self.old.state) worker result self.old.history.events self.new.history.events }
+        ensures next { IsNext self.old.plan
+            (state_of self.old.state) worker result self.old.history.events self.new.history.events }
         ensures plan { self.new.plan ≡ self.old.plan }
         ensures order { self.new.order ≡ self.old.order }
     {
@@ -92,7 +95,8 @@ impl Book {
         requires worker { worker < 16 }
         requires unfailed { (state_of self.old.state).failing ≡ false }
         requires no_choice { HasNoChoice self.old.plan (state_of self.old.state) }
-        ensures next { IsNext self.old.plan (state_of self.old.state) worker result self.old.history.events self.new.history.events }
+        ensures next { IsNext self.old.plan
+            (state_of self.old.state) worker result self.old.history.events self.new.history.events }
         ensures plan { self.new.plan ≡ self.old.plan }
         ensures order { self.new.order ≡ self.old.order }
     {

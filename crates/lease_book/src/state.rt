@@ -268,7 +268,8 @@ impl RunState {
         requires limits { IsWithinLimits plan.now }
         requires task { task < count_tasks plan.now }
         requires few { (state_of self.old).agains task < 1000 }
-        ensures state { state_of self.new ≡ after plan.now (state_of self.old) (Again worker task cause.now published.now) }
+        ensures state { state_of self.new ≡ after plan.now (state_of self.old)
+            (Again worker task cause.now published.now) }
         ensures room { HasRoom plan.now self.new }
         ensures peaks { HasPeaks plan.now self.new }
     {
@@ -295,7 +296,8 @@ impl RunState {
         requires peaks { HasPeaks plan.now self.old }
         requires allowed { Allowed plan.now (state_of self.old) (Fail worker task cause.now published.now) }
         requires task { task < count_tasks plan.now }
-        ensures state { state_of self.new ≡ after plan.now (state_of self.old) (Fail worker task cause.now published.now) }
+        ensures state { state_of self.new ≡ after plan.now (state_of self.old)
+            (Fail worker task cause.now published.now) }
         ensures room { HasRoom plan.now self.new }
         ensures peaks { HasPeaks plan.now self.new }
     {

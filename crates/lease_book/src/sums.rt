@@ -57,7 +57,8 @@ fn stored_part(plan: &Plan, standing: &Standing, place: u32, good: u32) -> u64
 #[tactic(auto, using(crate::proofs::SumLemmas::reserved_small))]
 fn reserved_part(plan: &Plan, standing: &Standing, place: u32, good: u32) -> u64
     requires standing { IsStanding plan.now standing.now }
-    ensures value { result ≡ cond (lies_at plan.now good place) (reserved_size (held_of standing.now good)) 0 }
+    ensures value { result ≡ cond (lies_at plan.now good place)
+        (reserved_size (held_of standing.now good)) 0 }
     ensures small { result ≤ 2 ^ 40 }
 {
     if !lies_at(plan, good, place) {

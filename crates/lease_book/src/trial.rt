@@ -81,8 +81,10 @@ impl Trial {
         requires laws { HasStorageLaws plan.now }
         requires place { HasPlace plan.now self.old }
         requires task { task < count_tasks plan.now }
-        ensures phase { (u : ℕ) → phase_of self.new.standing u ≡ phase_after (start plan.now 0 task) (phase_of self.old.standing) u }
-        ensures held { (g : ℕ) → held_of self.new.standing g ≡ held_after plan.now (start plan.now 0 task) (held_of self.old.standing) g }
+        ensures phase { (u : ℕ) → phase_of self.new.standing u
+            ≡ phase_after (start plan.now 0 task) (phase_of self.old.standing) u }
+        ensures held { (g : ℕ) → held_of self.new.standing g
+            ≡ held_after plan.now (start plan.now 0 task) (held_of self.old.standing) g }
         ensures place { HasPlace plan.now self.new }
     {
         if plan.is_clean(TaskId(task)) {

@@ -73,5 +73,7 @@ pub record HasStorageLaws (p : Plan) : Type 0 where
   pub cleans_range : (t g : ℕ) → cleans p t g ≡ true → g < count_pairs p
   pub makes_range : (t g : ℕ) → has (makes p t) g ≡ true → g < count_pairs p + count_tasks p
   pub makes_few : (t : ℕ) → length (makes p t) ≤ count_pairs p + count_tasks p
-  pub order_fits : (st : Progress) (ts : List ℕ) → IsWithin p (size st) [] → stated_order p st ≡ Some ts → Fits p st.phase st.held ts
-  pub order_all : (st : Progress) (ts : List ℕ) → stated_order p st ≡ Some ts → (t : ℕ) → t < count_tasks p → waits (st.phase t) ≡ true → has ts t ≡ true
+  pub order_fits : (st : Progress) (ts : List ℕ) → IsWithin p (size st) [] → stated_order p st ≡ Some ts
+      → Fits p st.phase st.held ts
+  pub order_all : (st : Progress) (ts : List ℕ) → stated_order p st ≡ Some ts → (t : ℕ) → t < count_tasks p
+      → waits (st.phase t) ≡ true → has ts t ≡ true

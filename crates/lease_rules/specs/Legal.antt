@@ -78,9 +78,12 @@ ArePublished p t ns = (is_run p t ≡ false → ns ≡ []) × AreOfFirst p (make
 -- The causes that fit a task, with the sizes that it has published.
 abbrev pub CauseFits : Plan → ℕ → Cause → List ℕ → Type 0
 CauseFits p t Absent ns = (is_from_pfn (kind p t) ≡ true) × (ns ≡ [])
-CauseFits p t (TooLong n) ns = (is_from_pfn (kind p t) ≡ true) × (is_too_long_for p (kind p t) n ≡ true) × (ns ≡ [])
-CauseFits p t (Checksum d) ns = (is_from_pfn (kind p t) ≡ true) × (is_wrong_for p (kind p t) d ≡ true) × (ns ≡ [])
-CauseFits p t (Oversize j f n) ns = (has_job (kind p t) j.0 ≡ true) × (has (outputs p.jobs j.0) f.0 ≡ true) × (is_too_long p f.0 n ≡ true) × (ns ≡ [])
+CauseFits p t (TooLong n) ns = (is_from_pfn (kind p t) ≡ true) × (is_too_long_for p (kind p t) n ≡ true)
+    × (ns ≡ [])
+CauseFits p t (Checksum d) ns = (is_from_pfn (kind p t) ≡ true) × (is_wrong_for p (kind p t) d ≡ true)
+    × (ns ≡ [])
+CauseFits p t (Oversize j f n) ns = (has_job (kind p t) j.0 ≡ true) × (has (outputs p.jobs j.0) f.0 ≡ true)
+    × (is_too_long p f.0 n ≡ true) × (ns ≡ [])
 CauseFits p t (Declined j) ns = (has_job (kind p t) j.0 ≡ true) × (ns ≡ [])
 CauseFits p t (ToolFailed j) ns = (has_job (kind p t) j.0 ≡ true) × (ns ≡ [])
 CauseFits p t HostFailed ns = ArePublished p t ns
@@ -91,10 +94,13 @@ abbrev pub Allowed : Plan → State → Event → Type 0
 Allowed p s (Grant w t) = (w < 16) × (is_clean p t ≡ false) × IsChoice p s t
 Allowed p s (Regrant w t) = (w < 16) × IsFresh p s t
 Allowed p s (Clean w t) = (w < 16) × (is_clean p t ≡ true) × IsChoice p s t
-Allowed p s (Arrive w t n) = (w < 16) × (is_transfer p t ≡ true) × IsOpen s w t × ((g : ℕ) → has (makes p t) g ≡ true → n ≤ good_size p g)
+Allowed p s (Arrive w t n) = (w < 16) × (is_transfer p t ≡ true) × IsOpen s w t
+    × ((g : ℕ) → has (makes p t) g ≡ true → n ≤ good_size p g)
 Allowed p s (End w t ns) = (w < 16) × (is_run p t ≡ true) × IsOpen s w t × AreDeclared p (makes p t) ns
-Allowed p s (Again w t c ns) = (w < 16) × MayFail p s w t × CauseFits p t c ns × (may_retry c ≡ true) × (s.failing ≡ false) × (s.agains t < retries p)
-Allowed p s (Fail w t c ns) = (w < 16) × MayFail p s w t × CauseFits p t c ns × (may_retry c ≡ true → (s.agains t ≡ retries p) ⊎ (s.failing ≡ true))
+Allowed p s (Again w t c ns) = (w < 16) × MayFail p s w t × CauseFits p t c ns × (may_retry c ≡ true)
+    × (s.failing ≡ false) × (s.agains t < retries p)
+Allowed p s (Fail w t c ns) = (w < 16) × MayFail p s w t × CauseFits p t c ns
+    × (may_retry c ≡ true → (s.agains t ≡ retries p) ⊎ (s.failing ≡ true))
 
 -- Legal: whatever came before it, no entry stands where it may not.
 abbrev pub LegalFrom : Plan → State → List Event → Type 0

@@ -21,7 +21,8 @@ AreWithin p (q ∷ qs) (b ∷ bs) = (length b ≤ pair_limit p q) × AreWithin p
 abbrev pub IsFirstPast : Plan → List ℕ → List (List ℕ) → ℕ → ℕ → Type 0
 IsFirstPast p [] bs x n = ⊥
 IsFirstPast p (q ∷ qs) [] x n = ⊥
-IsFirstPast p (q ∷ qs) (b ∷ bs) x n = ((pair_limit p q < length b) × (q ≡ x) × (length b ≡ n)) ⊎ ((length b ≤ pair_limit p q) × IsFirstPast p qs bs x n)
+IsFirstPast p (q ∷ qs) (b ∷ bs) x n = ((pair_limit p q < length b) × (q ≡ x) × (length b ≡ n))
+    ⊎ ((length b ≤ pair_limit p q) × IsFirstPast p qs bs x n)
 
 -- a job of the Run makes the file of the first output that is longer than declared, which has this length
 pub record IsOverlong (p : Plan) (t : ℕ) (outs : List (List ℕ)) (j f n : ℕ) : Type 0 where

@@ -40,7 +40,8 @@ pub fn ordered_plans_fit()
 /// An order that fits from the start is Safe, and every allowed entry keeps it so.
 pub fn allowed_entries_keep_safe()
     ensures start { (p : Plan) (order : List ℕ) → FitsFromStart p order → IsSoundState p (opened order) }
-    ensures entries { (p : Plan) (s : State) (e : Event) → IsProper p → IsSoundState p s → Allowed p s e → IsSoundState p (after p s e) }
+    ensures entries { (p : Plan) (s : State) (e : Event) → IsProper p → IsSoundState p s → Allowed p s e
+        → IsSoundState p (after p s e) }
 {
     storage_laws();
 }
@@ -48,8 +49,10 @@ pub fn allowed_entries_keep_safe()
 /// After every entry of a Legal record each place is within its bound, the state is Safe, and where no task runs and no
 /// Fail stands the first task of rest is the Choice.
 pub fn legal_records_are_safe()
-    ensures always { (p : Plan) (order : List ℕ) (r : List Event) → IsProper p → FitsFromStart p order → Legal p order r → (k : ℕ) → IsSafeState p (now p order (take k r)) }
-    ensures sums { (p : Plan) (held : ℕ → Held) (q : ℕ) → stored_at p held q + reserved_at p held q ≡ usage p (sizes held) [] q }
+    ensures always { (p : Plan) (order : List ℕ) (r : List Event) → IsProper p → FitsFromStart p order
+        → Legal p order r → (k : ℕ) → IsSafeState p (now p order (take k r)) }
+    ensures sums { (p : Plan) (held : ℕ → Held) (q : ℕ)
+        → stored_at p held q + reserved_at p held q ≡ usage p (sizes held) [] q }
 {
     storage_laws();
 }
@@ -63,23 +66,28 @@ pub fn choice_is_one()
 /// Where there is neither a Choice nor a Fail, no Clean of rest has all its parents ended: a fresh order never begins
 /// with one.
 pub fn no_clean_begins_afresh()
-    ensures { (p : Plan) (s : State) (t : ℕ) → IsProper p → IsSoundState p s → s.failing ≡ false → HasNoChoice p s → has s.rest t ≡ true → is_clean p t ≡ true → HaveParentsEnded p s t → ⊥ }
+    ensures { (p : Plan) (s : State) (t : ℕ) → IsProper p → IsSoundState p s → s.failing ≡ false
+        → HasNoChoice p s → has s.rest t ≡ true → is_clean p t ≡ true → HaveParentsEnded p s t → ⊥ }
 {
     storage_laws();
 }
 
 /// Each allowed entry leaves room for one entry less, and for its sizes less.
 pub fn entries_are_few()
-    ensures entries { (p : Plan) (s : State) (e : Event) → IsConsistent p s → Allowed p s e → entries_room p (after p s e) + 1 ≤ entries_room p s }
-    ensures sizes { (p : Plan) (s : State) (e : Event) → IsConsistent p s → Allowed p s e → sizes_room p (after p s e) + length (listed e) ≤ sizes_room p s }
-    ensures consistent { (p : Plan) (s : State) (e : Event) → IsProper p → IsConsistent p s → Allowed p s e → IsConsistent p (after p s e) }
+    ensures entries { (p : Plan) (s : State) (e : Event) → IsConsistent p s → Allowed p s e
+        → entries_room p (after p s e) + 1 ≤ entries_room p s }
+    ensures sizes { (p : Plan) (s : State) (e : Event) → IsConsistent p s → Allowed p s e
+        → sizes_room p (after p s e) + length (listed e) ≤ sizes_room p s }
+    ensures consistent { (p : Plan) (s : State) (e : Event) → IsProper p → IsConsistent p s → Allowed p s e
+        → IsConsistent p (after p s e) }
 {
     storage_laws();
 }
 
 /// The state of a Legal record says of each task, of each good and of failures what the list of its entries says.
 pub fn records_read()
-    ensures { (p : Plan) (order : List ℕ) (r : List Event) → IsProper p → FitsFromStart p order → Legal p order r → IsRead p r (now p order r) }
+    ensures { (p : Plan) (order : List ℕ) (r : List Event) → IsProper p → FitsFromStart p order
+        → Legal p order r → IsRead p r (now p order r) }
 {
     storage_laws();
 }
@@ -87,15 +95,19 @@ pub fn records_read()
 /// A worker's own entries tell which tasks are open for it.
 pub fn own_entries_tell_open_tasks()
     ensures decides { (s : State) (w t : ℕ) → Decides (is_open s w t) (IsOpen s w t) }
-    ensures entries { (p : Plan) (order : List ℕ) (r : List Event) (w t : ℕ) → IsProper p → FitsFromStart p order → Legal p order r → is_open (now p order r) w t ≡ is_open_after t false (entries_by w r) }
+    ensures entries { (p : Plan) (order : List ℕ) (r : List Event) (w t : ℕ) → IsProper p
+        → FitsFromStart p order → Legal p order r
+        → is_open (now p order r) w t ≡ is_open_after t false (entries_by w r) }
 {
     storage_laws();
 }
 
 /// Nothing follows a complete record, and after a Fail one stands in every longer record.
 pub fn over_records_end()
-    ensures complete { (p : Plan) (order : List ℕ) (r more : List Event) → IsProper p → FitsFromStart p order → Legal p order (r ++ more) → IsComplete p (now p order r) → more ≡ [] }
-    ensures failing { (p : Plan) (order : List ℕ) (r more : List Event) → (now p order r).failing ≡ true → (now p order (r ++ more)).failing ≡ true }
+    ensures complete { (p : Plan) (order : List ℕ) (r more : List Event) → IsProper p → FitsFromStart p order
+        → Legal p order (r ++ more) → IsComplete p (now p order r) → more ≡ [] }
+    ensures failing { (p : Plan) (order : List ℕ) (r more : List Event) → (now p order r).failing ≡ true
+        → (now p order (r ++ more)).failing ≡ true }
 {
     storage_laws();
 }
@@ -103,10 +115,12 @@ pub fn over_records_end()
 /// Under the plain policy no Again and no Regrant is allowed, places are sites, goods are pairs, and rest
 /// is the order without granted tasks and without swept Cleans.
 pub fn plain_policy_tries_once()
-    ensures again { (p : Plan) (s : State) (w t : ℕ) (c : Cause) (ns : List ℕ) → IsPlain p → Allowed p s (Again w t c ns) → ⊥ }
+    ensures again { (p : Plan) (s : State) (w t : ℕ) (c : Cause) (ns : List ℕ) → IsPlain p
+        → Allowed p s (Again w t c ns) → ⊥ }
     ensures regrant { (p : Plan) (s : State) (w t : ℕ) → IsPlain p → Allowed p s (Regrant w t) → ⊥ }
     ensures places { (p : Plan) → IsPlain p → (places p ≡ count_sites p) × (goods p ≡ count_pairs p) }
-    ensures reads { (p : Plan) (order : List ℕ) (r : List Event) → IsProper p → IsPlain p → FitsFromStart p order → Legal p order r → IsPlainlyRead order r (now p order r) }
+    ensures reads { (p : Plan) (order : List ℕ) (r : List Event) → IsProper p → IsPlain p
+        → FitsFromStart p order → Legal p order r → IsPlainlyRead order r (now p order r) }
 {
     storage_laws();
     plain_policy_counts_pairs();

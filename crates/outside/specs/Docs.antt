@@ -17,9 +17,13 @@ abbrev pub fetched : Files → List ℕ → ℕ → Result (List ℕ) DocFault
 fetched files name limit = within limit (map.get files name)
 
 -- The answers of a fetch. Each counts itself, but want of memory. A document that comes is within the limit, told or not.
-abbrev pub Fetched : Option Files → List ℕ → ℕ → Counts → Counts → Result (Unit {0}) DocFault → List ℕ → Type 0
-Fetched told name limit before after (Ok u) into = (after ≡ one_done before) × (length into ≤ limit) × IfSome told (λ files. fetched files name limit ≡ Ok into)
-Fetched told name limit before after (Err Absent) into = (after ≡ one_miss before) × (into ≡ []) × IfSome told (λ files. fetched files name limit ≡ Err Absent)
-Fetched told name limit before after (Err (TooLong n)) into = (after ≡ one_miss before) × (into ≡ []) × (n ≡ limit) × IfSome told (λ files. fetched files name limit ≡ Err (TooLong n))
+abbrev pub Fetched : Option Files → List ℕ → ℕ → Counts → Counts → Result (Unit {0}) DocFault → List ℕ
+    → Type 0
+Fetched told name limit before after (Ok u) into = (after ≡ one_done before) × (length into ≤ limit)
+    × IfSome told (λ files. fetched files name limit ≡ Ok into)
+Fetched told name limit before after (Err Absent) into = (after ≡ one_miss before) × (into ≡ [])
+    × IfSome told (λ files. fetched files name limit ≡ Err Absent)
+Fetched told name limit before after (Err (TooLong n)) into = (after ≡ one_miss before) × (into ≡ [])
+    × (n ≡ limit) × IfSome told (λ files. fetched files name limit ≡ Err (TooLong n))
 Fetched told name limit before after (Err Failed) into = (after ≡ one_fault before) × (into ≡ [])
 Fetched told name limit before after (Err Memory) into = (after ≡ before) × (into ≡ [])

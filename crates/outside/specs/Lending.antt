@@ -27,7 +27,8 @@ pub record IsOpened (found : Option (Option (List ℕ))) (limit : ℕ) (s : Read
   pub faults : s.faults ≡ 0
 
 -- the answers of an opening; its refusals are those of a reading at once
-abbrev pub Opens : {R : Type 0} → (R → ReadState) → Option (Option (List ℕ)) → ℕ → Counts → Counts → Result R HostFault → Type 0
+abbrev pub Opens : {R : Type 0} → (R → ReadState) → Option (Option (List ℕ)) → ℕ → Counts → Counts
+    → Result R HostFault → Type 0
 Opens state found limit before after (Ok r) = (after ≡ one_done before) × IsOpened found limit (state r)
 Opens state found limit before after (Err e) = Reads found limit before after (Err e)
 
@@ -36,11 +37,18 @@ abbrev pub undrafted : Place → Store → Drafted
 undrafted place s = record { place = place; bytes = [] }
 
 abbrev pub fresh : Option Store → Place → ℕ → DraftState
-fresh told place limit = record { told = option_map (undrafted place) told; size = 0; limit = limit; faults = 0 }
+fresh told place limit = record {
+  told = option_map (undrafted place) told;
+  size = 0;
+  limit = limit;
+  faults = 0;
+}
 
 -- the answers of the making of a draft
-abbrev pub Makes : {W : Type 0} → (W → DraftState) → Option Store → Place → ℕ → Counts → Counts → Result W HostFault → Type 0
-Makes state told place limit before after (Ok w) = (after ≡ one_done before) × (state w ≡ fresh told place limit)
+abbrev pub Makes : {W : Type 0} → (W → DraftState) → Option Store → Place → ℕ → Counts → Counts
+    → Result W HostFault → Type 0
+Makes state told place limit before after (Ok w) = (after ≡ one_done before)
+    × (state w ≡ fresh told place limit)
 Makes state told place limit before after (Err Failed) = after ≡ one_fault before
 Makes state told place limit before after (Err Memory) = after ≡ before
 Makes state told place limit before after (Err _) = ⊥
@@ -61,8 +69,11 @@ published (Some d) s = changed s (placing d.place d.bytes)
 
 -- The answers of a publishing: the draft's bytes stand at its place, in one step, or all that is told is as before. The
 -- draft's count is the host's then, whatever the answer.
-abbrev pub Publishing : DraftState → Option Store → Option Store → Counts → Counts → Result (Unit {0}) HostFault → Type 0
-Publishing d old new before after (Ok u) = (after ≡ one_done (with_faults before d.faults)) × (new ≡ option_map (published d.told) old)
-Publishing d old new before after (Err Failed) = (after ≡ one_fault (with_faults before d.faults)) × (new ≡ old)
+abbrev pub Publishing : DraftState → Option Store → Option Store → Counts → Counts
+    → Result (Unit {0}) HostFault → Type 0
+Publishing d old new before after (Ok u) = (after ≡ one_done (with_faults before d.faults))
+    × (new ≡ option_map (published d.told) old)
+Publishing d old new before after (Err Failed) = (after ≡ one_fault (with_faults before d.faults))
+    × (new ≡ old)
 Publishing d old new before after (Err Memory) = (after ≡ with_faults before d.faults) × (new ≡ old)
 Publishing d old new before after (Err _) = ⊥

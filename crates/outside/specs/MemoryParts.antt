@@ -17,7 +17,12 @@ abbrev pub reading_failing : MemoryReading → Failing
 reading_failing r = r.failing
 
 abbrev pub draft_state : MemoryDraft → DraftState
-draft_state d = record { told = Some (record { place = d.place; bytes = d.bytes.items }); size = length d.bytes.items; limit = d.limit; faults = d.faults }
+draft_state d = record {
+  told = Some (record { place = d.place; bytes = d.bytes.items });
+  size = length d.bytes.items;
+  limit = d.limit;
+  faults = d.faults;
+}
 
 abbrev pub draft_failing : MemoryDraft → Failing
 draft_failing d = d.failing

@@ -25,7 +25,8 @@ sink_most s = s.most
 
 -- the write of a piece is to fail: its number is listed, or there is a byte to write and no room
 abbrev pub refuses_next : MemorySink → List ℕ → Bool
-refuses_next s piece = fails_next s.failing || (nat_lt 0 (length piece) && nat_le s.room (length s.bytes.items))
+refuses_next s piece = fails_next s.failing || (nat_lt 0 (length piece)
+    && nat_le s.room (length s.bytes.items))
 
 -- how many bytes of a piece a write takes that does not fail
 abbrev pub takes_next : MemorySink → List ℕ → ℕ

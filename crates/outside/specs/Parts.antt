@@ -38,7 +38,8 @@ pub record ReadsNext (before after : ReadState) (old new : List ℕ) (n : ℕ) :
 -- the answers of a read; one that fails counts itself, and no count falls
 abbrev pub ReadsOn : ReadState → ReadState → List ℕ → List ℕ → Result ℕ HostFault → Type 0
 ReadsOn before after old new (Ok n) = ReadsNext before after old new n
-ReadsOn before after old new (Err Failed) = (after ≡ record before { faults = next_count before.faults }) × (before.faults ≤ after.faults) × (length new ≡ length old)
+ReadsOn before after old new (Err Failed) = (after ≡ record before { faults = next_count before.faults })
+    × (before.faults ≤ after.faults) × (length new ≡ length old)
 ReadsOn before after old new (Err _) = ⊥
 
 -- a draft with more bytes
@@ -50,9 +51,12 @@ longer piece s = record s { told = option_map (extended piece) s.told; size = s.
 
 -- The answers of an append: all bytes, or none. One that passes the limit counts nothing, one that fails counts itself.
 abbrev pub AppendsOn : DraftState → DraftState → List ℕ → Result (Unit {0}) HostFault → Type 0
-AppendsOn before after piece (Ok u) = (before.size + length piece ≤ before.limit) × (after ≡ longer piece before)
-AppendsOn before after piece (Err (Over l n)) = (l ≡ before.limit) × (before.limit < before.size + length piece) × (after ≡ before)
-AppendsOn before after piece (Err Failed) = (after ≡ record before { faults = next_count before.faults }) × (before.faults ≤ after.faults)
+AppendsOn before after piece (Ok u) = (before.size + length piece ≤ before.limit)
+    × (after ≡ longer piece before)
+AppendsOn before after piece (Err (Over l n)) = (l ≡ before.limit)
+    × (before.limit < before.size + length piece) × (after ≡ before)
+AppendsOn before after piece (Err Failed) = (after ≡ record before { faults = next_count before.faults })
+    × (before.faults ≤ after.faults)
 AppendsOn before after piece (Err Memory) = after ≡ before
 AppendsOn before after piece (Err Absent) = ⊥
 

@@ -24,9 +24,18 @@ operation (Removes site name) = Remove site name
 
 -- the store after a change
 abbrev pub changed : Store → Change → Store
-changed s (Publishes site name bytes) = record s { scratch = put_pair s.scratch site name bytes; trace = s.trace ++ Publish site name (length bytes) ∷ [] }
-changed s (Delivers name bytes) = record s { delivered = map.insert s.delivered name bytes; trace = s.trace ++ Deliver name (length bytes) ∷ [] }
-changed s (Removes site name) = record s { scratch = take_pair s.scratch site name; trace = s.trace ++ Remove site name ∷ [] }
+changed s (Publishes site name bytes) = record s {
+  scratch = put_pair s.scratch site name bytes;
+  trace = s.trace ++ Publish site name (length bytes) ∷ [];
+}
+changed s (Delivers name bytes) = record s {
+  delivered = map.insert s.delivered name bytes;
+  trace = s.trace ++ Deliver name (length bytes) ∷ [];
+}
+changed s (Removes site name) = record s {
+  scratch = take_pair s.scratch site name;
+  trace = s.trace ++ Remove site name ∷ [];
+}
 
 -- the store after changes, in order
 abbrev pub changed_by : Store → List Change → Store

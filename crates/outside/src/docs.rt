@@ -57,7 +57,8 @@ pub trait Docs {
         into: &mut Vec<u8>,
     ) -> Result<(), DocFault>
         requires { into.old.items ≡ [] }
-        ensures answer { Fetched (told self.old) name.now limit (counts self.old) (counts self.new) result into.new.items }
+        ensures answer { Fetched (told self.old) name.now limit (counts self.old)
+            (counts self.new) result into.new.items }
         ensures told { told self.new ≡ told self.old }
         ensures later { IsLater (counts self.old) (counts self.new) };
 }

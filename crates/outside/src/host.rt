@@ -68,7 +68,8 @@ pub trait Host: Drop {
 
     /// The bytes of a replica by its physical name, if they are within the limit.
     fn read_replica(&mut self, alloc: Global, pfn: &str, limit: u64) -> Result<Blob, HostFault>
-        ensures answer { Reads (option_map (λ s. map.get s.replicas pfn.now) (told self.old)) limit (counts self.old) (counts self.new) result }
+        ensures answer { Reads (option_map (λ s. map.get s.replicas pfn.now) (told self.old)) limit
+            (counts self.old) (counts self.new) result }
         ensures told { told self.new ≡ told self.old }
         ensures marked { marked self.new ≡ marked self.old }
         ensures later { IsLater (counts self.old) (counts self.new) };
@@ -81,7 +82,8 @@ pub trait Host: Drop {
         name: &str,
         limit: u64,
     ) -> Result<Blob, HostFault>
-        ensures answer { Reads (option_map (λ s. pair_at s.scratch site.now name.now) (told self.old)) limit (counts self.old) (counts self.new) result }
+        ensures answer { Reads (option_map (λ s. pair_at s.scratch site.now name.now) (told self.old)) limit
+            (counts self.old) (counts self.new) result }
         ensures told { told self.new ≡ told self.old }
         ensures marked { marked self.new ≡ marked self.old }
         ensures later { IsLater (counts self.old) (counts self.new) };
@@ -94,21 +96,25 @@ pub trait Host: Drop {
         name: &str,
         bytes: &[u8],
     ) -> Result<(), HostFault>
-        ensures answer { Changes (told self.old) (told self.new) (counts self.old) (counts self.new) ⊥ (Publishes site.now name.now bytes.now) result }
+        ensures answer { Changes (told self.old) (told self.new) (counts self.old)
+            (counts self.new) ⊥ (Publishes site.now name.now bytes.now) result }
         ensures marked { marked self.new ≡ marked self.old }
         ensures later { IsLater (counts self.old) (counts self.new) };
 
     /// Delivers a file under its name, in place of an earlier one. A refusal leaves all as it was.
     fn deliver(&mut self, alloc: Global, name: &str, bytes: &[u8]) -> Result<(), HostFault>
-        ensures answer { Changes (told self.old) (told self.new) (counts self.old) (counts self.new) ⊥ (Delivers name.now bytes.now) result }
+        ensures answer { Changes (told self.old) (told self.new) (counts self.old)
+            (counts self.new) ⊥ (Delivers name.now bytes.now) result }
         ensures marked { marked self.new ≡ marked self.old }
         ensures later { IsLater (counts self.old) (counts self.new) };
 
     /// Removes a file from a site. A refusal leaves all as it was.
     fn remove(&mut self, alloc: Global, site: &str, name: &str) -> Result<(), HostFault>
         ensures answer { Changes (told self.old) (told self.new) (counts self.old) (counts self.new)
-            (IfSome (told self.old) (λ s. pair_at s.scratch site.now name.now ≡ None)) (Removes site.now name.now) result }
-        ensures stood { OnOk result (IfSome (told self.old) (λ s. pair_at s.scratch site.now name.now ≡ None → ⊥)) }
+            (IfSome (told self.old) (λ s. pair_at s.scratch site.now name.now ≡ None))
+            (Removes site.now name.now) result }
+        ensures stood { OnOk result (IfSome (told self.old)
+            (λ s. pair_at s.scratch site.now name.now ≡ None → ⊥)) }
         ensures marked { marked self.new ≡ marked self.old }
         ensures later { IsLater (counts self.old) (counts self.new) };
 
@@ -126,7 +132,9 @@ pub trait Host: Drop {
         pfn: &str,
         limit: u64,
     ) -> Result<Self::Reading, HostFault>
-        ensures answer { Opens Self.Reading.state (option_map (λ s. map.get s.replicas pfn.now) (told self.old)) limit (counts self.old) (counts self.new) result }
+        ensures answer { Opens Self.Reading.state
+            (option_map (λ s. map.get s.replicas pfn.now) (told self.old)) limit (counts self.old)
+            (counts self.new) result }
         ensures told { told self.new ≡ told self.old }
         ensures marked { marked self.new ≡ marked self.old }
         ensures later { IsLater (counts self.old) (counts self.new) };
@@ -139,14 +147,17 @@ pub trait Host: Drop {
         name: &str,
         limit: u64,
     ) -> Result<Self::Reading, HostFault>
-        ensures answer { Opens Self.Reading.state (option_map (λ s. pair_at s.scratch site.now name.now) (told self.old)) limit (counts self.old) (counts self.new) result }
+        ensures answer { Opens Self.Reading.state
+            (option_map (λ s. pair_at s.scratch site.now name.now) (told self.old)) limit (counts self.old)
+            (counts self.new) result }
         ensures told { told self.new ≡ told self.old }
         ensures marked { marked self.new ≡ marked self.old }
         ensures later { IsLater (counts self.old) (counts self.new) };
 
     /// Makes a draft of a file that is to stand at a place. It is no file of the store before it is published.
     fn draft(&mut self, alloc: Global, place: &Place, limit: u64) -> Result<Self::Draft, HostFault>
-        ensures answer { Makes Self.Draft.state (told self.old) place.now limit (counts self.old) (counts self.new) result }
+        ensures answer { Makes Self.Draft.state (told self.old) place.now limit (counts self.old)
+            (counts self.new) result }
         ensures told { told self.new ≡ told self.old }
         ensures marked { marked self.new ≡ marked self.old }
         ensures later { IsLater (counts self.old) (counts self.new) };
@@ -154,7 +165,8 @@ pub trait Host: Drop {
     /// Sets a draft's bytes at its place, in one step, in place of an earlier file. A refusal leaves all as it was, and
     /// the draft is gone.
     fn publish(&mut self, alloc: Global, draft: Self::Draft) -> Result<(), HostFault>
-        ensures answer { Publishing (Self.Draft.state draft) (told self.old) (told self.new) (counts self.old) (counts self.new) result }
+        ensures answer { Publishing (Self.Draft.state draft) (told self.old) (told self.new)
+            (counts self.old) (counts self.new) result }
         ensures marked { marked self.new ≡ marked self.old }
         ensures later { IsLater (counts self.old) (counts self.new) };
 

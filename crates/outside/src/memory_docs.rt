@@ -83,7 +83,8 @@ impl Docs for MemoryDocs {
         into: &mut Vec<u8>,
     ) -> Result<(), DocFault>
         requires { into.old.items ≡ [] }
-        ensures answer { Fetched (Some (docs_files self.old)) name.now limit (docs_counts self.old) (docs_counts self.new) result into.new.items }
+        ensures answer { Fetched (Some (docs_files self.old)) name.now limit (docs_counts self.old)
+            (docs_counts self.new) result into.new.items }
         ensures told { Some (docs_files self.new) ≡ Some (docs_files self.old) }
         ensures later { IsLater (docs_counts self.old) (docs_counts self.new) }
         // A fetch fails exactly where its number is listed.

@@ -69,7 +69,8 @@ impl MemoryHost {
 
     /// Sets the bytes of a replica.
     pub fn put_replica(&mut self, alloc: Global, pfn: &str, bytes: &[u8]) -> Result<(), Memory>
-        ensures ok { OnOk result (host_store self.new ≡ with_replica pfn.now bytes.now (host_store self.old)) }
+        ensures ok { OnOk result (host_store self.new
+            ≡ with_replica pfn.now bytes.now (host_store self.old)) }
         ensures err { OnErr result (host_store self.new ≡ host_store self.old) }
         ensures marked { host_marked self.new ≡ host_marked self.old }
         ensures failing { host_failing self.new ≡ host_failing self.old }
@@ -86,7 +87,8 @@ impl MemoryHost {
         name: &str,
         bytes: &[u8],
     ) -> Result<(), Memory>
-        ensures ok { OnOk result (host_store self.new ≡ with_scratch site.now name.now bytes.now (host_store self.old)) }
+        ensures ok { OnOk result (host_store self.new
+            ≡ with_scratch site.now name.now bytes.now (host_store self.old)) }
         ensures err { OnErr result (host_store self.new ≡ host_store self.old) }
         ensures marked { host_marked self.new ≡ host_marked self.old }
         ensures failing { host_failing self.new ≡ host_failing self.old }
@@ -164,7 +166,8 @@ fn open_found(
     parts: &[(u64, u64)],
     call: u64,
 ) -> Result<MemoryReading, HostFault>
-    ensures answer { Opens reading_state (Some (option_map (λ b. b.now) found.entry)) limit counts.old counts.new result }
+    ensures answer { Opens reading_state (Some
+        (option_map (λ b. b.now) found.entry)) limit counts.old counts.new result }
     ensures never_fails { IsErrOf result HostFault.Failed → ⊥ }
     ensures later { IsLater counts.old counts.new }
     ensures listed { IfOk result (λ r. failing_calls (reading_failing r) ≡ listed_for parts.now call) }
@@ -255,7 +258,8 @@ impl Host for MemoryHost {
     }
 
     fn read_replica(&mut self, alloc: Global, pfn: &str, limit: u64) -> Result<Blob, HostFault>
-        ensures answer { Reads (Some (map.get (host_store self.old).replicas pfn.now)) limit (host_counts self.old) (host_counts self.new) result }
+        ensures answer { Reads (Some (map.get (host_store self.old).replicas pfn.now)) limit
+            (host_counts self.old) (host_counts self.new) result }
         ensures told { Some (host_store self.new) ≡ Some (host_store self.old) }
         ensures marked { host_marked self.new ≡ host_marked self.old }
         ensures later { IsLater (host_counts self.old) (host_counts self.new) }
@@ -277,7 +281,8 @@ impl Host for MemoryHost {
         name: &str,
         limit: u64,
     ) -> Result<Blob, HostFault>
-        ensures answer { Reads (Some (pair_at (host_store self.old).scratch site.now name.now)) limit (host_counts self.old) (host_counts self.new) result }
+        ensures answer { Reads (Some (pair_at (host_store self.old).scratch site.now name.now)) limit
+            (host_counts self.old) (host_counts self.new) result }
         ensures told { Some (host_store self.new) ≡ Some (host_store self.old) }
         ensures marked { host_marked self.new ≡ host_marked self.old }
         ensures later { IsLater (host_counts self.old) (host_counts self.new) }
@@ -304,7 +309,8 @@ impl Host for MemoryHost {
         name: &str,
         bytes: &[u8],
     ) -> Result<(), HostFault>
-        ensures answer { Changes (Some (host_store self.old)) (Some (host_store self.new)) (host_counts self.old) (host_counts self.new) ⊥ (Publishes site.now name.now bytes.now) result }
+        ensures answer { Changes (Some (host_store self.old)) (Some (host_store self.new))
+            (host_counts self.old) (host_counts self.new) ⊥ (Publishes site.now name.now bytes.now) result }
         ensures marked { host_marked self.new ≡ host_marked self.old }
         ensures later { IsLater (host_counts self.old) (host_counts self.new) }
         // A call fails exactly where its number is listed.
@@ -321,7 +327,8 @@ impl Host for MemoryHost {
     }
 
     fn deliver(&mut self, alloc: Global, name: &str, bytes: &[u8]) -> Result<(), HostFault>
-        ensures answer { Changes (Some (host_store self.old)) (Some (host_store self.new)) (host_counts self.old) (host_counts self.new) ⊥ (Delivers name.now bytes.now) result }
+        ensures answer { Changes (Some (host_store self.old)) (Some (host_store self.new))
+            (host_counts self.old) (host_counts self.new) ⊥ (Delivers name.now bytes.now) result }
         ensures marked { host_marked self.new ≡ host_marked self.old }
         ensures later { IsLater (host_counts self.old) (host_counts self.new) }
         // A call fails exactly where its number is listed.
@@ -338,8 +345,10 @@ impl Host for MemoryHost {
     }
 
     fn remove(&mut self, alloc: Global, site: &str, name: &str) -> Result<(), HostFault>
-        ensures answer { Changes (Some (host_store self.old)) (Some (host_store self.new)) (host_counts self.old) (host_counts self.new)
-            (pair_at (host_store self.old).scratch site.now name.now ≡ None) (Removes site.now name.now) result }
+        ensures answer { Changes (Some (host_store self.old)) (Some (host_store self.new))
+            (host_counts self.old) (host_counts self.new)
+            (pair_at (host_store self.old).scratch site.now name.now ≡ None)
+            (Removes site.now name.now) result }
         ensures stood { OnOk result (pair_at (host_store self.old).scratch site.now name.now ≡ None → ⊥) }
         ensures marked { host_marked self.new ≡ host_marked self.old }
         ensures later { IsLater (host_counts self.old) (host_counts self.new) }
@@ -360,7 +369,8 @@ impl Host for MemoryHost {
     }
 
     fn scratch_empty(&mut self, _alloc: Global, site: &str) -> Result<bool, HostFault>
-        ensures answer { Empties (Some (host_store self.old)) site.now (host_counts self.old) (host_counts self.new) result }
+        ensures answer { Empties (Some (host_store self.old)) site.now (host_counts self.old)
+            (host_counts self.new) result }
         ensures told { Some (host_store self.new) ≡ Some (host_store self.old) }
         ensures marked { host_marked self.new ≡ host_marked self.old }
         ensures later { IsLater (host_counts self.old) (host_counts self.new) }
@@ -386,14 +396,16 @@ impl Host for MemoryHost {
         pfn: &str,
         limit: u64,
     ) -> Result<MemoryReading, HostFault>
-        ensures answer { Opens reading_state (Some (map.get (host_store self.old).replicas pfn.now)) limit (host_counts self.old) (host_counts self.new) result }
+        ensures answer { Opens reading_state (Some (map.get (host_store self.old).replicas pfn.now)) limit
+            (host_counts self.old) (host_counts self.new) result }
         ensures told { Some (host_store self.new) ≡ Some (host_store self.old) }
         ensures marked { host_marked self.new ≡ host_marked self.old }
         ensures later { IsLater (host_counts self.old) (host_counts self.new) }
         // A call fails exactly where its number is listed.
         ensures failed { IsErrOf result HostFault.Failed ↔ (fails_next (host_failing self.old) ≡ true) }
         ensures call { IsNextCall (host_failing self.old) (host_failing self.new) }
-        ensures listed { IfOk result (λ r. failing_calls (reading_failing r) ≡ listed_for (host_parts self.old) (calls_made (host_failing self.new))) }
+        ensures listed { IfOk result (λ r. failing_calls (reading_failing r)
+            ≡ listed_for (host_parts self.old) (calls_made (host_failing self.new))) }
     {
         if self.failing.call() {
             self.counts.add_fault();
@@ -411,14 +423,17 @@ impl Host for MemoryHost {
         name: &str,
         limit: u64,
     ) -> Result<MemoryReading, HostFault>
-        ensures answer { Opens reading_state (Some (pair_at (host_store self.old).scratch site.now name.now)) limit (host_counts self.old) (host_counts self.new) result }
+        ensures answer { Opens reading_state
+            (Some (pair_at (host_store self.old).scratch site.now name.now)) limit (host_counts self.old)
+            (host_counts self.new) result }
         ensures told { Some (host_store self.new) ≡ Some (host_store self.old) }
         ensures marked { host_marked self.new ≡ host_marked self.old }
         ensures later { IsLater (host_counts self.old) (host_counts self.new) }
         // A call fails exactly where its number is listed.
         ensures failed { IsErrOf result HostFault.Failed ↔ (fails_next (host_failing self.old) ≡ true) }
         ensures call { IsNextCall (host_failing self.old) (host_failing self.new) }
-        ensures listed { IfOk result (λ r. failing_calls (reading_failing r) ≡ listed_for (host_parts self.old) (calls_made (host_failing self.new))) }
+        ensures listed { IfOk result (λ r. failing_calls (reading_failing r)
+            ≡ listed_for (host_parts self.old) (calls_made (host_failing self.new))) }
     {
         if self.failing.call() {
             self.counts.add_fault();
@@ -430,14 +445,16 @@ impl Host for MemoryHost {
     }
 
     fn draft(&mut self, alloc: Global, place: &Place, limit: u64) -> Result<MemoryDraft, HostFault>
-        ensures answer { Makes draft_state (Some (host_store self.old)) place.now limit (host_counts self.old) (host_counts self.new) result }
+        ensures answer { Makes draft_state (Some (host_store self.old)) place.now limit
+            (host_counts self.old) (host_counts self.new) result }
         ensures told { Some (host_store self.new) ≡ Some (host_store self.old) }
         ensures marked { host_marked self.new ≡ host_marked self.old }
         ensures later { IsLater (host_counts self.old) (host_counts self.new) }
         // A call fails exactly where its number is listed.
         ensures failed { IsErrOf result HostFault.Failed ↔ (fails_next (host_failing self.old) ≡ true) }
         ensures call { IsNextCall (host_failing self.old) (host_failing self.new) }
-        ensures listed { IfOk result (λ d. failing_calls (draft_failing d) ≡ listed_for (host_parts self.old) (calls_made (host_failing self.new))) }
+        ensures listed { IfOk result (λ d. failing_calls (draft_failing d)
+            ≡ listed_for (host_parts self.old) (calls_made (host_failing self.new))) }
     {
         if self.failing.call() {
             self.counts.add_fault();
@@ -456,7 +473,8 @@ impl Host for MemoryHost {
     }
 
     fn publish(&mut self, alloc: Global, draft: MemoryDraft) -> Result<(), HostFault>
-        ensures answer { Publishing (draft_state draft) (Some (host_store self.old)) (Some (host_store self.new)) (host_counts self.old) (host_counts self.new) result }
+        ensures answer { Publishing (draft_state draft) (Some (host_store self.old))
+            (Some (host_store self.new)) (host_counts self.old) (host_counts self.new) result }
         ensures marked { host_marked self.new ≡ host_marked self.old }
         ensures later { IsLater (host_counts self.old) (host_counts self.new) }
         // A call fails exactly where its number is listed.
@@ -476,7 +494,8 @@ impl Host for MemoryHost {
     fn discard(&mut self, draft: MemoryDraft)
         ensures told { Some (host_store self.new) ≡ Some (host_store self.old) }
         ensures marked { host_marked self.new ≡ host_marked self.old }
-        ensures counts { host_counts self.new ≡ with_faults (host_counts self.old) (draft_state draft).faults }
+        ensures counts { host_counts self.new
+            ≡ with_faults (host_counts self.old) (draft_state draft).faults }
         ensures later { IsLater (host_counts self.old) (host_counts self.new) }
         // It isn't one of the calls that are listed.
         ensures failing { host_failing self.new ≡ host_failing self.old }
@@ -487,7 +506,8 @@ impl Host for MemoryHost {
     fn finish(&mut self, reading: MemoryReading)
         ensures told { Some (host_store self.new) ≡ Some (host_store self.old) }
         ensures marked { host_marked self.new ≡ host_marked self.old }
-        ensures counts { host_counts self.new ≡ with_faults (host_counts self.old) (reading_state reading).faults }
+        ensures counts { host_counts self.new
+            ≡ with_faults (host_counts self.old) (reading_state reading).faults }
         ensures later { IsLater (host_counts self.old) (host_counts self.new) }
         ensures failing { host_failing self.new ≡ host_failing self.old }
     {

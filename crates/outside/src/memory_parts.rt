@@ -50,7 +50,12 @@ impl ReadPart for MemoryReading {
     ghost use Rattle.outside.specs.MemoryParts.{reading_failing, reading_state};
     ghost use Rattle.std.specs.Prelude.{◌↔◌, IsErrOf, Some, length, true};
 
-    ghost state = { λ r. record { told = Some r.bytes; given = r.at; size = length r.bytes; faults = r.faults } };
+    ghost state = { λ r. record {
+      told = Some r.bytes;
+      given = r.at;
+      size = length r.bytes;
+      faults = r.faults;
+    } };
 
     fn faults(&self) -> u64 {
         self.faults
@@ -89,7 +94,12 @@ impl WritePart for MemoryDraft {
     ghost use Rattle.outside.specs.MemoryParts.{draft_failing, draft_state};
     ghost use Rattle.std.specs.Prelude.{◌↔◌, IsErrOf, Some, length, true};
 
-    ghost state = { λ d. record { told = Some (record { place = d.place; bytes = d.bytes.items }); size = length d.bytes.items; limit = d.limit; faults = d.faults } };
+    ghost state = { λ d. record {
+      told = Some (record { place = d.place; bytes = d.bytes.items });
+      size = length d.bytes.items;
+      limit = d.limit;
+      faults = d.faults;
+    } };
 
     fn faults(&self) -> u64 {
         self.faults

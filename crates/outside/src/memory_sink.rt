@@ -71,7 +71,8 @@ impl Sink for MemorySink {
     }
 
     fn write(&mut self, piece: &[u8]) -> Result<usize, SinkFault>
-        ensures answer { Wrote (Some (sink_bytes self.old)) (Some (sink_bytes self.new)) self.old.faults self.new.faults piece.now result }
+        ensures answer { Wrote (Some (sink_bytes self.old))
+            (Some (sink_bytes self.new)) self.old.faults self.new.faults piece.now result }
         ensures faults { self.old.faults ≤ self.new.faults }
         // A write fails exactly where its number is listed, or no room is left for its first byte.
         ensures failed { IsErr result ↔ (refuses_next self.old piece.now ≡ true) }

@@ -26,7 +26,8 @@ pub trait Sink {
 
     /// Writes a prefix of the piece, of one byte at least where there is one, and tells its length.
     fn write(&mut self, piece: &[u8]) -> Result<usize, SinkFault>
-        ensures answer { Wrote (written self.old) (written self.new) (faults self.old) (faults self.new) piece.now result }
+        ensures answer { Wrote (written self.old) (written self.new) (faults self.old)
+            (faults self.new) piece.now result }
         ensures faults { faults self.old ≤ faults self.new };
 }
 
@@ -34,7 +35,8 @@ ghost use Rattle.outside.specs.Sink.{WroteAll};
 
 /// Writes a whole text, in as many pieces as the sink wants.
 pub fn write_all<K: Sink>(out: &mut K, text: &[u8]) -> Result<(), SinkFault>
-    ensures answer { WroteAll (K.written out.old) (K.written out.new) (K.faults out.old) (K.faults out.new) text.now result }
+    ensures answer { WroteAll (K.written out.old) (K.written out.new) (K.faults out.old)
+        (K.faults out.new) text.now result }
     ensures faults { K.faults out.old ≤ K.faults out.new }
 {
     let mut at = 0;

@@ -43,13 +43,15 @@ nodes (Fork' p middle gaps left right) = nodes left + nodes right + 1
 abbrev pub way : ℕ → Node → ℕ
 way position Empty = 1
 way position Position = 1
-way position (Fork' p middle gaps left right) = cond (ltb position middle) (way position left) (way (position - middle) right) + 1
+way position (Fork' p middle gaps left right) =
+    cond (ltb position middle) (way position left) (way (position - middle) right) + 1
 
 -- the numbers, where the greatest is this one
 abbrev pub numbers : Option ℕ → Node → List (Option ℕ)
 numbers top Empty = []
 numbers top Position = top ∷ []
-numbers top (Fork' p middle gaps left right) = numbers (below top gaps.left) left ++ numbers (below top gaps.right) right
+numbers top (Fork' p middle gaps left right) =
+    numbers (below top gaps.left) left ++ numbers (below top gaps.right) right
 
 -- each fork knows the width of its left part
 abbrev pub IsShaped : Node → Type 0
@@ -67,4 +69,5 @@ abbrev pub IsUnder : Option ℕ → Node → Type 0
 IsUnder top Empty = top ≡ None
 IsUnder top Position = Unit
 IsUnder top (Fork' p middle gaps left right) =
-    IsGap top gaps.left × IsGap top gaps.right × (greater (below top gaps.left) (below top gaps.right) ≡ top) × IsUnder (below top gaps.left) left × IsUnder (below top gaps.right) right
+    IsGap top gaps.left × IsGap top gaps.right × (greater (below top gaps.left) (below top gaps.right) ≡ top)
+    × IsUnder (below top gaps.left) left × IsUnder (below top gaps.right) right

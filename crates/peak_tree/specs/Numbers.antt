@@ -15,7 +15,8 @@ greatest (x ∷ xs) = greater x (greatest xs)
 -- nothing is live, or this number stands in the list and none is greater
 abbrev pub IsGreatest : List (Option ℕ) → Option ℕ → Type 0
 IsGreatest xs None = (i : ℕ) → get_or xs i None ≡ None
-IsGreatest xs (Some n) = ((i : ℕ) × (get_or xs i None ≡ Some n)) × ((i v : ℕ) → get_or xs i None ≡ Some v → v ≤ n)
+IsGreatest xs (Some n) = ((i : ℕ) × (get_or xs i None ≡ Some n))
+    × ((i v : ℕ) → get_or xs i None ≡ Some v → v ≤ n)
 
 -- a number with this added, where it is live
 abbrev pub added : ℤ → Option ℕ → Option ℕ

@@ -7,7 +7,8 @@ use Rattle.peg_json.specs.declared.read_fault.ReadFault.{ReadFault}
 -- the first that is the same as one before it, or as one that is known
 abbrev pub first_repeat : {A : Type 0} → (A → A → Bool) → List A → List A → Option A
 first_repeat same known [] = None
-first_repeat same known (x ∷ xs) = if list_any (same x) known then Some x else first_repeat same (known ++ x ∷ []) xs
+first_repeat same known (x ∷ xs) = if list_any (same x) known then Some x
+    else first_repeat same (known ++ x ∷ []) xs
 
 -- the first name that is none of the known ones
 abbrev pub first_unknown : List (List ℕ) → List (List ℕ) → Option (List ℕ)

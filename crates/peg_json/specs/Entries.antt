@@ -16,11 +16,13 @@ members_in_order no_members = []
 members_in_order (member k d ms) = (k, d) ∷ members_in_order ms
 
 -- a member with its key, read under its own path
-unfoldable pub entry_of : {B : Type 0} → (List ℕ → Data → Result B TreeFault) → List ℕ → List ℕ → Data → Result (List ℕ × B) TreeFault
+unfoldable pub entry_of : {B : Type 0} → (List ℕ → Data → Result B TreeFault) → List ℕ → List ℕ → Data
+    → Result (List ℕ × B) TreeFault
 entry_of f path key d = f (key_path path key) d >>= λ y. Ok (key, y)
 
 -- each member with its key, up to the first fault
-abbrev pub entries_from : {B : Type 0} → (List ℕ → Data → Result B TreeFault) → List ℕ → List (List ℕ × Data) → Result (List (List ℕ × B)) TreeFault
+abbrev pub entries_from : {B : Type 0} → (List ℕ → Data → Result B TreeFault) → List ℕ → List (List ℕ × Data)
+    → Result (List (List ℕ × B)) TreeFault
 entries_from f path [] = Ok []
 entries_from f path (m ∷ ms) = do
   y ← entry_of f path m.0 m.1
@@ -28,12 +30,14 @@ entries_from f path (m ∷ ms) = do
   Ok (y ∷ ys)
 
 -- the members of an object that is there, read in turn
-abbrev pub entries_among : {B : Type 0} → (List ℕ → Data → Result B TreeFault) → List ℕ → Option Members → Result (List (List ℕ × B)) TreeFault
+abbrev pub entries_among : {B : Type 0} → (List ℕ → Data → Result B TreeFault) → List ℕ → Option Members
+    → Result (List (List ℕ × B)) TreeFault
 entries_among f path None = Err (faults.WrongKind path)
 entries_among f path (Some ms) = entries_from f path (members_in_order ms)
 
 -- an object whose members f reads
-abbrev pub entries_in : {B : Type 0} → (List ℕ → Data → Result B TreeFault) → List ℕ → Data → Result (List (List ℕ × B)) TreeFault
+abbrev pub entries_in : {B : Type 0} → (List ℕ → Data → Result B TreeFault) → List ℕ → Data
+    → Result (List (List ℕ × B)) TreeFault
 entries_in f path d = entries_among f path (find.as_object d)
 
 -- a map's entries, as the members of its tree

@@ -23,8 +23,10 @@ count_of path d = some_or (faults.WrongKind path) (option_map (λ ds. length (el
 
 -- a list with elements at a key
 abbrev pub elements_refused : List ℕ → Data → List ℕ → Result (Unit {0}) TreeFault
-elements_refused path d key = optional count_of path d key >>= λ count. if nat_lt 0 (unwrap_or count 0) then unsupported path key else Ok tt
+elements_refused path d key = optional count_of path d key >>= λ count. if nat_lt 0 (unwrap_or count 0)
+    then unsupported path key else Ok tt
 
 -- a flag that is true at a key
 abbrev pub flag_refused : List ℕ → Data → List ℕ → Result (Unit {0}) TreeFault
-flag_refused path d key = optional flag_of path d key >>= λ flag. if unwrap_or flag false then unsupported path key else Ok tt
+flag_refused path d key = optional flag_of path d key >>= λ flag. if unwrap_or flag false
+    then unsupported path key else Ok tt

@@ -10,4 +10,5 @@ use Rattle.peg_json.specs.declared.read_fault.ReadFault.TheVariants.{DuplicateSi
 
 -- the check of their names
 abbrev pub sites_checked : List (List ℕ) → Result (Unit {0}) ReadFault
-sites_checked names = few Sites 64 (length names) >>= λ _. refused DuplicateSite (first_repeat bytes_eq [] names)
+sites_checked names = few Sites 64 (length names) >>= λ _. refused DuplicateSite
+    (first_repeat bytes_eq [] names)

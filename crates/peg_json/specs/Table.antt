@@ -58,7 +58,8 @@ is_kind kinds.Any d = true
 -- what is found for a row, or the row's fault
 abbrev pub row_found : List ℕ → Row → Option Data → Result (Option Data) TreeFault
 row_found path r None = if r.required then Err (faults.MissingKey (key_path path r.key)) else Ok None
-row_found path r (Some d) = if is_kind r.kind d then Ok (Some d) else Err (faults.WrongKind (key_path path r.key))
+row_found path r (Some d) = if is_kind r.kind d then Ok (Some d)
+    else Err (faults.WrongKind (key_path path r.key))
 
 -- an object's member of a row, or the row's fault
 abbrev pub row_member : List ℕ → Data → Row → Result (Option Data) TreeFault
@@ -66,7 +67,8 @@ row_member path d r = row_found path r (member_of d r.key)
 
 -- an object's member of each row, or the first fault from the top
 unfoldable pub members_of : List ℕ → Data → List Row → Result (List (Option Data)) TreeFault
-members_of path d rows = if is_some (find.as_object d) then each (row_member path d) rows else Err (faults.WrongKind path)
+members_of path d rows = if is_some (find.as_object d) then each (row_member path d) rows
+    else Err (faults.WrongKind path)
 
 -- an object's members of its rows' keys
 abbrev pub members_in : Data → List Row → List (Option Data)
@@ -97,7 +99,8 @@ may_have key kind = record { key = key; kind = kind; required = false }
 -- the paths of those among the keys that no row has
 abbrev pub unknown_paths : List ℕ → List Row → List (List ℕ) → List (List ℕ)
 unknown_paths path rows [] = []
-unknown_paths path rows (k ∷ ks) = if is_key rows k then unknown_paths path rows ks else key_path path k ∷ unknown_paths path rows ks
+unknown_paths path rows (k ∷ ks) = if is_key rows k then unknown_paths path rows ks
+    else key_path path k ∷ unknown_paths path rows ks
 
 -- those of the members, if there are members
 abbrev pub unknown_among : List ℕ → Option Members → List Row → List (List ℕ)

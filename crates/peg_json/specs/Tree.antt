@@ -47,7 +47,8 @@ each f (x ∷ xs) = do
   Ok (y ∷ ys)
 
 -- each element in turn, under its own path
-abbrev pub each_from : {E B : Type 0} → (List ℕ → Data → Result B E) → List ℕ → ℕ → List Data → Result (List B) E
+abbrev pub each_from : {E B : Type 0} → (List ℕ → Data → Result B E) → List ℕ → ℕ → List Data
+    → Result (List B) E
 each_from f path i [] = Ok []
 each_from f path i (d ∷ ds) = do
   y ← f (index_path path i) d
@@ -65,10 +66,12 @@ elements no_items = []
 elements (item d ds) = d ∷ elements ds
 
 -- the elements of a list that is there, read in turn
-abbrev pub list_among : {B : Type 0} → (List ℕ → Data → Result B TreeFault) → List ℕ → Option Items → Result (List B) TreeFault
+abbrev pub list_among : {B : Type 0} → (List ℕ → Data → Result B TreeFault) → List ℕ → Option Items
+    → Result (List B) TreeFault
 list_among f path None = Err (faults.WrongKind path)
 list_among f path (Some ds) = each_from f path 0 (elements ds)
 
 -- a list whose elements f reads
-abbrev pub list_in : {B : Type 0} → (List ℕ → Data → Result B TreeFault) → List ℕ → Data → Result (List B) TreeFault
+abbrev pub list_in : {B : Type 0} → (List ℕ → Data → Result B TreeFault) → List ℕ → Data
+    → Result (List B) TreeFault
 list_in f path d = list_among f path (find.as_array d)

@@ -9,13 +9,16 @@ use Rattle.peg_json.specs.declared.fault.TreeFault.{TreeFault}
 use Rattle.peg_json.specs.declared.fault.TreeFault.TheVariants as faults
 
 -- what f reads of a value that has to be there
-abbrev pub where_found : {B : Type 0} → TreeFault → (Data → Result B TreeFault) → Option Data → Result B TreeFault
+abbrev pub where_found : {B : Type 0} → TreeFault → (Data → Result B TreeFault) → Option Data
+    → Result B TreeFault
 where_found missing f None = Err missing
 where_found missing f (Some e) = f e
 
 -- what f reads at a key that has to be there
-abbrev pub required : {B : Type 0} → (List ℕ → Data → Result B TreeFault) → List ℕ → Data → List ℕ → Result B TreeFault
-required f path d key = where_found (faults.MissingKey (key_path path key)) (f (key_path path key)) (member_of d key)
+abbrev pub required : {B : Type 0} → (List ℕ → Data → Result B TreeFault) → List ℕ → Data → List ℕ
+    → Result B TreeFault
+required f path d key = where_found (faults.MissingKey (key_path path key)) (f (key_path path key))
+    (member_of d key)
 
 -- what f reads of a value that may be absent
 abbrev pub if_found : {B : Type 0} → (Data → Result B TreeFault) → Option Data → Result (Option B) TreeFault
@@ -23,7 +26,8 @@ if_found f None = Ok None
 if_found f (Some e) = f e >>= λ y. Ok (Some y)
 
 -- what f reads at a key that may be absent
-abbrev pub optional : {B : Type 0} → (List ℕ → Data → Result B TreeFault) → List ℕ → Data → List ℕ → Result (Option B) TreeFault
+abbrev pub optional : {B : Type 0} → (List ℕ → Data → Result B TreeFault) → List ℕ → Data → List ℕ
+    → Result (Option B) TreeFault
 optional f path d key = if_found (f (key_path path key)) (member_of d key)
 
 -- any text
@@ -48,7 +52,8 @@ number_within limit path n = if nat_lt limit n then Err (faults.OutOfRange path 
 
 -- a whole number from 0 to the limit; what is written as a float is none
 abbrev pub number_of : ℕ → List ℕ → Data → Result ℕ TreeFault
-number_of limit path d = some_or (faults.WrongKind path) (option_and_then find.as_u64 (find.as_number d)) >>= number_within limit path
+number_of limit path d = some_or (faults.WrongKind path)
+    (option_and_then find.as_u64 (find.as_number d)) >>= number_within limit path
 
 -- the decimal digits of a number, else the text
 abbrev pub digits_or_text : List ℕ → Option ℕ → Option (List ℕ) → Result (List ℕ) TreeFault

@@ -53,7 +53,8 @@ pub fn gather_list<T: Listed>(
     into: &mut Vec<Text>,
 ) -> Result<(), Memory>
     ensures { OnOk result
-        (into.new.items ≡ into.old.items ++ unknown_at (unknown_list T.unknown) path.now (tree_view value.now) key.now) }
+        (into.new.items ≡ into.old.items ++ unknown_at (unknown_list T.unknown) path.now
+        (tree_view value.now) key.now) }
 {
     match present(value, key) {
         Some(found) => {

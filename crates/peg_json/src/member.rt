@@ -106,7 +106,8 @@ pub fn members<'a, const N: usize>(
     ensures answer { Gives (λ v. map (option_map (λ x. tree_view x.now)) v.items) result
         (members_of path.now (tree_view value.now) (rows_of table.now.rows.now)) }
     ensures found { IfOk result
-        (λ v. map (option_map (λ x. tree_view x.now)) v.items ≡ members_in (tree_view value.now) (rows_of table.now.rows.now)) }
+        (λ v. map (option_map (λ x. tree_view x.now)) v.items
+        ≡ members_in (tree_view value.now) (rows_of table.now.rows.now)) }
     ensures len { IfOk result (λ v. length v.items ≡ N) }
 {
     if !value.is_object() {
@@ -150,7 +151,8 @@ fn gather_from(
     into: &mut Vec<Text>,
 ) -> Result<(), Memory>
     ensures { OnOk result
-        (into.new.items ≡ into.old.items ++ unknown_paths path.now (rows_of rows.now) (map string_bytes (keys members.now))) }
+        (into.new.items ≡ into.old.items ++ unknown_paths path.now (rows_of rows.now)
+        (map string_bytes (keys members.now))) }
 {
     for key in members.keys() {
         if !has_key(rows, key.as_str()) {
@@ -170,7 +172,8 @@ pub fn gather<const N: usize>(
     into: &mut Vec<Text>,
 ) -> Result<(), Memory>
     ensures { OnOk result
-        (into.new.items ≡ into.old.items ++ unknown_in path.now (tree_view value.now) (rows_of table.now.rows.now)) }
+        (into.new.items ≡ into.old.items ++ unknown_in path.now (tree_view value.now)
+        (rows_of table.now.rows.now)) }
 {
     match value.as_object() {
         Some(members) => gather_from(alloc, members, path, table.rows, into),
@@ -186,7 +189,8 @@ pub fn ignored<const N: usize>(
     table: &KeyTable<N>,
 ) -> Result<Vec<Text>, Memory>
     ensures exact { IfOk result
-        (λ v. IsPermutation (unknown_in path.now (tree_view value.now) (rows_of table.now.rows.now)) v.items) }
+        (λ v. IsPermutation (unknown_in path.now (tree_view value.now)
+        (rows_of table.now.rows.now)) v.items) }
     ensures order { IfOk result (λ v. IsSorted (slice_cmp nat_cmp) v.items) }
 {
     let mut paths = Vec::new(alloc);

@@ -38,7 +38,8 @@ pub record IsDoneBy (c : Call) (text : List ℕ) (answer : Outcome) : Type 0 whe
 -- What was written: the text; a prefix of it where the sink failed; nothing at want of memory.
 abbrev pub Ends : Output → List ℕ → Outcome → Outcome → Type 0
 Ends o text answer outcomes.Memory = Keeps o.before.written o.after.written
-Ends o text answer outcomes.SinkFailed = Rose o.before.faults o.after.faults × (answer ≡ outcomes.Memory → ⊥) × (n : ℕ) × Appends o.before.written o.after.written (take n text)
+Ends o text answer outcomes.SinkFailed = Rose o.before.faults o.after.faults × (answer ≡ outcomes.Memory → ⊥)
+    × (n : ℕ) × Appends o.before.written o.after.written (take n text)
 Ends o text answer outcome = (outcome ≡ answer) × Appends o.before.written o.after.written text
 
 -- no count of faults rose

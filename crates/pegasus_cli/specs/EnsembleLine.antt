@@ -15,7 +15,8 @@ abbrev pub ensemble_tree_line : TreeFault → List ℕ
 ensemble_tree_line trees.Syntax = codes "refused ensemble syntax\n"
 ensemble_tree_line (trees.MissingKey path) = one_name (codes "refused ensemble missing") path
 ensemble_tree_line (trees.WrongKind path) = one_name (codes "refused ensemble kind") path
-ensemble_tree_line (trees.OutOfRange path n) = codes "refused ensemble range" ++ and_name path ++ and_number n ++ codes "\n"
+ensemble_tree_line (trees.OutOfRange path n) =
+    codes "refused ensemble range" ++ and_name path ++ and_number n ++ codes "\n"
 ensemble_tree_line (trees.Unsupported path what) = two_names (codes "refused ensemble unsupported") path what
 ensemble_tree_line (trees.BadVersion text) = one_name (codes "refused ensemble version") text
 ensemble_tree_line trees.Memory = []

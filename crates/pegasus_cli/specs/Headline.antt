@@ -45,16 +45,21 @@ pub record Headline (w : Work) (workers : ℕ) (s : Surveyed) (text : List ℕ) 
   -- the host's operations are those that it names, and no others
   pub operations : ShownBy w (λ old new. new.trace ≡ old.trace ++ trace_of plan history)
   -- after every entry each place's reserved and stored bytes are within its bound
-  pub within : (k q : ℕ) → q < places plan → let held = (now plan (task_numbers order) (take k history)).held in stored_at plan held q + reserved_at plan held q ≤ place_bound plan q
+  pub within : (k q : ℕ) → q < places plan
+      → let held = (now plan (task_numbers order) (take k history)).held in
+      stored_at plan held q + reserved_at plan held q ≤ place_bound plan q
   -- so are the bytes delivered so far within the bound of the output, where it has one
   pub output : AreWithinOutput plan history
   -- so are the bytes that the operations so far leave at a site
-  pub left : (k q : ℕ) → let held = (now plan (task_numbers order) (take k history)).held in left_in plan (trace_of plan (take k history)) q ≤ stored_at plan held q + reserved_at plan held q
+  pub left : (k q : ℕ) → let held = (now plan (task_numbers order) (take k history)).held in
+      left_in plan (trace_of plan (take k history)) q ≤ stored_at plan held q + reserved_at plan held q
   -- and the kept order would finish all remaining tasks within every bound
   pub safe : (k : ℕ) → Safe plan (now plan (task_numbers order) (take k history))
   -- each requested file is delivered as its delivery carries it, and as its value where the replicas are honest; nothing else is
-  pub carried : ShownBy w (λ old new. AreSet s (IsDeliveryOf plan (carries w.apply plan old)) old.delivered new.delivered)
-  pub valued : ShownBy w (λ old new. AreHonestIn w s old → AreSet s (λ f content. content ≡ value_in w s old f) old.delivered new.delivered)
+  pub carried : ShownBy w (λ old new. AreSet s
+      (IsDeliveryOf plan (carries w.apply plan old)) old.delivered new.delivered)
+  pub valued : ShownBy w (λ old new. AreHonestIn w s old
+      → AreSet s (λ f content. content ≡ value_in w s old f) old.delivered new.delivered)
 
 -- The words are a run's by so many workers, and it ended Done: of the documents that were read, and of the text that was
 -- written before the line of the answer, all this holds.
@@ -66,4 +71,6 @@ pub record EndsSo (c : Call) (request : List ℕ) (workers : ℕ) : Type 0 where
   pub headline : Headline c.work workers surveyed text
 
 abbrev pub HoldsOf : Call → Outcome → Type 0
-HoldsOf c outcome = (workers : ℕ) (request : List ℕ) → command c.asked.words ≡ Some (InThreads (Run request workers)) → outcome ≡ Done None → ∥ EndsSo c request workers ∥₁
+HoldsOf c outcome = (workers : ℕ) (request : List ℕ)
+    → command c.asked.words ≡ Some (InThreads (Run request workers)) → outcome ≡ Done None
+    → ∥ EndsSo c request workers ∥₁

@@ -56,9 +56,12 @@ abbrev pub objects : {D K H T G : Type 0} → D → K → H → List (Crew T G) 
 objects docs sink host crew = record { docs = docs; sink = sink; host = host; crew = crew }
 
 -- A call by its words, and by what its objects show before and after it. Callers see a word and not its parts.
-unfoldable pub call_of : {D K H Reading Draft T G : Type 0} → docs.Ghosts D → sink.Ghosts K → host.Ghosts H Reading Draft → tool.Ghosts T → gate.Ghosts G → List (List ℕ) → Objects D K H T G → Objects D K H T G → Call
+unfoldable pub call_of : {D K H Reading Draft T G : Type 0} → docs.Ghosts D → sink.Ghosts K
+    → host.Ghosts H Reading Draft → tool.Ghosts T → gate.Ghosts G → List (List ℕ) → Objects D K H T G
+    → Objects D K H T G → Call
 call_of d k h t g words old new =
     call (asking words (docs_moment d old.docs) (docs_moment d new.docs))
-    (working t.apply t.known (work_moment h old.host (first_count (crew_moment t g old.crew))) (work_moment h new.host (first_count (crew_moment t g new.crew))))
+    (working t.apply t.known (work_moment h old.host (first_count (crew_moment t g old.crew)))
+    (work_moment h new.host (first_count (crew_moment t g new.crew))))
     (counting (crew_moment t g old.crew) (crew_moment t g new.crew))
     (writing (sink_moment k old.sink) (sink_moment k new.sink))

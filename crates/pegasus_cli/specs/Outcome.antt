@@ -11,7 +11,8 @@ use Rattle.pegasus_cli.specs.declared.outcome.Outcome.TheVariants.{Done, Memory,
 use Rattle.pegasus_cli.specs.EnsembleLine.{ensemble_line, member_line}
 
 abbrev pub exceeds_line : List ℕ → TaskId → ℕ → ℕ → List ℕ
-exceeds_line site task needed bound = codes "exceeds" ++ and_name site ++ and_number task.0 ++ and_number needed ++ and_number bound ++ codes "\n"
+exceeds_line site task needed bound = codes "exceeds" ++ and_name site ++ and_number task.0
+    ++ and_number needed ++ and_number bound ++ codes "\n"
 
 -- the line of an outcome; want of memory and a failing sink have none
 abbrev pub line_of : Outcome → List ℕ
@@ -19,7 +20,8 @@ line_of (Done given) = codes "done\n"
 line_of Memory = []
 line_of Usage = codes "usage: pegasus check|plan|eval|alone REQ, run REQ --workers N, audit|stat REQ RECORD, resume REQ RECORD, produce REQ, ensemble ENS [--workers N], schedule REQ, rehearse N [--workers N]\n"
 line_of (DocAbsent name) = codes "no document " ++ printed_name name ++ codes "\n"
-line_of (DocTooLong name limit) = codes "document too long " ++ printed_name name ++ and_number limit ++ codes "\n"
+line_of (DocTooLong name limit) = codes "document too long " ++ printed_name name ++ and_number limit
+    ++ codes "\n"
 line_of (DocFailed name) = codes "document failed " ++ printed_name name ++ codes "\n"
 line_of (Refused fault) = refused_line fault
 line_of (Exceeds site task needed bound) = exceeds_line site task needed bound

@@ -62,7 +62,8 @@ pub(crate) fn answer<K: Sink>(alloc: Global, out: &mut K, told: Told, lined: boo
 
 /// Writes that the words are no command.
 pub(crate) fn refuse_words<K: Sink>(alloc: Global, out: &mut K) -> Outcome
-    ensures { Ends (writing (sink_moment K.Sink out.old) (sink_moment K.Sink out.new)) (line_of IsNoCommand) IsNoCommand result }
+    ensures { Ends (writing (sink_moment K.Sink out.old) (sink_moment K.Sink out.new))
+        (line_of IsNoCommand) IsNoCommand result }
 {
     finish(alloc, out, Vec::new(alloc), true, Outcome::Usage)
 }
@@ -79,13 +80,15 @@ pub fn quick<D: Docs, K: Sink, H: Host, T: Tool, G: Gate>(
 ) -> (Outcome, H, Vec<Crew<T, G>>)
     requires crew { length crew.items ≡ 16 }
     requires words { is_threaded (list_map string_bytes words.now) ≡ false }
-    ensures answered { IsAnswered (call_of D.Docs K.Sink H.Host T.Tool G.Gate (list_map string_bytes words.now)
+    ensures answered { IsAnswered (call_of D.Docs K.Sink H.Host T.Tool G.Gate
+        (list_map string_bytes words.now)
         (objects docs.old out.old host crew.items)
         (objects docs.new out.new result.1 result.2.items)) result.0 }
     ensures crew { length result.2.items ≡ 16 }
     ensures others { let used = members_of (command (list_map string_bytes words.now)) in
         drop used result.2.items ≡ drop used crew.items }
-    ensures gates { list_map (λ (c : Crew T G). c.gate) result.2.items ≡ list_map (λ (c : Crew T G). c.gate) crew.items }
+    ensures gates { list_map (λ (c : Crew T G). c.gate) result.2.items
+        ≡ list_map (λ (c : Crew T G). c.gate) crew.items }
 {
     // Laws for the proof: they do nothing.
     runs_finish();

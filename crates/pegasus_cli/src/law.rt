@@ -46,7 +46,8 @@ pub fn usage_is_no_command()
 /// What a run that is done has printed, whatever follows it, is judged by the plan and the order of the run to be the
 /// record of the run, and complete.
 pub fn printed_runs_are_complete()
-    ensures { (w : Work) (t : Tools) (n : ℕ) (s : Surveyed) (text rest : List ℕ) (run : HasRunPlan w t n s text done) (i : Recorded)
+    ensures { (w : Work) (t : Tools) (n : ℕ) (s : Surveyed) (text rest : List ℕ)
+        (run : HasRunPlan w t n s text done) (i : Recorded)
         (r : List Event) (v : Verdict)
         → i.bytes ≡ text ++ rest
         → IsJudgment i run.plan (task_numbers run.order) r v → (r ≡ run.ran.r) × (v ≡ verdicts.Complete) }
@@ -58,6 +59,7 @@ pub fn printed_runs_are_complete()
 
 /// Where an ensemble is done by several workers, the headline holds of the joint of its members.
 pub fn joints_keep_the_headline()
-    ensures { (n : ℕ) (w : Work) (t : Tools) (j : Joined) (text : List ℕ) → RunsJoint (RunsMany n) w t j text done
+    ensures { (n : ℕ) (w : Work) (t : Tools) (j : Joined) (text : List ℕ)
+        → RunsJoint (RunsMany n) w t j text done
         → ∥ Headline w n j.surveyed text ∥₁ }
 {}

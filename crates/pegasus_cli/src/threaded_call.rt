@@ -43,7 +43,8 @@ where
     H::Draft: Send,
     requires crew { length crew.items ≡ 16 }
     requires words { is_threaded (list_map string_bytes words.now) ≡ true }
-    ensures answered { IsAnswered (call_of D.Docs K.Sink H.Host T.Tool G.Gate (list_map string_bytes words.now)
+    ensures answered { IsAnswered (call_of D.Docs K.Sink H.Host T.Tool G.Gate
+        (list_map string_bytes words.now)
         (objects docs.old out.old host crew.items)
         (objects docs.new out.new result.1 result.2.items)) result.0 }
     ensures crew { length result.2.items ≡ 16 }
@@ -90,7 +91,8 @@ where
     H::Reading: Send,
     H::Draft: Send,
     requires { length crew.items ≡ 16 }
-    ensures answered { IsAnswered (call_of D.Docs K.Sink H.Host T.Tool G.Gate (list_map string_bytes words.now)
+    ensures answered { IsAnswered (call_of D.Docs K.Sink H.Host T.Tool G.Gate
+        (list_map string_bytes words.now)
         (objects docs.old out.old host crew.items)
         (objects docs.new out.new result.1 result.2.items)) result.0 }
     ensures headline { HoldsOf (call_of D.Docs K.Sink H.Host T.Tool G.Gate (list_map string_bytes words.now)
@@ -100,7 +102,8 @@ where
     ensures others { let used = members_of (command (list_map string_bytes words.now)) in
         drop used result.2.items ≡ drop used crew.items }
     ensures gates { is_threaded (list_map string_bytes words.now) ≡ false
-        → list_map (λ (c : Crew T G). c.gate) result.2.items ≡ list_map (λ (c : Crew T G). c.gate) crew.items }
+        → list_map (λ (c : Crew T G). c.gate) result.2.items
+        ≡ list_map (λ (c : Crew T G). c.gate) crew.items }
 {
     if threaded(words) {
         in_threads(rt, alloc, words, docs, out, host, crew)

@@ -63,4 +63,5 @@ pub record NoneRoseIn (d : Doing) : Type 0 where
 
 -- what may finish does, where no count of faults rose, or memory runs out
 abbrev pub Finishes : CommandSpec → Type 0
-Finishes k = (d : Doing) (text : List ℕ) (answer : Answer) → Does k d text answer → k.CanFinish d.before.told d.work → NoneRoseIn d → IsDoneOrMemory answer
+Finishes k = (d : Doing) (text : List ℕ) (answer : Answer) → Does k d text answer
+    → k.CanFinish d.before.told d.work → NoneRoseIn d → IsDoneOrMemory answer

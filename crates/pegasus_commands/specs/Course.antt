@@ -55,13 +55,15 @@ doc_answer name (doc_faults.TooLong limit) = DocTooLong name limit
 doc_answer name doc_faults.Memory = Memory
 
 -- what a course gives for told documents
-abbrev pub goes_on : {A : Type 0} → Result (List ℕ) DocFault → List ℕ → (List ℕ → Result A CallFault) → Result A CallFault
+abbrev pub goes_on : {A : Type 0} → Result (List ℕ) DocFault → List ℕ → (List ℕ → Result A CallFault)
+    → Result A CallFault
 goes_on (Ok bytes) name next = next bytes
 goes_on (Err fault) name next = Err (doc_answer name fault)
 
 abbrev pub read_from : {A : Type 0} → Files → Course A → Result A CallFault
 read_from files (Ends r) = r
-read_from files (Asks name next) = goes_on (fetched files name document_limit) name (λ bytes. read_from files (next bytes))
+read_from files (Asks name next) = goes_on (fetched files name document_limit) name
+    (λ bytes. read_from files (next bytes))
 
 -- a document that came is within the limit, and the one of its name where documents are told
 pub record IsDocument (told : Option Files) (name bytes : List ℕ) : Type 0 where
@@ -73,11 +75,13 @@ abbrev pub Gives : {A : Type 0} → Option Files → Course A → Counts → Cou
 Gives told (Ends r) before after result = (after ≡ before) × (result ≡ r)
 Gives told (Asks name next) before after result =
     ((bytes : List ℕ) × IsDocument told name bytes × Gives told (next bytes) (one_done before) after result)
-    ⊎ ((fault : DocFault) × Fetched told name document_limit before after (Err fault) [] × (result ≡ Err (doc_answer name fault)))
+    ⊎ ((fault : DocFault) × Fetched told name document_limit before after (Err fault) []
+    × (result ≡ Err (doc_answer name fault)))
 
 -- a fetch failed, which was counted
 abbrev pub HasFailed : {A : Type 0} → Counts → Counts → Result A CallFault → Type 0
-HasFailed before after result = Rose before.faults after.faults × (name : List ℕ) × (result ≡ Err (DocFailed name))
+HasFailed before after result = Rose before.faults after.faults × (name : List ℕ)
+    × (result ≡ Err (DocFailed name))
 
 -- memory ran out, or this holds
 abbrev pub ButMemory : {A : Type 0} → Result A CallFault → Type 0 → Type 0
@@ -85,7 +89,8 @@ ButMemory (Err Memory) P = Unit {0}
 ButMemory _ P = P
 
 -- A step over documents: what came of a course between two moments.
-pub record IsStep {A : Type 0} (course : Course A) (before after : DocsMoment) (result : Result A CallFault) : Type 0 where
+pub record IsStep {A : Type 0} (course : Course A) (before after : DocsMoment)
+    (result : Result A CallFault) : Type 0 where
   pub told : after.told ≡ before.told
   pub later : IsLater before.counts after.counts
   pub gives : ButMemory result (Gives before.told course before.counts after.counts result)
@@ -104,7 +109,12 @@ all_documents request = do
   sites ← if_named request.sites
   replicas ← if_named request.replicas
   transformations ← if_named request.transformations
-  Ends (Ok (record { workflow = workflow; sites = sites; replicas = replicas; transformations = transformations }))
+  Ends (Ok (record {
+    workflow = workflow;
+    sites = sites;
+    replicas = replicas;
+    transformations = transformations;
+  }))
 
 -- the value of the whole: the request beside its documents
 abbrev pub with_request : PlanRequest → Documents → Course Requested
@@ -120,7 +130,8 @@ documents name = document name request_in_bytes >>= named_documents
 
 -- those, and then the document of a record
 abbrev pub with_record : List ℕ → Requested → Course WithRecord
-with_record history requested = document history (λ bytes. Ok (record { requested = requested; bytes = bytes }))
+with_record history requested = document history
+    (λ bytes. Ok (record { requested = requested; bytes = bytes }))
 
 abbrev pub documents_with : List ℕ → List ℕ → Course WithRecord
 documents_with name history = documents name >>= with_record history

@@ -57,7 +57,8 @@ pub record IsUnsurveyed (e : Ensemble) (name : List ℕ) (r : Requested) (answer
   pub refuses : Refuses (of_ensemble e r.request) r.documents fault
   pub answers : answer ≡ member_answer name (plan_answer fault)
 
-pub record IsRefused (e : Ensemble) (x : MemberEntry) (before after : DocsMoment) (answer : CallFault) : Type 0 where
+pub record IsRefused (e : Ensemble) (x : MemberEntry) (before after : DocsMoment)
+    (answer : CallFault) : Type 0 where
   pub requested : Requested
   pub came : IsStep (documents x.request) before after (Ok requested)
   pub unsurveyed : IsUnsurveyed e x.name requested answer
@@ -79,7 +80,8 @@ ReadsMember e x before after (Err answer) = StopsMember e x before after answer
 
 abbrev pub AreRead : Ensemble → List MemberEntry → DocsMoment → DocsMoment → List Member → Type 0
 AreRead e [] before after [] = after ≡ before
-AreRead e (x ∷ xs) before after (m ∷ ms) = (mid : DocsMoment) × IsRead e x before mid m × AreRead e xs mid after ms
+AreRead e (x ∷ xs) before after (m ∷ ms) = (mid : DocsMoment) × IsRead e x before mid m
+    × AreRead e xs mid after ms
 AreRead e xs before after ms = ⊥
 
 -- the first member that ends it, after those before it
@@ -100,7 +102,8 @@ abbrev pub joined : List Member → Surveyed → Joined
 joined ms s = record { members = ms; surveyed = s }
 
 -- An ensemble came, with its members.
-pub record HasMembers (name : List ℕ) (before after : DocsMoment) (e : Ensemble) (ms : List Member) : Type 0 where
+pub record HasMembers (name : List ℕ) (before after : DocsMoment) (e : Ensemble)
+    (ms : List Member) : Type 0 where
   pub mid : DocsMoment
   pub came : IsStep (ensemble_document name) before mid (Ok e)
   pub read : AreRead e e.members mid after ms
@@ -167,14 +170,16 @@ AreTold e files (x ∷ xs) (m ∷ ms) = IsTold e files x m × AreTold e files xs
 AreTold e files xs ms = ⊥
 
 -- Told documents go on with few enough jobs and files, and nothing in their joint keeps the command from Done.
-pub record MayJoin (name : List ℕ) (CanWork : Work → Surveyed → Type 0) (told : Option Files) (w : Work) : Type 0 where
+pub record MayJoin (name : List ℕ) (CanWork : Work → Surveyed → Type 0) (told : Option Files)
+    (w : Work) : Type 0 where
   pub files : Files
   pub told_is : told ≡ Some files
   pub ensemble : Ensemble
   pub reads : read_from files (ensemble_document name) ≡ Ok ensemble
   pub each : AllByRecursion (MayRead ensemble files) ensemble.members
   pub few : (ms : List Member) → AreTold ensemble files ensemble.members ms → are_few ms ≡ Ok tt
-  pub can_work : (j : Joined) → AreTold ensemble files ensemble.members j.members → IsJoint j.members (own_request ensemble) j.surveyed → CanWork w j.surveyed
+  pub can_work : (j : Joined) → AreTold ensemble files ensemble.members j.members
+      → IsJoint j.members (own_request ensemble) j.surveyed → CanWork w j.surveyed
 
 -- ---- parts of a body
 

@@ -45,16 +45,23 @@ ShownBy w Holds = IfSome w.before.told (λ old. MatchOption w.after.told ⊥ (λ
 
 -- Each requested file stands at its name with content of which this holds, and every other name is as it was.
 pub record AreSet (s : Surveyed) (Holds : ℕ → Option (List ℕ) → Type 0) (old new : Files) : Type 0 where
-  pub each : (f : ℕ) → IsRequested s.survey f → is_some (files.get new (lfn s.survey f)) ≡ true × Holds f (files.get new (lfn s.survey f))
-  pub others : (name : List ℕ) → ((f : ℕ) → IsRequested s.survey f → lfn s.survey f ≡ name → ⊥) → files.get new name ≡ files.get old name
+  pub each : (f : ℕ) → IsRequested s.survey f
+      → is_some (files.get new (lfn s.survey f)) ≡ true × Holds f (files.get new (lfn s.survey f))
+  pub others : (name : List ℕ) → ((f : ℕ) → IsRequested s.survey f → lfn s.survey f ≡ name → ⊥)
+      → files.get new name ≡ files.get old name
 
 -- Whatever the answer, each newly delivered file is a requested one under its name, and holds what its delivery carries,
 -- so its value where the replicas are honest; every other name is as it was.
-pub record DeliversRequested (w : Work) (s : Surveyed) (p : Plan) (r : List Event) (m new : Store) : Type 0 where
-  pub requested : (f : ℕ) → is_delivered p r f ≡ true → IsRequested s.survey f × (file_name p f ≡ lfn s.survey f)
-  pub carried : (f : ℕ) → is_delivered p r f ≡ true → IsDeliveryOf p (carries w.apply p m) f (files.get new.delivered (lfn s.survey f))
-  pub valued : AreHonestIn w s m → (f : ℕ) → is_delivered p r f ≡ true → files.get new.delivered (lfn s.survey f) ≡ value_in w s m f
-  pub others : (name : List ℕ) → ((f : ℕ) → is_delivered p r f ≡ true → lfn s.survey f ≡ name → ⊥) → files.get new.delivered name ≡ files.get m.delivered name
+pub record DeliversRequested (w : Work) (s : Surveyed) (p : Plan) (r : List Event)
+    (m new : Store) : Type 0 where
+  pub requested : (f : ℕ) → is_delivered p r f ≡ true
+      → IsRequested s.survey f × (file_name p f ≡ lfn s.survey f)
+  pub carried : (f : ℕ) → is_delivered p r f ≡ true
+      → IsDeliveryOf p (carries w.apply p m) f (files.get new.delivered (lfn s.survey f))
+  pub valued : AreHonestIn w s m → (f : ℕ) → is_delivered p r f ≡ true
+      → files.get new.delivered (lfn s.survey f) ≡ value_in w s m f
+  pub others : (name : List ℕ) → ((f : ℕ) → is_delivered p r f ≡ true → lfn s.survey f ≡ name → ⊥)
+      → files.get new.delivered name ≡ files.get m.delivered name
 
 -- Each requested file is delivered.
 abbrev pub AllDelivered : Surveyed → Plan → List Event → Answer → Type 0
@@ -70,7 +77,8 @@ pub record IsReady (known : List ℕ → Bool) (s : Surveyed) (p : Plan) (order 
   pub tools : unknown_tool known p.jobs ≡ None
 
 -- It was run by n workers, and this is the record that it hands out.
-pub record HasRunPlan (w : Work) (t : Tools) (n : ℕ) (s : Surveyed) (text : List ℕ) (answer : Answer) : Type 0 where
+pub record HasRunPlan (w : Work) (t : Tools) (n : ℕ) (s : Surveyed) (text : List ℕ)
+    (answer : Answer) : Type 0 where
   pub plan : Plan
   pub order : List TaskId
   pub ready : IsReady w.known s plan order
@@ -79,7 +87,8 @@ pub record HasRunPlan (w : Work) (t : Tools) (n : ℕ) (s : Surveyed) (text : Li
   pub ran : HasRun w t n plan (task_numbers order) report end
   pub text_is : text ≡ report.text
   pub answers : answer ≡ end_answer end
-  pub delivers : IfSome w.before.told (λ m. IfSome w.after.told (λ new. DeliversRequested w s plan ran.r m new))
+  pub delivers : IfSome w.before.told (λ m. IfSome w.after.told
+      (λ new. DeliversRequested w s plan ran.r m new))
   pub complete : AllDelivered s plan ran.r answer
 
 -- This is the answer for the first kept job whose tool isn't known.
@@ -103,7 +112,8 @@ Readies known s (Ok o) = IsReady known s o.plan o.tasks.items
 Readies known s (Err answer) = RefusedAs known s answer
 
 -- Nothing was done, for this reason.
-pub record IsUndone (Refuses : CallFault → Type 0) (w : Work) (t : Tools) (text : List ℕ) (answer : Answer) : Type 0 where
+pub record IsUndone (Refuses : CallFault → Type 0) (w : Work) (t : Tools) (text : List ℕ)
+    (answer : Answer) : Type 0 where
   pub fault : CallFault
   pub refused : Refuses fault
   pub answers : answer ≡ not_for fault

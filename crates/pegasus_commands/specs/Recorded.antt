@@ -36,10 +36,12 @@ pub record GoesOn (name history : List ℕ) (before after : DocsMoment) (i : Rec
 
 abbrev pub Surveys : List ℕ → List ℕ → DocsMoment → DocsMoment → Result Recorded CallFault → Type 0
 Surveys name history before after (Ok i) = GoesOn name history before after i
-Surveys name history before after (Err e) = IsStep (documents_with name history) before after (Err e) ⊎ IsUnsurveyed name history before after e
+Surveys name history before after (Err e) = IsStep (documents_with name history) before after (Err e)
+    ⊎ IsUnsurveyed name history before after e
 
 -- Told documents go on with a sound workflow, and nothing in it or in the record keeps the command from Done.
-pub record MayGoOn (name history : List ℕ) (CanWork : Work → Recorded → Type 0) (told : Option Files) (w : Work) : Type 0 where
+pub record MayGoOn (name history : List ℕ) (CanWork : Work → Recorded → Type 0) (told : Option Files)
+    (w : Work) : Type 0 where
   pub files : Files
   pub told_is : told ≡ Some files
   pub given : WithRecord
@@ -50,5 +52,11 @@ pub record MayGoOn (name history : List ℕ) (CanWork : Work → Recorded → Ty
   pub can_work : (i : Recorded) → IsRecorded given i → CanWork w i
 
 -- a command over the documents of one request and a record
-abbrev pub over_record : List ℕ → List ℕ → (Work → Tools → Recorded → List ℕ → Answer → Type 0) → (Work → Recorded → Type 0) → CommandSpec
-over_record name history Works CanWork = record { Inputs = Recorded; Comes = Surveys name history; Works = Works; CanFinish = MayGoOn name history CanWork }
+abbrev pub over_record : List ℕ → List ℕ → (Work → Tools → Recorded → List ℕ → Answer → Type 0)
+    → (Work → Recorded → Type 0) → CommandSpec
+over_record name history Works CanWork = record {
+  Inputs = Recorded;
+  Comes = Surveys name history;
+  Works = Works;
+  CanFinish = MayGoOn name history CanWork;
+}

@@ -43,7 +43,8 @@ Surveys name before after (Ok s) = GoesOn name before after s
 Surveys name before after (Err e) = Stops name before after e
 
 -- Told documents go on with a sound workflow, and nothing in it keeps the command from Done.
-pub record MaySurvey (name : List ℕ) (CanWork : Work → Surveyed → Type 0) (told : Option Files) (w : Work) : Type 0 where
+pub record MaySurvey (name : List ℕ) (CanWork : Work → Surveyed → Type 0) (told : Option Files)
+    (w : Work) : Type 0 where
   pub files : Files
   pub told_is : told ≡ Some files
   pub requested : Requested
@@ -54,5 +55,11 @@ pub record MaySurvey (name : List ℕ) (CanWork : Work → Surveyed → Type 0) 
   pub can_work : (s : Surveyed) → IsSurveyed requested s → CanWork w s
 
 -- a command over the documents of one request
-abbrev pub over_survey : List ℕ → (Work → Tools → Surveyed → List ℕ → Answer → Type 0) → (Work → Surveyed → Type 0) → CommandSpec
-over_survey name Works CanWork = record { Inputs = Surveyed; Comes = Surveys name; Works = Works; CanFinish = MaySurvey name CanWork }
+abbrev pub over_survey : List ℕ → (Work → Tools → Surveyed → List ℕ → Answer → Type 0)
+    → (Work → Surveyed → Type 0) → CommandSpec
+over_survey name Works CanWork = record {
+  Inputs = Surveyed;
+  Comes = Surveys name;
+  Works = Works;
+  CanFinish = MaySurvey name CanWork;
+}

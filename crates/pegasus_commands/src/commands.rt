@@ -82,7 +82,8 @@ fn work_by_first<D: Docs, H: Host, T: Tool, G: Gate>(
     ensures does { let w = working T.apply T.known (work_moment H.Host host (T.faults crew.old.tool))
         (work_moment H.Host result.host (T.faults crew.new.tool)) in
         (t : Tools) → OfFirst w t
-        → Does (quick_spec (quick_of command.entry)) (doing (docs_moment D.Docs docs.old) (docs_moment D.Docs docs.new) w t)
+        → Does (quick_spec (quick_of command.entry))
+        (doing (docs_moment D.Docs docs.old) (docs_moment D.Docs docs.new) w t)
         result.told.text.items result.told.answer }
     ensures gate { crew.new.gate ≡ crew.old.gate }
 {
@@ -135,14 +136,16 @@ pub fn work<D: Docs, H: Host, T: Tool, G: Gate>(
     requires crew { length crew.old.items ≡ 16 }
     ensures does { let before = crew_moment T.Tool G.Gate crew.old.items in
         let after = crew_moment T.Tool G.Gate crew.new.items in
-        Does (quick_spec (quick_of command.entry)) (doing (docs_moment D.Docs docs.old) (docs_moment D.Docs docs.new)
+        Does (quick_spec (quick_of command.entry))
+        (doing (docs_moment D.Docs docs.old) (docs_moment D.Docs docs.new)
         (working T.apply T.known (work_moment H.Host host (first_count before))
         (work_moment H.Host result.host (first_count after)))
         (counting before after)) result.told.text.items result.told.answer }
     ensures crew { length crew.new.items ≡ 16 }
     ensures others { let used = quick_members (quick_of command.entry) in
         drop used crew.new.items ≡ drop used crew.old.items }
-    ensures gates { map (λ (c : Crew T G). c.gate) crew.new.items ≡ map (λ (c : Crew T G). c.gate) crew.old.items }
+    ensures gates { map (λ (c : Crew T G). c.gate) crew.new.items
+        ≡ map (λ (c : Crew T G). c.gate) crew.old.items }
 {
     match command {
         Quick::Resume(name, history) => resume::work(alloc, name, history, docs, host, crew),
@@ -173,7 +176,8 @@ where
     requires crew { length crew.old.items ≡ 16 }
     ensures does { let before = crew_moment T.Tool G.Gate crew.old.items in
         let after = crew_moment T.Tool G.Gate crew.new.items in
-        Does (threaded_spec (threaded_of command.entry)) (doing (docs_moment D.Docs docs.old) (docs_moment D.Docs docs.new)
+        Does (threaded_spec (threaded_of command.entry))
+        (doing (docs_moment D.Docs docs.old) (docs_moment D.Docs docs.new)
         (working T.apply T.known (work_moment H.Host host (first_count before))
         (work_moment H.Host result.host (first_count after)))
         (counting before after)) result.told.text.items result.told.answer }

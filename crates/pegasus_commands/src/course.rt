@@ -45,7 +45,8 @@ fn of_doc_fault(alloc: Global, name: &str, fault: DocFault) -> CallFault
 
 /// Fetches the document of a name.
 pub(crate) fn fetch<D: Docs>(alloc: Global, docs: &mut D, name: &str) -> Result<Blob, CallFault>
-    ensures { IsStep (document name.now Ok) (docs_moment D.Docs docs.old) (docs_moment D.Docs docs.new) result }
+    ensures { IsStep (document name.now Ok) (docs_moment D.Docs docs.old)
+        (docs_moment D.Docs docs.new) result }
 {
     let mut bytes = Vec::new(alloc);
     match docs.fetch(alloc, name, DOCUMENT_LIMIT, &mut bytes) {
@@ -83,7 +84,8 @@ fn request_in(alloc: Global, bytes: &Blob) -> Result<PlanRequest, CallFault>
 }
 
 fn fetch_request<D: Docs>(alloc: Global, docs: &mut D, name: &str) -> Result<PlanRequest, CallFault>
-    ensures answer { IsStep (document name.now request_in_bytes) (docs_moment D.Docs docs.old) (docs_moment D.Docs docs.new) result }
+    ensures answer { IsStep (document name.now request_in_bytes) (docs_moment D.Docs docs.old)
+        (docs_moment D.Docs docs.new) result }
     ensures sites { IfOk result (λ r. execute_checked r.execute ≡ Ok tt) }
     ensures limits { IfOk result (λ r. IsWithinLimits r) }
 {
@@ -99,7 +101,8 @@ fn fetch_all<D: Docs>(
     docs: &mut D,
     request: &PlanRequest,
 ) -> Result<Documents, CallFault>
-    ensures { IsStep (all_documents request.now) (docs_moment D.Docs docs.old) (docs_moment D.Docs docs.new) result }
+    ensures { IsStep (all_documents request.now) (docs_moment D.Docs docs.old)
+        (docs_moment D.Docs docs.new) result }
 {
     let workflow = match fetch(alloc, docs, request.workflow.as_str()) {
         Ok(workflow) => workflow,
@@ -130,7 +133,8 @@ fn fetch_named<D: Docs>(
     docs: &mut D,
     request: PlanRequest,
 ) -> Result<Requested, CallFault>
-    ensures answer { IsStep (named_documents request) (docs_moment D.Docs docs.old) (docs_moment D.Docs docs.new) result }
+    ensures answer { IsStep (named_documents request) (docs_moment D.Docs docs.old)
+        (docs_moment D.Docs docs.new) result }
     ensures request { IfOk result (λ r. r.request ≡ request) }
 {
     match fetch_all(alloc, docs, &request) {
@@ -148,7 +152,8 @@ pub(crate) fn fetch_documents<D: Docs>(
     docs: &mut D,
     name: &str,
 ) -> Result<Requested, CallFault>
-    ensures answer { IsStep (documents name.now) (docs_moment D.Docs docs.old) (docs_moment D.Docs docs.new) result }
+    ensures answer { IsStep (documents name.now) (docs_moment D.Docs docs.old)
+        (docs_moment D.Docs docs.new) result }
     ensures sites { IfOk result (λ r. execute_checked r.request.execute ≡ Ok tt) }
     ensures limits { IfOk result (λ r. IsWithinLimits r.request) }
 {
@@ -165,7 +170,8 @@ fn fetch_record<D: Docs>(
     name: &str,
     requested: Requested,
 ) -> Result<WithRecord, CallFault>
-    ensures answer { IsStep (with_record name.now requested) (docs_moment D.Docs docs.old) (docs_moment D.Docs docs.new) result }
+    ensures answer { IsStep (with_record name.now requested) (docs_moment D.Docs docs.old)
+        (docs_moment D.Docs docs.new) result }
     ensures requested { IfOk result (λ r. r.requested ≡ requested) }
 {
     match fetch(alloc, docs, name) {
@@ -184,7 +190,8 @@ pub(crate) fn fetch_with_record<D: Docs>(
     name: &str,
     history: &str,
 ) -> Result<WithRecord, CallFault>
-    ensures answer { IsStep (documents_with name.now history.now) (docs_moment D.Docs docs.old) (docs_moment D.Docs docs.new) result }
+    ensures answer { IsStep (documents_with name.now history.now) (docs_moment D.Docs docs.old)
+        (docs_moment D.Docs docs.new) result }
     ensures sites { IfOk result (λ r. execute_checked r.requested.request.execute ≡ Ok tt) }
     ensures limits { IfOk result (λ r. IsWithinLimits r.requested.request) }
 {

@@ -34,7 +34,8 @@ fn ensemble_in(alloc: Global, bytes: &Blob) -> Result<Ensemble, CallFault>
 }
 
 fn fetch_ensemble<D: Docs>(alloc: Global, docs: &mut D, name: &str) -> Result<Ensemble, CallFault>
-    ensures answer { IsStep (ensemble_document name.now) (docs_moment D.Docs docs.old) (docs_moment D.Docs docs.new) result }
+    ensures answer { IsStep (ensemble_document name.now) (docs_moment D.Docs docs.old)
+        (docs_moment D.Docs docs.new) result }
     ensures fit { IfOk result (λ e. IsFit e) }
 {
     match fetch(alloc, docs, name) {
@@ -83,7 +84,8 @@ fn read_member<D: Docs>(
     entry: &MemberEntry,
 ) -> Result<Member, CallFault>
     requires { IsFit ensemble.now }
-    ensures reads { ReadsMember ensemble.now entry.now (docs_moment D.Docs docs.old) (docs_moment D.Docs docs.new) result }
+    ensures reads { ReadsMember ensemble.now entry.now (docs_moment D.Docs docs.old)
+        (docs_moment D.Docs docs.new) result }
     ensures member { IfOk result (λ m. has_slash m.name ≡ false → IsMember m) }
 {
     let name = entry.name.copied(alloc)?;
@@ -166,8 +168,10 @@ pub(crate) fn read_joint<D: Docs>(
     docs: &mut D,
     name: &str,
 ) -> Result<Surveyed, CallFault>
-    ensures joined { IfOk result (IsJoinedOf name.now (docs_moment D.Docs docs.old) (docs_moment D.Docs docs.new)) }
-    ensures stops { IfErr result (Stops name.now (docs_moment D.Docs docs.old) (docs_moment D.Docs docs.new)) }
+    ensures joined { IfOk result (IsJoinedOf name.now (docs_moment D.Docs docs.old)
+        (docs_moment D.Docs docs.new)) }
+    ensures stops { IfErr result (Stops name.now (docs_moment D.Docs docs.old)
+        (docs_moment D.Docs docs.new)) }
 {
     let ensemble = match fetch_ensemble(alloc, docs, name) {
         Ok(ensemble) => ensemble,

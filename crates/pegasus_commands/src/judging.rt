@@ -36,7 +36,8 @@ pub(crate) fn record_in(alloc: Global, bytes: &Blob) -> Result<Record, CallFault
 
 /// Plans, reads the record and judges it, or tells why not.
 pub(crate) fn judge(alloc: Global, recorded: &Recorded) -> Result<Judged, CallFault>
-    ensures judgment { IfOk result (λ j. IsJudgment recorded.now j.ordered.plan (task_numbers j.ordered.tasks.items)
+    ensures judgment { IfOk result (λ j. IsJudgment recorded.now j.ordered.plan
+        (task_numbers j.ordered.tasks.items)
         j.history.events j.verdict) }
     ensures retries { IfOk result (λ j. retries j.ordered.plan ≤ 10) }
     ensures fault { IfErr result (IsUnjudged recorded.now) }

@@ -23,7 +23,8 @@ pub(crate) fn read_recorded<D: Docs>(
     name: &str,
     history: &str,
 ) -> Result<Recorded, CallFault>
-    ensures { Surveys name.now history.now (docs_moment D.Docs docs.old) (docs_moment D.Docs docs.new) result }
+    ensures { Surveys name.now history.now (docs_moment D.Docs docs.old)
+        (docs_moment D.Docs docs.new) result }
 {
     let given = match fetch_with_record(alloc, docs, name, history) {
         Ok(given) => given,

@@ -18,13 +18,19 @@ pub record IsSwept (p : Plan) (old new : Peaks) (t frees : ℕ) : Type 0 where
   pub needs : new.needs.items ≡ old.needs.items
   pub again : new.again ≡ old.again
   pub missing_long : length new.missing.items ≡ length old.missing.items
-  pub missing : (u : ℕ) → u < count_tasks p → get_or new.missing.items u 1 + cond (has (parents p u) t) 1 0 ≡ get_or old.missing.items u 1
+  pub missing : (u : ℕ) → u < count_tasks p
+      → get_or new.missing.items u 1 + cond (has (parents p u) t) 1 0 ≡ get_or old.missing.items u 1
   pub marks_long : length new.left.items ≡ length old.left.items
   pub bases_long : length new.base.items ≡ length old.base.items
   pub trees_long : length new.trees.items ≡ length old.trees.items
   pub left : (u : ℕ) → left_of new u ≡ (left_of old u && not (t == u))
-  pub base : (q : ℕ) → get_or new.base.items q 0 ≡ cond (is_place q (get_or old.homes.items t None)) (get_or old.base.items q 0 - frees) (get_or old.base.items q 0)
-  pub trees : (q : ℕ) → get_or new.trees.items q [] ≡ cond (is_place q (get_or old.homes.items t None)) (set (front_changed (get_or old.seats.items t 0) (λ n. n - frees) (get_or old.trees.items q [])) (get_or old.seats.items t 0) None) (get_or old.trees.items q [])
+  pub base : (q : ℕ) → get_or new.base.items q 0
+      ≡ cond (is_place q (get_or old.homes.items t None)) (get_or old.base.items q 0 - frees)
+      (get_or old.base.items q 0)
+  pub trees : (q : ℕ) → get_or new.trees.items q []
+      ≡ cond (is_place q (get_or old.homes.items t None))
+      (set (front_changed (get_or old.seats.items t 0) (λ n. n - frees) (get_or old.trees.items q []))
+      (get_or old.seats.items t 0) None) (get_or old.trees.items q [])
   pub ready : new.ready ≡ old.ready
   pub passed : HasPassed old → HasPassed new
 
@@ -39,9 +45,12 @@ pub record IsSweptAgain (p : Plan) (old new : Peaks) (t frees : ℕ) : Type 0 wh
   pub needs : new.needs.items ≡ old.needs.items
   pub trees : new.trees.items ≡ old.trees.items
   pub missing_long : length new.missing.items ≡ length old.missing.items
-  pub missing : (u : ℕ) → u < count_tasks p → get_or new.missing.items u 1 + cond (has (parents p u) t) 1 0 ≡ get_or old.missing.items u 1
+  pub missing : (u : ℕ) → u < count_tasks p
+      → get_or new.missing.items u 1 + cond (has (parents p u) t) 1 0 ≡ get_or old.missing.items u 1
   pub bases_long : length new.base.items ≡ length old.base.items
-  pub base : (q : ℕ) → get_or new.base.items q 0 ≡ cond (is_place q (get_or old.homes.items t None)) (get_or old.base.items q 0 - frees) (get_or old.base.items q 0)
+  pub base : (q : ℕ) → get_or new.base.items q 0
+      ≡ cond (is_place q (get_or old.homes.items t None)) (get_or old.base.items q 0 - frees)
+      (get_or old.base.items q 0)
   pub ready : new.ready ≡ old.ready
   pub passed : HasPassed old → HasPassed new
 

@@ -18,8 +18,13 @@ pub record IsGranted (old new : Peaks) (t : ℕ) : Type 0 where
   pub bases_long : length new.base.items ≡ length old.base.items
   pub trees_long : length new.trees.items ≡ length old.trees.items
   pub left : (u : ℕ) → left_of new u ≡ (left_of old u && not (t == u))
-  pub base : (q : ℕ) → get_or new.base.items q 0 ≡ cond (is_place q (get_or old.homes.items t None)) (get_or old.base.items q 0 + get_or old.needs.items t 0) (get_or old.base.items q 0)
-  pub trees : (q : ℕ) → get_or new.trees.items q [] ≡ cond (is_place q (get_or old.homes.items t None)) (set (front_changed (get_or old.seats.items t 0) (λ n. n + get_or old.needs.items t 0) (get_or old.trees.items q [])) (get_or old.seats.items t 0) None) (get_or old.trees.items q [])
+  pub base : (q : ℕ) → get_or new.base.items q 0
+      ≡ cond (is_place q (get_or old.homes.items t None))
+      (get_or old.base.items q 0 + get_or old.needs.items t 0) (get_or old.base.items q 0)
+  pub trees : (q : ℕ) → get_or new.trees.items q []
+      ≡ cond (is_place q (get_or old.homes.items t None))
+      (set (front_changed (get_or old.seats.items t 0) (λ n. n + get_or old.needs.items t 0)
+      (get_or old.trees.items q [])) (get_or old.seats.items t 0) None) (get_or old.trees.items q [])
   pub ready : new.ready ≡ old.ready
   pub passed : HasPassed old → HasPassed new
 
@@ -30,7 +35,8 @@ pub record CanGrant (b : Peaks) (t q : ℕ) : Type 0 where
   pub seat_in : get_or b.seats.items t 0 < length (get_or b.trees.items q [])
   pub need_small : get_or b.needs.items t 0 ≤ 2 ^ 62
   pub base_small : get_or b.base.items q 0 + get_or b.needs.items t 0 ≤ 2 ^ 62
-  pub can_rise : AllFirst (get_or b.seats.items t 0) (CanRise (get_or b.needs.items t 0)) (get_or b.trees.items q [])
+  pub can_rise : AllFirst (get_or b.seats.items t 0) (CanRise (get_or b.needs.items t 0))
+      (get_or b.trees.items q [])
 
 -- The first task of the stack has started: it stands there no more, and its place holds so much more.
 pub record IsGrantedAgain (old new : Peaks) (t : ℕ) : Type 0 where
@@ -43,7 +49,9 @@ pub record IsGrantedAgain (old new : Peaks) (t : ℕ) : Type 0 where
   pub missing : new.missing.items ≡ old.missing.items
   pub trees : new.trees.items ≡ old.trees.items
   pub bases_long : length new.base.items ≡ length old.base.items
-  pub base : (q : ℕ) → get_or new.base.items q 0 ≡ cond (is_place q (get_or old.homes.items t None)) (get_or old.base.items q 0 + get_or old.needs.items t 0) (get_or old.base.items q 0)
+  pub base : (q : ℕ) → get_or new.base.items q 0
+      ≡ cond (is_place q (get_or old.homes.items t None))
+      (get_or old.base.items q 0 + get_or old.needs.items t 0) (get_or old.base.items q 0)
   pub ready : new.ready ≡ old.ready
   pub passed : HasPassed old → HasPassed new
 

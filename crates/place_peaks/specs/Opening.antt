@@ -19,11 +19,13 @@ pub record AreSeats (p : Plan) (line seats widths : List ℕ) (k : ℕ) : Type 0
   pub seats_long : length seats ≡ count_tasks p
   pub widths_long : length widths ≡ places p
   pub width : (q : ℕ) → q < places p → get_or widths q 0 ≡ length (filter (there p q) (take k line))
-  pub seat : (j q : ℕ) → j < k → place p (get_or line j 0) ≡ Some q → get_or seats (get_or line j 0) 0 ≡ length (filter (there p q) (take j line))
+  pub seat : (j q : ℕ) → j < k → place p (get_or line j 0) ≡ Some q
+      → get_or seats (get_or line j 0) 0 ≡ length (filter (there p q) (take j line))
 
 -- what each place holds after the first k tasks, and its values up to there
 pub record AreLevels (p : Plan) (line used : List ℕ) (lists : List (List ℕ)) (k : ℕ) : Type 0 where
   pub used_long : length used ≡ places p
   pub lists_long : length lists ≡ places p
   pub level : (q : ℕ) → q < places p → get_or used q 0 ≡ usage p nothing (take k line) q
-  pub list : (q : ℕ) → q < places p → map Some (get_or lists q []) ≡ values (there p q) all_left (held_by p nothing q) [] (take k line)
+  pub list : (q : ℕ) → q < places p
+      → map Some (get_or lists q []) ≡ values (there p q) all_left (held_by p nothing q) [] (take k line)

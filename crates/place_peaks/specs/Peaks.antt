@@ -32,7 +32,9 @@ stack_of b = stacked (task_numbers b.again.items) []
 
 -- each seat of a task of the line is in its tree
 abbrev pub AreSeated : Peaks → Type 0
-AreSeated b = (k q : ℕ) → k < length (line_of b) → get_or b.homes.items (get_or (line_of b) k 0) None ≡ Some q → get_or b.seats.items (get_or (line_of b) k 0) 0 < length (get_or b.trees.items q [])
+AreSeated b = (k q : ℕ) → k < length (line_of b)
+    → get_or b.homes.items (get_or (line_of b) k 0) None ≡ Some q
+    → get_or b.seats.items (get_or (line_of b) k 0) 0 < length (get_or b.trees.items q [])
 
 -- no task of the line before the front is left
 abbrev pub HasPassed : Peaks → Type 0
@@ -59,13 +61,17 @@ pub record AreBehind (p : Plan) (s : State) (b : Peaks) (front : List ℕ) : Typ
   pub rest : s.rest ≡ front ++ filter (left_of b) (line_of b)
   pub waiting : (t : ℕ) → has front t ≡ true → HaveParentsEnded p s t
   pub homes : (t : ℕ) → t < count_tasks p → get_or b.homes.items t None ≡ place p t
-  pub needs : (t q : ℕ) → has s.rest t ≡ true → is_clean p t ≡ false → place p t ≡ Some q → get_or b.needs.items t 0 ≡ brings p (sizes s.held) q t
+  pub needs : (t q : ℕ) → has s.rest t ≡ true → is_clean p t ≡ false → place p t ≡ Some q
+      → get_or b.needs.items t 0 ≡ brings p (sizes s.held) q t
   pub missing_long : length b.missing.items ≡ count_tasks p
   pub counts : (t : ℕ) → t < count_tasks p → get_or b.missing.items t 1 ≡ open_parents p s.phase t
   pub bases : (q : ℕ) → q < places p → get_or b.base.items q 0 ≡ usage p (sizes s.held) [] q
-  pub trees : (q : ℕ) → q < places p → get_or b.trees.items q [] ≡ values (there p q) (left_of b) (held_by p (sizes s.held) q) front (line_of b)
+  pub trees : (q : ℕ) → q < places p
+      → get_or b.trees.items q [] ≡ values (there p q) (left_of b) (held_by p (sizes s.held) q) front
+      (line_of b)
   pub widths : (q : ℕ) → q < places p → get_or b.widths.items q 0 ≡ length (filter (there p q) (line_of b))
-  pub seats : (k q : ℕ) → k < length (line_of b) → place p (get_or (line_of b) k 0) ≡ Some q → get_or b.seats.items (get_or (line_of b) k 0) 0 ≡ length (filter (there p q) (take k (line_of b)))
+  pub seats : (k q : ℕ) → k < length (line_of b) → place p (get_or (line_of b) k 0) ≡ Some q
+      → get_or b.seats.items (get_or (line_of b) k 0) 0 ≡ length (filter (there p q) (take k (line_of b)))
 
 -- the same where no task waits again
 abbrev pub ArePeaks : Plan → State → Peaks → Type 0

@@ -55,11 +55,14 @@ AreSmall b = (t : ℕ) → get_or b.needs.items t 0 ≤ 2 ^ 62
 
 -- The scores of all tasks of the line are right, but for some.
 abbrev pub IsIndexedBut : Plan → Peaks → (ℕ → Bool) → Type 0
-IsIndexedBut p b off = (k : ℕ) → k < length (line_of b) → off (get_or (line_of b) k 0) ≡ false → number b.ready.index k ≡ ready_score p b (get_or (line_of b) k 0)
+IsIndexedBut p b off = (k : ℕ) → k < length (line_of b) → off (get_or (line_of b) k 0) ≡ false
+    → number b.ready.index k ≡ ready_score p b (get_or (line_of b) k 0)
 
 -- of two tasks of a place the first has no later seat
 abbrev pub AreRising : List ℕ → List (Option ℕ) → List ℕ → Type 0
-AreRising line homes seats = (j k q : ℕ) → j < k → k < length line → get_or homes (get_or line j 0) None ≡ Some q → get_or homes (get_or line k 0) None ≡ Some q → get_or seats (get_or line j 0) 0 ≤ get_or seats (get_or line k 0) 0
+AreRising line homes seats = (j k q : ℕ) → j < k → k < length line
+    → get_or homes (get_or line j 0) None ≡ Some q → get_or homes (get_or line k 0) None ≡ Some q
+    → get_or seats (get_or line j 0) 0 ≤ get_or seats (get_or line k 0) 0
 
 pub record IsIndexed (p : Plan) (b : Peaks) : Type 0 where
   pub grouped : HasGroups p b

@@ -41,7 +41,8 @@ renewed_line n ts = ts ++ below n (λ u. not (has ts u))
 
 -- the values of a fresh order at a place, in as many positions as there were
 abbrev pub renewed_values : Plan → (ℕ → ℕ) → List ℕ → ℕ → List (Option ℕ) → List (Option ℕ)
-renewed_values p size ts q vs = values (there p q) all_left (held_by p size q) [] ts ++ replicate (length vs - length (values (there p q) all_left (held_by p size q) [] ts)) None
+renewed_values p size ts q vs = values (there p q) all_left (held_by p size q) [] ts
+    ++ replicate (length vs - length (values (there p q) all_left (held_by p size q) [] ts)) None
 
 -- of a place: what it holds after the first k tasks of an order, and its values up to there
 pub record IsLevel (p : Plan) (size : ℕ → ℕ) (ts : List ℕ) (q k n : ℕ) (ns : List ℕ) : Type 0 where
@@ -57,7 +58,8 @@ pub record CanWalk (p : Plan) (b : Peaks) (st : Standing) (ts : List ℕ) : Type
   pub small : (g : ℕ) → sizes (held_of st) g ≤ good_size p g
   pub follows : Follows p (phase_of st) ts
   pub homes : (t : ℕ) → t < count_tasks p → get_or b.homes.items t None ≡ place p t
-  pub needs : (t q : ℕ) → has ts t ≡ true → is_clean p t ≡ false → place p t ≡ Some q → get_or b.needs.items t 0 ≡ brings p (sizes (held_of st)) q t
+  pub needs : (t q : ℕ) → has ts t ≡ true → is_clean p t ≡ false → place p t ≡ Some q
+      → get_or b.needs.items t 0 ≡ brings p (sizes (held_of st)) q t
   pub bases : (q : ℕ) → q < places p → get_or b.base.items q 0 ≡ usage p (sizes (held_of st)) [] q
   pub trees_long : length b.trees.items ≡ places p
   pub wide : (q : ℕ) → q < places p → length (filter (there p q) ts) ≤ length (get_or b.trees.items q [])
@@ -73,7 +75,10 @@ pub record IsRenewed (p : Plan) (size : ℕ → ℕ) (old new : Peaks) (t : ℕ)
   pub again : new.again ≡ old.again
   pub seats : AreSeats p (line_of new) new.seats.items new.widths.items (length (line_of new))
   pub bases_long : length new.base.items ≡ length old.base.items
-  pub base : (q : ℕ) → get_or new.base.items q 0 ≡ cond (is_place q (get_or old.homes.items t None)) (get_or old.base.items q 0 + get_or old.needs.items t 0) (get_or old.base.items q 0)
+  pub base : (q : ℕ) → get_or new.base.items q 0
+      ≡ cond (is_place q (get_or old.homes.items t None))
+      (get_or old.base.items q 0 + get_or old.needs.items t 0) (get_or old.base.items q 0)
   pub trees_long : length new.trees.items ≡ length old.trees.items
-  pub trees : (q : ℕ) → q < places p → get_or new.trees.items q [] ≡ renewed_values p size ts q (get_or old.trees.items q [])
+  pub trees : (q : ℕ) → q < places p
+      → get_or new.trees.items q [] ≡ renewed_values p size ts q (get_or old.trees.items q [])
   pub passed : HasPassed new

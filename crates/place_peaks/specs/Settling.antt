@@ -24,19 +24,25 @@ count_at b links q g = count_by b q (get_or links.cleaners.items g None)
 abbrev pub settled : Plan → ℕ → (ℕ → ℕ) → (ℕ → ℕ) → List ℕ → List ℕ → List (Option ℕ) → List (Option ℕ)
 settled p s count size [] ns vs = vs
 settled p s count size (x ∷ xs) [] vs = vs
-settled p s count size (x ∷ xs) (n ∷ ns) vs = cond (lies_at p x s) (front_changed (count x) (λ m. m - (size x - n)) (settled p s count size xs ns vs)) (settled p s count size xs ns vs)
+settled p s count size (x ∷ xs) (n ∷ ns) vs =
+    cond (lies_at p x s) (front_changed (count x) (λ m. m - (size x - n)) (settled p s count size xs ns vs))
+    (settled p s count size xs ns vs)
 
 -- and what the place holds before the first task
 abbrev pub lowered : Plan → ℕ → (ℕ → ℕ) → List ℕ → List ℕ → ℕ → ℕ
 lowered p s size [] ns b = b
 lowered p s size (x ∷ xs) [] b = b
-lowered p s size (x ∷ xs) (n ∷ ns) b = cond (lies_at p x s) (lowered p s size xs ns b - (size x - n)) (lowered p s size xs ns b)
+lowered p s size (x ∷ xs) (n ∷ ns) b = cond (lies_at p x s) (lowered p s size xs ns b - (size x - n))
+    (lowered p s size xs ns b)
 
 -- Each place holds less, and the values of its tree are less, by what these goods of these sizes come to.
 abbrev pub AreLowered : Plan → Links → Peaks → Peaks → List ℕ → List ℕ → Type 0
 AreLowered p links old new xs ns =
-    ((q : ℕ) → q < places p → get_or new.base.items q 0 ≡ lowered p q (good_size p) xs ns (get_or old.base.items q 0))
-    × ((q : ℕ) → q < places p → get_or new.trees.items q [] ≡ settled p q (count_at old links q) (good_size p) xs ns (get_or old.trees.items q []))
+    ((q : ℕ) → q < places p → get_or new.base.items q 0
+    ≡ lowered p q (good_size p) xs ns (get_or old.base.items q 0))
+    × ((q : ℕ) → q < places p
+    → get_or new.trees.items q [] ≡ settled p q (count_at old links q) (good_size p) xs ns
+    (get_or old.trees.items q []))
 
 -- A task has ended, and what it made is held at these sizes.
 pub record IsSettled (p : Plan) (links : Links) (old new : Peaks) (t : ℕ) (ns : List ℕ) : Type 0 where
@@ -48,7 +54,8 @@ pub record IsSettled (p : Plan) (links : Links) (old new : Peaks) (t : ℕ) (ns 
   pub needs : new.needs.items ≡ old.needs.items
   pub again : new.again ≡ old.again
   pub missing_long : length new.missing.items ≡ length old.missing.items
-  pub missing : (u : ℕ) → u < count_tasks p → get_or new.missing.items u 1 + cond (has (parents p u) t) 1 0 ≡ get_or old.missing.items u 1
+  pub missing : (u : ℕ) → u < count_tasks p
+      → get_or new.missing.items u 1 + cond (has (parents p u) t) 1 0 ≡ get_or old.missing.items u 1
   pub bases_long : length new.base.items ≡ length old.base.items
   pub trees_long : length new.trees.items ≡ length old.trees.items
   pub lowered : AreLowered p links old new (makes p t) ns
@@ -82,7 +89,8 @@ pub record CanSettleOne (p : Plan) (links : Links) (b : Peaks) (q g n : ℕ) : T
   pub base_in : q < length b.base.items
   pub tree_in : q < length b.trees.items
   pub size_small : n ≤ good_size p g
-  pub can : CanLower (get_or b.base.items q 0) (good_size p g - n) (count_at b links q g) (get_or b.trees.items q [])
+  pub can : CanLower (get_or b.base.items q 0) (good_size p g - n) (count_at b links q g)
+      (get_or b.trees.items q [])
 
 -- In some state that the trees describe the task runs, and the sizes are within the declared ones.
 pub record CanSettle (p : Plan) (links : Links) (b : Peaks) (t : ℕ) (ns : List ℕ) : Type 0 where

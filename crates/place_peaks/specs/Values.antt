@@ -13,4 +13,5 @@ value b n = cond b (Some n) None
 abbrev pub values : (ℕ → Bool) → (ℕ → Bool) → (List ℕ → ℕ) → List ℕ → List ℕ → List (Option ℕ)
 values there left held front [] = []
 values there left held front (t ∷ ts) =
-    cond (there t) (value (left t) (held (next left front t)) ∷ values there left held (next left front t) ts) (values there left held (next left front t) ts)
+    cond (there t) (value (left t) (held (next left front t)) ∷ values there left held
+    (next left front t) ts) (values there left held (next left front t) ts)

@@ -38,7 +38,10 @@ pub record IsMoved (old new : Peaks) (t frees : ℕ) : Type 0 where
   pub marks_long : length new.left.items ≡ length old.left.items
   pub trees_long : length new.trees.items ≡ length old.trees.items
   pub left : (u : ℕ) → left_of new u ≡ (left_of old u && not (t == u))
-  pub trees : (q : ℕ) → get_or new.trees.items q [] ≡ cond (is_place q (get_or old.homes.items t None)) (set (front_changed (get_or old.seats.items t 0) (λ n. n - frees) (get_or old.trees.items q [])) (get_or old.seats.items t 0) None) (get_or old.trees.items q [])
+  pub trees : (q : ℕ) → get_or new.trees.items q []
+      ≡ cond (is_place q (get_or old.homes.items t None))
+      (set (front_changed (get_or old.seats.items t 0) (λ n. n - frees) (get_or old.trees.items q []))
+      (get_or old.seats.items t 0) None) (get_or old.trees.items q [])
   pub ready : new.ready ≡ old.ready
   pub passed : HasPassed old → HasPassed new
 

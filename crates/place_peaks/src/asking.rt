@@ -29,7 +29,8 @@ impl Peaks {
     /// The task at a position among those of the line that are left.
     fn left_task(&self, k: usize) -> Option<TaskId>
         requires { HasPassed self.now }
-        ensures { option_map (λ (t : TaskId). t.0) result ≡ slice_get (filter (left_of self.now) (line_of self.now)) k }
+        ensures { option_map (λ (t : TaskId). t.0) result
+            ≡ slice_get (filter (left_of self.now) (line_of self.now)) k }
     {
         let mut before = k;
         for position in self.first..self.count_line() {
@@ -48,7 +49,8 @@ impl Peaks {
     /// The task at a position of rest.
     pub fn rest_task(&self, k: usize) -> Option<TaskId>
         requires { HasPassed self.now }
-        ensures { option_map (λ (t : TaskId). t.0) result ≡ slice_get (stack_of self.now ++ filter (left_of self.now) (line_of self.now)) k }
+        ensures { option_map (λ (t : TaskId). t.0) result
+            ≡ slice_get (stack_of self.now ++ filter (left_of self.now) (line_of self.now)) k }
     {
         let waiting = self.again.len();
         if k < waiting {

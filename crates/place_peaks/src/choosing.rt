@@ -110,8 +110,11 @@ impl Peaks {
 
     /// Whether a task that is left and of which no parent is open can begin.
     fn has_room_for(&self, plan: &Plan, task: u32) -> bool
-        requires { (q : ℕ) → get_or self.now.homes.items task None ≡ Some q → get_or self.now.seats.items task 0 ≤ length (get_or self.now.trees.items q []) }
-        ensures { Decides result ((q : ℕ) → is_clean plan.now task ≡ false → get_or self.now.homes.items task None ≡ Some q → HasRoomAt self.now task q (place_bound plan.now q)) }
+        requires { (q : ℕ) → get_or self.now.homes.items task None ≡ Some q
+            → get_or self.now.seats.items task 0 ≤ length (get_or self.now.trees.items q []) }
+        ensures { Decides result ((q : ℕ) → is_clean plan.now task ≡ false
+            → get_or self.now.homes.items task None ≡ Some q
+            → HasRoomAt self.now task q (place_bound plan.now q)) }
     {
         if plan.is_clean(TaskId(task)) {
             return true;
@@ -143,7 +146,8 @@ impl Peaks {
         requires limits { IsWithinLimits plan.now }
         requires seated { AreSeated self.now }
         requires indexed { IsIndexed plan.now self.now }
-        ensures { (s : State) → ArePeaks plan.now s self.now → s.failing ≡ false → MatchOption result (HasNoChoice plan.now s) (λ t. IsChoice plan.now s t) }
+        ensures { (s : State) → ArePeaks plan.now s self.now → s.failing ≡ false
+            → MatchOption result (HasNoChoice plan.now s) (λ t. IsChoice plan.now s t) }
     {
         match self.first_to_begin(plan) {
             None => None,
@@ -156,7 +160,8 @@ impl Peaks {
         requires limits { IsWithinLimits plan.now }
         requires seated { AreSeated self.now }
         requires indexed { IsIndexed plan.now self.now }
-        ensures { (s : State) → AreBehind plan.now s self.now (stack_of self.now) → s.failing ≡ false → MatchOption result (HasNoChoice plan.now s) (λ t. IsChoice plan.now s t) }
+        ensures { (s : State) → AreBehind plan.now s self.now (stack_of self.now) → s.failing ≡ false
+            → MatchOption result (HasNoChoice plan.now s) (λ t. IsChoice plan.now s t) }
     {
         match last_of(self.again.as_slice()) {
             Some(task) => Some(task),

@@ -24,7 +24,9 @@ pub(crate) fn end_for_children(plan: &Plan, missing: &mut Vec<u32>, links: &Link
     requires links { AreLinks plan.now links.now }
     requires ends { CanEnd plan.now missing.old.items task }
     ensures long { length missing.new.items ≡ length missing.old.items }
-    ensures each { (u : ℕ) → u < count_tasks plan.now → get_or missing.new.items u 1 + cond (has (parents plan.now u) task) 1 0 ≡ get_or missing.old.items u 1 }
+    ensures each { (u : ℕ) → u < count_tasks plan.now
+        → get_or missing.new.items u 1 + cond (has (parents plan.now u) task) 1 0
+        ≡ get_or missing.old.items u 1 }
 {
     let _ = plan;
     count_down(missing, links.children_of(task));
@@ -38,7 +40,9 @@ pub(crate) fn sweep_at(trees: &mut Vec<PeakTree>, place: u32, seat: usize, frees
     requires frees { frees ≤ 2 ^ 62 }
     requires range { AllFirst seat (CanFall frees) (get_or trees.old.items place []) }
     ensures long { length trees.new.items ≡ length trees.old.items }
-    ensures each { (q : ℕ) → get_or trees.new.items q [] ≡ cond (place == q) (set (front_changed seat (λ n. n - frees) (get_or trees.old.items place [])) seat None) (get_or trees.old.items q []) }
+    ensures each { (q : ℕ) → get_or trees.new.items q []
+        ≡ cond (place == q) (set (front_changed seat (λ n. n - frees)
+        (get_or trees.old.items place [])) seat None) (get_or trees.old.items q []) }
 {
     sweep(&mut trees[place as usize], seat, frees);
 }
@@ -49,7 +53,8 @@ pub(crate) fn take_base(base: &mut Vec<u64>, place: u32, frees: u64)
     requires place { place < length base.old.items }
     requires enough { frees ≤ get_or base.old.items place 0 }
     ensures long { length base.new.items ≡ length base.old.items }
-    ensures each { (q : ℕ) → get_or base.new.items q 0 ≡ cond (place == q) (get_or base.old.items place 0 - frees) (get_or base.old.items q 0) }
+    ensures each { (q : ℕ) → get_or base.new.items q 0
+        ≡ cond (place == q) (get_or base.old.items place 0 - frees) (get_or base.old.items q 0) }
 {
     base[place as usize] -= frees;
 }
@@ -60,7 +65,8 @@ impl Peaks {
         requires links { AreLinks plan.now links.now }
         requires ends { CanEnd plan.now self.old.missing.items task }
         requires task { task < length self.old.left.items }
-        requires frees { (q : ℕ) → get_or self.old.homes.items task None ≡ Some q → CanFree self.old task q frees }
+        requires frees { (q : ℕ) → get_or self.old.homes.items task None ≡ Some q
+            → CanFree self.old task q frees }
         ensures { IsSwept plan.now self.old self.new task frees }
     {
         end_for_children(plan, &mut self.missing, links, task);
@@ -81,7 +87,8 @@ impl Peaks {
         requires links { AreLinks plan.now links.now }
         requires ends { CanEnd plan.now self.old.missing.items task }
         requires first { IsFirstOf (stack_of self.old) task }
-        requires frees { (q : ℕ) → get_or self.old.homes.items task None ≡ Some q → CanFreeFirst self.old q frees }
+        requires frees { (q : ℕ) → get_or self.old.homes.items task None ≡ Some q
+            → CanFreeFirst self.old q frees }
         ensures swept { IsSweptAgain plan.now self.old self.new task frees }
         ensures stack { stack_of self.old ≡ task ∷ stack_of self.new }
         ensures room { vec_capacity self.new.again ≡ vec_capacity self.old.again }

@@ -33,7 +33,8 @@ impl Peaks {
     pub fn enter_grant(&mut self, plan: &Plan, task: u32)
         requires limits { IsWithinLimits plan.now }
         requires can { CanEnter plan.now self.old (λ w. Grant w task) }
-        ensures { (s : State) (w : ℕ) → AreTied plan.now s self.old → Allowed plan.now s (Grant w task) → AreTied plan.now (after plan.now s (Grant w task)) self.new }
+        ensures { (s : State) (w : ℕ) → AreTied plan.now s self.old → Allowed plan.now s (Grant w task)
+            → AreTied plan.now (after plan.now s (Grant w task)) self.new }
     {
         sums_are_small();
         match self.first_again() {
@@ -51,7 +52,8 @@ impl Peaks {
         requires limits { IsWithinLimits plan.now }
         requires links { AreLinks plan.now links.now }
         requires can { CanClean plan.now self.old task frees }
-        ensures { (s : State) (w : ℕ) → AreTied plan.now s self.old → Allowed plan.now s (Clean w task) → Frees plan.now s task frees → AreTied plan.now (after plan.now s (Clean w task)) self.new }
+        ensures { (s : State) (w : ℕ) → AreTied plan.now s self.old → Allowed plan.now s (Clean w task)
+            → Frees plan.now s task frees → AreTied plan.now (after plan.now s (Clean w task)) self.new }
     {
         sums_are_small();
         parents_stand_once();
@@ -74,7 +76,8 @@ impl Peaks {
         requires limits { IsWithinLimits plan.now }
         requires links { AreLinks plan.now links.now }
         requires can { CanEnter plan.now self.old (λ w. Arrive w task size) }
-        ensures { (s : State) (w : ℕ) → AreTied plan.now s self.old → Allowed plan.now s (Arrive w task size) → AreTied plan.now (after plan.now s (Arrive w task size)) self.new }
+        ensures { (s : State) (w : ℕ) → AreTied plan.now s self.old → Allowed plan.now s (Arrive w task size)
+            → AreTied plan.now (after plan.now s (Arrive w task size)) self.new }
     {
         parents_stand_once();
         self.arrive(plan, links, task, size);
@@ -87,7 +90,9 @@ impl Peaks {
         requires limits { IsWithinLimits plan.now }
         requires links { AreLinks plan.now links.now }
         requires can { CanEnter plan.now self.old (λ w. End w task sizes.now) }
-        ensures { (s : State) (w : ℕ) → AreTied plan.now s self.old → Allowed plan.now s (End w task sizes.now) → AreTied plan.now (after plan.now s (End w task sizes.now)) self.new }
+        ensures { (s : State) (w : ℕ) → AreTied plan.now s self.old
+            → Allowed plan.now s (End w task sizes.now)
+            → AreTied plan.now (after plan.now s (End w task sizes.now)) self.new }
     {
         parents_stand_once();
         self.end(plan, links, task, sizes);
@@ -99,7 +104,9 @@ impl Peaks {
         requires limits { IsWithinLimits plan.now }
         requires kind { is_clean plan.now task ≡ true }
         requires can { CanTryAgain plan.now self.old task frees }
-        ensures { (s : State) (w : ℕ) (c : Cause) (ns : List ℕ) → AreTied plan.now s self.old → Allowed plan.now s (Again w task c ns) → Frees plan.now s task frees → AreTied plan.now (after plan.now s (Again w task c ns)) self.new }
+        ensures { (s : State) (w : ℕ) (c : Cause) (ns : List ℕ) → AreTied plan.now s self.old
+            → Allowed plan.now s (Again w task c ns) → Frees plan.now s task frees
+            → AreTied plan.now (after plan.now s (Again w task c ns)) self.new }
     {
         sums_are_small();
         match self.first_again() {
@@ -115,7 +122,9 @@ impl Peaks {
     pub fn enter_again(&mut self, plan: &Plan, task: u32, frees: u64)
         requires limits { IsWithinLimits plan.now }
         requires can { CanTryAgain plan.now self.old task frees }
-        ensures { (s : State) (w : ℕ) (c : Cause) (ns : List ℕ) → AreTied plan.now s self.old → Allowed plan.now s (Again w task c ns) → Frees plan.now s task frees → AreTied plan.now (after plan.now s (Again w task c ns)) self.new }
+        ensures { (s : State) (w : ℕ) (c : Cause) (ns : List ℕ) → AreTied plan.now s self.old
+            → Allowed plan.now s (Again w task c ns) → Frees plan.now s task frees
+            → AreTied plan.now (after plan.now s (Again w task c ns)) self.new }
     {
         if plan.is_clean(TaskId(task)) {
             self.put_back(plan, task, frees);

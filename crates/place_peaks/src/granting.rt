@@ -27,7 +27,8 @@ pub(crate) fn add_base(base: &mut Vec<u64>, place: u32, need: u64)
     requires place { place < length base.old.items }
     requires small { get_or base.old.items place 0 + need ≤ 2 ^ 62 }
     ensures long { length base.new.items ≡ length base.old.items }
-    ensures each { (q : ℕ) → get_or base.new.items q 0 ≡ cond (place == q) (get_or base.old.items place 0 + need) (get_or base.old.items q 0) }
+    ensures each { (q : ℕ) → get_or base.new.items q 0
+        ≡ cond (place == q) (get_or base.old.items place 0 + need) (get_or base.old.items q 0) }
 {
     base[place as usize] += need;
 }
@@ -40,7 +41,9 @@ fn start_at(trees: &mut Vec<PeakTree>, place: u32, seat: usize, need: u64)
     requires need { need ≤ 2 ^ 62 }
     requires range { AllFirst seat (CanRise need) (get_or trees.old.items place []) }
     ensures long { length trees.new.items ≡ length trees.old.items }
-    ensures each { (q : ℕ) → get_or trees.new.items q [] ≡ cond (place == q) (set (front_changed seat (λ n. n + need) (get_or trees.old.items place [])) seat None) (get_or trees.old.items q []) }
+    ensures each { (q : ℕ) → get_or trees.new.items q []
+        ≡ cond (place == q) (set (front_changed seat (λ n. n + need)
+        (get_or trees.old.items place [])) seat None) (get_or trees.old.items q []) }
 {
     start(&mut trees[place as usize], seat, need);
 }

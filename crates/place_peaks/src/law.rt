@@ -36,13 +36,17 @@ pub(crate) fn parents_stand_once()
 
 /// Each seat of a task of the line is in its tree, no task of the line before the front is left, and the index is right.
 pub fn peaks_are_seated()
-    ensures seated { (p : Plan) (s : State) (b : Peaks) (front : List ℕ) → AreBehind p s b front → AreSeated b }
+    ensures seated { (p : Plan) (s : State) (b : Peaks) (front : List ℕ) → AreBehind p s b front
+        → AreSeated b }
     ensures passed { (p : Plan) (s : State) (b : Peaks) → AreTied p s b → HasPassed b }
     ensures indexed { (p : Plan) (s : State) (b : Peaks) → AreTied p s b → IsIndexed p b }
 {}
 
 /// A Fail changes nothing.
 pub fn fails_keep_peaks()
-    ensures behind { (p : Plan) (s : State) (b : Peaks) (front : List ℕ) (w t : ℕ) (c : Cause) (ns : List ℕ) → AreBehind p s b front → Allowed p s (Fail w t c ns) → AreBehind p (after p s (Fail w t c ns)) b front }
-    ensures tied { (p : Plan) (s : State) (b : Peaks) (w t : ℕ) (c : Cause) (ns : List ℕ) → AreTied p s b → Allowed p s (Fail w t c ns) → AreTied p (after p s (Fail w t c ns)) b }
+    ensures behind { (p : Plan) (s : State) (b : Peaks) (front : List ℕ) (w t : ℕ) (c : Cause) (ns : List ℕ)
+        → AreBehind p s b front → Allowed p s (Fail w t c ns)
+        → AreBehind p (after p s (Fail w t c ns)) b front }
+    ensures tied { (p : Plan) (s : State) (b : Peaks) (w t : ℕ) (c : Cause) (ns : List ℕ) → AreTied p s b
+        → Allowed p s (Fail w t c ns) → AreTied p (after p s (Fail w t c ns)) b }
 {}

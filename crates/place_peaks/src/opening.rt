@@ -47,7 +47,8 @@ struct Levels {
 
 fn homes_of(alloc: Global, plan: &Plan) -> Result<Vec<Option<u32>>, Memory>
     requires { IsWithinLimits plan.now }
-    ensures { IfOk result (λ v. (t : ℕ) → t < count_tasks plan.now → get_or v.items t None ≡ place plan.now t) }
+    ensures { IfOk result (λ v. (t : ℕ) → t < count_tasks plan.now
+        → get_or v.items t None ≡ place plan.now t) }
 {
     let mut homes = Vec::new(alloc);
     for task in 0..plan.tasks.as_slice().len() {
@@ -69,7 +70,8 @@ fn missing_of(alloc: Global, plan: &Plan) -> Result<Vec<u32>, Memory>
     requires limits { IsWithinLimits plan.now }
     requires few { (t : ℕ) → length (parents plan.now t) ≤ count_tasks plan.now }
     ensures long { IfOk result (λ v. length v.items ≡ count_tasks plan.now) }
-    ensures each { IfOk result (λ v. (t : ℕ) → t < count_tasks plan.now → get_or v.items t 1 ≡ length (parents plan.now t)) }
+    ensures each { IfOk result (λ v. (t : ℕ) → t < count_tasks plan.now
+        → get_or v.items t 1 ≡ length (parents plan.now t)) }
 {
     let mut missing = Vec::new(alloc);
     for task in 0..plan.tasks.as_slice().len() {
@@ -81,8 +83,10 @@ fn missing_of(alloc: Global, plan: &Plan) -> Result<Vec<u32>, Memory>
 /// What a task brings to its place.
 fn need_of(plan: &Plan, task: u32) -> u64
     requires limits { IsWithinLimits plan.now }
-    requires few { (q : ℕ) → place plan.now task ≡ Some q → sum_of (size_part plan.now q) (makes plan.now task) < 2 ^ 62 }
-    ensures sum { (q : ℕ) → place plan.now task ≡ Some q → result ≡ sum_of (size_part plan.now q) (makes plan.now task) }
+    requires few { (q : ℕ) → place plan.now task ≡ Some q
+        → sum_of (size_part plan.now q) (makes plan.now task) < 2 ^ 62 }
+    ensures sum { (q : ℕ) → place plan.now task ≡ Some q
+        → result ≡ sum_of (size_part plan.now q) (makes plan.now task) }
     ensures small { result ≤ 2 ^ 62 }
 {
     match place_of(plan, TaskId(task)) {
@@ -93,8 +97,10 @@ fn need_of(plan: &Plan, task: u32) -> u64
 
 fn needs_of(alloc: Global, plan: &Plan) -> Result<Vec<u64>, Memory>
     requires limits { IsWithinLimits plan.now }
-    requires few { (t q : ℕ) → place plan.now t ≡ Some q → sum_of (size_part plan.now q) (makes plan.now t) < 2 ^ 62 }
-    ensures each { IfOk result (λ v. (t q : ℕ) → t < count_tasks plan.now → place plan.now t ≡ Some q → get_or v.items t 0 ≡ sum_of (size_part plan.now q) (makes plan.now t)) }
+    requires few { (t q : ℕ) → place plan.now t ≡ Some q
+        → sum_of (size_part plan.now q) (makes plan.now t) < 2 ^ 62 }
+    ensures each { IfOk result (λ v. (t q : ℕ) → t < count_tasks plan.now → place plan.now t ≡ Some q
+        → get_or v.items t 0 ≡ sum_of (size_part plan.now q) (makes plan.now t)) }
     ensures small { IfOk result (λ v. (t : ℕ) → get_or v.items t 0 ≤ 2 ^ 62) }
 {
     let mut needs = Vec::new(alloc);
@@ -136,7 +142,8 @@ fn seating_of(alloc: Global, plan: &Plan, line: &[TaskId]) -> Result<Seating, Me
     requires once { AreOnce (task_numbers line.now) }
     requires tasks { (t : ℕ) → has (task_numbers line.now) t ≡ true → t < count_tasks plan.now }
     requires one { ChangesOnePlace plan.now }
-    ensures { IfOk result (λ s. AreSeats plan.now (task_numbers line.now) s.seats.items s.widths.items (length (task_numbers line.now))) }
+    ensures { IfOk result (λ s. AreSeats plan.now (task_numbers line.now) s.seats.items s.widths.items
+        (length (task_numbers line.now))) }
 {
     let mut seating = Seating {
         seats: vec![in alloc; 0; plan.tasks.as_slice().len()]?,
@@ -166,7 +173,10 @@ fn empty_lists(alloc: Global, count: usize) -> Result<Vec<Vec<u64>>, Memory>
 fn push_to(lists: &mut Vec<Vec<u64>>, at: u32, level: u64) -> Result<(), Memory>
     requires { at < length lists.old.items }
     ensures long { IfOk result (λ _. length (lists_of lists.new.items) ≡ length (lists_of lists.old.items)) }
-    ensures each { IfOk result (λ _. (q : ℕ) → get_or (lists_of lists.new.items) q [] ≡ cond (at == q) (get_or (lists_of lists.old.items) at [] ++ level ∷ []) (get_or (lists_of lists.old.items) q [])) }
+    ensures each { IfOk result (λ _. (q : ℕ)
+        → get_or (lists_of lists.new.items) q []
+        ≡ cond (at == q) (get_or (lists_of lists.old.items) at [] ++ level ∷ [])
+        (get_or (lists_of lists.old.items) q [])) }
 {
     lists[at as usize].push(level)?;
     Ok(())
@@ -179,8 +189,10 @@ fn level_more(plan: &Plan, line: &[TaskId], levels: &mut Levels, k: usize) -> Re
     requires one { ChangesOnePlace plan.now }
     requires follows { Follows plan.now (λ t. Waits) (task_numbers line.now) }
     requires within { k < length line.now }
-    requires so_far { AreLevels plan.now (task_numbers line.now) levels.old.used.items (lists_of levels.old.lists.items) k }
-    ensures { IfOk result (λ _. AreLevels plan.now (task_numbers line.now) levels.new.used.items (lists_of levels.new.lists.items) (k + 1)) }
+    requires so_far { AreLevels plan.now (task_numbers line.now) levels.old.used.items
+        (lists_of levels.old.lists.items) k }
+    ensures { IfOk result (λ _. AreLevels plan.now (task_numbers line.now) levels.new.used.items
+        (lists_of levels.new.lists.items) (k + 1)) }
 {
     match place_of(plan, TaskId(task_at(line, k))) {
         None => Ok(()),
@@ -198,7 +210,8 @@ fn levels_of(alloc: Global, plan: &Plan, line: &[TaskId]) -> Result<Levels, Memo
     requires goods { KeepsGoods plan.now }
     requires one { ChangesOnePlace plan.now }
     requires follows { Follows plan.now (λ t. Waits) (task_numbers line.now) }
-    ensures { IfOk result (λ x. AreLevels plan.now (task_numbers line.now) x.used.items (lists_of x.lists.items) (length (task_numbers line.now))) }
+    ensures { IfOk result (λ x. AreLevels plan.now (task_numbers line.now) x.used.items
+        (lists_of x.lists.items) (length (task_numbers line.now))) }
 {
     let mut levels = Levels {
         used: vec![in alloc; 0; places(plan)]?,
@@ -213,7 +226,8 @@ fn levels_of(alloc: Global, plan: &Plan, line: &[TaskId]) -> Result<Levels, Memo
 /// A tree of each list.
 fn trees_of(alloc: Global, lists: &[Vec<u64>]) -> Result<Vec<PeakTree>, Memory>
     ensures long { IfOk result (λ v. length v.items ≡ length (lists_of lists.now)) }
-    ensures each { IfOk result (λ v. (q : ℕ) → q < length (lists_of lists.now) → get_or v.items q [] ≡ map Some (get_or (lists_of lists.now) q [])) }
+    ensures each { IfOk result (λ v. (q : ℕ) → q < length (lists_of lists.now)
+        → get_or v.items q [] ≡ map Some (get_or (lists_of lists.now) q [])) }
 {
     let mut trees = Vec::new(alloc);
     for k in 0..lists.len() {

@@ -45,7 +45,8 @@ fn place_all(positions: &mut Vec<u32>, line: &[TaskId])
     requires few { length line.now < 2 ^ 32 }
     requires tasks { (t : ℕ) → has (task_numbers line.now) t ≡ true → t < length positions.old.items }
     ensures long { length positions.new.items ≡ length positions.old.items }
-    ensures placed { (k : ℕ) → k < length line.now → get_or positions.new.items (get_or (task_numbers line.now) k 0) 0 ≡ k }
+    ensures placed { (k : ℕ) → k < length line.now
+        → get_or positions.new.items (get_or (task_numbers line.now) k 0) 0 ≡ k }
 {
     for k in 0..line.len() {
         let task = task_at(line, k);
@@ -86,7 +87,8 @@ impl Ready {
         requires once { AreOnce (task_numbers line.now) }
         requires tasks { (t : ℕ) → has (task_numbers line.now) t ≡ true → t < count_tasks plan.now }
         requires few { length line.now ≤ count_tasks plan.now }
-        requires homes { (t q : ℕ) → t < count_tasks plan.now → get_or homes.now t None ≡ Some q → q < places plan.now }
+        requires homes { (t q : ℕ) → t < count_tasks plan.now → get_or homes.now t None ≡ Some q
+            → q < places plan.now }
         ensures { IfOk result (λ r. AreGrouped plan.now (task_numbers line.now) homes.now r) }
     {
         let mut positions = vec![in alloc; 0; plan.tasks.as_slice().len()]?;
@@ -118,11 +120,13 @@ impl Ready {
         requires once { AreOnce (task_numbers line.now) }
         requires few { length line.now < 2 ^ 32 }
         requires tasks { (t : ℕ) → has (task_numbers line.now) t ≡ true → t < count_tasks plan.now }
-        requires homes { (t q : ℕ) → t < count_tasks plan.now → get_or homes.now t None ≡ Some q → q < places plan.now }
+        requires homes { (t q : ℕ) → t < count_tasks plan.now → get_or homes.now t None ≡ Some q
+            → q < places plan.now }
         requires positions { length self.old.positions.items ≡ count_tasks plan.now }
         requires groups { length self.old.groups.items ≡ length line.now }
         requires long { count self.old.index ≡ length line.now }
-        requires as_many { AreAsMany (places plan.now + 1) (groups_of (places plan.now) homes.now (task_numbers line.now)) self.old.index.groups.items }
+        requires as_many { AreAsMany (places plan.now + 1)
+            (groups_of (places plan.now) homes.now (task_numbers line.now)) self.old.index.groups.items }
         ensures { AreGrouped plan.now (task_numbers line.now) homes.now self.new }
     {
         place_all(&mut self.positions, line);
@@ -168,8 +172,10 @@ impl Peaks {
 
     /// Whether the line has a task at a position.
     fn stands_at(&self, k: usize, task: u32) -> bool
-        ensures yes { result ≡ true → (k < length (line_of self.now)) × (get_or (line_of self.now) k 0 ≡ task) }
-        ensures no { result ≡ false → k < length (line_of self.now) → get_or (line_of self.now) k 0 ≡ task → ⊥ }
+        ensures yes { result ≡ true
+            → (k < length (line_of self.now)) × (get_or (line_of self.now) k 0 ≡ task) }
+        ensures no { result ≡ false → k < length (line_of self.now) → get_or (line_of self.now) k 0 ≡ task
+            → ⊥ }
     {
         k < self.count_line() && self.line_task(k) == task
     }
@@ -180,7 +186,8 @@ impl Peaks {
         requires small { AreSmall self.old }
         ensures same { self.new ≡ with_ready self.old self.new.ready }
         ensures groups { HasGroups plan.now self.new }
-        ensures indexed { (off : ℕ → Bool) → IsIndexedBut plan.now self.old off → IsIndexedBut plan.now self.new (but_one off task) }
+        ensures indexed { (off : ℕ → Bool) → IsIndexedBut plan.now self.old off
+            → IsIndexedBut plan.now self.new (but_one off task) }
     {
         let k = self.ready.position(task);
         if self.stands_at(k, task) {
@@ -196,7 +203,8 @@ impl Peaks {
         requires small { AreSmall self.old }
         ensures same { self.new ≡ with_ready self.old self.new.ready }
         ensures groups { HasGroups plan.now self.new }
-        ensures indexed { (off : ℕ → Bool) → IsIndexedBut plan.now self.old off → IsIndexedBut plan.now self.new (but_some off (λ u. has (parents plan.now u) task)) }
+        ensures indexed { (off : ℕ → Bool) → IsIndexedBut plan.now self.old off
+            → IsIndexedBut plan.now self.new (but_some off (λ u. has (parents plan.now u) task)) }
     {
         let children = links.children_of(task);
         for i in 0..children.len() {

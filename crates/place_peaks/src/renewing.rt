@@ -67,7 +67,8 @@ fn waits(standing: &Standing, task: TaskId) -> bool
 fn any_waits(plan: &Plan, standing: &Standing, some: &[TaskId], good: u32) -> bool
     requires limits { IsWithinLimits plan.now }
     requires goods { KeepsGoods plan.now }
-    ensures { result ≡ list_any (λ (u : TaskId). waits (phase_of standing.now u.0) && has (makes plan.now u.0) good) some.now }
+    ensures { result ≡ list_any (λ (u : TaskId). waits (phase_of standing.now u.0)
+        && has (makes plan.now u.0) good) some.now }
 {
     some.iter().any(|task| waits(standing, *task) && finds_made(plan, *task, good))
 }
@@ -86,7 +87,8 @@ fn waits_for_maker(plan: &Plan, standing: &Standing, task: u32, good: u32) -> bo
 fn cleaned_now(plan: &Plan, standing: &Standing, place: u32, task: u32, good: u32) -> u64
     requires limits { IsWithinLimits plan.now }
     requires goods { KeepsGoods plan.now }
-    ensures { result ≡ cleaned_part plan.now (phase_of standing.now) (sizes (held_of standing.now)) task place good }
+    ensures { result ≡ cleaned_part plan.now (phase_of standing.now)
+        (sizes (held_of standing.now)) task place good }
 {
     if !lies_at(plan, good, place) {
         return 0;
@@ -114,9 +116,12 @@ fn level_after(
     requires follows { Follows plan.now (phase_of standing.now) (task_numbers tasks.now) }
     requires within { k < length tasks.now }
     requires place { at < places plan.now }
-    requires need { is_clean plan.now (get_or (task_numbers tasks.now) k 0) ≡ false → need ≡ brings plan.now (sizes (held_of standing.now)) at (get_or (task_numbers tasks.now) k 0) }
-    requires level { before ≡ usage plan.now (sizes (held_of standing.now)) (take k (task_numbers tasks.now)) at }
-    ensures { result ≡ usage plan.now (sizes (held_of standing.now)) (take (k + 1) (task_numbers tasks.now)) at }
+    requires need { is_clean plan.now (get_or (task_numbers tasks.now) k 0) ≡ false
+        → need ≡ brings plan.now (sizes (held_of standing.now)) at (get_or (task_numbers tasks.now) k 0) }
+    requires level { before ≡ usage plan.now (sizes (held_of standing.now))
+        (take k (task_numbers tasks.now)) at }
+    ensures { result ≡ usage plan.now (sizes (held_of standing.now))
+        (take (k + 1) (task_numbers tasks.now)) at }
 {
     sums_are_small();
     let task = task_at(tasks, k);
@@ -144,7 +149,8 @@ fn add_other(line: &mut Vec<TaskId>, left: &[bool], task: usize)
     requires within { task < length left.now }
     requires few { length left.now < 2 ^ 32 }
     requires room { is_left left.now task ≡ false → length line.old.items < vec_capacity line.old }
-    ensures items { task_numbers line.new.items ≡ task_numbers line.old.items ++ cond (not (is_left left.now task)) (task ∷ []) [] }
+    ensures items { task_numbers line.new.items
+        ≡ task_numbers line.old.items ++ cond (not (is_left left.now task)) (task ∷ []) [] }
     ensures room { vec_capacity line.new ≡ vec_capacity line.old }
 {
     if left[task] {
@@ -156,8 +162,10 @@ fn add_other(line: &mut Vec<TaskId>, left: &[bool], task: usize)
 /// Adds the tasks without a mark.
 fn add_others(line: &mut Vec<TaskId>, left: &[bool])
     requires few { length left.now < 2 ^ 32 }
-    requires room { length line.old.items + length (below (length left.now) (λ u. not (is_left left.now u))) ≤ vec_capacity line.old }
-    ensures { task_numbers line.new.items ≡ task_numbers line.old.items ++ below (length left.now) (λ u. not (is_left left.now u)) }
+    requires room { length line.old.items + length (below (length left.now) (λ u. not (is_left left.now u)))
+        ≤ vec_capacity line.old }
+    ensures { task_numbers line.new.items ≡ task_numbers line.old.items
+        ++ below (length left.now) (λ u. not (is_left left.now u)) }
 {
     for task in 0..left.len() {
         add_other(line, left, task);
@@ -185,7 +193,8 @@ fn seat_all(plan: &Plan, line: &[TaskId], seats: &mut Vec<usize>, widths: &mut V
     requires one { ChangesOnePlace plan.now }
     requires seats { length seats.old.items ≡ count_tasks plan.now }
     requires widths { length widths.old.items ≡ places plan.now }
-    ensures { AreSeats plan.now (task_numbers line.now) seats.new.items widths.new.items (length (task_numbers line.now)) }
+    ensures { AreSeats plan.now (task_numbers line.now) seats.new.items widths.new.items
+        (length (task_numbers line.now)) }
 {
     widths.fill(0);
     for k in 0..line.len() {
@@ -195,9 +204,11 @@ fn seat_all(plan: &Plan, line: &[TaskId], seats: &mut Vec<usize>, widths: &mut V
 
 /// What a task brings is held at its place.
 fn add_need(base: &mut Vec<u64>, home: Option<u32>, need: u64)
-    requires { (q : ℕ) → home ≡ Some q → (q < length base.old.items) × (get_or base.old.items q 0 + need ≤ 2 ^ 62) }
+    requires { (q : ℕ) → home ≡ Some q
+        → (q < length base.old.items) × (get_or base.old.items q 0 + need ≤ 2 ^ 62) }
     ensures long { length base.new.items ≡ length base.old.items }
-    ensures each { (q : ℕ) → get_or base.new.items q 0 ≡ cond (is_place q home) (get_or base.old.items q 0 + need) (get_or base.old.items q 0) }
+    ensures each { (q : ℕ) → get_or base.new.items q 0
+        ≡ cond (is_place q home) (get_or base.old.items q 0 + need) (get_or base.old.items q 0) }
 {
     match home {
         None => {}
@@ -211,7 +222,9 @@ fn refill_at(trees: &mut Vec<PeakTree>, place: u32, levels: &[u64])
     requires place { place < length trees.old.items }
     requires few { length levels.now ≤ length (get_or trees.old.items place []) }
     ensures long { length trees.new.items ≡ length trees.old.items }
-    ensures each { (q : ℕ) → get_or trees.new.items q [] ≡ cond (place == q) (filled levels.now (length (get_or trees.old.items place []))) (get_or trees.old.items q []) }
+    ensures each { (q : ℕ) → get_or trees.new.items q []
+        ≡ cond (place == q) (filled levels.now (length (get_or trees.old.items place [])))
+        (get_or trees.old.items q []) }
 {
     refill(&mut trees[place as usize], levels);
 }
@@ -241,9 +254,11 @@ impl Peaks {
         requires walk { CanWalk plan.now self.now standing.now (task_numbers tasks.now) }
         requires place { at < places plan.now }
         requires within { k < length tasks.now }
-        requires so_far { IsLevel plan.now (sizes (held_of standing.now)) (task_numbers tasks.now) at k level levels.old.items }
+        requires so_far { IsLevel plan.now (sizes (held_of standing.now))
+            (task_numbers tasks.now) at k level levels.old.items }
         requires room { length tasks.now ≤ vec_capacity levels.old }
-        ensures next { IsLevel plan.now (sizes (held_of standing.now)) (task_numbers tasks.now) at (k + 1) result levels.new.items }
+        ensures next { IsLevel plan.now (sizes (held_of standing.now)) (task_numbers tasks.now) at
+            (k + 1) result levels.new.items }
         ensures room { vec_capacity levels.new ≡ vec_capacity levels.old }
     {
         let task = task_at(tasks, k);
@@ -267,7 +282,9 @@ impl Peaks {
         requires walk { CanWalk plan.now self.now standing.now (task_numbers tasks.now) }
         requires place { at < places plan.now }
         requires room { length tasks.now ≤ vec_capacity levels.old }
-        ensures levels { map Some levels.new.items ≡ values (there plan.now at) all_left (held_by plan.now (sizes (held_of standing.now)) at) [] (task_numbers tasks.now) }
+        ensures levels { map Some levels.new.items
+            ≡ values (there plan.now at) all_left
+            (held_by plan.now (sizes (held_of standing.now)) at) [] (task_numbers tasks.now) }
         ensures room { vec_capacity levels.new ≡ vec_capacity levels.old }
     {
         levels.clear();
@@ -289,7 +306,10 @@ impl Peaks {
         requires room { length tasks.now ≤ vec_capacity levels.old }
         ensures kept { IsKept self.old self.new }
         ensures base { self.new.base.items ≡ self.old.base.items }
-        ensures trees { (q : ℕ) → q < places plan.now → get_or self.new.trees.items q [] ≡ renewed_values plan.now (sizes (held_of standing.now)) (task_numbers tasks.now) q (get_or self.old.trees.items q []) }
+        ensures trees { (q : ℕ) → q < places plan.now
+            → get_or self.new.trees.items q []
+            ≡ renewed_values plan.now (sizes (held_of standing.now)) (task_numbers tasks.now) q
+            (get_or self.old.trees.items q []) }
         ensures room { vec_capacity levels.new ≡ vec_capacity levels.old }
     {
         for at in 0..places(plan) {
@@ -311,7 +331,11 @@ impl Peaks {
         requires limits { IsWithinLimits plan.now }
         requires can { CanRenew plan.now self.old standing.now task (task_numbers tasks.now) }
         requires room { count_tasks plan.now ≤ vec_capacity levels.old }
-        ensures tied { (s : State) (w : ℕ) → AreTied plan.now s self.old → Allowed plan.now s (Regrant w task) → order_with plan.now s task ≡ Some (task_numbers tasks.now) → IsShown plan.now standing.now (after plan.now s (Regrant w task)) → AreTied plan.now (after plan.now s (Regrant w task)) self.new }
+        ensures tied { (s : State) (w : ℕ) → AreTied plan.now s self.old
+            → Allowed plan.now s (Regrant w task)
+            → order_with plan.now s task ≡ Some (task_numbers tasks.now)
+            → IsShown plan.now standing.now (after plan.now s (Regrant w task))
+            → AreTied plan.now (after plan.now s (Regrant w task)) self.new }
         ensures room { vec_capacity levels.new ≡ vec_capacity levels.old }
     {
         proper_plans_keep_goods();

@@ -24,7 +24,9 @@ fn lower_at(trees: &mut Vec<PeakTree>, place: u32, count: usize, less: u64)
     requires less { less ≤ 2 ^ 62 }
     requires range { AllFirst count (CanFall less) (get_or trees.old.items place []) }
     ensures long { length trees.new.items ≡ length trees.old.items }
-    ensures each { (q : ℕ) → get_or trees.new.items q [] ≡ cond (place == q) (front_changed count (λ n. n - less) (get_or trees.old.items place [])) (get_or trees.old.items q []) }
+    ensures each { (q : ℕ) → get_or trees.new.items q []
+        ≡ cond (place == q) (front_changed count (λ n. n - less) (get_or trees.old.items place []))
+        (get_or trees.old.items q []) }
 {
     lower(&mut trees[place as usize], count, less);
 }
@@ -58,11 +60,18 @@ impl Peaks {
 
     /// A good is held at a size.
     fn settle_good(&mut self, plan: &Plan, links: &Links, place: u32, good: u32, size: u64)
-        requires fits { lies_at plan.now good place ≡ true → CanSettleOne plan.now links.now self.old place good size }
+        requires fits { lies_at plan.now good place ≡ true
+            → CanSettleOne plan.now links.now self.old place good size }
         requires only { (q : ℕ) → q < places plan.now → lies_at plan.now good q ≡ true → place ≡ q }
         ensures kept { IsKept self.old self.new }
-        ensures base { (q : ℕ) → q < places plan.now → get_or self.new.base.items q 0 ≡ lowered plan.now q (good_size plan.now) (good ∷ []) (size ∷ []) (get_or self.old.base.items q 0) }
-        ensures trees { (q : ℕ) → q < places plan.now → get_or self.new.trees.items q [] ≡ settled plan.now q (count_at self.old links.now q) (good_size plan.now) (good ∷ []) (size ∷ []) (get_or self.old.trees.items q []) }
+        ensures base { (q : ℕ) → q < places plan.now
+            → get_or self.new.base.items q 0
+            ≡ lowered plan.now q (good_size plan.now) (good ∷ []) (size ∷ [])
+            (get_or self.old.base.items q 0) }
+        ensures trees { (q : ℕ) → q < places plan.now
+            → get_or self.new.trees.items q []
+            ≡ settled plan.now q (count_at self.old links.now q) (good_size plan.now) (good ∷ []) (size ∷ [])
+            (get_or self.old.trees.items q []) }
     {
         if lies_at(plan, good, place) {
             let less = good_size(plan, good) - size;
@@ -94,10 +103,12 @@ impl Peaks {
     fn settle_all(&mut self, plan: &Plan, links: &Links, at: u32, task: u32, size: u64)
         requires limits { IsWithinLimits plan.now }
         requires links { AreLinks plan.now links.now }
-        requires settles { CanSettle plan.now links.now self.old task (replicate (length (makes plan.now task)) size) }
+        requires settles { CanSettle plan.now links.now self.old task
+            (replicate (length (makes plan.now task)) size) }
         requires home { place plan.now task ≡ Some at }
         ensures kept { IsKept self.old self.new }
-        ensures lowered { AreLowered plan.now links.now self.old self.new (makes plan.now task) (replicate (length (makes plan.now task)) size) }
+        ensures lowered { AreLowered plan.now links.now self.old self.new (makes plan.now task)
+            (replicate (length (makes plan.now task)) size) }
     {
         sums_are_small();
         let mut k = count_made(plan, TaskId(task));
@@ -112,9 +123,11 @@ impl Peaks {
     fn settle_one_size(&mut self, plan: &Plan, links: &Links, task: u32, size: u64)
         requires limits { IsWithinLimits plan.now }
         requires links { AreLinks plan.now links.now }
-        requires settles { CanSettle plan.now links.now self.old task (replicate (length (makes plan.now task)) size) }
+        requires settles { CanSettle plan.now links.now self.old task
+            (replicate (length (makes plan.now task)) size) }
         ensures kept { IsKept self.old self.new }
-        ensures lowered { AreLowered plan.now links.now self.old self.new (makes plan.now task) (replicate (length (makes plan.now task)) size) }
+        ensures lowered { AreLowered plan.now links.now self.old self.new (makes plan.now task)
+            (replicate (length (makes plan.now task)) size) }
     {
         match self.home(task) {
             None => {}
@@ -140,8 +153,10 @@ impl Peaks {
     pub(crate) fn arrive(&mut self, plan: &Plan, links: &Links, task: u32, size: u64)
         requires limits { IsWithinLimits plan.now }
         requires links { AreLinks plan.now links.now }
-        requires settles { CanSettle plan.now links.now self.old task (replicate (length (makes plan.now task)) size) }
-        ensures { IsSettled plan.now links.now self.old self.new task (replicate (length (makes plan.now task)) size) }
+        requires settles { CanSettle plan.now links.now self.old task
+            (replicate (length (makes plan.now task)) size) }
+        ensures { IsSettled plan.now links.now self.old self.new task
+            (replicate (length (makes plan.now task)) size) }
     {
         self.settle_one_size(plan, links, task, size);
         end_for_children(plan, &mut self.missing, links, task);

@@ -9,7 +9,8 @@ use values::TaskId;
 
 /// The last task of a stack, which is the first of rest.
 pub(crate) fn last_of(stack: &[TaskId]) -> Option<u32>
-    ensures { MatchOption result (stack.now ≡ []) (λ t. slice_get (task_numbers stack.now) (length (task_numbers stack.now) - 1) ≡ Some t) }
+    ensures { MatchOption result (stack.now ≡ [])
+        (λ t. slice_get (task_numbers stack.now) (length (task_numbers stack.now) - 1) ≡ Some t) }
 {
     if stack.is_empty() {
         return None;
@@ -20,7 +21,8 @@ pub(crate) fn last_of(stack: &[TaskId]) -> Option<u32>
 /// Takes the first task off.
 pub(crate) fn pop(stack: &mut Vec<TaskId>, task: u32)
     requires { IsFirstOf (stacked (task_numbers stack.old.items) []) task }
-    ensures stack { stacked (task_numbers stack.old.items) [] ≡ task ∷ stacked (task_numbers stack.new.items) [] }
+    ensures stack { stacked (task_numbers stack.old.items) []
+        ≡ task ∷ stacked (task_numbers stack.new.items) [] }
     ensures room { vec_capacity stack.new ≡ vec_capacity stack.old }
 {
     let _ = task;
@@ -31,7 +33,8 @@ pub(crate) fn pop(stack: &mut Vec<TaskId>, task: u32)
 #[tactic(auto, using(crate::proofs::StackLemmas::pushed))]
 pub(crate) fn push(stack: &mut Vec<TaskId>, task: u32)
     requires { length stack.old.items < vec_capacity stack.old }
-    ensures stack { stacked (task_numbers stack.new.items) [] ≡ task ∷ stacked (task_numbers stack.old.items) [] }
+    ensures stack { stacked (task_numbers stack.new.items) []
+        ≡ task ∷ stacked (task_numbers stack.old.items) [] }
     ensures room { vec_capacity stack.new ≡ vec_capacity stack.old }
 {
     stack.push_reserved(TaskId(task));

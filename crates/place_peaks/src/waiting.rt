@@ -34,7 +34,8 @@ impl Peaks {
     /// A Clean of the line, which frees so much, waits again.
     pub(crate) fn move_again(&mut self, task: u32, frees: u64)
         requires task { task < length self.old.left.items }
-        requires frees { (q : ℕ) → get_or self.old.homes.items task None ≡ Some q → CanFree self.old task q frees }
+        requires frees { (q : ℕ) → get_or self.old.homes.items task None ≡ Some q
+            → CanFree self.old task q frees }
         requires room { length self.old.again.items < vec_capacity self.old.again }
         ensures moved { IsMoved self.old self.new task frees }
         ensures stack { stack_of self.new ≡ task ∷ stack_of self.old }

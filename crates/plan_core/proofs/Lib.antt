@@ -1,7 +1,7 @@
 pub mod TestLemmas
 pub mod NumbersLemmas
 pub mod RisingLemmas
-mod GroundedLemmas
+pub mod GroundedLemmas
 mod SettlingLemmas
 mod PairLemmas
 mod CarriedLemmas

@@ -16,7 +16,9 @@ next_declined j (Some outs) later = later
 
 abbrev pub declined_among : Apply → List PlanJob → List JobId → (ℕ → Option (List ℕ)) → Option ℕ
 declined_among apply jobs [] v = None
-declined_among apply jobs (j ∷ js) v = next_declined j.0 (option_and_then (made apply jobs j.0) (all_of (map v (inputs jobs j.0)))) (declined_among apply jobs js (after_job apply jobs j.0 v))
+declined_among apply jobs (j ∷ js) v = next_declined j.0
+    (option_and_then (made apply jobs j.0) (all_of (map v (inputs jobs j.0))))
+    (declined_among apply jobs js (after_job apply jobs j.0 v))
 
 abbrev pub declined_in : Apply → Plan → (ℕ → ℕ → Option (List ℕ)) → Option TaskKind → Option ℕ
 declined_in apply p at (Some (Run s js)) = declined_among apply p.jobs js (at s.0)

@@ -22,7 +22,8 @@ abbrev pub are_allowed : Plan → List ℕ → List ℕ → ℕ → Bool
 are_allowed p xs needed t = list_all (λ u. has needed u || (is_run p t && is_run p u)) xs
 
 abbrev pub parents_fit : Plan → List ℕ → List ℕ → ℕ → Bool
-parents_fit p xs needed t = is_rising xs && (list_all (λ n. nat_lt n (count_tasks p)) xs && (includes xs needed && are_allowed p xs needed t))
+parents_fit p xs needed t = is_rising xs && (list_all (λ n. nat_lt n (count_tasks p)) xs
+    && (includes xs needed && are_allowed p xs needed t))
 
 -- tasks wait for the right ones, and none for itself
 pub record HasOrder (p : Plan) : Type 0 where

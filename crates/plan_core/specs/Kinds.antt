@@ -70,7 +70,8 @@ sweeps _ qs = false
 
 -- the other task writes what this one reads; this one is the Clean of a pair that the other writes or reads
 abbrev pub task_waits : Option Task → Option Task → Bool
-task_waits t u = list_any (λ q. has (writes_in u) q) (reads_in t) || (sweeps (kind_in t) (writes_in u) || sweeps (kind_in t) (reads_in u))
+task_waits t u = list_any (λ q. has (writes_in u) q) (reads_in t)
+    || (sweeps (kind_in t) (writes_in u) || sweeps (kind_in t) (reads_in u))
 
 unfoldable pub waits_for : Plan → ℕ → ℕ → Bool
 waits_for p t u = task_waits (slice_get p.tasks t) (slice_get p.tasks u)

@@ -53,7 +53,8 @@ flag b = if b then 1 else 0
 
 -- a plain policy has no line
 unfoldable pub policy_line : Policy → List ℕ
-policy_line p = if is_plain p then [] else row (codes "policy" ∷ decimal p.retries ∷ decimal (flag p.fresh) ∷ maybe p.output ∷ [])
+policy_line p = if is_plain p then [] else row
+    (codes "policy" ∷ decimal p.retries ∷ decimal (flag p.fresh) ∷ maybe p.output ∷ [])
 
 unfoldable pub site_line : ℕ → PlanSite → List ℕ
 site_line n s = row (codes "site" ∷ decimal n ∷ printed_name s.name ∷ decimal s.bound ∷ [])
@@ -91,16 +92,22 @@ target_words Delivery = codes "out" ∷ []
 
 -- the rows of a task, with the texts of its lists
 unfoldable pub run_row : ℕ → SiteId → List ℕ → List ℕ → List ℕ → List ℕ → List ℕ
-run_row t s jobs reads writes after = row (codes "task" ∷ decimal t ∷ codes "run" ∷ decimal s.0 ∷ codes "jobs" ∷ jobs ∷ codes "reads" ∷ reads ∷ codes "writes" ∷ writes ∷ codes "after" ∷ after ∷ [])
+run_row t s jobs reads writes after =
+    row (codes "task" ∷ decimal t ∷ codes "run" ∷ decimal
+    s.0 ∷ codes "jobs" ∷ jobs ∷ codes "reads" ∷ reads ∷ codes "writes" ∷ writes ∷ codes "after" ∷ after ∷ [])
 
 unfoldable pub transfer_row : ℕ → FileId → Source → Target → List ℕ → List ℕ
-transfer_row t f from to after = row (codes "task" ∷ decimal t ∷ codes "transfer" ∷ decimal f.0 ∷ codes "from" ∷ source_words from ++ codes "to" ∷ target_words to ++ codes "after" ∷ after ∷ [])
+transfer_row t f from to after =
+    row (codes "task" ∷ decimal t ∷ codes "transfer" ∷ decimal f.0 ∷ codes "from" ∷ source_words from
+    ++ codes "to" ∷ target_words to ++ codes "after" ∷ after ∷ [])
 
 unfoldable pub clean_row : ℕ → Option Pair → List ℕ → List ℕ
-clean_row t q after = row (codes "task" ∷ decimal t ∷ codes "clean" ∷ codes "site" ∷ decimal (site_number q) ∷ codes "file" ∷ decimal (file_number q) ∷ codes "after" ∷ after ∷ [])
+clean_row t q after = row (codes "task" ∷ decimal t ∷ codes "clean" ∷ codes "site" ∷ decimal
+    (site_number q) ∷ codes "file" ∷ decimal (file_number q) ∷ codes "after" ∷ after ∷ [])
 
 abbrev pub task_row : List Pair → ℕ → Task → TaskKind → List ℕ
-task_row pairs n t (Run s js) = run_row n s (numbers (job_numbers js)) (numbers (pair_files pairs t.reads)) (numbers (pair_files pairs t.writes)) (numbers (task_numbers t.parents))
+task_row pairs n t (Run s js) = run_row n s (numbers (job_numbers js)) (numbers (pair_files pairs t.reads))
+    (numbers (pair_files pairs t.writes)) (numbers (task_numbers t.parents))
 task_row pairs n t (Transfer f from to) = transfer_row n f from to (numbers (task_numbers t.parents))
 task_row pairs n t (Clean q) = clean_row n (slice_get pairs q.0) (numbers (task_numbers t.parents))
 

@@ -47,10 +47,12 @@ abbrev pub is_pair_in_range : Plan → Pair → Bool
 is_pair_in_range p q = nat_lt q.site.0 (length p.sites) && nat_lt q.file.0 (length p.files)
 
 abbrev pub is_job_in_range : Plan → PlanJob → Bool
-is_job_in_range p j = is_site_below (length p.sites) j.site && (are_files_below (length p.files) j.inputs && are_files_below (length p.files) j.outputs)
+is_job_in_range p j = is_site_below (length p.sites) j.site
+    && (are_files_below (length p.files) j.inputs && are_files_below (length p.files) j.outputs)
 
 abbrev pub is_kind_in_range : Plan → TaskKind → Bool
-is_kind_in_range p (Transfer f from to) = nat_lt f.0 (length p.files) && (is_source_below (length p.sites) from && is_target_below (length p.sites) to)
+is_kind_in_range p (Transfer f from to) = nat_lt f.0 (length p.files)
+    && (is_source_below (length p.sites) from && is_target_below (length p.sites) to)
 is_kind_in_range p (Run a js) = nat_lt a.0 (length p.sites) && are_jobs_below (length p.jobs) js
 is_kind_in_range p (Clean q) = nat_lt q.0 (count_pairs p)
 
@@ -93,7 +95,8 @@ are_new seen (f ∷ fs) = not (has seen f) && are_new (seen ++ f ∷ []) fs
 -- Each job makes files that neither it nor a job before it reads, that no job before it makes, and each once.
 abbrev pub is_sequence : List PlanJob → List ℕ → List JobId → Bool
 is_sequence jobs seen [] = true
-is_sequence jobs seen (j ∷ js) = are_new (seen ++ inputs jobs j.0) (outputs jobs j.0) && is_sequence jobs (seen ++ inputs jobs j.0 ++ outputs jobs j.0) js
+is_sequence jobs seen (j ∷ js) = are_new (seen ++ inputs jobs j.0) (outputs jobs j.0)
+    && is_sequence jobs (seen ++ inputs jobs j.0 ++ outputs jobs j.0) js
 
 abbrev pub is_sequence_kind : List PlanJob → Option TaskKind → Bool
 is_sequence_kind jobs (Some (Run s js)) = is_sequence jobs [] js
@@ -105,8 +108,10 @@ stands p s f = list_any (λ (q : Pair). pair_at (Some q) s f) p.pairs
 
 -- A task reads and writes the pairs that its kind says, all of which stand; its jobs are in sequence; what it carries has a declared size.
 pub record IsTask (p : Plan) (t : Option Task) : Type 0 where
-  pub reads : reads_in t ≡ below (count_pairs p) (λ q. on_pair (kind_reads p.jobs (kind_in t)) (slice_get p.pairs q))
-  pub writes : writes_in t ≡ below (count_pairs p) (λ q. on_pair (kind_writes p.jobs (kind_in t)) (slice_get p.pairs q))
+  pub reads : reads_in t ≡ below (count_pairs p)
+      (λ q. on_pair (kind_reads p.jobs (kind_in t)) (slice_get p.pairs q))
+  pub writes : writes_in t ≡ below (count_pairs p)
+      (λ q. on_pair (kind_writes p.jobs (kind_in t)) (slice_get p.pairs q))
   pub read_stands : (s f : ℕ) → kind_reads p.jobs (kind_in t) s f ≡ true → stands p s f ≡ true
   pub written_stands : (s f : ℕ) → kind_writes p.jobs (kind_in t) s f ≡ true → stands p s f ≡ true
   pub sequence : is_sequence_kind p.jobs (kind_in t) ≡ true

@@ -39,7 +39,8 @@ are_fresh known (f ∷ fs) = not (list_any (nat_eq f) known) && are_fresh (known
 
 abbrev pub in_sequence : List PlanJob → List ℕ → List JobId → Bool
 in_sequence jobs known [] = true
-in_sequence jobs known (j ∷ js) = are_fresh (with_all known (inputs jobs j.0)) (outputs jobs j.0) && in_sequence jobs (with_all known (inputs jobs j.0) ++ outputs jobs j.0) js
+in_sequence jobs known (j ∷ js) = are_fresh (with_all known (inputs jobs j.0)) (outputs jobs j.0)
+    && in_sequence jobs (with_all known (inputs jobs j.0) ++ outputs jobs j.0) js
 
 abbrev pub kind_in_sequence : List PlanJob → TaskKind → Bool
 kind_in_sequence jobs (Run s js) = in_sequence jobs [] js
@@ -48,9 +49,11 @@ kind_in_sequence jobs (Clean q) = true
 
 -- a task's reads, and its writes, are those of its kind
 pub record HasReads (p : Plan) (t : Option Task) : Type 0 where
-  pub listed : reads_in t ≡ below (count_pairs p) (λ q. on_pair (kind_reads p.jobs (kind_in t)) (slice_get p.pairs q))
+  pub listed : reads_in t ≡ below (count_pairs p)
+      (λ q. on_pair (kind_reads p.jobs (kind_in t)) (slice_get p.pairs q))
   pub stand : (s f : ℕ) → kind_reads p.jobs (kind_in t) s f ≡ true → stands p s f ≡ true
 
 pub record HasWrites (p : Plan) (t : Option Task) : Type 0 where
-  pub listed : writes_in t ≡ below (count_pairs p) (λ q. on_pair (kind_writes p.jobs (kind_in t)) (slice_get p.pairs q))
+  pub listed : writes_in t ≡ below (count_pairs p)
+      (λ q. on_pair (kind_writes p.jobs (kind_in t)) (slice_get p.pairs q))
   pub stand : (s f : ℕ) → kind_writes p.jobs (kind_in t) s f ≡ true → stands p s f ≡ true

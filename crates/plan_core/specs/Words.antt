@@ -112,7 +112,8 @@ outputs jobs j = outputs_in (slice_get jobs j)
 
 -- what a job's tool makes of these inputs
 unfoldable pub made : Apply → List PlanJob → ℕ → List (List ℕ) → Option (List (List ℕ))
-made apply jobs j ins = option_and_then (λ (x : PlanJob). apply x.tool x.arguments ins (length x.outputs)) (slice_get jobs j)
+made apply jobs j ins = option_and_then (λ (x : PlanJob). apply x.tool x.arguments ins (length x.outputs))
+    (slice_get jobs j)
 
 -- pairs
 abbrev pub count_pairs : Plan → ℕ

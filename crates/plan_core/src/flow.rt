@@ -48,7 +48,8 @@ fn has_one_writer(plan: &Plan, written: &Digraph) -> bool
 fn lists_once(alloc: Global, plan: &Plan, listing: Listing) -> Result<bool, Memory>
     requires few { nodes plan.now < 2 ^ 32 }
     requires in_range { (t x : ℕ) → has (listed plan.now listing t) x ≡ true → x < nodes plan.now }
-    ensures { IfOk result (λ b. Decides b ((t u x : ℕ) → has (listed plan.now listing t) x ≡ true → has (listed plan.now listing u) x ≡ true → t ≡ u)) }
+    ensures { IfOk result (λ b. Decides b ((t u x : ℕ) → has (listed plan.now listing t) x ≡ true
+        → has (listed plan.now listing u) x ≡ true → t ≡ u)) }
 {
     let made = graph(alloc, plan, listing)?;
     Ok(have_few(made.successors()))

@@ -97,7 +97,8 @@ fn lists(
 ) -> Result<Vec<Vec<u32>>, Memory>
     requires few { count < 2 ^ 32 }
     ensures long { IfOk result (λ v. length v.items ≡ count) }
-    ensures lists { IfOk result (λ v. (t : ℕ) → t < count → neighbours (lists_of v.items) t ≡ listed plan.now listing t) }
+    ensures lists { IfOk result (λ v. (t : ℕ) → t < count
+        → neighbours (lists_of v.items) t ≡ listed plan.now listing t) }
 {
     let mut all = Vec::new(alloc);
     for t in 0..count {
@@ -135,7 +136,8 @@ fn swept(
     writers: &[Vec<u32>],
     readers: &[Vec<u32>],
 ) -> Result<Vec<u32>, Memory>
-    ensures { IfOk result (λ v. v.items ≡ swept (lists_of writers.now) (lists_of readers.now) (Some kind.now)) }
+    ensures { IfOk result (λ v. v.items ≡ swept (lists_of writers.now) (lists_of readers.now)
+        (Some kind.now)) }
 {
     let mut tasks = Vec::new(alloc);
     if let TaskKind::Clean { pair } = kind {
@@ -146,7 +148,8 @@ fn swept(
 }
 
 fn writers_of(alloc: Global, pairs: &[PairId], writers: &[Vec<u32>]) -> Result<Vec<u32>, Memory>
-    ensures { IfOk result (λ v. v.items ≡ flat_map (neighbours (lists_of writers.now)) (pair_numbers pairs.now)) }
+    ensures { IfOk result (λ v. v.items ≡ flat_map (neighbours (lists_of writers.now))
+        (pair_numbers pairs.now)) }
 {
     let mut tasks = Vec::new(alloc);
     for pair in pairs {
@@ -162,7 +165,8 @@ fn awaited(
     writers: &[Vec<u32>],
     readers: &[Vec<u32>],
 ) -> Result<Vec<u32>, Memory>
-    ensures { IfOk result (λ v. v.items ≡ awaited (lists_of writers.now) (lists_of readers.now) (Some task.now)) }
+    ensures { IfOk result (λ v. v.items ≡ awaited (lists_of writers.now) (lists_of readers.now)
+        (Some task.now)) }
 {
     let mut tasks = writers_of(alloc, task.reads.as_slice(), writers)?;
     let others = swept(alloc, &task.kind, writers, readers)?;
@@ -177,7 +181,8 @@ fn awaited_at(
     writers: &[Vec<u32>],
     readers: &[Vec<u32>],
 ) -> Result<Vec<u32>, Memory>
-    ensures { IfOk result (λ v. v.items ≡ awaited (lists_of writers.now) (lists_of readers.now) (slice_get tasks.now task)) }
+    ensures { IfOk result (λ v. v.items ≡ awaited (lists_of writers.now) (lists_of readers.now)
+        (slice_get tasks.now task)) }
 {
     match tasks.get(task) {
         Some(found) => awaited(alloc, found, writers, readers),
@@ -193,7 +198,9 @@ pub fn awaited_lists(
     readers: &[Vec<u32>],
 ) -> Result<Vec<Vec<u32>>, Memory>
     ensures long { IfOk result (λ v. length v.items ≡ nodes plan.now) }
-    ensures lists { IfOk result (λ v. (t : ℕ) → t < nodes plan.now → neighbours (lists_of v.items) t ≡ awaited (lists_of writers.now) (lists_of readers.now) (slice_get plan.now.tasks t)) }
+    ensures lists { IfOk result (λ v. (t : ℕ) → t < nodes plan.now
+        → neighbours (lists_of v.items) t ≡ awaited (lists_of writers.now) (lists_of readers.now)
+        (slice_get plan.now.tasks t)) }
 {
     let mut all = Vec::new(alloc);
     let tasks = plan.tasks.as_slice();

@@ -13,7 +13,8 @@ use values::{Blob, FileId, JobId, Memory, PairId, Policy, SiteId, TaskId, Text, 
 
 /// Adds numbers, a space before each.
 fn push_numbers(alloc: Global, text: &mut String, numbers: &[u32]) -> Result<(), Memory>
-    ensures { OnOk result (string_bytes text.new ≡ string_bytes text.old ++ spaced (map decimal numbers.now)) }
+    ensures { OnOk result (string_bytes text.new
+        ≡ string_bytes text.old ++ spaced (map decimal numbers.now)) }
 {
     for number in numbers {
         let word = format!(in alloc; " {number}")?;
@@ -215,7 +216,8 @@ fn push_run<'a>(
     writes: &'a str,
     after: &'a str,
 ) -> Result<(), Memory>
-    ensures { OnOk result (text.new.items ≡ text.old.items ++ run_row number site jobs.now reads.now writes.now after.now) }
+    ensures { OnOk result (text.new.items ≡ text.old.items
+        ++ run_row number site jobs.now reads.now writes.now after.now) }
 {
     push_line(
         alloc,
@@ -248,7 +250,8 @@ fn push_from_pfn<'a>(
     to: Target,
     after: &'a str,
 ) -> Result<(), Memory>
-    ensures { OnOk result (text.new.items ≡ text.old.items ++ transfer_row number file (Source.Pfn pfn.now) to after.now) }
+    ensures { OnOk result (text.new.items ≡ text.old.items
+        ++ transfer_row number file (Source.Pfn pfn.now) to after.now) }
 {
     let t = Word::Number(number as u64);
     let f = Word::Number(u64::from(file.0));
@@ -303,7 +306,8 @@ fn push_move(
     site: SiteId,
     after: &str,
 ) -> Result<(), Memory>
-    ensures { OnOk result (text.new.items ≡ text.old.items ++ transfer_row number file (Source.Site home) (Target.Site site) after.now) }
+    ensures { OnOk result (text.new.items ≡ text.old.items
+        ++ transfer_row number file (Source.Site home) (Target.Site site) after.now) }
 {
     push_line(
         alloc,
@@ -335,7 +339,8 @@ fn push_delivery(
     home: SiteId,
     after: &str,
 ) -> Result<(), Memory>
-    ensures { OnOk result (text.new.items ≡ text.old.items ++ transfer_row number file (Source.Site home) Target.Delivery after.now) }
+    ensures { OnOk result (text.new.items ≡ text.old.items
+        ++ transfer_row number file (Source.Site home) Target.Delivery after.now) }
 {
     push_line(
         alloc,
@@ -366,7 +371,8 @@ fn push_from_site(
     to: &Target,
     after: &str,
 ) -> Result<(), Memory>
-    ensures { OnOk result (text.new.items ≡ text.old.items ++ transfer_row number file (Source.Site home) to.now after.now) }
+    ensures { OnOk result (text.new.items ≡ text.old.items
+        ++ transfer_row number file (Source.Site home) to.now after.now) }
 {
     match to {
         Target::Site(site) => push_move(alloc, text, number, file, home, *site, after),
@@ -384,7 +390,8 @@ fn push_clean(
     pair: PairId,
     after: &str,
 ) -> Result<(), Memory>
-    ensures { OnOk result (text.new.items ≡ text.old.items ++ clean_row number (slice_get pairs.now pair.0) after.now) }
+    ensures { OnOk result (text.new.items ≡ text.old.items
+        ++ clean_row number (slice_get pairs.now pair.0) after.now) }
 {
     let site = Word::Number(u64::from(site_number(pairs, pair)));
     let file = Word::Number(u64::from(file_number(pairs, pair)));
@@ -412,7 +419,8 @@ fn push_task(
     number: usize,
     task: &Task,
 ) -> Result<(), Memory>
-    ensures { OnOk result (text.new.items ≡ text.old.items ++ task_row pairs.now number task.now task.now.kind) }
+    ensures { OnOk result (text.new.items ≡ text.old.items
+        ++ task_row pairs.now number task.now task.now.kind) }
 {
     let after = tasks_text(alloc, task.parents.as_slice())?;
     match &task.kind {

@@ -79,7 +79,8 @@ pub fn difference(alloc: Global, numbers: &[u32], others: &[u32]) -> Result<Vec<
     requires rises { RisesFrom 0 numbers.now }
     requires others { RisesFrom 0 others.now }
     ensures rises { IfOk result (λ v. RisesFrom 0 v.items) }
-    ensures same { IfOk result (λ v. (x : ℕ) → has v.items x ≡ (has numbers.now x && not (has others.now x))) }
+    ensures same { IfOk result (λ v. (x : ℕ)
+        → has v.items x ≡ (has numbers.now x && not (has others.now x))) }
 {
     let left = taken_out(alloc, numbers, others)?;
     Ok(left)

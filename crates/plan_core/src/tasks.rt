@@ -90,13 +90,15 @@ fn is_kind_sized(plan: &Plan, kind: &TaskKind) -> bool
 }
 
 fn reads_fit(plan: &Plan, task: &Task, read: &SiteFiles) -> bool
-    ensures { result ≡ are_pairs plan.now.pairs read.now.site.0 (reads_in (Some task.now)) read.now.files.items }
+    ensures { result ≡ are_pairs plan.now.pairs read.now.site.0
+        (reads_in (Some task.now)) read.now.files.items }
 {
     are_pairs(plan.pairs.as_slice(), task.reads.as_slice(), read)
 }
 
 fn writes_fit(plan: &Plan, task: &Task, written: &SiteFiles) -> bool
-    ensures { result ≡ are_pairs plan.now.pairs written.now.site.0 (writes_in (Some task.now)) written.now.files.items }
+    ensures { result ≡ are_pairs plan.now.pairs written.now.site.0
+        (writes_in (Some task.now)) written.now.files.items }
 {
     are_pairs(plan.pairs.as_slice(), task.writes.as_slice(), written)
 }

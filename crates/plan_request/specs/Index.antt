@@ -5,7 +5,8 @@ use Rattle.std.specs.Str.{bytes_eq}
 
 -- one more value, for a name that has none
 abbrev pub with_entry : {V : Type 0} → List (List ℕ × V) → List ℕ → V → List (List ℕ × V)
-with_entry entries name value = if is_some (lookup (bytes_eq name) entries) then entries else entries ++ (name, value) ∷ []
+with_entry entries name value = if is_some (lookup (bytes_eq name) entries) then entries
+    else entries ++ (name, value) ∷ []
 
 -- more of them, one after the other
 abbrev pub with_entries : {V : Type 0} → List (List ℕ × V) → List (List ℕ × V) → List (List ℕ × V)

@@ -9,4 +9,5 @@ named_tool t = (t.transformation, t.tool)
 
 -- the tool that is stated for it, else the one of its own name
 abbrev pub tool_of : List ToolOf → List ℕ → List ℕ
-tool_of tools transformation = unwrap_or (lookup (bytes_eq transformation) (map named_tool tools)) transformation
+tool_of tools transformation = unwrap_or (lookup (bytes_eq transformation)
+    (map named_tool tools)) transformation

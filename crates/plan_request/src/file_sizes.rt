@@ -41,7 +41,8 @@ fn each_size_by(
     files: &[Text],
     stated: &[Option<u64>],
 ) -> Result<Vec<Option<u64>>, Memory>
-    ensures { IfOk result (λ v. v.items ≡ map (λ f. size_by index.now default f.0 f.1) (zip files.now stated.now)) }
+    ensures { IfOk result (λ v. v.items ≡ map (λ f. size_by index.now default f.0 f.1)
+        (zip files.now stated.now)) }
 {
     let mut sizes = Vec::with_capacity(alloc, files.len())?;
     for (file, size) in files.iter().zip(stated.iter()) {

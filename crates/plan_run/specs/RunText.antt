@@ -11,7 +11,8 @@ use Rattle.site_yard.specs.declared.delivered.Delivered.{Delivered}
 
 -- the line of a delivered file: its name, its length and its digest
 abbrev pub delivered_line : Plan → Delivered → List ℕ
-delivered_line p d = codes "delivered " ++ printed_name (file_name p d.file.0) ++ codes " " ++ decimal d.length ++ codes " " ++ encode_lower d.digest ++ codes "\n"
+delivered_line p d = codes "delivered " ++ printed_name (file_name p d.file.0) ++ codes " "
+    ++ decimal d.length ++ codes " " ++ encode_lower d.digest ++ codes "\n"
 
 -- a table by file number, with these deliveries in it
 abbrev pub placed : List Delivered → List (Option Delivered) → List (Option Delivered)

@@ -49,7 +49,8 @@ pub record WasRefused (w : Work) (p : Plan) : Type 0 where
 
 -- The host's counts of what didn't come rose by what the record lays on the host, and by no more.
 abbrev pub ShowsFailures : Work → Plan → List Event → Type 0
-ShowsFailures w p r = AreCounted w.before.told w.before.counts.faults w.before.counts.misses w.after.counts r ⊎ ((r ≡ []) × WasRefused w p)
+ShowsFailures w p r = AreCounted w.before.told w.before.counts.faults w.before.counts.misses w.after.counts r
+    ⊎ ((r ≡ []) × WasRefused w p)
 
 -- the bytes that were delivered
 abbrev pub sum_of_sizes : List Arrival → ℕ
@@ -80,7 +81,8 @@ pub record IsRun (w : Work) (t : Tools) (n : ℕ) (p : Plan) (order : List ℕ) 
   -- after every entry each site is within its bound, and the kept order would finish what is left within every bound
   pub safe : (k : ℕ) → IsSafeState p (now p order (take k r))
   -- and what the operations have left at a site is no more than is stored and reserved there
-  pub left : (k s : ℕ) → left_in p (trace_of p (take k r)) s ≤ stored_at p (now p order (take k r)).held s + reserved_at p (now p order (take k r)).held s
+  pub left : (k s : ℕ) → left_in p (trace_of p (take k r)) s
+      ≤ stored_at p (now p order (take k r)).held s + reserved_at p (now p order (take k r)).held s
   -- what was delivered is within the bound of the output
   pub output : AreWithinOutput p r
   -- the operations are those that the record says, and no others
@@ -116,14 +118,16 @@ Tells w p order r (Err fault) = Fails w p r fault
 
 -- What was delivered, in order: the files and sizes of the record's arrivals, with the digests of what tasks carry over a
 -- store, where that is told.
-pub record AreDeliveries (apply : Apply) (p : Plan) (r : List Event) (told : Option Store) (ds : List Delivered) : Type 0 where
+pub record AreDeliveries (apply : Apply) (p : Plan) (r : List Event) (told : Option Store)
+    (ds : List Delivered) : Type 0 where
   pub files : AreFiles ds (arrivals p r)
   pub lengths : AreLengths ds (arrivals p r)
   pub of_bytes : AreOfBytes ds
   pub digests : IfSome told (λ m. AreDigests (carries apply p m) ds (arrivals p r))
 
 -- the text of a record with its deliveries
-pub record IsRunText (apply : Apply) (p : Plan) (r : List Event) (told : Option Store) (text : List ℕ) : Type 0 where
+pub record IsRunText (apply : Apply) (p : Plan) (r : List Event) (told : Option Store)
+    (text : List ℕ) : Type 0 where
   pub delivered : List Delivered
   pub are : AreDeliveries apply p r told delivered
   pub text_is : text ≡ run_text p r delivered
@@ -139,7 +143,8 @@ reporting log text ds =
     record { history = option_map (λ (h : Log). h.events) log; text = text; delivered = ds }
 
 -- it is that of this record, whose entries are such as a record may have
-pub record IsReport (apply : Apply) (p : Plan) (r : List Event) (told : Option Store) (x : Report) : Type 0 where
+pub record IsReport (apply : Apply) (p : Plan) (r : List Event) (told : Option Store)
+    (x : Report) : Type 0 where
   pub entries : AreEntries r
   pub history : x.history ≡ Some r
   pub text : IsRunText apply p r told x.text
@@ -152,7 +157,8 @@ Reports apply p r told x (Err faults.Memory) = Unit {0}
 Reports apply p r told x _ = IsReport apply p r told x
 
 -- A run by n workers with its end and its report.
-pub record HasRun (w : Work) (t : Tools) (n : ℕ) (p : Plan) (order : List ℕ) (x : Report) (end : End) : Type 0 where
+pub record HasRun (w : Work) (t : Tools) (n : ℕ) (p : Plan) (order : List ℕ) (x : Report)
+    (end : End) : Type 0 where
   pub r : List Event
   pub run : IsRun w t n p order r
   pub tells : Tells w p order r end

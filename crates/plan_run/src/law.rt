@@ -16,7 +16,8 @@ use storage_simulation::{proper_plans_keep_goods, usage_is_a_sum};
 
 /// Where the output has a bound, what is delivered is within it after every entry of a Legal record.
 pub fn deliveries_stay_within_the_output()
-    ensures { (p : Plan) (order : List ℕ) (r : List Event) → IsProper p → FitsFromStart p order → Legal p order r → AreWithinOutput p r }
+    ensures { (p : Plan) (order : List ℕ) (r : List Event) → IsProper p → FitsFromStart p order
+        → Legal p order r → AreWithinOutput p r }
 {
     proper_plans_keep_goods();
     usage_is_a_sum();

@@ -13,7 +13,8 @@ pub(crate) fn take_members<T: Tool, G: Gate>(
     count: usize,
 ) -> Result<Vec<Crew<T, G>>, Memory>
     requires { count ≤ length crew.old.items }
-    ensures taken { IfOk result (λ v. (v.items ≡ take count crew.old.items) × (crew.new.items ≡ drop count crew.old.items)) }
+    ensures taken { IfOk result (λ v. (v.items ≡ take count crew.old.items)
+        × (crew.new.items ≡ drop count crew.old.items)) }
     ensures refused { IfErr result (λ e. crew.new.items ≡ crew.old.items) }
     ensures capacity { vec_capacity crew.new ≡ vec_capacity crew.old }
 {

@@ -60,8 +60,10 @@ pub(crate) fn out_of_memory<H: Host>(alloc: Global, host: H) -> Ran<H>
 
 /// How a run that is over ended.
 fn end_of<H: Host, T: Tool>(alloc: Global, yard: &Yard<H, T>) -> Result<(), RunFault>
-    requires over { IsComplete yard.now.ordered.plan (state_at yard.now.book) ⊎ ((state_at yard.now.book).failing ≡ true) }
-    ensures { EndsAs yard.now.ordered.plan (task_numbers yard.now.ordered.tasks.items) yard.now.book.history.events result }
+    requires over { IsComplete yard.now.ordered.plan (state_at yard.now.book)
+        ⊎ ((state_at yard.now.book).failing ≡ true) }
+    ensures { EndsAs yard.now.ordered.plan
+        (task_numbers yard.now.ordered.tasks.items) yard.now.book.history.events result }
 {
     match yard.ending(alloc) {
         Ok(()) => Ok(()),
@@ -72,7 +74,9 @@ fn end_of<H: Host, T: Tool>(alloc: Global, yard: &Yard<H, T>) -> Result<(), RunF
 /// The record of a run, and what it delivered.
 fn report_of<H: Host, T: Tool>(alloc: Global, yard: &Yard<H, T>) -> Result<Report, Memory>
     requires fresh { take yard.now.opened yard.now.book.history.events ≡ [] }
-    ensures { IfOk result (λ x. IsReport T.apply yard.now.ordered.plan yard.now.book.history.events (marked_if (H.told yard.now.host) (H.marked yard.now.host)) (reporting (Some x.history) x.text.items x.delivered.items)) }
+    ensures { IfOk result (λ x. IsReport T.apply yard.now.ordered.plan yard.now.book.history.events
+        (marked_if (H.told yard.now.host) (H.marked yard.now.host))
+        (reporting (Some x.history) x.text.items x.delivered.items)) }
 {
     let record = yard.book().record();
     // What holds of every record, for the proof.
@@ -92,9 +96,13 @@ fn report_of<H: Host, T: Tool>(alloc: Global, yard: &Yard<H, T>) -> Result<Repor
 /// The end and the report of a run that is over, and its host.
 pub(crate) fn end_run<H: Host, T: Tool>(alloc: Global, yard: Yard<H, T>) -> Ran<H>
     requires fresh { take yard.opened yard.book.history.events ≡ [] }
-    requires over { IsComplete yard.ordered.plan (state_at yard.book) ⊎ ((state_at yard.book).failing ≡ true) }
-    ensures ends { EndsAs yard.ordered.plan (task_numbers yard.ordered.tasks.items) yard.book.history.events result.end }
-    ensures reports { Reports T.apply yard.ordered.plan yard.book.history.events (marked_if (H.told yard.host) (H.marked yard.host)) (reporting result.history result.text.items result.delivered.items) result.end }
+    requires over { IsComplete yard.ordered.plan (state_at yard.book)
+        ⊎ ((state_at yard.book).failing ≡ true) }
+    ensures ends { EndsAs yard.ordered.plan
+        (task_numbers yard.ordered.tasks.items) yard.book.history.events result.end }
+    ensures reports { Reports T.apply yard.ordered.plan yard.book.history.events
+        (marked_if (H.told yard.host) (H.marked yard.host))
+        (reporting result.history result.text.items result.delivered.items) result.end }
     ensures host { result.host ≡ yard.host }
 {
     match report_of(alloc, &yard) {
@@ -119,7 +127,8 @@ pub(crate) fn end_run<H: Host, T: Tool>(alloc: Global, yard: Yard<H, T>) -> Ran<
 
 /// The report of a run that was not begun.
 fn empty_report(alloc: Global, plan: &Plan) -> Result<Report, Memory>
-    ensures { IfOk result (λ x. IsEmptyReport plan.now (reporting (Some x.history) x.text.items x.delivered.items)) }
+    ensures { IfOk result (λ x. IsEmptyReport plan.now
+        (reporting (Some x.history) x.text.items x.delivered.items)) }
 {
     let history = Record::with_room(alloc, 0, 0)?;
     let text = print_run(alloc, plan, &history, &[])?;
@@ -133,7 +142,8 @@ fn empty_report(alloc: Global, plan: &Plan) -> Result<Report, Memory>
 
 /// The end and the report of a run whose opening was refused, and its host.
 pub(crate) fn refuse_run<H: Host>(alloc: Global, refused: OpenRefused<H>) -> Ran<H>
-    ensures refusal { IsRefusal refused.ordered.plan refused.fault (reporting result.history result.text.items result.delivered.items) result.end }
+    ensures refusal { IsRefusal refused.ordered.plan refused.fault
+        (reporting result.history result.text.items result.delivered.items) result.end }
     ensures host { result.host ≡ refused.host }
 {
     let fault = opening_fault(refused.ordered.plan(), alloc, refused.fault);
@@ -157,8 +167,10 @@ pub fn run_plan<H: Host, T: Tool, G: Gate>(
     crew: &mut Crew<T, G>,
 ) -> Ran<H>
     requires { retries ordered.plan ≤ 10 }
-    ensures ran { ∥ HasRunAlone (working T.apply T.known (work_moment H.Host host (T.faults crew.old.tool)) (work_moment H.Host result.host (T.faults crew.new.tool)))
-        ordered.plan (task_numbers ordered.tasks.items) (reporting result.history result.text.items result.delivered.items) result.end ∥₁ }
+    ensures ran { ∥ HasRunAlone (working T.apply T.known (work_moment H.Host host (T.faults crew.old.tool))
+        (work_moment H.Host result.host (T.faults crew.new.tool)))
+        ordered.plan (task_numbers ordered.tasks.items)
+        (reporting result.history result.text.items result.delivered.items) result.end ∥₁ }
     ensures gate { crew.new.gate ≡ crew.old.gate }
 {
     // Laws for the proof: they do nothing.

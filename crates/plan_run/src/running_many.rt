@@ -29,9 +29,13 @@ struct RanBy<H: Host, T: Tool, G: Gate> {
 /// The end and the report of a run that is over, or that there was no memory to begin, and its host.
 fn end_many<H: Host, T: Tool>(alloc: Global, yard: Yard<H, T>, unstarted: bool) -> Ran<H>
     requires fresh { take yard.opened yard.book.history.events ≡ [] }
-    requires over { unstarted ≡ false → IsComplete yard.ordered.plan (state_at yard.book) ⊎ ((state_at yard.book).failing ≡ true) }
-    ensures ends { EndsAs yard.ordered.plan (task_numbers yard.ordered.tasks.items) yard.book.history.events result.end }
-    ensures reports { Reports T.apply yard.ordered.plan yard.book.history.events (marked_if (H.told yard.host) (H.marked yard.host)) (reporting result.history result.text.items result.delivered.items) result.end }
+    requires over { unstarted ≡ false
+        → IsComplete yard.ordered.plan (state_at yard.book) ⊎ ((state_at yard.book).failing ≡ true) }
+    ensures ends { EndsAs yard.ordered.plan
+        (task_numbers yard.ordered.tasks.items) yard.book.history.events result.end }
+    ensures reports { Reports T.apply yard.ordered.plan yard.book.history.events
+        (marked_if (H.told yard.host) (H.marked yard.host))
+        (reporting result.history result.text.items result.delivered.items) result.end }
     ensures host { result.host ≡ yard.host }
 {
     if unstarted {
@@ -55,8 +59,10 @@ where
     requires members { (0 < length members.items) × (length members.items ≤ 16) }
     ensures ran { let before = crew_moment T.Tool G.Gate members.items in
         let after = crew_moment T.Tool G.Gate result.members.items in
-        ∥ HasRun (working T.apply T.known (work_moment H.Host host (first_count before)) (work_moment H.Host result.ran.host (first_count after)))
-        (counting before after) (length members.items) ordered.plan (task_numbers ordered.tasks.items) (reporting result.ran.history result.ran.text.items result.ran.delivered.items) result.ran.end ∥₁ }
+        ∥ HasRun (working T.apply T.known (work_moment H.Host host (first_count before))
+        (work_moment H.Host result.ran.host (first_count after)))
+        (counting before after) (length members.items) ordered.plan (task_numbers ordered.tasks.items)
+        (reporting result.ran.history result.ran.text.items result.ran.delivered.items) result.ran.end ∥₁ }
     ensures members { length result.members.items ≡ length members.items }
 {
     // Laws for the proof: they do nothing.
@@ -102,8 +108,10 @@ where
     requires crew { length crew.old.items ≡ 16 }
     ensures ran { let before = crew_moment T.Tool G.Gate crew.old.items in
         let after = crew_moment T.Tool G.Gate crew.new.items in
-        ∥ HasRun (working T.apply T.known (work_moment H.Host host (first_count before)) (work_moment H.Host result.host (first_count after)))
-        (counting before after) workers ordered.plan (task_numbers ordered.tasks.items) (reporting result.history result.text.items result.delivered.items) result.end ∥₁ }
+        ∥ HasRun (working T.apply T.known (work_moment H.Host host (first_count before))
+        (work_moment H.Host result.host (first_count after)))
+        (counting before after) workers ordered.plan (task_numbers ordered.tasks.items)
+        (reporting result.history result.text.items result.delivered.items) result.end ∥₁ }
     ensures crew { length crew.new.items ≡ 16 }
     ensures others { drop workers crew.new.items ≡ drop workers crew.old.items }
 {

@@ -21,13 +21,16 @@ found (Ok x) = Ok (Some x)
 found (Err fault) = Err fault
 
 -- what the named document says, else the tree at a key of the workflow, if there is one of them
-abbrev pub held : {A : Type 0} → Document → (List ℕ → Result A ReadFault) → (List ℕ → Data → Result A ReadFault) → List ℕ → Option (List ℕ) → Option Data → Result (Option A) PlanFault
+abbrev pub held : {A : Type 0} → Document → (List ℕ → Result A ReadFault)
+    → (List ℕ → Data → Result A ReadFault) → List ℕ → Option (List ℕ) → Option Data
+    → Result (Option A) PlanFault
 held which read from_tree key (Some bytes) tree = found (answered which (read bytes))
 held which read from_tree key None (Some tree) = found (answered which (from_tree (key_path [] key) tree))
 held which read from_tree key None None = Ok None
 
 -- the paths of its keys that are in no table
-abbrev pub held_unknown : (List ℕ → List (List ℕ)) → (List ℕ → Data → List (List ℕ)) → List ℕ → Option (List ℕ) → Option Data → List (List ℕ)
+abbrev pub held_unknown : (List ℕ → List (List ℕ)) → (List ℕ → Data → List (List ℕ)) → List ℕ
+    → Option (List ℕ) → Option Data → List (List ℕ)
 held_unknown in_text in_tree key (Some bytes) tree = in_text bytes
 held_unknown in_text in_tree key None (Some tree) = in_tree (key_path [] key) tree
 held_unknown in_text in_tree key None None = []

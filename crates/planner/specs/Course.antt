@@ -42,10 +42,14 @@ workflow_in bytes = answered Workflow (workflows.read_of bytes)
 
 -- a catalogue that has to be there
 abbrev pub sites_in : Documents → WorkflowEntry → Result (List SiteEntry) PlanFault
-sites_in d w = held Sites site_reader.read_of site_reader.from_tree_of (codes "siteCatalog") d.sites w.sites >>= some_or (plan.NoCatalogue Sites)
+sites_in d w = held Sites site_reader.read_of site_reader.from_tree_of
+    (codes "siteCatalog") d.sites w.sites >>= some_or (plan.NoCatalogue Sites)
 
 abbrev pub transformations_in : Documents → WorkflowEntry → Result (List TransformationEntry) PlanFault
-transformations_in d w = held Transformations transformation_reader.read_of transformation_reader.from_tree_of (codes "transformationCatalog") d.transformations w.transformations >>= some_or (plan.NoCatalogue Transformations)
+transformations_in d w = held Transformations transformation_reader.read_of
+    transformation_reader.from_tree_of
+    (codes "transformationCatalog") d.transformations w.transformations >>= some_or
+    (plan.NoCatalogue Transformations)
 
 -- a catalogue that is empty where there is none
 abbrev pub or_empty : Option replica_reader.CatalogEntry → Result replica_reader.CatalogEntry PlanFault
@@ -53,17 +57,22 @@ or_empty None = Ok replica_reader.no_replicas
 or_empty (Some says) = Ok says
 
 abbrev pub replicas_in : Documents → WorkflowEntry → Result replica_reader.CatalogEntry PlanFault
-replicas_in d w = held Replicas replica_reader.read_of replica_reader.from_tree_of (codes "replicaCatalog") d.replicas w.replicas >>= or_empty
+replicas_in d w = held Replicas replica_reader.read_of replica_reader.from_tree_of
+    (codes "replicaCatalog") d.replicas w.replicas >>= or_empty
 
 -- the paths of the keys of each catalogue that are in no table
 abbrev pub unknown_in_sites : Documents → WorkflowEntry → List (List ℕ)
-unknown_in_sites d w = held_unknown site_reader.unknown_in_text site_root.unknown_of (codes "siteCatalog") d.sites w.sites
+unknown_in_sites d w = held_unknown site_reader.unknown_in_text site_root.unknown_of
+    (codes "siteCatalog") d.sites w.sites
 
 abbrev pub unknown_in_replicas : Documents → WorkflowEntry → List (List ℕ)
-unknown_in_replicas d w = held_unknown replica_reader.unknown_in_text replica_root.unknown_of (codes "replicaCatalog") d.replicas w.replicas
+unknown_in_replicas d w = held_unknown replica_reader.unknown_in_text replica_root.unknown_of
+    (codes "replicaCatalog") d.replicas w.replicas
 
 abbrev pub unknown_in_transformations : Documents → WorkflowEntry → List (List ℕ)
-unknown_in_transformations d w = held_unknown transformation_reader.unknown_in_text transformation_root.unknown_of (codes "transformationCatalog") d.transformations w.transformations
+unknown_in_transformations d w =
+    held_unknown transformation_reader.unknown_in_text transformation_root.unknown_of
+    (codes "transformationCatalog") d.transformations w.transformations
 
 -- ---- the execution sites
 
@@ -75,7 +84,8 @@ unknown_refused None = Ok tt
 unknown_refused (Some name) = Err (plan.UnknownSite name)
 
 abbrev pub all_listed : List SiteEntry → List Execution → Result (Unit {0}) PlanFault
-all_listed sites execute = unknown_refused (first_unknown (site_reader.names_of sites) (execution_names execute))
+all_listed sites execute = unknown_refused (first_unknown (site_reader.names_of sites)
+    (execution_names execute))
 
 -- ---- the course
 
@@ -98,7 +108,8 @@ said_by w s r t = record {
 }
 
 -- The paths of the keys that aren't acted on, document by document.
-pub record ListsIgnored (d : Documents) (w : WorkflowValue) (s : SiteCatalog) (r : ReplicaCatalog) (t : TransformationCatalog) : Type 0 where
+pub record ListsIgnored (d : Documents) (w : WorkflowValue) (s : SiteCatalog) (r : ReplicaCatalog)
+    (t : TransformationCatalog) : Type 0 where
   pub workflow : IsListing (workflows.unknown_in_text d.workflow) w.ignored
   pub sites : IsListing (unknown_in_sites d (workflow_view w)) s.ignored
   pub replicas : IsListing (unknown_in_replicas d (workflow_view w)) r.ignored

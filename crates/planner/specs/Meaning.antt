@@ -39,7 +39,9 @@ base told es lfn = first_told told (pfns_in (entry_named es (Some lfn)))
 
 -- the tools that the request states for the jobs, and the bases that are registered
 abbrev pub basis_of : Apply → Told → PlanRequest → Survey → Basis
-basis_of apply told r s = basis apply (map (λ (j : Job). tool_of r.tools j.transformation.name) s.workflow.jobs) (map (base told s.replicas.entries) s.workflow.files)
+basis_of apply told r s = basis apply
+    (map (λ (j : Job). tool_of r.tools j.transformation.name) s.workflow.jobs)
+    (map (base told s.replicas.entries) s.workflow.files)
 
 -- the value of a file
 abbrev pub value_of : Apply → Told → PlanRequest → Survey → ℕ → Option (List ℕ)
@@ -61,4 +63,5 @@ AreHonest apply told r s = (f : ℕ) → IfSome (entry_of s f) (IsHonest told (v
 
 -- Where the replicas are honest, each task of the plan carries the values of its files, one undefined where the other is.
 abbrev pub MeansWorkflow : PlanRequest → Survey → Plan → Type 0
-MeansWorkflow r s p = (apply : Apply) (told : Told) → AreHonest apply told r s → (t f : ℕ) → carries p t f ≡ true → carried apply told p t f ≡ value_of apply told r s f
+MeansWorkflow r s p = (apply : Apply) (told : Told) → AreHonest apply told r s → (t f : ℕ)
+    → carries p t f ≡ true → carried apply told p t f ≡ value_of apply told r s f

@@ -27,11 +27,14 @@ use Rattle.planner.specs.declared.plan_fault.PlanFault.TheVariants as plan
 -- ---- the way to a plan
 
 -- The clusters of the kept jobs at their sites, or why they can't be clustered.
-abbrev pub AreClustered : PlanRequest → Survey → List Bool → List ℕ → List (Option SiteId) → Result Clusters ClusterFault → Type 0
-AreClustered r s kept levels sites answer = ClustersAre r.cluster s.workflow (basis s.workflow levels sites s.transformations) kept answer
+abbrev pub AreClustered : PlanRequest → Survey → List Bool → List ℕ → List (Option SiteId)
+    → Result Clusters ClusterFault → Type 0
+AreClustered r s kept levels sites answer = ClustersAre r.cluster s.workflow
+    (basis s.workflow levels sites s.transformations) kept answer
 
 -- These are the sites and the clusters of the kept jobs.
-pub record ArePlaced (r : PlanRequest) (s : Survey) (sites : List (Option SiteId)) (clusters : Clusters) : Type 0 where
+pub record ArePlaced (r : PlanRequest) (s : Survey) (sites : List (Option SiteId))
+    (clusters : Clusters) : Type 0 where
   pub kept : List Bool
   pub levels : List ℕ
   pub leveled : AreLeveled r s kept levels
@@ -104,7 +107,8 @@ CannotRefine d limit fault = IsUnrefined d limit fault
 
 abbrev pub CannotPlan : PlanRequest → Survey → ℕ → PlanFault → Type 0
 CannotPlan r s limit plan.Memory = Unit {0}
-CannotPlan r s limit fault = (IsUnplaced r s fault ⊎ IsUnclustered r s fault) ⊎ (IsUnplanned r s limit fault ⊎ IsUnordered r s limit fault)
+CannotPlan r s limit fault = (IsUnplaced r s fault ⊎ IsUnclustered r s fault)
+    ⊎ (IsUnplanned r s limit fault ⊎ IsUnordered r s limit fault)
 
 abbrev pub Plans : PlanRequest → Survey → ℕ → Result Ordered PlanFault → Type 0
 Plans r s limit (Ok o) = IsPlanned r s limit o

@@ -30,15 +30,19 @@ and_number n = codes " " ++ decimal n
 
 -- a document that has something else, or nothing, where the name says
 abbrev pub found_line : Document → List ℕ → List ℕ → List ℕ
-found_line which word name = codes "refused" ++ and_word (document_word which) ++ and_word word ++ and_name name ++ codes "\n"
+found_line which word name = codes "refused" ++ and_word (document_word which) ++ and_word word
+    ++ and_name name ++ codes "\n"
 
 -- no call answers want of memory with a line
 abbrev pub tree_line : Document → TreeFault → List ℕ
 tree_line which faults.Syntax = codes "refused" ++ and_word (document_word which) ++ codes " syntax\n"
 tree_line which (faults.MissingKey path) = found_line which (codes "missing") path
 tree_line which (faults.WrongKind path) = found_line which (codes "kind") path
-tree_line which (faults.OutOfRange path n) = codes "refused" ++ and_word (document_word which) ++ codes " range" ++ and_name path ++ and_number n ++ codes "\n"
-tree_line which (faults.Unsupported path what) = codes "refused" ++ and_word (document_word which) ++ codes " unsupported" ++ and_name path ++ and_name what ++ codes "\n"
+tree_line which (faults.OutOfRange path n) = codes "refused" ++ and_word (document_word which)
+    ++ codes " range" ++ and_name path ++ and_number n ++ codes "\n"
+tree_line which (faults.Unsupported path what) =
+    codes "refused" ++ and_word (document_word which) ++ codes " unsupported" ++ and_name path
+    ++ and_name what ++ codes "\n"
 tree_line which (faults.BadVersion text) = found_line which (codes "version") text
 tree_line which faults.Memory = []
 
@@ -58,7 +62,8 @@ cycle_line words ids = words ++ codes " " ++ printed_names ids ++ codes "\n"
 
 -- what is too many, how many there are and how many there may be
 abbrev pub many_line : List ℕ → ℕ → ℕ → List ℕ
-many_line what count limit = codes "refused many" ++ and_word what ++ and_number count ++ and_number limit ++ codes "\n"
+many_line what count limit = codes "refused many" ++ and_word what ++ and_number count ++ and_number limit
+    ++ codes "\n"
 
 -- a bound that is passed has a line of its own, and want of memory has none
 abbrev pub refused_line : PlanFault → List ℕ
@@ -69,7 +74,8 @@ refused_line (plan.DuplicateUse id lfn) = two_names (codes "refused twice use") 
 refused_line (plan.UnknownJob id) = one_name (codes "refused unknown job") id
 refused_line (plan.DuplicateSite name) = one_name (codes "refused twice site") name
 refused_line (plan.DuplicateTransformation name) = one_name (codes "refused twice transformation") name
-refused_line (plan.NoCatalogue which) = codes "refused catalogue" ++ and_word (document_word which) ++ codes "\n"
+refused_line (plan.NoCatalogue which) = codes "refused catalogue" ++ and_word (document_word which)
+    ++ codes "\n"
 refused_line (plan.UnknownSite name) = one_name (codes "refused unknown site") name
 refused_line (plan.TwoProducers lfn one two) = three_names (codes "refused producers") lfn one two
 refused_line (plan.Cycle ids) = cycle_line (codes "refused cycle") ids

@@ -14,13 +14,15 @@ use Rattle.planner.specs.declared.inputs.Survey.{Survey}
 
 -- the name, and how many jobs, files and stated pairs there are
 unfoldable pub workflow_line : WorkflowValue → List ℕ
-workflow_line w = codes "workflow " ++ printed_name w.name ++ codes " " ++ decimal (length w.jobs) ++ codes " " ++ decimal (length w.files) ++ codes " " ++ decimal (length w.pairs) ++ codes "\n"
+workflow_line w = codes "workflow " ++ printed_name w.name ++ codes " " ++ decimal (length w.jobs)
+    ++ codes " " ++ decimal (length w.files) ++ codes " " ++ decimal (length w.pairs) ++ codes "\n"
 
 unfoldable pub server_lines : FileServer → List ℕ
 server_lines s = codes "server " ++ printed_name s.operation ++ codes " " ++ printed_name s.url ++ codes "\n"
 
 abbrev pub directory_line : Directory → List ℕ
-directory_line d = codes "directory " ++ printed_name d.kind ++ codes " " ++ printed_name (unwrap_or d.path []) ++ codes "\n"
+directory_line d = codes "directory " ++ printed_name d.kind ++ codes " "
+    ++ printed_name (unwrap_or d.path []) ++ codes "\n"
 
 -- a directory, and each of its file servers
 unfoldable pub directory_lines : Directory → List ℕ
@@ -38,7 +40,8 @@ unfoldable pub counted_line : Document → ℕ → List ℕ
 counted_line which n = document_word which ++ codes " " ++ decimal n ++ codes "\n"
 
 unfoldable pub ignored_line : Document → List ℕ → List ℕ
-ignored_line which path = codes "ignored " ++ document_word which ++ codes " " ++ printed_name path ++ codes "\n"
+ignored_line which path = codes "ignored " ++ document_word which ++ codes " " ++ printed_name path
+    ++ codes "\n"
 
 -- the paths of a document that aren't acted on
 abbrev pub ignored_lines : Document → List (List ℕ) → List ℕ

@@ -35,7 +35,8 @@ made-prop : (o : Option JobId) (xs : List ℕ) → IsProp (MatchOption o (xs ≡
 made-prop None xs = list-prop xs []
 made-prop (Some j) xs = list-prop xs (j.0 ∷ [])
 
-producer-prop : (w : Workflow) (g : Links) (f : ℕ) → IsProp (MatchOption (made_at g.producers f) (makers w f ≡ []) (λ (j : JobId). makers w f ≡ j.0 ∷ []))
+producer-prop : (w : Workflow) (g : Links) (f : ℕ)
+    → IsProp (MatchOption (made_at g.producers f) (makers w f ≡ []) (λ (j : JobId). makers w f ≡ j.0 ∷ []))
 producer-prop w g f = made-prop (made_at g.producers f) (makers w f)
 
 pub IsGraphOf-prop : (w : Workflow) (g : Links) → IsProp (IsGraphOf w g)

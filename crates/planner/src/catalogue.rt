@@ -57,7 +57,8 @@ pub(crate) fn held<C: Catalogue>(
     ensures answer { GivesPlan (option_map C.says) result
         (held which C.read_of C.from_tree_of key.now named.now (option_map tree_view inlined.now)) }
     ensures listed { IfOk result (λ found. IfSome found (λ c. IsListing
-        (held_unknown C.unknown_in_text C.unknown_of key.now named.now (option_map tree_view inlined.now)) (C.ignored c))) }
+        (held_unknown C.unknown_in_text C.unknown_of key.now named.now (option_map tree_view inlined.now))
+        (C.ignored c))) }
 {
     if let Some(bytes) = named {
         return match C::read(alloc, bytes.as_slice()) {

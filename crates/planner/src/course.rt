@@ -44,7 +44,8 @@ fn sites_in(
     documents: &Documents,
     workflow: &Workflow,
 ) -> Result<SiteCatalog, PlanFault>
-    ensures answer { GivesPlan site_view result (defined.sites_in documents.now (workflow_view workflow.now)) }
+    ensures answer { GivesPlan site_view result
+        (defined.sites_in documents.now (workflow_view workflow.now)) }
     ensures listed { IfOk result
         (λ c. IsListing (defined.unknown_in_sites documents.now (workflow_view workflow.now)) c.ignored) }
 {
@@ -67,7 +68,8 @@ fn replicas_in(
     documents: &Documents,
     workflow: &Workflow,
 ) -> Result<ReplicaCatalog, PlanFault>
-    ensures answer { GivesPlan replica_view result (defined.replicas_in documents.now (workflow_view workflow.now)) }
+    ensures answer { GivesPlan replica_view result
+        (defined.replicas_in documents.now (workflow_view workflow.now)) }
     ensures listed { IfOk result
         (λ c. IsListing (defined.unknown_in_replicas documents.now (workflow_view workflow.now)) c.ignored) }
 {
@@ -93,7 +95,8 @@ fn transformations_in(
     ensures answer { GivesPlan transformation_view result
         (defined.transformations_in documents.now (workflow_view workflow.now)) }
     ensures listed { IfOk result
-        (λ c. IsListing (defined.unknown_in_transformations documents.now (workflow_view workflow.now)) c.ignored) }
+        (λ c. IsListing (defined.unknown_in_transformations documents.now
+        (workflow_view workflow.now)) c.ignored) }
 {
     let named = &documents.transformations;
     let inlined = &workflow.inlined.transformations;

@@ -9,5 +9,6 @@ ghost use Rattle.planner.specs.Planning.{IsPlanOf};
 
 /// The plan of what documents say has the request's policy and the workflow's names, and delivers what is requested.
 pub fn plans_deliver_requests()
-    ensures { (r : PlanRequest) (s : Survey) (limit : ℕ) (p : Plan) → IsPlanOf r s limit p → DeliversRequests r s p }
+    ensures { (r : PlanRequest) (s : Survey) (limit : ℕ) (p : Plan) → IsPlanOf r s limit p
+        → DeliversRequests r s p }
 {}

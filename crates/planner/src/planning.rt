@@ -52,7 +52,8 @@ fn clusters_of(
     requires graph { IsGraphOf survey.now.workflow survey.now.graph }
     requires leveled { AreLeveled request.now survey.now kept.now levels.now }
     requires selected { AreSelected request.now survey.now kept.now levels.now sites.now }
-    ensures clusters { IfOk result (λ c. AreClustered request.now survey.now kept.now levels.now sites.now (Ok c)) }
+    ensures clusters { IfOk result (λ c. AreClustered request.now survey.now kept.now levels.now sites.now
+        (Ok c)) }
     ensures fault { IfErr result (CannotPlace request.now survey.now) }
 {
     match cluster(
@@ -109,9 +110,11 @@ fn refined(
     requires draft { IsDraft (draft request.now survey.now placed.now.sites.items placed.now.clusters) }
     requires graph { IsGraphOf survey.now.workflow survey.now.graph }
     requires few { limit < 2 ^ 32 }
-    ensures plan { IfOk result (IsFineFor (draft request.now survey.now placed.now.sites.items placed.now.clusters) limit) }
+    ensures plan { IfOk result
+        (IsFineFor (draft request.now survey.now placed.now.sites.items placed.now.clusters) limit) }
     ensures proper { IfOk result (λ p. IsProper p) }
-    ensures fault { IfErr result (CannotRefine (draft request.now survey.now placed.now.sites.items placed.now.clusters) limit) }
+    ensures fault { IfErr result (CannotRefine
+        (draft request.now survey.now placed.now.sites.items placed.now.clusters) limit) }
 {
     match refine(
         alloc,
@@ -215,7 +218,8 @@ pub fn plan(
     requires sizes { IsWithinLimits request.now }
     requires few { limit ≤ 120000 }
     ensures plan { PlansDocuments request.now documents.now limit result }
-    ensures means { IfOk result (λ o. OfSurvey request.now documents.now (λ s. MeansWorkflow request.now s o.plan)) }
+    ensures means { IfOk result (λ o. OfSurvey request.now documents.now
+        (λ s. MeansWorkflow request.now s o.plan)) }
 {
     // A law for the proof: it does nothing.
     plans_mean_the_workflow();

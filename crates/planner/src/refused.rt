@@ -106,7 +106,8 @@ fn push_three(
     two: &Text,
     three: &Text,
 ) -> Result<(), Memory>
-    ensures { OnOk result (text.new.items ≡ text.old.items ++ three_names words.now one.now two.now three.now) }
+    ensures { OnOk result (text.new.items ≡ text.old.items
+        ++ three_names words.now one.now two.now three.now) }
 {
     let one = Word::Name(one.as_bytes());
     let two = Word::Name(two.as_bytes());

@@ -22,7 +22,8 @@ pub struct Surveyed {
     pub request: PlanRequest,
     pub survey: Survey,
     ghost well_formed: { IsWellFormed survey.workflow } by { IsWellFormed-prop survey.workflow },
-    ghost graph: { IsGraphOf survey.workflow survey.graph } by { IsGraphOf-prop survey.workflow survey.graph },
+    ghost graph: { IsGraphOf survey.workflow survey.graph } by { IsGraphOf-prop survey.workflow
+        survey.graph },
     ghost sites: { execute_checked request.execute ≡ Ok tt },
     ghost limits: { IsWithinLimits request } by { IsWithinLimits-prop request },
     ghost means: { PlansMeanWorkflow request survey } by { PlansMeanWorkflow-prop request survey },

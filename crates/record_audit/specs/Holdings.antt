@@ -41,5 +41,6 @@ size_among (x ∷ xs) (m ∷ ms) g n = cond (x == g) m (size_among xs ms g n)
 -- an entry's sizes are small, and an End has one for each file that its task writes
 abbrev pub IsSized : Plan → Event → Type 0
 IsSized p (Arrive w t n) = n ≤ 2 ^ 40
-IsSized p (End w t ns) = (is_delivery p t ≡ false) × (length ns ≡ length (writes p t)) × ((k : ℕ) → get_or ns k 0 ≤ 2 ^ 40)
+IsSized p (End w t ns) = (is_delivery p t ≡ false) × (length ns ≡ length (writes p t))
+    × ((k : ℕ) → get_or ns k 0 ≤ 2 ^ 40)
 IsSized p _ = Unit {0}

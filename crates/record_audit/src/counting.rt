@@ -18,7 +18,8 @@ use values::Memory;
 /// Raises each site's peak to what is held there.
 fn raise(holdings: &Holdings, peaks: &mut Vec<u64>)
     ensures long { length peaks.new.items ≡ length peaks.old.items }
-    ensures raised { (q : ℕ) → q < length peaks.old.items → get_or peaks.new.items q 0 ≡ max (get_or peaks.old.items q 0) (at_in 0 holdings.now.sums.items q) }
+    ensures raised { (q : ℕ) → q < length peaks.old.items
+        → get_or peaks.new.items q 0 ≡ max (get_or peaks.old.items q 0) (at_in 0 holdings.now.sums.items q) }
 {
     for site in 0..peaks.len() {
         let held = holdings.at(site);
@@ -32,7 +33,8 @@ fn raise(holdings: &Holdings, peaks: &mut Vec<u64>)
 pub fn statistics(alloc: Global, ordered: &Ordered, history: &Record) -> Result<Statistics, Memory>
     requires retries { retries ordered.now.plan ≤ 10 }
     requires legal { Legal ordered.now.plan (task_numbers ordered.now.tasks.items) history.now.events }
-    ensures { IfOk result (AreSums ordered.now.plan (task_numbers ordered.now.tasks.items) history.now.events) }
+    ensures { IfOk result (AreSums ordered.now.plan
+        (task_numbers ordered.now.tasks.items) history.now.events) }
 {
     // Laws for the proof: they do nothing.
     ordered_plans_fit();

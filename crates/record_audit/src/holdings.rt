@@ -105,7 +105,8 @@ impl Holdings {
         requires pair { pair < count_pairs plan.now }
         requires small { size ≤ 2 ^ 40 }
         requires adds_up { AddsUp plan.now self.old }
-        ensures sizes { (g : ℕ) → at_in 0 self.new.sizes.items g ≡ put (at_in 0 self.old.sizes.items) pair size g }
+        ensures sizes { (g : ℕ) → at_in 0 self.new.sizes.items g
+            ≡ put (at_in 0 self.old.sizes.items) pair size g }
         ensures adds_up { AddsUp plan.now self.new }
     {
         let before = number_at(&self.sizes, pair);
@@ -121,7 +122,8 @@ impl Holdings {
         requires limits { IsWithinLimits plan.now }
         requires range { (g : ℕ) → has (writes plan.now task.0) g ≡ true → g < count_pairs plan.now }
         requires adds_up { AddsUp plan.now self.old }
-        ensures sizes { (g : ℕ) → at_in 0 self.new.sizes.items g ≡ cond (has (writes plan.now task.0) g) (good_size plan.now g) (at_in 0 self.old.sizes.items g) }
+        ensures sizes { (g : ℕ) → at_in 0 self.new.sizes.items g
+            ≡ cond (has (writes plan.now task.0) g) (good_size plan.now g) (at_in 0 self.old.sizes.items g) }
         ensures adds_up { AddsUp plan.now self.new }
     {
         for k in 0..count_written(plan, task) {
@@ -136,7 +138,8 @@ impl Holdings {
         requires range { (g : ℕ) → has (writes plan.now task.0) g ≡ true → g < count_pairs plan.now }
         requires small { size ≤ 2 ^ 40 }
         requires adds_up { AddsUp plan.now self.old }
-        ensures sizes { (g : ℕ) → at_in 0 self.new.sizes.items g ≡ cond (has (writes plan.now task.0) g) size (at_in 0 self.old.sizes.items g) }
+        ensures sizes { (g : ℕ) → at_in 0 self.new.sizes.items g
+            ≡ cond (has (writes plan.now task.0) g) size (at_in 0 self.old.sizes.items g) }
         ensures adds_up { AddsUp plan.now self.new }
     {
         for k in 0..count_written(plan, task) {
@@ -152,7 +155,8 @@ impl Holdings {
         requires long { length sizes.now ≡ length (writes plan.now task.0) }
         requires small { (k : ℕ) → get_or sizes.now k 0 ≤ 2 ^ 40 }
         requires adds_up { AddsUp plan.now self.old }
-        ensures sizes { (g : ℕ) → at_in 0 self.new.sizes.items g ≡ size_among (writes plan.now task.0) sizes.now g (at_in 0 self.old.sizes.items g) }
+        ensures sizes { (g : ℕ) → at_in 0 self.new.sizes.items g
+            ≡ size_among (writes plan.now task.0) sizes.now g (at_in 0 self.old.sizes.items g) }
         ensures adds_up { AddsUp plan.now self.new }
     {
         let mut k = count_written(plan, task);
@@ -168,7 +172,8 @@ impl Holdings {
         requires proper { IsProper plan.now }
         requires limits { IsWithinLimits plan.now }
         requires adds_up { AddsUp plan.now self.old }
-        ensures shows { (w : ℕ) (f : ℕ → Held) → Shows plan.now self.old f → Shows plan.now self.new (held_after plan.now (Grant w task.0) f) }
+        ensures shows { (w : ℕ) (f : ℕ → Held) → Shows plan.now self.old f
+            → Shows plan.now self.new (held_after plan.now (Grant w task.0) f) }
         ensures adds_up { AddsUp plan.now self.new }
     {
         // A law for the proof: it does nothing.
@@ -184,7 +189,8 @@ impl Holdings {
         requires limits { IsWithinLimits plan.now }
         requires small { size ≤ 2 ^ 40 }
         requires adds_up { AddsUp plan.now self.old }
-        ensures shows { (w : ℕ) (f : ℕ → Held) → Shows plan.now self.old f → Shows plan.now self.new (held_after plan.now (Arrive w task.0 size) f) }
+        ensures shows { (w : ℕ) (f : ℕ → Held) → Shows plan.now self.old f
+            → Shows plan.now self.new (held_after plan.now (Arrive w task.0 size) f) }
         ensures adds_up { AddsUp plan.now self.new }
     {
         // A law for the proof: it does nothing.
@@ -200,7 +206,8 @@ impl Holdings {
         requires limits { IsWithinLimits plan.now }
         requires sized { (w : ℕ) → IsSized plan.now (End w task.0 sizes.now) }
         requires adds_up { AddsUp plan.now self.old }
-        ensures shows { (w : ℕ) (f : ℕ → Held) → Shows plan.now self.old f → Shows plan.now self.new (held_after plan.now (End w task.0 sizes.now) f) }
+        ensures shows { (w : ℕ) (f : ℕ → Held) → Shows plan.now self.old f
+            → Shows plan.now self.new (held_after plan.now (End w task.0 sizes.now) f) }
         ensures adds_up { AddsUp plan.now self.new }
     {
         // A law for the proof: it does nothing.
@@ -213,7 +220,8 @@ impl Holdings {
         requires proper { IsProper plan.now }
         requires limits { IsWithinLimits plan.now }
         requires adds_up { AddsUp plan.now self.old }
-        ensures shows { (w : ℕ) (f : ℕ → Held) → Shows plan.now self.old f → Shows plan.now self.new (held_after plan.now (Clean w task.0) f) }
+        ensures shows { (w : ℕ) (f : ℕ → Held) → Shows plan.now self.old f
+            → Shows plan.now self.new (held_after plan.now (Clean w task.0) f) }
         ensures adds_up { AddsUp plan.now self.new }
     {
         // A law for the proof: it does nothing.
@@ -239,7 +247,8 @@ impl Holdings {
         requires limits { IsWithinLimits plan.now }
         requires sized { IsSized plan.now (event entry.now) }
         requires adds_up { AddsUp plan.now self.old }
-        ensures shows { (f : ℕ → Held) → Shows plan.now self.old f → Shows plan.now self.new (held_after plan.now (event entry.now) f) }
+        ensures shows { (f : ℕ → Held) → Shows plan.now self.old f
+            → Shows plan.now self.new (held_after plan.now (event entry.now) f) }
         ensures adds_up { AddsUp plan.now self.new }
     {
         match entry {

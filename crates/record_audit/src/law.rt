@@ -23,7 +23,8 @@ use plan_core::files_are_listed_by_pair;
 
 /// The state after a Legal record is consistent.
 pub(crate) fn legal_records_are_consistent()
-    ensures { (p : Plan) (order : List ℕ) (r : List Event) → IsProper p → FitsFromStart p order → Legal p order r → IsConsistent p (now p order r) }
+    ensures { (p : Plan) (order : List ℕ) (r : List Event) → IsProper p → FitsFromStart p order
+        → Legal p order r → IsConsistent p (now p order r) }
 {
     allowed_entries_keep_safe();
     entries_are_few();
@@ -31,8 +32,10 @@ pub(crate) fn legal_records_are_consistent()
 
 /// A Legal record has few entries, and what each of its arrivals has moved is a declared size.
 pub(crate) fn legal_records_are_short()
-    ensures entries { (p : Plan) (order : List ℕ) (r : List Event) → IsProper p → IsWithinLimits p → retries p ≤ 10 → FitsFromStart p order → Legal p order r → length r ≤ 120000 * 22 }
-    ensures moved { (p : Plan) (order : List ℕ) (r : List Event) → IsProper p → IsWithinLimits p → FitsFromStart p order → Legal p order r → sum_by arrived r ≤ length r * 2 ^ 40 }
+    ensures entries { (p : Plan) (order : List ℕ) (r : List Event) → IsProper p → IsWithinLimits p
+        → retries p ≤ 10 → FitsFromStart p order → Legal p order r → length r ≤ 120000 * 22 }
+    ensures moved { (p : Plan) (order : List ℕ) (r : List Event) → IsProper p → IsWithinLimits p
+        → FitsFromStart p order → Legal p order r → sum_by arrived r ≤ length r * 2 ^ 40 }
 {
     allowed_entries_keep_safe();
     entries_are_few();
@@ -41,17 +44,20 @@ pub(crate) fn legal_records_are_short()
 
 /// The sizes of an entry that is allowed are small, and an End has one for each file of its task.
 pub(crate) fn allowed_entries_are_sized()
-    ensures { (p : Plan) (s : State) (e : Event) → IsProper p → IsWithinLimits p → Allowed p s e → IsSized p e }
+    ensures { (p : Plan) (s : State) (e : Event) → IsProper p → IsWithinLimits p → Allowed p s e
+        → IsSized p e }
 {
     files_are_listed_by_pair();
 }
 
 /// What begins with the text of a record has that text as the part that is read.
 pub fn printed_records_are_read()
-    ensures { (r : List Event) (rest : List ℕ) → AreEntries r → record_part (record_text r ++ rest) ≡ record_text r }
+    ensures { (r : List Event) (rest : List ℕ) → AreEntries r
+        → record_part (record_text r ++ rest) ≡ record_text r }
 {}
 
 /// Of a legal and complete record there is no other verdict.
 pub fn complete_records_are_judged_so()
-    ensures { (p : Plan) (order : List ℕ) (r : List Event) (v : Verdict) → Legal p order r → IsComplete p (now p order r) → IsJudged p order r v → v ≡ verdicts.Complete }
+    ensures { (p : Plan) (order : List ℕ) (r : List Event) (v : Verdict) → Legal p order r
+        → IsComplete p (now p order r) → IsJudged p order r v → v ≡ verdicts.Complete }
 {}

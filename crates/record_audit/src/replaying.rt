@@ -52,8 +52,10 @@ fn grew_by(history: &Record, before: usize, second: bool) -> bool
 /// Lets a worker begin what is next, and tells whether that was the task, granted by a fresh order
 /// or by the kept one.
 fn begins(book: &mut Book, worker: u32, task: TaskId, fresh: bool) -> bool
-    ensures value { Decides result (Allowed book.old.plan (state_at book.old) (granting fresh worker task.0)) }
-    ensures history { result ≡ true → book.new.history.events ≡ book.old.history.events ++ granting fresh worker task.0 ∷ [] }
+    ensures value { Decides result (Allowed book.old.plan (state_at book.old)
+        (granting fresh worker task.0)) }
+    ensures history { result ≡ true
+        → book.new.history.events ≡ book.old.history.events ++ granting fresh worker task.0 ∷ [] }
     ensures plan { book.new.plan ≡ book.old.plan }
     ensures order { book.new.order ≡ book.old.order }
 {
@@ -89,8 +91,11 @@ fn fails(
     requires plan { book.old.plan ≡ plan.now }
     requires proper { IsProper plan.now }
     requires fits { FitsFromStart plan.now (task_numbers book.old.order.items) }
-    ensures value { Decides result (Allowed book.old.plan (state_at book.old) (failing again worker task.0 cause.now published.now)) }
-    ensures history { result ≡ true → book.new.history.events ≡ book.old.history.events ++ failing again worker task.0 cause.now published.now ∷ [] }
+    ensures value { Decides result (Allowed book.old.plan (state_at book.old)
+        (failing again worker task.0 cause.now published.now)) }
+    ensures history { result ≡ true
+        → book.new.history.events ≡ book.old.history.events
+        ++ failing again worker task.0 cause.now published.now ∷ [] }
     ensures plan { book.new.plan ≡ book.old.plan }
     ensures order { book.new.order ≡ book.old.order }
 {
@@ -111,7 +116,8 @@ fn fails(
 /// Enters the Arrive of a task, if it is allowed.
 fn arrives(book: &mut Book, worker: u32, task: TaskId, size: u64) -> bool
     ensures value { Decides result (Allowed book.old.plan (state_at book.old) (Arrive worker task.0 size)) }
-    ensures history { result ≡ true → book.new.history.events ≡ book.old.history.events ++ Arrive worker task.0 size ∷ [] }
+    ensures history { result ≡ true
+        → book.new.history.events ≡ book.old.history.events ++ Arrive worker task.0 size ∷ [] }
     ensures plan { book.new.plan ≡ book.old.plan }
     ensures order { book.new.order ≡ book.old.order }
 {
@@ -125,7 +131,8 @@ fn arrives(book: &mut Book, worker: u32, task: TaskId, size: u64) -> bool
 /// Enters the End of a task, if it is allowed.
 fn ends(book: &mut Book, worker: u32, task: TaskId, sizes: &[u64]) -> bool
     ensures value { Decides result (Allowed book.old.plan (state_at book.old) (End worker task.0 sizes.now)) }
-    ensures history { result ≡ true → book.new.history.events ≡ book.old.history.events ++ End worker task.0 sizes.now ∷ [] }
+    ensures history { result ≡ true
+        → book.new.history.events ≡ book.old.history.events ++ End worker task.0 sizes.now ∷ [] }
     ensures plan { book.new.plan ≡ book.old.plan }
     ensures order { book.new.order ≡ book.old.order }
 {
@@ -139,7 +146,8 @@ fn ends(book: &mut Book, worker: u32, task: TaskId, sizes: &[u64]) -> bool
 /// Enters the Clean of a task, if it is allowed.
 fn cleans(book: &mut Book, worker: u32, task: TaskId) -> bool
     ensures value { Decides result (Allowed book.old.plan (state_at book.old) (Clean worker task.0)) }
-    ensures history { result ≡ true → book.new.history.events ≡ book.old.history.events ++ Clean worker task.0 ∷ [] }
+    ensures history { result ≡ true
+        → book.new.history.events ≡ book.old.history.events ++ Clean worker task.0 ∷ [] }
     ensures plan { book.new.plan ≡ book.old.plan }
     ensures order { book.new.order ≡ book.old.order }
 {
@@ -157,7 +165,8 @@ pub fn replay(plan: &Plan, book: &mut Book, entry: &Entry<'_>) -> bool
     requires proper { IsProper plan.now }
     requires fits { FitsFromStart plan.now (task_numbers book.old.order.items) }
     ensures value { Decides result (Allowed book.old.plan (state_at book.old) (event entry.now)) }
-    ensures history { result ≡ true → book.new.history.events ≡ book.old.history.events ++ event entry.now ∷ [] }
+    ensures history { result ≡ true
+        → book.new.history.events ≡ book.old.history.events ++ event entry.now ∷ [] }
     ensures plan { book.new.plan ≡ book.old.plan }
     ensures order { book.new.order ≡ book.old.order }
 {

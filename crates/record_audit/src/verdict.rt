@@ -46,7 +46,8 @@ fn is_complete(book: &mut Book) -> bool
 /// that isn't allowed. It takes memory once, before the first entry.
 pub fn audit(alloc: Global, ordered: &Ordered, history: &Record) -> Result<Verdict, Memory>
     requires { retries ordered.now.plan ≤ 10 }
-    ensures { IfOk result (IsJudged ordered.now.plan (task_numbers ordered.now.tasks.items) history.now.events) }
+    ensures { IfOk result (IsJudged ordered.now.plan
+        (task_numbers ordered.now.tasks.items) history.now.events) }
 {
     // A law for the proof: it does nothing.
     ordered_plans_fit();

@@ -29,7 +29,11 @@ pfns_of es = flat_map (λ (e : Replica). e.pfns) es
 
 -- one entry of those with an lfn
 abbrev pub joined_entry : List Replica → List ℕ → Replica
-joined_entry es lfn = record { lfn = lfn; pfns = pfns_of (entries_with lfn es); checksum = first_checksum (entries_with lfn es) }
+joined_entry es lfn = record {
+  lfn = lfn;
+  pfns = pfns_of (entries_with lfn es);
+  checksum = first_checksum (entries_with lfn es);
+}
 
 -- one entry for each lfn, in order of first appearance
 abbrev pub joined : List Replica → List Replica

@@ -30,7 +30,8 @@ impl<'a> Model for Replicas<'a> {
 
 /// The first place of each file.
 fn places_of(alloc: Global, entries: &[Replica]) -> Result<IndexMap<Text, usize>, Memory>
-    ensures { IfOk result (λ places. (lfn : List ℕ) → get_by (bytes_eq lfn) places ≡ position (is_of lfn) entries.now) }
+    ensures { IfOk result (λ places. (lfn : List ℕ)
+        → get_by (bytes_eq lfn) places ≡ position (is_of lfn) entries.now) }
 {
     let mut places = IndexMap::new(alloc);
     for (place, entry) in entries.iter().enumerate() {

@@ -32,7 +32,8 @@ pub record Redoes (p : Plan) (order : List ℕ) (r after : List Event) (lost : L
 
 -- the count of member k's tool has not fallen, and rose by n at least
 abbrev pub HasRisen : ℕ → ℕ → List MemberMoment → List MemberMoment → Type 0
-HasRisen k n before later = (count_of before k ≤ count_of later k) × RoseBy n (count_of before k) (count_of later k)
+HasRisen k n before later = (count_of before k ≤ count_of later k)
+    × RoseBy n (count_of before k) (count_of later k)
 
 -- Each member's count shows what is added after a record r: it rose as often, at least, as entries of its worker say.
 pub record AddsFaults (r after : List Event) (before later : List MemberMoment) : Type 0 where
@@ -41,7 +42,8 @@ pub record AddsFaults (r after : List Event) (before later : List MemberMoment) 
   pub counted : (k : ℕ) → HasRisen k (tool_faults k added) before later
 
 -- one entry more, by which its own worker is done with a task, and which the members' counts show; whether it is a Fail
-pub record RedoesOne (l : Lost) (r after : List Event) (before later : List MemberMoment) (fails : Bool) : Type 0 where
+pub record RedoesOne (l : Lost) (r after : List Event) (before later : List MemberMoment)
+    (fails : Bool) : Type 0 where
   pub entry : Event
   pub is : after ≡ r ++ entry ∷ []
   pub done : IsDone l.worker l.task.0 entry

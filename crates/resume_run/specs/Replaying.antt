@@ -25,7 +25,8 @@ pub record HasFollowed (p : Plan) (order : List ℕ) (r : List Event) (b : Book)
   pub history : b.history.events ≡ r
 
 -- a book at the record without its Fails, and the tasks that are open in it, by number
-pub record IsReplayed (p : Plan) (order : List ℕ) (r : List Event) (b : Book) (lost : List Lost) : Type 0 where
+pub record IsReplayed (p : Plan) (order : List ℕ) (r : List Event) (b : Book)
+    (lost : List Lost) : Type 0 where
   pub followed : HasFollowed p order (without_fails r) b
   pub lost_are : lost ≡ lost_below (state_at b) (count_tasks p)
 

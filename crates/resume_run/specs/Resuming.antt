@@ -47,7 +47,8 @@ held_after p order first = (now p order first).held
 -- Where the host told what it held, it still tells, and shows the entries that were added: of its files under the premise
 -- that it held what the record before them says.
 abbrev pub IsShownSince : Work → Plan → List Event → List Event → Type 0
-IsShownSince w p first r = IfSome w.before.told (λ m. MatchOption w.after.told ⊥ (λ s. AgreesSince w.apply p first r m s))
+IsShownSince w p first r = IfSome w.before.told
+    (λ m. MatchOption w.after.told ⊥ (λ s. AgreesSince w.apply p first r m s))
 
 -- The opening was refused; the host's counts show why, and that it was asked for nothing else.
 pub record WasRefused (w : Work) (p : Plan) (held : ℕ → Held) : Type 0 where
@@ -56,7 +57,9 @@ pub record WasRefused (w : Work) (p : Plan) (held : ℕ → Held) : Type 0 where
 
 -- The host's counts of what didn't come rose by what the added entries lay on the host, and by no more.
 abbrev pub ShowsFailures : Work → Plan → (ℕ → Held) → List Event → Type 0
-ShowsFailures w p held r = AreCounted w.before.told w.before.counts.faults w.before.counts.misses w.after.counts r ⊎ ((r ≡ []) × WasRefused w p held)
+ShowsFailures w p held r =
+    AreCounted w.before.told w.before.counts.faults w.before.counts.misses w.after.counts r
+    ⊎ ((r ≡ []) × WasRefused w p held)
 
 -- The looks at the opening and the calls of the added entries, and no others, did what was asked of them.
 pub record TakesCalls (w : Work) (p : Plan) (held : ℕ → Held) (r : List Event) : Type 0 where
@@ -65,18 +68,21 @@ pub record TakesCalls (w : Work) (p : Plan) (held : ℕ → Held) (r : List Even
   pub asked : IsMore (measures p held + calls) w.before.counts.done w.after.counts.done
 
 -- Of a resumed run, whatever its answer: `first` is the record that it goes on from, r what it added.
-pub record IsResumption (w : Work) (t : Tools) (p : Plan) (order : List ℕ) (first r : List Event) : Type 0 where
+pub record IsResumption (w : Work) (t : Tools) (p : Plan) (order : List ℕ)
+    (first r : List Event) : Type 0 where
   -- each entry of the whole record is allowed after those before it, and the added ones are by the sixteen workers
   pub legal : Legal p order (first ++ r)
   pub below : AllBelow 16 r
   -- each lost task's next entry is its own worker's; after them worker 0 begins what is left in the order that is kept
   pub in_order : IsInOrder p order first r
   -- nothing was begun, or all was done, or something failed
-  pub over : (r ≡ []) ⊎ (IsComplete p (now p order (first ++ r)) ⊎ ((now p order (first ++ r)).failing ≡ true))
+  pub over : (r ≡ []) ⊎ (IsComplete p (now p order (first ++ r))
+      ⊎ ((now p order (first ++ r)).failing ≡ true))
   -- after every entry each site is within its bound, and the kept order would finish what is left within every bound
   pub safe : (k : ℕ) → IsSafeState p (now p order (take k (first ++ r)))
   -- and what the operations that the whole record says have left at a site is no more than is stored and reserved there
-  pub left : (k s : ℕ) → let held = (now p order (take k (first ++ r))).held in left_in p (trace_of p (take k (first ++ r))) s ≤ stored_at p held s + reserved_at p held s
+  pub left : (k s : ℕ) → let held = (now p order (take k (first ++ r))).held in
+      left_in p (trace_of p (take k (first ++ r))) s ≤ stored_at p held s + reserved_at p held s
   -- what was delivered is within the bound of the output
   pub output : AreWithinOutput p (first ++ r)
   -- the new operations are those that the added entries say, and no others
@@ -89,7 +95,8 @@ pub record IsResumption (w : Work) (t : Tools) (p : Plan) (order : List ℕ) (fi
   pub tools : (k : ℕ) → k < 16 → RoseBy (tool_faults k r) (count_of t.before k) (count_of t.after k)
   pub gates : (k : ℕ) → asked_of t.after k ≡ asked_of t.before k
   -- the host was asked for nothing else
-  pub asked : TakesCalls w p (held_after p order first) r ⊎ ((r ≡ []) × WasRefused w p (held_after p order first))
+  pub asked : TakesCalls w p (held_after p order first) r
+      ⊎ ((r ≡ []) × WasRefused w p (held_after p order first))
 
 -- what is stored by the record stands at its sites, at its recorded sizes, where that is told
 abbrev pub IsReopened : Work → Plan → (ℕ → Held) → Type 0
@@ -97,14 +104,17 @@ IsReopened w p held = AreRecorded p held w.before.told
 
 -- What was delivered by the added entries, in order: the files and sizes of their arrivals, with the digests of what tasks
 -- carry over a store, where that is told and held what the record before says.
-pub record AreDeliveriesSince (apply : Apply) (p : Plan) (first r : List Event) (told : Option Store) (ds : List Delivered) : Type 0 where
+pub record AreDeliveriesSince (apply : Apply) (p : Plan) (first r : List Event) (told : Option Store)
+    (ds : List Delivered) : Type 0 where
   pub files : AreFiles ds (arrivals p r)
   pub lengths : AreLengths ds (arrivals p r)
   pub of_bytes : AreOfBytes ds
-  pub digests : IfSome told (λ m. IsOpening apply p first m → AreDigests (carries apply p m) ds (arrivals p r))
+  pub digests : IfSome told (λ m. IsOpening apply p first m
+      → AreDigests (carries apply p m) ds (arrivals p r))
 
 -- the text of the whole record, with what was delivered since
-pub record IsResumedText (apply : Apply) (p : Plan) (first r : List Event) (told : Option Store) (text : List ℕ) : Type 0 where
+pub record IsResumedText (apply : Apply) (p : Plan) (first r : List Event) (told : Option Store)
+    (text : List ℕ) : Type 0 where
   pub entries : AreEntries (first ++ r)
   pub delivered : List Delivered
   pub are : AreDeliveriesSince apply p first r told delivered
@@ -113,26 +123,30 @@ pub record IsResumedText (apply : Apply) (p : Plan) (first r : List Event) (told
 -- ---- how it ends
 
 -- The opening was refused, with this fault; what is written is the text of a record without entries.
-pub record IsUnopened (w : Work) (p : Plan) (held : ℕ → Held) (text : List ℕ) (fault : RunFault) : Type 0 where
+pub record IsUnopened (w : Work) (p : Plan) (held : ℕ → Held) (text : List ℕ)
+    (fault : RunFault) : Type 0 where
   pub opening : OpenFault
   pub refuses : RefusesAgain p held w.before.told w.before.counts w.after.counts opening
   pub fault_is : fault ≡ fault_of_opening p opening
   pub text_is : text ≡ run_text p [] []
 
 -- Something failed: this is the fault of the record's first Fail, which was added.
-pub record HasFailed (w : Work) (p : Plan) (order : List ℕ) (first r : List Event) (text : List ℕ) (fault : RunFault) : Type 0 where
+pub record HasFailed (w : Work) (p : Plan) (order : List ℕ) (first r : List Event) (text : List ℕ)
+    (fault : RunFault) : Type 0 where
   pub reopened : IsReopened w p (held_after p order first)
   pub fault_is : first_fault p (first ++ r) ≡ Some fault
   pub text_is : IsResumedText w.apply p first r w.before.told text
 
 -- All was done.
-pub record HasEnded (w : Work) (p : Plan) (order : List ℕ) (first r : List Event) (text : List ℕ) : Type 0 where
+pub record HasEnded (w : Work) (p : Plan) (order : List ℕ) (first r : List Event)
+    (text : List ℕ) : Type 0 where
   pub reopened : IsReopened w p (held_after p order first)
   pub complete : IsComplete p (now p order (first ++ r))
   pub text_is : IsResumedText w.apply p first r w.before.told text
 
 abbrev pub Fails : Work → Plan → List ℕ → List Event → List Event → List ℕ → RunFault → Type 0
-Fails w p order first r text fault = HasFailed w p order first r text fault ⊎ ((r ≡ []) × IsUnopened w p (held_after p order first) text fault)
+Fails w p order first r text fault = HasFailed w p order first r text fault
+    ⊎ ((r ≡ []) × IsUnopened w p (held_after p order first) text fault)
 
 -- The end of a resumed run and its text, read off its record. At want of memory nothing is written, so both are free.
 abbrev pub Tells : Work → Plan → List ℕ → List Event → List Event → List ℕ → End → Type 0
@@ -142,13 +156,15 @@ Tells w p order first r text (Err (Failed fault)) = Fails w p order first r text
 Tells w p order first r text (Err (Illegal k)) = ⊥
 
 -- A run was gone on with from a record, by these entries, and ended so with its text.
-pub record HasGoneOn (w : Work) (t : Tools) (p : Plan) (order : List ℕ) (first : List Event) (text : List ℕ) (end : End) : Type 0 where
+pub record HasGoneOn (w : Work) (t : Tools) (p : Plan) (order : List ℕ) (first : List Event) (text : List ℕ)
+    (end : End) : Type 0 where
   pub r : List Event
   pub run : IsResumption w t p order first r
   pub tells : Tells w p order first r text end
 
 -- The record that was given is Legal, and was gone on with without its Fails.
-pub record HasResumed (w : Work) (t : Tools) (p : Plan) (order : List ℕ) (given : List Event) (text : List ℕ) (end : End) : Type 0 where
+pub record HasResumed (w : Work) (t : Tools) (p : Plan) (order : List ℕ) (given : List Event) (text : List ℕ)
+    (end : End) : Type 0 where
   pub legal : Legal p order given
   pub gone_on : HasGoneOn w t p order (without_fails given) text end
 
@@ -159,14 +175,16 @@ IsWhy p order given (Err (Failed faults.Memory)) = Unit {0}
 IsWhy p order given _ = ⊥
 
 -- Nothing was done.
-pub record IsUnresumed (w : Work) (t : Tools) (p : Plan) (order : List ℕ) (given : List Event) (text : List ℕ) (end : End) : Type 0 where
+pub record IsUnresumed (w : Work) (t : Tools) (p : Plan) (order : List ℕ) (given : List Event)
+    (text : List ℕ) (end : End) : Type 0 where
   pub why : IsWhy p order given end
   pub untouched : w.after ≡ w.before
   pub unused : t.after ≡ t.before
   pub no_text : text ≡ []
 
 abbrev pub Resumes : Work → Tools → Plan → List ℕ → List Event → List ℕ → End → Type 0
-Resumes w t p order given text end = IsUnresumed w t p order given text end ⊎ HasResumed w t p order given text end
+Resumes w t p order given text end = IsUnresumed w t p order given text end
+    ⊎ HasResumed w t p order given text end
 
 -- ---- what a yard that is over, and an opening that was refused, come to
 
@@ -184,4 +202,5 @@ Reports apply p first r told text end = IsResumedText apply p first r told text
 
 -- the end and the text of a run whose opening was refused; the text is that of a record without entries
 abbrev pub IsRefusal : Plan → OpenFault → List ℕ → End → Type 0
-IsRefusal p opening text end = (end ≡ Err (Failed faults.Memory)) ⊎ ((end ≡ Err (Failed (fault_of_opening p opening))) × (text ≡ run_text p [] []))
+IsRefusal p opening text end = (end ≡ Err (Failed faults.Memory))
+    ⊎ ((end ≡ Err (Failed (fault_of_opening p opening))) × (text ≡ run_text p [] []))

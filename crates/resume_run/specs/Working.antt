@@ -21,7 +21,8 @@ pub record IsInOrder (p : Plan) (order : List ℕ) (r added : List Event) : Type
   pub first : TakeFirst p (now p order (r ++ redone)) later
 
 -- What is added after a record r until it is over. Each member's count shows the failures of its worker's new entries.
-pub record WorksOn (p : Plan) (order : List ℕ) (r after : List Event) (before later : List MemberMoment) : Type 0 where
+pub record WorksOn (p : Plan) (order : List ℕ) (r after : List Event)
+    (before later : List MemberMoment) : Type 0 where
   pub added : List Event
   pub is : after ≡ r ++ added
   pub in_order : IsInOrder p order r added

@@ -15,13 +15,16 @@ use site_yard::nothing_else_fails;
 
 /// Nothing but a counted failure, or want of memory, keeps a run that can be gone on with from its end.
 pub fn resumes_finish()
-    ensures { (w : Work) (t : Tools) (p : Plan) (order : List ℕ) (given : List Event) (text : List ℕ) (end : End)
-        → IsProper p → CanEnd w p order given → NoneFailed w t 16 → Resumes w t p order given text end → IsDoneOrMemory end }
+    ensures { (w : Work) (t : Tools) (p : Plan) (order : List ℕ) (given : List Event) (text : List ℕ)
+        (end : End)
+        → IsProper p → CanEnd w p order given → NoneFailed w t 16 → Resumes w t p order given text end
+        → IsDoneOrMemory end }
 {
     nothing_else_fails();
 }
 
 /// A Legal record is Legal without its Fails: after the first of them there are Arrives, Ends and Fails alone.
 pub fn records_without_fails_are_legal()
-    ensures { (p : Plan) (order : List ℕ) (r : List Event) → Legal p order r → Legal p order (without_fails r) }
+    ensures { (p : Plan) (order : List ℕ) (r : List Event) → Legal p order r
+        → Legal p order (without_fails r) }
 {}

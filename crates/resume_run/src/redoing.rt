@@ -40,11 +40,15 @@ fn redo_one<H: Host, T: Tool, G: Gate>(
 ) -> bool
     requires open { IsOpen (state_at yard.old.book) lost.worker lost.task.0 }
     requires member { lost.worker < length crew.old.items }
-    ensures redoes { RedoesOne lost yard.old.book.history.events yard.new.book.history.events (crew_moment T.Tool G.Gate crew.old.items) (crew_moment T.Tool G.Gate crew.new.items) result }
-    ensures calls { AddsCalls yard.old.ordered.plan yard.old.book.history.events yard.new.book.history.events (H.counts yard.old.host) (H.counts yard.new.host) }
-    ensures inputs { AddsOfInputs T.apply yard.old.ordered.plan yard.old.book.history.events yard.new.book.history.events }
+    ensures redoes { RedoesOne lost yard.old.book.history.events yard.new.book.history.events
+        (crew_moment T.Tool G.Gate crew.old.items) (crew_moment T.Tool G.Gate crew.new.items) result }
+    ensures calls { AddsCalls yard.old.ordered.plan yard.old.book.history.events yard.new.book.history.events
+        (H.counts yard.old.host) (H.counts yard.new.host) }
+    ensures inputs { AddsOfInputs T.apply yard.old.ordered.plan yard.old.book.history.events
+        yard.new.book.history.events }
     ensures crew { length crew.new.items ≡ length crew.old.items }
-    ensures gates { map (λ (c : Crew T G). c.gate) crew.new.items ≡ map (λ (c : Crew T G). c.gate) crew.old.items }
+    ensures gates { map (λ (c : Crew T G). c.gate) crew.new.items
+        ≡ map (λ (c : Crew T G). c.gate) crew.old.items }
     ensures same { IsSameYard yard.old yard.new }
 {
     let member = &mut crew[lost.worker as usize];
@@ -62,12 +66,17 @@ pub fn redo<H: Host, T: Tool, G: Gate>(
 ) -> Yard<H, T>
     requires members { 16 ≤ length crew.old.items }
     requires lost { lost.now ≡ lost_below (state_at yard.book) (count_tasks yard.ordered.plan) }
-    ensures redoes { Redoes yard.ordered.plan (task_numbers yard.ordered.tasks.items) yard.book.history.events result.book.history.events lost.now }
-    ensures calls { AddsCalls yard.ordered.plan yard.book.history.events result.book.history.events (H.counts yard.host) (H.counts result.host) }
-    ensures inputs { AddsOfInputs T.apply yard.ordered.plan yard.book.history.events result.book.history.events }
-    ensures tools { AddsFaults yard.book.history.events result.book.history.events (crew_moment T.Tool G.Gate crew.old.items) (crew_moment T.Tool G.Gate crew.new.items) }
+    ensures redoes { Redoes yard.ordered.plan
+        (task_numbers yard.ordered.tasks.items) yard.book.history.events result.book.history.events lost.now }
+    ensures calls { AddsCalls yard.ordered.plan yard.book.history.events result.book.history.events
+        (H.counts yard.host) (H.counts result.host) }
+    ensures inputs { AddsOfInputs T.apply yard.ordered.plan yard.book.history.events
+        result.book.history.events }
+    ensures tools { AddsFaults yard.book.history.events result.book.history.events
+        (crew_moment T.Tool G.Gate crew.old.items) (crew_moment T.Tool G.Gate crew.new.items) }
     ensures crew { length crew.new.items ≡ length crew.old.items }
-    ensures gates { map (λ (c : Crew T G). c.gate) crew.new.items ≡ map (λ (c : Crew T G). c.gate) crew.old.items }
+    ensures gates { map (λ (c : Crew T G). c.gate) crew.new.items
+        ≡ map (λ (c : Crew T G). c.gate) crew.old.items }
     ensures same { IsSameYard yard result }
 {
     let mut yard = yard;

@@ -59,7 +59,8 @@ fn follow(plan: &Plan, book: &mut Book, entry: &Entry<'_>)
 fn followed(alloc: Global, ordered: &Ordered, history: &Record) -> Result<Book, Memory>
     requires retries { retries ordered.now.plan ≤ 10 }
     requires legal { Legal ordered.now.plan (task_numbers ordered.now.tasks.items) history.now.events }
-    ensures { IfOk result (HasFollowed ordered.now.plan (task_numbers ordered.now.tasks.items) (without_fails history.now.events)) }
+    ensures { IfOk result (HasFollowed ordered.now.plan (task_numbers ordered.now.tasks.items)
+        (without_fails history.now.events)) }
 {
     // Laws for the proof: they do nothing.
     ordered_plans_fit();
@@ -78,7 +79,8 @@ fn followed(alloc: Global, ordered: &Ordered, history: &Record) -> Result<Book, 
 fn with_lost(alloc: Global, ordered: &Ordered, history: &Record) -> Result<Replayed, Memory>
     requires retries { retries ordered.now.plan ≤ 10 }
     requires legal { Legal ordered.now.plan (task_numbers ordered.now.tasks.items) history.now.events }
-    ensures { IfOk result (λ x. IsReplayed ordered.now.plan (task_numbers ordered.now.tasks.items) history.now.events x.book x.lost.items) }
+    ensures { IfOk result (λ x. IsReplayed ordered.now.plan
+        (task_numbers ordered.now.tasks.items) history.now.events x.book x.lost.items) }
 {
     // A law for the proof: it does nothing.
     records_without_fails_are_legal();

@@ -60,7 +60,10 @@ fn unresumed<H: Host>(alloc: Global, fault: ResumeFault, host: H) -> Resumed<H>
 
 /// The whole record, and what was delivered since the yard's opening.
 fn text_of<H: Host, T: Tool>(alloc: Global, yard: &Yard<H, T>) -> Result<Vec<u8>, Memory>
-    ensures { IfOk result (λ x. IsResumedText T.apply yard.now.ordered.plan (take yard.now.opened yard.now.book.history.events) (drop yard.now.opened yard.now.book.history.events) (marked_if (H.told yard.now.host) (H.marked yard.now.host)) x.items) }
+    ensures { IfOk result (λ x. IsResumedText T.apply yard.now.ordered.plan
+        (take yard.now.opened yard.now.book.history.events)
+        (drop yard.now.opened yard.now.book.history.events)
+        (marked_if (H.told yard.now.host) (H.marked yard.now.host)) x.items) }
 {
     let record = yard.book().record();
     // What holds of every record, for the proof.
@@ -70,9 +73,13 @@ fn text_of<H: Host, T: Tool>(alloc: Global, yard: &Yard<H, T>) -> Result<Vec<u8>
 
 /// The end and the text of a run that is over, and its host.
 fn end_resumed<H: Host, T: Tool>(alloc: Global, yard: Yard<H, T>) -> Resumed<H>
-    requires over { IsComplete yard.ordered.plan (state_at yard.book) ⊎ ((state_at yard.book).failing ≡ true) }
-    ensures ends { EndsAs yard.ordered.plan (task_numbers yard.ordered.tasks.items) yard.book.history.events result.end }
-    ensures reports { Reports T.apply yard.ordered.plan (take yard.opened yard.book.history.events) (drop yard.opened yard.book.history.events) (marked_if (H.told yard.host) (H.marked yard.host)) result.text.items result.end }
+    requires over { IsComplete yard.ordered.plan (state_at yard.book)
+        ⊎ ((state_at yard.book).failing ≡ true) }
+    ensures ends { EndsAs yard.ordered.plan
+        (task_numbers yard.ordered.tasks.items) yard.book.history.events result.end }
+    ensures reports { Reports T.apply yard.ordered.plan (take yard.opened yard.book.history.events)
+        (drop yard.opened yard.book.history.events)
+        (marked_if (H.told yard.host) (H.marked yard.host)) result.text.items result.end }
     ensures host { result.host ≡ yard.host }
 {
     match text_of(alloc, &yard) {
@@ -132,11 +139,15 @@ fn go_on<H: Host, T: Tool, G: Gate>(
     requires order { replayed.book.order.items ≡ ordered.tasks.items }
     requires unfailing { (state_at replayed.book).failing ≡ false }
     requires lost { replayed.lost.items ≡ lost_below (state_at replayed.book) (count_tasks ordered.plan) }
-    ensures gone_on { ∥ HasGoneOn (working T.apply T.known (work_moment H.Host host (first_count (crew_moment T.Tool G.Gate crew.old.items))) (work_moment H.Host result.host (first_count (crew_moment T.Tool G.Gate crew.new.items))))
+    ensures gone_on { ∥ HasGoneOn (working T.apply T.known
+        (work_moment H.Host host (first_count (crew_moment T.Tool G.Gate crew.old.items)))
+        (work_moment H.Host result.host (first_count (crew_moment T.Tool G.Gate crew.new.items))))
         (counting (crew_moment T.Tool G.Gate crew.old.items) (crew_moment T.Tool G.Gate crew.new.items))
-        ordered.plan (task_numbers ordered.tasks.items) replayed.book.history.events result.text.items result.end ∥₁ }
+        ordered.plan (task_numbers ordered.tasks.items) replayed.book.history.events result.text.items
+        result.end ∥₁ }
     ensures crew { length crew.new.items ≡ length crew.old.items }
-    ensures gates { map (λ (c : Crew T G). c.gate) crew.new.items ≡ map (λ (c : Crew T G). c.gate) crew.old.items }
+    ensures gates { map (λ (c : Crew T G). c.gate) crew.new.items
+        ≡ map (λ (c : Crew T G). c.gate) crew.old.items }
 {
     // Laws for the proof: they do nothing.
     ordered_plans_fit();
@@ -170,11 +181,14 @@ pub fn resume_plan<H: Host, T: Tool, G: Gate>(
 ) -> Resumed<H>
     requires retries { retries ordered.plan ≤ 10 }
     requires members { 16 ≤ length crew.old.items }
-    ensures resumes { ∥ Resumes (working T.apply T.known (work_moment H.Host host (first_count (crew_moment T.Tool G.Gate crew.old.items))) (work_moment H.Host result.host (first_count (crew_moment T.Tool G.Gate crew.new.items))))
+    ensures resumes { ∥ Resumes (working T.apply T.known
+        (work_moment H.Host host (first_count (crew_moment T.Tool G.Gate crew.old.items)))
+        (work_moment H.Host result.host (first_count (crew_moment T.Tool G.Gate crew.new.items))))
         (counting (crew_moment T.Tool G.Gate crew.old.items) (crew_moment T.Tool G.Gate crew.new.items))
         ordered.plan (task_numbers ordered.tasks.items) history.now.events result.text.items result.end ∥₁ }
     ensures crew { length crew.new.items ≡ length crew.old.items }
-    ensures gates { map (λ (c : Crew T G). c.gate) crew.new.items ≡ map (λ (c : Crew T G). c.gate) crew.old.items }
+    ensures gates { map (λ (c : Crew T G). c.gate) crew.new.items
+        ≡ map (λ (c : Crew T G). c.gate) crew.old.items }
 {
     // A law for the proof: it does nothing.
     fails_show_in_the_state();

@@ -54,7 +54,8 @@ module _ {C G I : Type 0} {g : _} where
     pub joined : joined_of q ≡ joined_of p
 
   -- a pass that has added nothing and joined none
-  pub record IsNewPass (worker : ℕ) (charter : Option G) (seen : List I) (count : ℕ) (p : Pass C G I g) : Type 0 where
+  pub record IsNewPass (worker : ℕ) (charter : Option G) (seen : List I) (count : ℕ)
+      (p : Pass C G I g) : Type 0 where
     pub number : worker_of p ≡ worker
     pub charter_is : charter_of p ≡ charter
     pub seen_is : seen_of p ≡ seen

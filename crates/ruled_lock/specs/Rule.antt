@@ -12,7 +12,8 @@ use Rattle.ruled_lock.specs.View.{ticket, compares, is_live, names, lists, waiti
 
 module _ {C G I : Type 0} (charter : C → G) (journal : C → List I) (author : I → ℕ) where
   -- a pass that is not spent, in the place j, agrees with the journal, the two words and the owners of numbers
-  pub record Agrees (g : G) (log : List I) (served drawn : ℕ) (owners : List ℕ) (j : ℕ) (v : View G I) : Type 0 where
+  pub record Agrees (g : G) (log : List I) (served drawn : ℕ) (owners : List ℕ) (j : ℕ)
+      (v : View G I) : Type 0 where
     -- its number is its place
     pub worker : v.worker ≡ j
     pub same : v.charter ≡ Some g
@@ -52,6 +53,7 @@ module _ {C G I : Type 0} (charter : C → G) (journal : C → List I) (author :
         → ticket v.stage ≡ Some t → ticket w.stage ≡ Some t → i ≡ j
     -- the owner of a number is not spent, and stands for it
     pub covers : (k j : ℕ) → get_elem? owners k ≡ some j
-        → (v : View G I) × (get_elem? s.views j ≡ some v) × (is_live v.stage ≡ true) × (names k (lists v) ≡ true)
+        → (v : View G I) × (get_elem? s.views j ≡ some v) × (is_live v.stage ≡ true)
+        × (names k (lists v) ≡ true)
     -- a number that was not made has no item
     pub later : (k : ℕ) → length owners ≤ k → items_of author k log ≡ []

@@ -84,7 +84,8 @@ module _ {G I : Type 0} where
     pub seen : length (compares v.stage) ≤ length v.seen → IsPrefix (compares v.stage) v.seen
 
   abbrev pub compared : {S : Type 0} → (I → ℕ) → Step S → Me S (View G I) → ℕ → Me S (View G I) → Type 0
-  compared author st m found m' = is_resting m.0.stage ≡ true → (m' ≡ (staged m.0 Idle, m.1)) × IsTold author m.0
+  compared author st m found m' = is_resting m.0.stage ≡ true
+      → (m' ≡ (staged m.0 Idle, m.1)) × IsTold author m.0
 
 module _ {C G I : Type 0} (charter : C → G) (journal : C → List I) (author : I → ℕ) where
   -- the pass that waited with the ticket t has the turn, and the slot with the value x
@@ -99,9 +100,11 @@ module _ {C G I : Type 0} (charter : C → G) (journal : C → List I) (author :
   -- a pass that waits has the turn where its ticket was found, and else nothing changed
   abbrev pub looked : Step (Option C) → Me (Option C) (View G I) → ℕ → Me (Option C) (View G I) → Type 0
   looked st m found m' =
-      (t : ℕ) → m.0.stage ≡ Waits t → m.1 ≡ [] → (found ≡ t % 2 ^ 64 → HasTaken m t m') × (found ≢ t % 2 ^ 64 → m' ≡ m)
+      (t : ℕ) → m.0.stage ≡ Waits t → m.1 ≡ []
+      → (found ≡ t % 2 ^ 64 → HasTaken m t m') × (found ≢ t % 2 ^ 64 → m' ≡ m)
 
   -- the value that the pass put into the slot is what it has seen
   abbrev pub passed : Step (Option C) → Me (Option C) (View G I) → ℕ → Me (Option C) (View G I) → Type 0
   passed st m found m' =
-      (x : C) → m.1 ≡ (0, Some x) ∷ [] → m' ≡ (after m.0 (journal x) (items_of author m.0.worker (journal x)), [])
+      (x : C) → m.1 ≡ (0, Some x) ∷ []
+      → m' ≡ (after m.0 (journal x) (items_of author m.0.worker (journal x)), [])

@@ -68,4 +68,12 @@ module _ {G I : Type 0} where
 
   -- the first pass
   abbrev pub newcomer : G → View G I
-  newcomer g = record { worker = 0; charter = Some g; seen = []; mine = []; count = 1; joined = []; stage = Idle }
+  newcomer g = record {
+    worker = 0;
+    charter = Some g;
+    seen = [];
+    mine = [];
+    count = 1;
+    joined = [];
+    stage = Idle;
+  }

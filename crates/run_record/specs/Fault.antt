@@ -8,7 +8,8 @@ use Rattle.run_record.specs.Lines.{lines}
 
 -- some record's text has the same first k lines; where a text has fewer, it is that record's text
 abbrev pub SharesLines : List ℕ → ℕ → Type 0
-SharesLines text k = (es : List Event) × AreEntries es × (take k (lines text) ≡ take k (lines (record_text es)))
+SharesLines text k = (es : List Event) × AreEntries es
+    × (take k (lines text) ≡ take k (lines (record_text es)))
 
 -- k is the number, from 1, of the first line that stands in no record's text after the lines before it;
 -- the line after the last one is the first that is missing

@@ -16,7 +16,8 @@ abbrev pub is_numeral : List ℕ → Bool
 is_numeral ds = nat_lt 0 (length ds) && list_all (λ (b : ℕ). nat_lt (digit_value b) 10) ds
 
 abbrev pub numeral_value : ℕ → List ℕ → Option ℕ
-numeral_value k ds = if is_numeral ds && nat_lt (digits_value 10 ds) (2 ^ k) then Some (digits_value 10 ds) else None
+numeral_value k ds = if is_numeral ds && nat_lt (digits_value 10 ds) (2 ^ k) then Some (digits_value 10 ds)
+    else None
 
 -- the number of at most k bits that a word writes
 unfoldable pub number_of : ℕ → List ℕ → Option ℕ
@@ -42,11 +43,13 @@ sizes_of (word ∷ words) = with_size (number_of 64 word) (sizes_of words)
 
 -- the place of the first size after a cause: the list of sizes is empty after most
 abbrev pub published_place : List ℕ → ℕ → ℕ
-published_place cause count = if bytes_eq cause (codes "hostfailed") || bytes_eq cause (codes "memory") then 4 else count
+published_place cause count = if bytes_eq cause (codes "hostfailed") || bytes_eq cause (codes "memory")
+    then 4 else count
 
 -- the place of the first word of an entry's list of sizes
 abbrev pub sizes_place : List (List ℕ) → ℕ
-sizes_place words = if bytes_eq (word_at words 0) (codes "end") then 3 else published_place (word_at words 3) (length words)
+sizes_place words = if bytes_eq (word_at words 0) (codes "end") then 3
+    else published_place (word_at words 3) (length words)
 
 -- the words of an entry's list of sizes, and those that follow a cause
 abbrev pub listed_words : List (List ℕ) → List (List ℕ)
@@ -59,7 +62,9 @@ abbrev pub job : ℕ → JobId
 job n = record { 0 = n }
 
 abbrev pub oversize : List (List ℕ) → Option Cause
-oversize words = option_and_then (λ (j : ℕ). option_and_then (λ (f : ℕ). option_map (λ (n : ℕ). Oversize (job j) (record { 0 = f }) n) (size_at words 6)) (number_at words 5)) (number_at words 4)
+oversize words = option_and_then (λ (j : ℕ). option_and_then
+    (λ (f : ℕ). option_map (λ (n : ℕ). Oversize (job j) (record { 0 = f }) n) (size_at words 6))
+    (number_at words 5)) (number_at words 4)
 
 abbrev pub cause_named : List ℕ → List (List ℕ) → Option Cause
 cause_named name words =
@@ -68,7 +73,8 @@ cause_named name words =
     else if bytes_eq name (codes "checksum") then option_map Checksum (digest_at words 4)
     else if bytes_eq name (codes "oversize") then oversize words
     else if bytes_eq name (codes "declined") then option_map (λ (n : ℕ). Declined (job n)) (number_at words 4)
-    else if bytes_eq name (codes "toolfailed") then option_map (λ (n : ℕ). ToolFailed (job n)) (number_at words 4)
+    else if bytes_eq name (codes "toolfailed")
+    then option_map (λ (n : ℕ). ToolFailed (job n)) (number_at words 4)
     else if bytes_eq name (codes "hostfailed") then Some HostFailed
     else if bytes_eq name (codes "memory") then Some Memory
     else None
@@ -88,7 +94,8 @@ event_named kind w t sizes words =
     else None
 
 unfoldable pub event_with : List ℕ → List (List ℕ) → Option Event
-event_with sizes words = option_and_then (λ (w : ℕ). option_and_then (λ (t : ℕ). event_named (word_at words 0) w t sizes words) (number_at words 2)) (number_at words 1)
+event_with sizes words = option_and_then (λ (w : ℕ). option_and_then
+    (λ (t : ℕ). event_named (word_at words 0) w t sizes words) (number_at words 2)) (number_at words 1)
 
 -- the event that a line's words may be
 abbrev pub event_in : List (List ℕ) → Option Event

@@ -16,7 +16,8 @@ fn push_differs(
     wanted: &[u8; 32],
     got: &[u8; 32],
 ) -> Result<(), Memory>
-    ensures { OnOk result (text.new.items ≡ text.old.items ++ failed_line (ChecksumDiffers lfn.now wanted.now got.now)) }
+    ensures { OnOk result (text.new.items ≡ text.old.items
+        ++ failed_line (ChecksumDiffers lfn.now wanted.now got.now)) }
 {
     let wanted = encode(alloc, wanted.as_slice())?;
     let got = encode(alloc, got.as_slice())?;
@@ -34,7 +35,8 @@ fn push_oversize<'a>(
     declared: u64,
     length: u64,
 ) -> Result<(), Memory>
-    ensures { OnOk result (text.new.items ≡ text.old.items ++ failed_line (Oversize id.now lfn.now declared length)) }
+    ensures { OnOk result (text.new.items ≡ text.old.items
+        ++ failed_line (Oversize id.now lfn.now declared length)) }
 {
     let id = Word::Name(id.as_bytes());
     let lfn = Word::Name(lfn.as_bytes());
@@ -51,7 +53,8 @@ fn push_length<'a>(
     recorded: u64,
     found: u64,
 ) -> Result<(), Memory>
-    ensures { OnOk result (text.new.items ≡ text.old.items ++ failed_line (LengthDiffers site.now lfn.now recorded found)) }
+    ensures { OnOk result (text.new.items ≡ text.old.items
+        ++ failed_line (LengthDiffers site.now lfn.now recorded found)) }
 {
     let site = Word::Name(site.as_bytes());
     let lfn = Word::Name(lfn.as_bytes());

@@ -7,7 +7,8 @@ ghost use Rattle.run_record.specs.RecordText.{AreEntries, record_text};
 
 /// No two records have the same text.
 pub fn text_is_of_one_record()
-    ensures { (es fs : List Event) → AreEntries es → AreEntries fs → record_text es ≡ record_text fs → es ≡ fs }
+    ensures { (es fs : List Event) → AreEntries es → AreEntries fs → record_text es ≡ record_text fs
+        → es ≡ fs }
 {}
 
 /// No line of a record's text is malformed, and no two lines of another text are.

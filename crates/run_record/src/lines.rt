@@ -82,7 +82,8 @@ pub fn read_line(
     scratch: &mut Scratch,
     history: &mut Record,
 ) -> Result<bool, Memory>
-    ensures added { IfOk result (λ found. IsTrue found → AddsEntry second line.now history.old.events history.new.events) }
+    ensures added { IfOk result (λ found. IsTrue found
+        → AddsEntry second line.now history.old.events history.new.events) }
     ensures none { IfOk result (λ found. found ≡ false → IsNoEntry second line.now) }
     ensures same { IfOk result (λ found. found ≡ false → history.new.events ≡ history.old.events) }
 {

@@ -57,7 +57,8 @@ fn read_entries<'a>(
 fn is_last(history: &Record, second: bool, line: &[u8]) -> bool
     ensures closed { IsTrue result → line.now ≡ closed_line }
     ensures version { IsTrue result → list_any is_second history.now.events ≡ second }
-    ensures none { result ≡ false → line.now ≡ closed_line → list_any is_second history.now.events ≡ second → ⊥ }
+    ensures none { result ≡ false → line.now ≡ closed_line → list_any is_second history.now.events ≡ second
+        → ⊥ }
 {
     line == b"closed\n".as_slice() && is_version_two(history) == second
 }
@@ -65,7 +66,8 @@ fn is_last(history: &Record, second: bool, line: &[u8]) -> bool
 /// The number of the first line that isn't a record's, if there is one after the entries.
 fn malformed_line(history: &Record, second: bool, rest: &[u8]) -> Option<u64>
     requires { IsNoEntry second (first_line rest.now) }
-    ensures { (text : List ℕ) → IsRead text second history.now.events rest.now → IsEndOf text history.now.events result }
+    ensures { (text : List ℕ) → IsRead text second history.now.events rest.now
+        → IsEndOf text history.now.events result }
 {
     let (line, more) = cut_line(rest);
     if !is_last(history, second, line) {

@@ -89,7 +89,8 @@ fn push_head(
     worker: u32,
     task: TaskId,
 ) -> Result<(), Memory>
-    ensures { OnOk result (text.new.items ≡ text.old.items ++ kind.now ++ spaced (Number worker ∷ Number task.0 ∷ [])) }
+    ensures { OnOk result (text.new.items ≡ text.old.items ++ kind.now
+        ++ spaced (Number worker ∷ Number task.0 ∷ [])) }
 {
     text.extend_from_slice(kind.as_bytes())?;
     push_number(alloc, text, worker)?;
@@ -104,7 +105,8 @@ fn push_failure(
     cause: &Cause,
     published: &[u64],
 ) -> Result<(), Memory>
-    ensures { OnOk result (text.new.items ≡ text.old.items ++ spaced (cause_words cause.now ++ map Size published.now)) }
+    ensures { OnOk result (text.new.items ≡ text.old.items
+        ++ spaced (cause_words cause.now ++ map Size published.now)) }
 {
     push_cause(alloc, text, cause)?;
     push_sizes(alloc, text, published)

@@ -70,7 +70,8 @@ fn sizes_text(line: &str) -> Option<&str>
 
 /// Adds the numbers among the words of a text.
 fn push_sizes(text: Option<&str>, sizes: &mut Vec<u64>) -> Result<(), Memory>
-    ensures { OnOk result (sizes.new.items ≡ sizes.old.items ++ sizes_of (words_in (option_copied text.entry))) }
+    ensures { OnOk result (sizes.new.items ≡ sizes.old.items
+        ++ sizes_of (words_in (option_copied text.entry))) }
 {
     let mut rest = text;
     while let Some(text) = rest {

@@ -31,7 +31,8 @@ is_candidate sites pinned e = are_offered_at sites e.site && is_allowed pinned e
 -- of execution sites, the first of which has number s, the candidates
 abbrev pub candidates_from : (Execution → Bool) → ℕ → List Execution → List ℕ
 candidates_from test s [] = []
-candidates_from test s (e ∷ es) = if test e then s ∷ candidates_from test (suc s) es else candidates_from test (suc s) es
+candidates_from test s (e ∷ es) = if test e then s ∷ candidates_from test (suc s) es
+    else candidates_from test (suc s) es
 
 abbrev pub candidates : List Execution → List TransformationSite → Option (List ℕ) → List ℕ
 candidates execute sites pinned = candidates_from (is_candidate sites pinned) 0 execute
@@ -39,7 +40,8 @@ candidates execute sites pinned = candidates_from (is_candidate sites pinned) 0 
 -- the same by flags, which tell of each site whether it has the transformation
 abbrev pub listed_from : List Bool → Option (List ℕ) → ℕ → List Execution → List ℕ
 listed_from flags pinned s [] = []
-listed_from flags pinned s (e ∷ es) = if get_or flags s false && is_allowed pinned e.site then s ∷ listed_from flags pinned (suc s) es else listed_from flags pinned (suc s) es
+listed_from flags pinned s (e ∷ es) = if get_or flags s false && is_allowed pinned e.site
+    then s ∷ listed_from flags pinned (suc s) es else listed_from flags pinned (suc s) es
 
 abbrev pub is_named : List ℕ → Execution → Bool
 is_named name e = bytes_eq name e.site
@@ -60,7 +62,8 @@ chosen_unless a turn None ss = chosen a turn ss
 
 -- the site of job a at this turn, or why it has none
 abbrev pub site_of : List Execution → List TransformationEntry → ℕ → ℕ → Job → Result SiteId SelectFault
-site_of execute entries turn a j = chosen_unless a turn (unknown_site execute j.pinned) (candidates execute (sites_of entries j.transformation) j.pinned)
+site_of execute entries turn a j = chosen_unless a turn (unknown_site execute j.pinned)
+    (candidates execute (sites_of entries j.transformation) j.pinned)
 
 -- One job's answer is the definition's. Want of memory is free.
 abbrev pub IsAnswer : Result SiteId SelectFault → Result SiteId SelectFault → Type 0

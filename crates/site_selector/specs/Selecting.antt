@@ -24,7 +24,13 @@ pub record Selection : Type 0 where
   pub entries : List TransformationEntry
 
 abbrev pub selection : Workflow → List Bool → List ℕ → PlanRequest → TransformationCatalog → Selection
-selection w kept levels r t = record { jobs = w.jobs; kept = kept; levels = levels; execute = r.execute; entries = t.entries }
+selection w kept levels r t = record {
+  jobs = w.jobs;
+  kept = kept;
+  levels = levels;
+  execute = r.execute;
+  entries = t.entries;
+}
 
 -- the job of number a is j, and it is kept
 abbrev pub IsKeptJob : Selection → ℕ → Job → Type 0
@@ -50,7 +56,8 @@ pub record IsFirstFault (c : Selection) (e : SelectFault) : Type 0 where
   pub job : Job
   pub kept : IsKeptJob c number job
   pub fault : answer_of c number job ≡ Err e
-  pub first : (b : ℕ) (j : Job) → IsKeptJob c b j → comes_before c.levels b number ≡ true → is_ok (answer_of c b j) ≡ true
+  pub first : (b : ℕ) (j : Job) → IsKeptJob c b j → comes_before c.levels b number ≡ true
+      → is_ok (answer_of c b j) ≡ true
 
 -- The sites of the kept jobs, or the first fault. Want of memory is free.
 abbrev pub Selects : Selection → Result (Vec (Option SiteId) Global) SelectFault → Type 0

@@ -7,6 +7,8 @@ ghost use Rattle.site_selector.specs.Selecting.{IsSelected, Selection};
 
 /// Sites of jobs are execution sites, and each kept job has one.
 pub fn selected_sites_are_placed()
-    ensures below { (c : Selection) (sites : List (Option SiteId)) → IsSelected c sites → (a : ℕ) (s : SiteId) → slice_get sites a ≡ Some (Some s) → s.0 < length c.execute }
-    ensures placed { (c : Selection) (sites : List (Option SiteId)) → IsSelected c sites → (a : ℕ) → is_kept c.kept a ≡ true → a < length c.jobs → (s : SiteId) × (slice_get sites a ≡ Some (Some s)) }
+    ensures below { (c : Selection) (sites : List (Option SiteId)) → IsSelected c sites
+        → (a : ℕ) (s : SiteId) → slice_get sites a ≡ Some (Some s) → s.0 < length c.execute }
+    ensures placed { (c : Selection) (sites : List (Option SiteId)) → IsSelected c sites → (a : ℕ)
+        → is_kept c.kept a ≡ true → a < length c.jobs → (s : SiteId) × (slice_get sites a ≡ Some (Some s)) }
 {}

@@ -63,14 +63,17 @@ AreOfBytes ds = All (λ (d : Delivered). IsDigestOf d.length d.digest) ds
 
 -- What a yard's list says of the entries since its opening; the digests where the host tells, under the premise on the
 -- opening.
-pub record AreDelivered (apply : Apply) (p : Plan) (first r : List Event) (told : Option Store) (marked : Store) (ds : List Delivered) : Type 0 where
+pub record AreDelivered (apply : Apply) (p : Plan) (first r : List Event) (told : Option Store)
+    (marked : Store) (ds : List Delivered) : Type 0 where
   pub files : AreFiles ds (arrivals p r)
   pub lengths : AreLengths ds (arrivals p r)
-  pub digests : IsOpening apply p first marked → is_some told ≡ true → AreDigests (carries apply p marked) ds (arrivals p r)
+  pub digests : IsOpening apply p first marked → is_some told ≡ true
+      → AreDigests (carries apply p marked) ds (arrivals p r)
   pub of_bytes : AreOfBytes ds
 
 -- The same of a yard that was opened with no entry.
-pub record AreAllDelivered (apply : Apply) (p : Plan) (r : List Event) (told : Option Store) (marked : Store) (ds : List Delivered) : Type 0 where
+pub record AreAllDelivered (apply : Apply) (p : Plan) (r : List Event) (told : Option Store) (marked : Store)
+    (ds : List Delivered) : Type 0 where
   pub files : AreFiles ds (arrivals p r)
   pub lengths : AreLengths ds (arrivals p r)
   pub digests : IfSome told (λ s. AreDigests (carries apply p marked) ds (arrivals p r))

@@ -43,8 +43,10 @@ registered found (Some wanted) = wanted
 -- the fault of a failed task
 abbrev pub fault_of : Plan → TaskId → Cause → RunFault
 fault_of p t why.Absent = ReplicaAbsent (file_name p (moved_file (kind p t.0))) (source_pfn (kind p t.0))
-fault_of p t (why.TooLong n) = ReplicaTooLong (file_name p (moved_file (kind p t.0))) (or_zero (declared p (moved_file (kind p t.0)))) n
-fault_of p t (why.Checksum d) = ChecksumDiffers (file_name p (moved_file (kind p t.0))) (registered d (checksum p (moved_file (kind p t.0)))) d
+fault_of p t (why.TooLong n) = ReplicaTooLong (file_name p (moved_file (kind p t.0)))
+    (or_zero (declared p (moved_file (kind p t.0)))) n
+fault_of p t (why.Checksum d) = ChecksumDiffers (file_name p (moved_file (kind p t.0)))
+    (registered d (checksum p (moved_file (kind p t.0)))) d
 fault_of p t (why.Oversize j f n) = Oversize (job_name p j.0) (file_name p f.0) (or_zero (declared p f.0)) n
 fault_of p t (why.Declined j) = Declined (job_name p j.0)
 fault_of p t (why.ToolFailed j) = ToolFailed (job_name p j.0)

@@ -19,8 +19,10 @@ use Rattle.site_yard.specs.Truthful.{HasChecksum, is_over}
 -- carried is longer than declared; and what comes from a pfn has the checksum that is registered.
 pub record AllCarried (apply : Apply) (told : Bytes → Option Bytes) (p : Plan) : Type 0 where
   pub none_declines : (t : ℕ) → declined apply p (carried apply told p) t ≡ None
-  pub moved_there : (t : ℕ) → is_transfer p t ≡ true → is_some (moved (carried apply told p t) (kind p t)) ≡ true
-  pub within : (t f : ℕ) → carries p t f ≡ true → is_over (or_zero (declared p f)) (carried apply told p t f) ≡ false
+  pub moved_there : (t : ℕ) → is_transfer p t ≡ true
+      → is_some (moved (carried apply told p t) (kind p t)) ≡ true
+  pub within : (t f : ℕ) → carries p t f ≡ true
+      → is_over (or_zero (declared p f)) (carried apply told p t f) ≡ false
   pub sums : (t : ℕ) → HasChecksum p (carried apply told p t) (kind p t)
 
 -- the entries are by workers below n

@@ -23,7 +23,9 @@ use Rattle.site_yard.specs.Places.{IsUndelivered, IsUntouched, is_delivered, is_
 use Rattle.site_yard.specs.Trace.{trace_of}
 
 pub record HasPlanLaws (p : Plan) : Type 0 where
-  pub rising : (n : ℕ) (test : ℕ → Bool) (xs : List ℕ) → RisesFrom 0 xs → ((x : ℕ) → has xs x ≡ true → (x < n) × (test x ≡ true)) → ((x : ℕ) → x < n → test x ≡ true → has xs x ≡ true) → xs ≡ below n test
+  pub rising : (n : ℕ) (test : ℕ → Bool) (xs : List ℕ) → RisesFrom 0 xs
+      → ((x : ℕ) → has xs x ≡ true → (x < n) × (test x ≡ true))
+      → ((x : ℕ) → x < n → test x ≡ true → has xs x ≡ true) → xs ≡ below n test
   pub once : (q r s f : ℕ) → is_pair p q s f ≡ true → is_pair p r s f ≡ true → q ≡ r
   pub in_range : (q s f : ℕ) → is_pair p q s f ≡ true → (s < length p.sites) × (f < length p.files)
   pub kinds : (t : ℕ) (k : TaskKind) → kind p t ≡ Some k → is_kind_in_range p k ≡ true
@@ -32,10 +34,13 @@ pub record HasPlanLaws (p : Plan) : Type 0 where
   pub listed : (t q : ℕ) → (has (reads p t) q || has (writes p t) q) ≡ true → q < count_pairs p
   pub writer : (q s f : ℕ) → is_pair p q s f ≡ true → (t : ℕ) × (writes_file p t s f ≡ true)
   pub one_writer : (t u s f : ℕ) → writes_file p t s f ≡ true → writes_file p u s f ≡ true → t ≡ u
-  pub readers_after : (t u q : ℕ) → has (reads p t) q ≡ true → has (writes p u) q ≡ true → is_parent p u t ≡ true
-  pub cleans_after : (t u q : ℕ) → cleans p t q ≡ true → (has (writes p u) q || has (reads p u) q) ≡ true → is_parent p u t ≡ true
+  pub readers_after : (t u q : ℕ) → has (reads p t) q ≡ true → has (writes p u) q ≡ true
+      → is_parent p u t ≡ true
+  pub cleans_after : (t u q : ℕ) → cleans p t q ≡ true → (has (writes p u) q || has (reads p u) q) ≡ true
+      → is_parent p u t ≡ true
   pub cleans_only : (t q : ℕ) → is_clean p t ≡ true → (has (writes p t) q || has (reads p t) q) ≡ false
-  pub carrying : (apply : Apply) (told : Bytes → Option Bytes) → IsCarrying apply told p (carried apply told p)
+  pub carrying : (apply : Apply) (told : Bytes → Option Bytes)
+      → IsCarrying apply told p (carried apply told p)
 
 -- What lease_book promises of the records of an order that fits from the start: the state says what the list says, and
 -- is sound.
@@ -56,11 +61,16 @@ IsDeliveryOf p c f x = (t : ℕ) × (delivers p t f ≡ true) × (x ≡ c t f) �
 -- it was marked.
 pub record Holds (apply : Apply) (p : Plan) (first r : List Event) (m s : Store) : Type 0 where
   pub truthful : IsTruthful apply p m (first ++ r)
-  pub published : (q : ℕ) → is_published p r q ≡ true → is_swept p r q ≡ false → IsPairOf p (carries apply p m) q (pair_at s.scratch (pair_site_name p q) (pair_file_name p q))
-  pub swept : (q : ℕ) → is_swept p r q ≡ true → pair_at s.scratch (pair_site_name p q) (pair_file_name p q) ≡ None
-  pub untouched : (site name : List ℕ) → IsUntouched p r site name → pair_at s.scratch site name ≡ pair_at m.scratch site name
-  pub delivered : (f : ℕ) → is_delivered p r f ≡ true → IsDeliveryOf p (carries apply p m) f (files.get s.delivered (file_name p f))
-  pub undelivered : (name : List ℕ) → IsUndelivered p r name → files.get s.delivered name ≡ files.get m.delivered name
+  pub published : (q : ℕ) → is_published p r q ≡ true → is_swept p r q ≡ false
+      → IsPairOf p (carries apply p m) q (pair_at s.scratch (pair_site_name p q) (pair_file_name p q))
+  pub swept : (q : ℕ) → is_swept p r q ≡ true
+      → pair_at s.scratch (pair_site_name p q) (pair_file_name p q) ≡ None
+  pub untouched : (site name : List ℕ) → IsUntouched p r site name
+      → pair_at s.scratch site name ≡ pair_at m.scratch site name
+  pub delivered : (f : ℕ) → is_delivered p r f ≡ true
+      → IsDeliveryOf p (carries apply p m) f (files.get s.delivered (file_name p f))
+  pub undelivered : (name : List ℕ) → IsUndelivered p r name
+      → files.get s.delivered name ≡ files.get m.delivered name
 
 -- and in any case: the replicas stay, and the operations of the entries since the opening follow the marked trace
 pub record AgreesSince (apply : Apply) (p : Plan) (first r : List Event) (m s : Store) : Type 0 where
@@ -73,8 +83,13 @@ pub record Agrees (apply : Apply) (p : Plan) (r : List Event) (m s : Store) : Ty
   pub truthful : IsTruthful apply p m r
   pub replicas : s.replicas ≡ m.replicas
   pub trace : s.trace ≡ m.trace ++ trace_of p r
-  pub published : (q : ℕ) → is_published p r q ≡ true → is_swept p r q ≡ false → IsPairOf p (carries apply p m) q (pair_at s.scratch (pair_site_name p q) (pair_file_name p q))
-  pub swept : (q : ℕ) → is_swept p r q ≡ true → pair_at s.scratch (pair_site_name p q) (pair_file_name p q) ≡ None
-  pub untouched : (site name : List ℕ) → IsUntouched p r site name → pair_at s.scratch site name ≡ pair_at m.scratch site name
-  pub delivered : (f : ℕ) → is_delivered p r f ≡ true → IsDeliveryOf p (carries apply p m) f (files.get s.delivered (file_name p f))
-  pub undelivered : (name : List ℕ) → IsUndelivered p r name → files.get s.delivered name ≡ files.get m.delivered name
+  pub published : (q : ℕ) → is_published p r q ≡ true → is_swept p r q ≡ false
+      → IsPairOf p (carries apply p m) q (pair_at s.scratch (pair_site_name p q) (pair_file_name p q))
+  pub swept : (q : ℕ) → is_swept p r q ≡ true
+      → pair_at s.scratch (pair_site_name p q) (pair_file_name p q) ≡ None
+  pub untouched : (site name : List ℕ) → IsUntouched p r site name
+      → pair_at s.scratch site name ≡ pair_at m.scratch site name
+  pub delivered : (f : ℕ) → is_delivered p r f ≡ true
+      → IsDeliveryOf p (carries apply p m) f (files.get s.delivered (file_name p f))
+  pub undelivered : (name : List ℕ) → IsUndelivered p r name
+      → files.get s.delivered name ≡ files.get m.delivered name

@@ -24,4 +24,5 @@ left_at os s n = left_after s n os 0
 
 -- the sum of what they leave of the plan's pairs at a site
 abbrev pub left_in : Plan → List Operation → ℕ → ℕ
-left_in p os s = total (count_pairs p) (λ q. cond (is_at p q s) (left_at os (pair_site_name p q) (pair_file_name p q)) 0)
+left_in p os s = total (count_pairs p) (λ q. cond (is_at p q s)
+    (left_at os (pair_site_name p q) (pair_file_name p q)) 0)

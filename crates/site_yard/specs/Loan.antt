@@ -31,7 +31,11 @@ pub record Aim : Type 0 where
   pub limit : ℕ
 
 abbrev pub pair_target : Plan → ℕ → Aim
-pair_target p q = record { place = Scratch (pair_site_name p q) (pair_file_name p q); file = pair_file p q; limit = pair_limit p q }
+pair_target p q = record {
+  place = Scratch (pair_site_name p q) (pair_file_name p q);
+  file = pair_file p q;
+  limit = pair_limit p q;
+}
 
 abbrev pub delivery_target : Plan → ℕ → Aim
 delivery_target p f = record { place = Out (file_name p f); file = f; limit = or_zero (declared p f) }
@@ -51,11 +55,13 @@ at_pair p s q = pair_at s.scratch (pair_site_name p q) (pair_file_name p q)
 -- readings that were just opened: of a Transfer from a pfn the one of the replica, else one of each pair that is read
 abbrev pub AreOpened : Plan → List ℕ → Option Store → List ReadState → Type 0
 AreOpened p [] told [] = Unit {0}
-AreOpened p (q ∷ qs) told (s ∷ ss) = IsOpened (option_map (λ z. at_pair p z q) told) (pair_limit p q) s × AreOpened p qs told ss
+AreOpened p (q ∷ qs) told (s ∷ ss) = IsOpened (option_map (λ z. at_pair p z q) told) (pair_limit p q) s
+    × AreOpened p qs told ss
 AreOpened p _ told _ = ⊥
 
 abbrev pub IsReplica : Plan → ℕ → List ℕ → Option Store → List ReadState → Type 0
-IsReplica p f x told (s ∷ []) = IsOpened (option_map (λ z. files.get z.replicas x) told) (or_zero (declared p f)) s
+IsReplica p f x told (s ∷ []) = IsOpened (option_map (λ z. files.get z.replicas x) told)
+    (or_zero (declared p f)) s
 IsReplica p f x told _ = ⊥
 
 abbrev pub AreReadings : Plan → Option TaskKind → List ℕ → Option Store → List ReadState → Type 0
@@ -80,23 +86,27 @@ abbrev pub read_told : ReadState → Option (List ℕ)
 read_told s = s.told
 
 -- A loan that was just made. Under the premise on the opening its told readings hold what is carried.
-pub record IsLent (apply : Apply) (p : Plan) (first : List Event) (marked : Store) (told : Option Store) (t : ℕ) (rs : List ReadState) (ds : List DraftState) : Type 0 where
+pub record IsLent (apply : Apply) (p : Plan) (first : List Event) (marked : Store) (told : Option Store)
+    (t : ℕ) (rs : List ReadState) (ds : List DraftState) : Type 0 where
   pub readings : AreReadings p (kind p t) (reads p t) told rs
   pub drafts : ds ≡ map (fresh_at told) (targets p t)
-  pub carried : IsOpening apply p first marked → IfSome told (λ s. map read_told rs ≡ inputs p (carries apply p marked) t (kind p t) (reads p t))
+  pub carried : IsOpening apply p first marked
+      → IfSome told (λ s. map read_told rs ≡ inputs p (carries apply p marked) t (kind p t) (reads p t))
 
 -- A loan is the task's: one reading for each read and one draft for each write, in order; where the host tells, each draft
 -- tells the place of its write.
 abbrev pub IsDraftOf : Option Store → Aim → DraftState → Type 0
 IsDraftOf None x d = d.told ≡ None
-IsDraftOf (Some s) x d = (bytes : List ℕ) × (d.told ≡ Some (record { place = x.place; bytes = bytes })) × (d.size ≡ length bytes)
+IsDraftOf (Some s) x d = (bytes : List ℕ) × (d.told ≡ Some (record { place = x.place; bytes = bytes }))
+    × (d.size ≡ length bytes)
 
 abbrev pub AreDrafts : Option Store → List Aim → List DraftState → Type 0
 AreDrafts told [] [] = Unit {0}
 AreDrafts told (x ∷ xs) (d ∷ ds) = IsDraftOf told x d × AreDrafts told xs ds
 AreDrafts told _ _ = ⊥
 
-pub record IsLoan (p : Plan) (told : Option Store) (t : ℕ) (rs : List ReadState) (ds : List DraftState) : Type 0 where
+pub record IsLoan (p : Plan) (told : Option Store) (t : ℕ) (rs : List ReadState)
+    (ds : List DraftState) : Type 0 where
   pub readings : length rs ≡ count_readings (kind p t) (reads p t)
   pub drafts : AreDrafts told (targets p t) ds
 
@@ -113,17 +123,21 @@ abbrev pub draft_size : DraftState → ℕ
 draft_size d = d.size
 
 -- drafts hold what the task carries, and a digest is that of it; of a Transfer from a pfn it has the registered checksum
-pub record AreCarried (p : Plan) (c : ℕ → ℕ → Option (List ℕ)) (t : ℕ) (ds : List DraftState) (digest : Option (List ℕ)) : Type 0 where
+pub record AreCarried (p : Plan) (c : ℕ → ℕ → Option (List ℕ)) (t : ℕ) (ds : List DraftState)
+    (digest : Option (List ℕ)) : Type 0 where
   pub bytes : map draft_bytes ds ≡ map (λ (x : Aim). c t x.file) (targets p t)
   pub digest_is : IfSome digest (λ d. option_map sha256 (moved (c t) (kind p t)) ≡ Some d)
   pub sum : HasChecksum p (c t) (kind p t)
 
 -- What may be settled: no call of a part has failed. The clause on what is carried stands under the premise on the opening.
-pub record CanSettle (apply : Apply) (p : Plan) (first : List Event) (marked : Store) (told : Option Store) (t : ℕ) (rs : List ReadState) (ds : List DraftState) (sizes : List ℕ) (digest : Option (List ℕ)) : Type 0 where
+pub record CanSettle (apply : Apply) (p : Plan) (first : List Event) (marked : Store) (told : Option Store)
+    (t : ℕ) (rs : List ReadState) (ds : List DraftState) (sizes : List ℕ)
+    (digest : Option (List ℕ)) : Type 0 where
   pub loan : IsLoan p told t rs ds
   pub whole : part_faults rs ds ≡ 0
   pub sizes_are : map draft_size ds ≡ sizes
   pub small : AreSmall (targets p t) sizes
   pub delivery : is_some digest ≡ is_delivery p t
   pub of_bytes : IfSome digest (λ d. (n : ℕ) × (sizes ≡ n ∷ []) × IsDigestOf n d)
-  pub carried : IsOpening apply p first marked → IfSome told (λ s. AreCarried p (carries apply p marked) t ds digest)
+  pub carried : IsOpening apply p first marked
+      → IfSome told (λ s. AreCarried p (carries apply p marked) t ds digest)

@@ -22,8 +22,12 @@ scratch_cause fault.Memory = Memory
 scratch_cause _ = HostFailed
 
 -- a pair was removed, or all that is told is as before
-abbrev pub SweptAway : List ℕ → List ℕ → Option Store → Option Store → Counts → Counts → Result (Unit {0}) Cause → Type 0
-SweptAway site name old new before now (Ok u) = (new ≡ option_map (λ s. changed_by s (Removes site name ∷ [])) old) × AreMore 1 0 0 before now
-SweptAway site name old new before now (Err HostFailed) = (AreMore 0 1 0 before now ⊎ (AreMore 0 0 1 before now × IfSome old (λ s. pair_at s.scratch site name ≡ None))) × (new ≡ old)
+abbrev pub SweptAway : List ℕ → List ℕ → Option Store → Option Store → Counts → Counts
+    → Result (Unit {0}) Cause → Type 0
+SweptAway site name old new before now (Ok u) =
+    (new ≡ option_map (λ s. changed_by s (Removes site name ∷ [])) old) × AreMore 1 0 0 before now
+SweptAway site name old new before now (Err HostFailed) =
+    (AreMore 0 1 0 before now
+    ⊎ (AreMore 0 0 1 before now × IfSome old (λ s. pair_at s.scratch site name ≡ None))) × (new ≡ old)
 SweptAway site name old new before now (Err Memory) = AreMore 0 0 0 before now × (new ≡ old)
 SweptAway site name old new before now (Err _) = ⊥

@@ -31,7 +31,8 @@ looks p = looks_below p (length p.sites)
 
 abbrev pub LookedAt : Plan → ℕ → Option Store → Counts → Counts → Result (Unit {0}) OpenFault → Type 0
 LookedAt p x told before now (Ok u) = IsUnusedAt p told x × AreMore (looks_at p x) 0 0 before now
-LookedAt p x told before now (Err (ScratchInUse y)) = (y.0 ≡ x) × IsInUse p told y.0 × AreMore 0 0 1 before now
+LookedAt p x told before now (Err (ScratchInUse y)) = (y.0 ≡ x) × IsInUse p told y.0
+    × AreMore 0 0 1 before now
 LookedAt p x told before now (Err HostFailed) = (is_used p x ≡ true) × AreMore 0 1 0 before now
 LookedAt p x told before now (Err Memory) = AreMore 0 0 0 before now
 LookedAt p x told before now (Err _) = ⊥
@@ -59,7 +60,8 @@ pub record HasWantedAt (p : Plan) (told : Option Store) (before now : Counts) : 
 
 -- Why an opening is refused: the first site in use, a look that failed, or want of memory. Nothing else was asked.
 abbrev pub Refuses : Plan → Option Store → Counts → Counts → OpenFault → Type 0
-Refuses p told before now (ScratchInUse x) = (x.0 < length p.sites) × IsInUse p told x.0 × AreUnusedBelow p told x.0 × AreMore (looks_below p x.0) 0 1 before now
+Refuses p told before now (ScratchInUse x) = (x.0 < length p.sites) × IsInUse p told x.0
+    × AreUnusedBelow p told x.0 × AreMore (looks_below p x.0) 0 1 before now
 Refuses p told before now HostFailed = HasFailedAt p told before now
 Refuses p told before now Memory = HasWantedAt p told before now
 Refuses p told before now _ = ⊥
@@ -72,6 +74,7 @@ Looked p told before now (Err fault) = Refuses p told before now fault
 abbrev pub fault_of_opening : Plan → OpenFault → RunFault
 fault_of_opening p (ScratchInUse x) = run.ScratchInUse (site_name p x.0)
 fault_of_opening p (PairAbsent x) = run.PairAbsent (pair_site_name p x.0) (pair_file_name p x.0)
-fault_of_opening p (LengthDiffers x recorded found) = run.LengthDiffers (pair_site_name p x.0) (pair_file_name p x.0) recorded found
+fault_of_opening p (LengthDiffers x recorded found) =
+    run.LengthDiffers (pair_site_name p x.0) (pair_file_name p x.0) recorded found
 fault_of_opening p HostFailed = run.HostFailed None
 fault_of_opening p Memory = run.Memory

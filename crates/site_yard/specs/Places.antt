@@ -31,7 +31,8 @@ is_delivered p r f = list_any (delivers_file p f) r
 
 -- no pair that was published or swept has this name; no file that was delivered
 abbrev pub IsUntouched : Plan → List Event → List ℕ → List ℕ → Type 0
-IsUntouched p r site name = (q : ℕ) → (is_published p r q || is_swept p r q) ≡ true → pair_site_name p q ≡ site → pair_file_name p q ≡ name → ⊥
+IsUntouched p r site name = (q : ℕ) → (is_published p r q || is_swept p r q) ≡ true
+    → pair_site_name p q ≡ site → pair_file_name p q ≡ name → ⊥
 
 abbrev pub IsUndelivered : Plan → List Event → List ℕ → Type 0
 IsUndelivered p r name = (f : ℕ) → is_delivered p r f ≡ true → file_name p f ≡ name → ⊥

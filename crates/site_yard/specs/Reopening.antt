@@ -52,7 +52,8 @@ AreRecorded p held told = AreRecordedBelow p held told (count_pairs p)
 -- the length of the file at a pair's name, or why there is none
 abbrev pub Measures : Plan → ℕ → Option Store → Counts → Counts → Result ℕ OpenFault → Type 0
 Measures p q told before now (Ok n) = IsLongAt p told q n × AreMore 1 0 0 before now
-Measures p q told before now (Err (PairAbsent x)) = (x.0 ≡ q) × IsLackingAt p told q × AreMore 0 0 1 before now
+Measures p q told before now (Err (PairAbsent x)) = (x.0 ≡ q) × IsLackingAt p told q
+    × AreMore 0 0 1 before now
 Measures p q told before now (Err HostFailed) = AreMore 0 1 0 before now
 Measures p q told before now (Err Memory) = AreMore 0 0 0 before now
 Measures p q told before now (Err _) = ⊥
@@ -61,28 +62,36 @@ Measures p q told before now (Err _) = ⊥
 abbrev pub IsStored : (ℕ → Held) → ℕ → Type 0
 IsStored held q = (n : ℕ) × (recorded_size (held q) ≡ Some n)
 
-abbrev pub Checks : Plan → (ℕ → Held) → ℕ → Option Store → Counts → Counts → Result (Unit {0}) OpenFault → Type 0
-Checks p held q told before now (Ok u) = IsAsRecorded p held told q × AreMore (measures_at held q) 0 0 before now
-Checks p held q told before now (Err (PairAbsent x)) = (x.0 ≡ q) × IsStored held q × IsLackingAt p told q × AreMore 0 0 1 before now
-Checks p held q told before now (Err (LengthDiffers x recorded found)) = (x.0 ≡ q) × (recorded_size (held q) ≡ Some recorded) × (found ≡ recorded → ⊥) × IsLongAt p told q found × AreMore 1 0 0 before now
+abbrev pub Checks : Plan → (ℕ → Held) → ℕ → Option Store → Counts → Counts → Result (Unit {0}) OpenFault
+    → Type 0
+Checks p held q told before now (Ok u) = IsAsRecorded p held told q
+    × AreMore (measures_at held q) 0 0 before now
+Checks p held q told before now (Err (PairAbsent x)) = (x.0 ≡ q) × IsStored held q × IsLackingAt p told q
+    × AreMore 0 0 1 before now
+Checks p held q told before now (Err (LengthDiffers x recorded found)) = (x.0 ≡ q)
+    × (recorded_size (held q) ≡ Some recorded) × (found ≡ recorded → ⊥) × IsLongAt p told q found
+    × AreMore 1 0 0 before now
 Checks p held q told before now (Err HostFailed) = IsStored held q × AreMore 0 1 0 before now
 Checks p held q told before now (Err Memory) = AreMore 0 0 0 before now
 Checks p held q told before now (Err _) = ⊥
 
 -- The pairs before this one are as recorded, and so many calls did what was asked, so many failed, and so many found nothing.
-pub record HasLookedBelow (p : Plan) (held : ℕ → Held) (told : Option Store) (q more faults misses : ℕ) (before now : Counts) : Type 0 where
+pub record HasLookedBelow (p : Plan) (held : ℕ → Held) (told : Option Store) (q more faults misses : ℕ)
+    (before now : Counts) : Type 0 where
   pub recorded : AreRecordedBelow p held told q
   pub asked : AreMore (measures_below held q + more) faults misses before now
 
 -- the first pair that is stored and isn't there
-pub record IsAbsentAt (p : Plan) (held : ℕ → Held) (told : Option Store) (q : ℕ) (before now : Counts) : Type 0 where
+pub record IsAbsentAt (p : Plan) (held : ℕ → Held) (told : Option Store) (q : ℕ)
+    (before now : Counts) : Type 0 where
   pub below : q < count_pairs p
   pub stored : IsStored held q
   pub lacking : IsLackingAt p told q
   pub first : HasLookedBelow p held told q 0 0 1 before now
 
 -- the first pair that has another length than its recorded size
-pub record DiffersAt (p : Plan) (held : ℕ → Held) (told : Option Store) (q recorded found : ℕ) (before now : Counts) : Type 0 where
+pub record DiffersAt (p : Plan) (held : ℕ → Held) (told : Option Store) (q recorded found : ℕ)
+    (before now : Counts) : Type 0 where
   pub below : q < count_pairs p
   pub stored : recorded_size (held q) ≡ Some recorded
   pub other : found ≡ recorded → ⊥
@@ -105,11 +114,13 @@ pub record HasWantedAt (p : Plan) (held : ℕ → Held) (told : Option Store) (b
 -- Why an opening with a book is refused. Nothing else was asked.
 abbrev pub RefusesAgain : Plan → (ℕ → Held) → Option Store → Counts → Counts → OpenFault → Type 0
 RefusesAgain p held told before now (PairAbsent x) = IsAbsentAt p held told x.0 before now
-RefusesAgain p held told before now (LengthDiffers x recorded found) = DiffersAt p held told x.0 recorded found before now
+RefusesAgain p held told before now (LengthDiffers x recorded found) =
+    DiffersAt p held told x.0 recorded found before now
 RefusesAgain p held told before now HostFailed = HasFailedAt p held told before now
 RefusesAgain p held told before now Memory = HasWantedAt p held told before now
 RefusesAgain p held told before now _ = ⊥
 
-abbrev pub ChecksAll : Plan → (ℕ → Held) → Option Store → Counts → Counts → Result (Unit {0}) OpenFault → Type 0
+abbrev pub ChecksAll : Plan → (ℕ → Held) → Option Store → Counts → Counts → Result (Unit {0}) OpenFault
+    → Type 0
 ChecksAll p held told before now (Ok u) = AreRecorded p held told × AreMore (measures p held) 0 0 before now
 ChecksAll p held told before now (Err fault) = RefusesAgain p held told before now fault

@@ -30,7 +30,8 @@ refusal_faults (Some Failed) = 1
 refusal_faults _ = 0
 
 -- The first of these drafts were published, so many. The counts that all of them had are the host's then.
-pub record Publishes (ds : List DraftState) (old new : Option Store) (before after : Counts) (count : ℕ) (refused : Option HostFault) : Type 0 where
+pub record Publishes (ds : List DraftState) (old new : Option Store) (before after : Counts) (count : ℕ)
+    (refused : Option HostFault) : Type 0 where
   pub told : new ≡ option_map (λ s. changed_by s (placings (take count ds))) old
   pub refused_is : IsRefused count (length ds) refused
   pub asked : AreMore count (draft_faults ds + refusal_faults refused) 0 before after

@@ -19,7 +19,8 @@ use Rattle.plan_core.specs.Names.{pair_file}
 
 -- the sizes are those of what the task carries for the first of its writes
 abbrev pub AreSizes : Plan → (ℕ → ℕ → Option (List ℕ)) → ℕ → List ℕ → Type 0
-AreSizes p c t ns = map (λ q. option_map length (c t (pair_file p q))) (take (length ns) (writes p t)) ≡ map Some ns
+AreSizes p c t ns = map (λ q. option_map length (c t (pair_file p q))) (take (length ns) (writes p t))
+    ≡ map Some ns
 
 -- the first of the pairs for whose file the task carries more than is declared
 abbrev pub is_over : ℕ → Option (List ℕ) → Bool
@@ -28,7 +29,8 @@ is_over limit (Some bytes) = nat_lt limit (length bytes)
 
 abbrev pub oversize_among : Plan → (ℕ → Option (List ℕ)) → List ℕ → Option ℕ
 oversize_among p v [] = None
-oversize_among p v (q ∷ qs) = cond (is_over (or_zero (declared p (pair_file p q))) (v (pair_file p q))) (Some (pair_file p q)) (oversize_among p v qs)
+oversize_among p v (q ∷ qs) = cond (is_over (or_zero (declared p (pair_file p q))) (v (pair_file p q)))
+    (Some (pair_file p q)) (oversize_among p v qs)
 
 -- what stands at the pfn from which a Transfer comes
 abbrev pub IsAtPfn : (List ℕ → Option (List ℕ)) → Option TaskKind → (ℕ → Option (List ℕ) → Type 0) → Type 0
@@ -44,12 +46,15 @@ abbrev pub IsLongAs : ℕ → Option (List ℕ) → Type 0
 IsLongAs n o = option_map length o ≡ Some n
 
 -- The truth of a cause. Causes of the tool, of the host and of memory are shown by counts, or free.
-abbrev pub IsCause : Apply → (List ℕ → Option (List ℕ)) → Plan → (ℕ → ℕ → Option (List ℕ)) → ℕ → Cause → Type 0
+abbrev pub IsCause : Apply → (List ℕ → Option (List ℕ)) → Plan → (ℕ → ℕ → Option (List ℕ)) → ℕ → Cause
+    → Type 0
 IsCause apply told p c t Absent = IsAtPfn told (kind p t) (λ f o. o ≡ None)
 IsCause apply told p c t (TooLong n) = IsAtPfn told (kind p t) (λ f o. IsLongAs n o)
 IsCause apply told p c t (Checksum d) = IsAtPfn told (kind p t) (IsDigest p d)
 IsCause apply told p c t (Declined j) = declined apply p c t ≡ Some j.0
-IsCause apply told p c t (Oversize j f n) = (declined apply p c t ≡ None) × (oversize_among p (c t) (writes p t) ≡ Some f.0) × (has (outputs p.jobs j.0) f.0 ≡ true) × IsLongAs n (c t f.0)
+IsCause apply told p c t (Oversize j f n) = (declined apply p c t ≡ None)
+    × (oversize_among p (c t) (writes p t) ≡ Some f.0) × (has (outputs p.jobs j.0) f.0 ≡ true)
+    × IsLongAs n (c t f.0)
 IsCause apply told p c t (ToolFailed j) = Unit {0}
 IsCause apply told p c t HostFailed = Unit {0}
 IsCause apply told p c t Memory = Unit {0}
@@ -73,6 +78,7 @@ IsTrue apply told p c (Clean w t) = Unit {0}
 IsTrue apply told p c (Fail w t cause ns) = AreSizes p c t ns × IsCause apply told p c t cause
 IsTrue apply told p c (Again w t cause ns) = AreSizes p c t ns
 
-abbrev pub Truthful : Apply → (List ℕ → Option (List ℕ)) → Plan → (ℕ → ℕ → Option (List ℕ)) → List Event → Type 0
+abbrev pub Truthful : Apply → (List ℕ → Option (List ℕ)) → Plan → (ℕ → ℕ → Option (List ℕ)) → List Event
+    → Type 0
 Truthful apply told p c [] = Unit {0}
 Truthful apply told p c (e ∷ r) = IsTrue apply told p c e × Truthful apply told p c r

@@ -30,7 +30,8 @@ IsStop Memory = Unit {0}
 IsStop _ = ⊥
 
 -- One entry more. The host's counts show its failure, and how many calls did what was asked for it.
-pub record Adds (r after : List Event) (IsKind : Event → Type 0) (Takes : Event → ℕ → Type 0) (told : Option Store) (before now : Counts) : Type 0 where
+pub record Adds (r after : List Event) (IsKind : Event → Type 0) (Takes : Event → ℕ → Type 0)
+    (told : Option Store) (before now : Counts) : Type 0 where
   pub entry : Event
   pub is : after ≡ r ++ entry ∷ []
   pub kind : IsKind entry
@@ -65,14 +66,21 @@ IsAgain w t (Again v u c ns) = (v ≡ w) × (u ≡ t) × IsStop c
 IsAgain w t _ = ⊥
 
 -- what a lease answers; the host is asked for a removal alone
-abbrev pub Leases : Plan → State → ℕ → List Event → List Event → Option Store → Counts → Counts → Leased → Type 0
-Leases p s w r after told before now (leased.Granted t) = (is_clean p t.0 ≡ false) × ((IsChoice p s t.0 × (after ≡ r ++ Grant w t.0 ∷ [])) ⊎ (IsFresh p s t.0 × (after ≡ r ++ Regrant w t.0 ∷ []))) × (now ≡ before)
-Leases p s w r after told before now (leased.Swept t) = IsChoice p s t.0 × (is_clean p t.0 ≡ true) × (after ≡ r ++ Clean w t.0 ∷ []) × AreMore 1 0 0 before now
-Leases p s w r after told before now (leased.Failed t) = IsChoice p s t.0 × (is_clean p t.0 ≡ true) × Adds r after (IsFail w t.0) TakesNone told before now
-Leases p s w r after told before now (leased.Again t) = IsChoice p s t.0 × (is_clean p t.0 ≡ true) × Adds r after (IsAgain w t.0) TakesNone told before now
+abbrev pub Leases : Plan → State → ℕ → List Event → List Event → Option Store → Counts → Counts → Leased
+    → Type 0
+Leases p s w r after told before now (leased.Granted t) = (is_clean p t.0 ≡ false)
+    × ((IsChoice p s t.0 × (after ≡ r ++ Grant w t.0 ∷ []))
+    ⊎ (IsFresh p s t.0 × (after ≡ r ++ Regrant w t.0 ∷ []))) × (now ≡ before)
+Leases p s w r after told before now (leased.Swept t) = IsChoice p s t.0 × (is_clean p t.0 ≡ true)
+    × (after ≡ r ++ Clean w t.0 ∷ []) × AreMore 1 0 0 before now
+Leases p s w r after told before now (leased.Failed t) = IsChoice p s t.0 × (is_clean p t.0 ≡ true)
+    × Adds r after (IsFail w t.0) TakesNone told before now
+Leases p s w r after told before now (leased.Again t) = IsChoice p s t.0 × (is_clean p t.0 ≡ true)
+    × Adds r after (IsAgain w t.0) TakesNone told before now
 Leases p s w r after told before now leased.Done = IsComplete p s × (after ≡ r) × (now ≡ before)
 Leases p s w r after told before now leased.Stopped = (s.failing ≡ true) × (after ≡ r) × (now ≡ before)
-Leases p s w r after told before now leased.NotYet = (s.failing ≡ false) × HasNoChoice p s × ((t : ℕ) → IsFresh p s t → ⊥) × ((u : ℕ) × (s.phase u ≡ Runs)) × (after ≡ r) × (now ≡ before)
+Leases p s w r after told before now leased.NotYet = (s.failing ≡ false) × HasNoChoice p s
+    × ((t : ℕ) → IsFresh p s t → ⊥) × ((u : ℕ) × (s.phase u ≡ Runs)) × (after ≡ r) × (now ≡ before)
 
 -- why a loan wasn't made
 abbrev pub IsLending : Cause → Type 0
@@ -101,15 +109,18 @@ IsBehind rs ds _ = part_faults rs ds ≡ 0
 
 -- where it is told, the cause is so
 abbrev pub IsTold : Apply → Plan → Store → Option Store → ℕ → Cause → Type 0
-IsTold apply p marked told t cause = IfSome told (λ s. IsCause apply (λ pfn. files.get marked.replicas pfn) p (carries apply p marked) t cause)
+IsTold apply p marked told t cause = IfSome told
+    (λ s. IsCause apply (λ pfn. files.get marked.replicas pfn) p (carries apply p marked) t cause)
 
 -- What settling adds: of a Transfer an Arrive, of a Run an End, with these sizes; or a failure of the host or want of
 -- memory after the first drafts were published, and not all of them.
 abbrev pub IsSettled : Plan → ℕ → ℕ → List ℕ → Event → Type 0
 IsSettled p w t sizes (Arrive v u n) = (v ≡ w) × (u ≡ t) × (is_transfer p t ≡ true) × (sizes ≡ n ∷ [])
 IsSettled p w t sizes (End v u ns) = (v ≡ w) × (u ≡ t) × (is_transfer p t ≡ false) × (ns ≡ sizes)
-IsSettled p w t sizes (Fail v u c ns) = (v ≡ w) × (u ≡ t) × IsStop c × (ns ≡ take (length ns) sizes) × (length ns < length sizes)
-IsSettled p w t sizes (Again v u c ns) = (v ≡ w) × (u ≡ t) × IsStop c × (ns ≡ take (length ns) sizes) × (length ns < length sizes)
+IsSettled p w t sizes (Fail v u c ns) = (v ≡ w) × (u ≡ t) × IsStop c × (ns ≡ take (length ns) sizes)
+    × (length ns < length sizes)
+IsSettled p w t sizes (Again v u c ns) = (v ≡ w) × (u ≡ t) × IsStop c × (ns ≡ take (length ns) sizes)
+    × (length ns < length sizes)
 IsSettled p w t sizes _ = ⊥
 
 -- The yard `new` is `old` later on: it has the plan with its order, the number of entries with which it was opened, what its

@@ -25,11 +25,19 @@ impl<H: Host, T: Tool> Yard<H, T> {
     /// The record is Legal; a host that tells shows its entries since the opening, and the host's counts their failures. Of
     /// a yard that was opened with no entry they are all.
     pub fn agrees(&self)
-        ensures legal { ∥ Legal self.now.ordered.plan (task_numbers self.now.ordered.tasks.items) self.now.book.history.events ∥₁ }
-        ensures shows { ∥ IfSome (H.told self.now.host) (AgreesSince T.apply self.now.ordered.plan (take self.now.opened self.now.book.history.events) (drop self.now.opened self.now.book.history.events) (H.marked self.now.host)) ∥₁ }
-        ensures counted { ∥ AreCounted (H.told self.now.host) self.now.faults self.now.misses (H.counts self.now.host) (drop self.now.opened self.now.book.history.events) ∥₁ }
-        ensures shows_all { take self.now.opened self.now.book.history.events ≡ [] → ∥ IfSome (H.told self.now.host) (Agrees T.apply self.now.ordered.plan self.now.book.history.events (H.marked self.now.host)) ∥₁ }
-        ensures counts_all { take self.now.opened self.now.book.history.events ≡ [] → ∥ AreCounted (H.told self.now.host) self.now.faults self.now.misses (H.counts self.now.host) self.now.book.history.events ∥₁ }
+        ensures legal { ∥ Legal self.now.ordered.plan
+            (task_numbers self.now.ordered.tasks.items) self.now.book.history.events ∥₁ }
+        ensures shows { ∥ IfSome (H.told self.now.host)
+            (AgreesSince T.apply self.now.ordered.plan (take self.now.opened self.now.book.history.events)
+            (drop self.now.opened self.now.book.history.events) (H.marked self.now.host)) ∥₁ }
+        ensures counted { ∥ AreCounted (H.told self.now.host) self.now.faults self.now.misses
+            (H.counts self.now.host) (drop self.now.opened self.now.book.history.events) ∥₁ }
+        ensures shows_all { take self.now.opened self.now.book.history.events ≡ []
+            → ∥ IfSome (H.told self.now.host)
+            (Agrees T.apply self.now.ordered.plan self.now.book.history.events (H.marked self.now.host)) ∥₁ }
+        ensures counts_all { take self.now.opened self.now.book.history.events ≡ []
+            → ∥ AreCounted (H.told self.now.host) self.now.faults self.now.misses
+            (H.counts self.now.host) self.now.book.history.events ∥₁ }
     {
         plan_laws();
         record_laws();
@@ -38,7 +46,8 @@ impl<H: Host, T: Tool> Yard<H, T> {
 
     /// Why the run failed, by its first Fail.
     pub fn ending(&self, alloc: Global) -> Result<(), RunFault>
-        requires over { IsComplete self.now.ordered.plan (state_at self.now.book) ⊎ ((state_at self.now.book).failing ≡ true) }
+        requires over { IsComplete self.now.ordered.plan (state_at self.now.book)
+            ⊎ ((state_at self.now.book).failing ≡ true) }
         ensures ends { Ends self.now.ordered.plan self.now.book.history.events result }
         ensures done { IfOk result (λ u. IsComplete self.now.ordered.plan (state_at self.now.book)) }
     {
@@ -56,11 +65,19 @@ impl<H: Host, T: Tool> Yard<H, T> {
 
     /// What was delivered since the opening, in the order of the record.
     pub fn delivered(&self) -> &[Delivered]
-        ensures files { AreFiles result.now (arrivals self.now.ordered.plan (drop self.now.opened self.now.book.history.events)) }
-        ensures lengths { AreLengths result.now (arrivals self.now.ordered.plan (drop self.now.opened self.now.book.history.events)) }
-        ensures digests { IsOpening T.apply self.now.ordered.plan (take self.now.opened self.now.book.history.events) (H.marked self.now.host) → IfSome (H.told self.now.host) (λ s. AreDigests (carries T.apply self.now.ordered.plan (H.marked self.now.host)) result.now (arrivals self.now.ordered.plan (drop self.now.opened self.now.book.history.events))) }
+        ensures files { AreFiles result.now (arrivals self.now.ordered.plan
+            (drop self.now.opened self.now.book.history.events)) }
+        ensures lengths { AreLengths result.now
+            (arrivals self.now.ordered.plan (drop self.now.opened self.now.book.history.events)) }
+        ensures digests { IsOpening T.apply self.now.ordered.plan
+            (take self.now.opened self.now.book.history.events) (H.marked self.now.host)
+            → IfSome (H.told self.now.host) (λ s. AreDigests
+            (carries T.apply self.now.ordered.plan (H.marked self.now.host)) result.now
+            (arrivals self.now.ordered.plan (drop self.now.opened self.now.book.history.events))) }
         ensures of_bytes { AreOfBytes result.now }
-        ensures all { take self.now.opened self.now.book.history.events ≡ [] → AreAllDelivered T.apply self.now.ordered.plan self.now.book.history.events (H.told self.now.host) (H.marked self.now.host) result.now }
+        ensures all { take self.now.opened self.now.book.history.events ≡ []
+            → AreAllDelivered T.apply self.now.ordered.plan self.now.book.history.events
+            (H.told self.now.host) (H.marked self.now.host) result.now }
     {
         &self.delivered
     }

@@ -38,7 +38,14 @@ impl<H: Host, T: Tool> Chronicle for Yard<H, T> {
 
     type Item = JournalEntry;
 
-    ghost charter = { λ y. record { ordered = y.ordered; opened = take y.opened y.book.history.events; marked = H.marked y.host; tells = is_some (H.told y.host); faults = y.faults; misses = y.misses } };
+    ghost charter = { λ y. record {
+      ordered = y.ordered;
+      opened = take y.opened y.book.history.events;
+      marked = H.marked y.host;
+      tells = is_some (H.told y.host);
+      faults = y.faults;
+      misses = y.misses;
+    } };
 
     ghost journal = { λ y. y.book.history.events };
 

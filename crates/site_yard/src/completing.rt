@@ -19,8 +19,11 @@ use crate::law::record_laws;
 
 /// A complete record has delivered each file that a task delivers, and no record has delivered another one.
 pub fn complete_records_deliver()
-    ensures complete { (p : Plan) (order : List ℕ) (r : List Event) → IsProper p → FitsFromStart p order → Legal p order r → IsComplete p (now p order r) → (t f : ℕ) → delivers p t f ≡ true → is_delivered p r f ≡ true }
-    ensures only { (p : Plan) (r : List Event) (f : ℕ) → is_delivered p r f ≡ true → (t : ℕ) × (delivers p t f ≡ true) }
+    ensures complete { (p : Plan) (order : List ℕ) (r : List Event) → IsProper p → FitsFromStart p order
+        → Legal p order r → IsComplete p (now p order r) → (t f : ℕ) → delivers p t f ≡ true
+        → is_delivered p r f ≡ true }
+    ensures only { (p : Plan) (r : List Event) (f : ℕ) → is_delivered p r f ≡ true
+        → (t : ℕ) × (delivers p t f ≡ true) }
 {
     record_laws();
 }
@@ -35,6 +38,7 @@ pub fn empty_records()
     ensures faults { host_faults [] ≡ 0 }
     ensures misses { host_misses [] ≡ 0 }
     ensures tools { (w : ℕ) → tool_faults w [] ≡ 0 }
-    ensures agrees { (apply : Apply) (p : Plan) (first : List Event) (m : Store) → AgreesSince apply p first [] m m }
+    ensures agrees { (apply : Apply) (p : Plan) (first : List Event) (m : Store)
+        → AgreesSince apply p first [] m m }
     ensures opening { (apply : Apply) (p : Plan) (m : Store) → IsOpening apply p [] m }
 {}

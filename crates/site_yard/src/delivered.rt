@@ -55,8 +55,10 @@ pub(crate) fn keep(
     size: u64,
     digest: Option<[u8; 32]>,
 )
-    requires room { is_some (delivered_file (kind plan.now task.0)) ≡ true → length delivered.old.items < vec_capacity delivered.old }
-    ensures items { delivered.new.items ≡ delivered.old.items ++ delivery_of (kind plan.now task.0) size digest }
+    requires room { is_some (delivered_file (kind plan.now task.0)) ≡ true
+        → length delivered.old.items < vec_capacity delivered.old }
+    ensures items { delivered.new.items ≡ delivered.old.items
+        ++ delivery_of (kind plan.now task.0) size digest }
     ensures room { vec_capacity delivered.new ≡ vec_capacity delivered.old }
 {
     match digest {

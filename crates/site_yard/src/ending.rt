@@ -111,7 +111,8 @@ fn oversize(
     file: FileId,
     length: u64,
 ) -> Result<RunFault, Memory>
-    ensures { IfOk result (λ f. f ≡ Oversize (job_name plan.now job.0) (file_name plan.now file.0) (or_zero (declared plan.now file.0)) length) }
+    ensures { IfOk result (λ f. f ≡ Oversize (job_name plan.now job.0) (file_name plan.now file.0)
+        (or_zero (declared plan.now file.0)) length) }
 {
     let id = Text::copy_of(alloc, job_name(plan, job))?;
     let name = Text::copy_of(alloc, file_name(plan, file))?;

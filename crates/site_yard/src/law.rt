@@ -41,7 +41,9 @@ pub(crate) fn record_laws()
 
 /// A store that a yard keeps shows the record.
 pub fn kept_stores_show_records()
-    ensures { (apply : Apply) (p : Plan) (order : List ℕ) (first r : List Event) (s m : Store) (faults misses : ℕ) (now : Counts) → IsProper p → FitsFromStart p order → Legal p order (first ++ r) → IsKept apply p order first r (Some s) m faults misses now → AgreesSince apply p first r m s }
+    ensures { (apply : Apply) (p : Plan) (order : List ℕ) (first r : List Event) (s m : Store)
+        (faults misses : ℕ) (now : Counts) → IsProper p → FitsFromStart p order → Legal p order (first ++ r)
+        → IsKept apply p order first r (Some s) m faults misses now → AgreesSince apply p first r m s }
 {
     plan_laws();
     record_laws();

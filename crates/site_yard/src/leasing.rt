@@ -22,7 +22,9 @@ impl<H: Host, T: Tool> Yard<H, T> {
         requires worker { worker < 16 }
         requires choice { IsChoice self.old.book.plan (state_at self.old.book) task.0 }
         requires kind { kind self.old.book.plan task.0 ≡ Some (Clean pair) }
-        ensures leased { Leases self.old.book.plan (state_at self.old.book) worker self.old.book.history.events self.new.book.history.events (H.told self.old.host) (H.counts self.old.host) (H.counts self.new.host) result }
+        ensures leased { Leases self.old.book.plan
+            (state_at self.old.book) worker self.old.book.history.events self.new.book.history.events
+            (H.told self.old.host) (H.counts self.old.host) (H.counts self.new.host) result }
         ensures same { IsSameYard self.old self.new }
     {
         plan_laws();
@@ -43,7 +45,9 @@ impl<H: Host, T: Tool> Yard<H, T> {
     /// The next task that may begin: granted, or, where it is a Clean, swept.
     pub fn lease(&mut self, alloc: Global, worker: u32) -> Leased
         requires { worker < 16 }
-        ensures leased { Leases self.old.ordered.plan (state_at self.old.book) worker self.old.book.history.events self.new.book.history.events (H.told self.old.host) (H.counts self.old.host) (H.counts self.new.host) result }
+        ensures leased { Leases self.old.ordered.plan
+            (state_at self.old.book) worker self.old.book.history.events self.new.book.history.events
+            (H.told self.old.host) (H.counts self.old.host) (H.counts self.new.host) result }
         ensures same { IsSameYard self.old self.new }
     {
         match self.book.next(worker) {

@@ -16,7 +16,10 @@ use storage_simulation::proper_plans_keep_goods;
 
 /// After every entry of a Legal record its operations have left at a site no more than is stored and reserved there.
 pub fn what_is_left_is_held()
-    ensures { (p : Plan) (order : List ℕ) (r : List Event) → IsProper p → FitsFromStart p order → Legal p order r → (k s : ℕ) → left_in p (trace_of p (take k r)) s ≤ stored_at p (now p order (take k r)).held s + reserved_at p (now p order (take k r)).held s }
+    ensures { (p : Plan) (order : List ℕ) (r : List Event) → IsProper p → FitsFromStart p order
+        → Legal p order r → (k s : ℕ)
+        → left_in p (trace_of p (take k r)) s
+        ≤ stored_at p (now p order (take k r)).held s + reserved_at p (now p order (take k r)).held s }
 {
     plan_laws();
     proper_plans_keep_goods();

@@ -30,7 +30,8 @@ fn open_pair<H: Host>(
     alloc: Global,
     pair: PairId,
 ) -> Result<H::Reading, Cause>
-    ensures answer { OpensPair H.Reading.state plan.now pair.0 (H.told host.old) (H.counts host.old) (H.counts host.new) result }
+    ensures answer { OpensPair H.Reading.state plan.now pair.0 (H.told host.old) (H.counts host.old)
+        (H.counts host.new) result }
     ensures told { H.told host.new ≡ H.told host.old }
     ensures marked { H.marked host.new ≡ H.marked host.old }
     ensures later { IsLater (H.counts host.old) (H.counts host.new) }
@@ -52,7 +53,8 @@ fn open_pairs<H: Host>(
 ) -> Result<(), Cause>
     requires none { readings.old.items ≡ [] }
     requires room { length pairs.now ≤ vec_capacity readings.old }
-    ensures answer { OpensPairs plan.now (pair_numbers pairs.now) (H.told host.old) (H.counts host.old) (H.counts host.new) (map H.Reading.state readings.new.items) result }
+    ensures answer { OpensPairs plan.now (pair_numbers pairs.now) (H.told host.old) (H.counts host.old)
+        (H.counts host.new) (map H.Reading.state readings.new.items) result }
     ensures whole { reading_faults (map H.Reading.state readings.new.items) ≡ 0 }
     ensures told { H.told host.new ≡ H.told host.old }
     ensures marked { H.marked host.new ≡ H.marked host.old }
@@ -77,7 +79,8 @@ pub(crate) fn open_readings<H: Host>(
 ) -> Result<(), Cause>
     requires none { readings.old.items ≡ [] }
     requires room { length (reads plan.now task.0) < vec_capacity readings.old }
-    ensures answer { OpensReadings plan.now (kind plan.now task.0) (reads plan.now task.0) (H.told host.old) (H.counts host.old) (H.counts host.new) (map H.Reading.state readings.new.items) result }
+    ensures answer { OpensReadings plan.now (kind plan.now task.0) (reads plan.now task.0) (H.told host.old)
+        (H.counts host.old) (H.counts host.new) (map H.Reading.state readings.new.items) result }
     ensures whole { reading_faults (map H.Reading.state readings.new.items) ≡ 0 }
     ensures told { H.told host.new ≡ H.told host.old }
     ensures marked { H.marked host.new ≡ H.marked host.old }
@@ -116,7 +119,8 @@ fn draft_pair<H: Host>(
     alloc: Global,
     pair: PairId,
 ) -> Result<H::Draft, Cause>
-    ensures answer { MakesDraft H.Draft.state (pair_target plan.now pair.0) (H.told host.old) (H.counts host.old) (H.counts host.new) result }
+    ensures answer { MakesDraft H.Draft.state (pair_target plan.now pair.0) (H.told host.old)
+        (H.counts host.old) (H.counts host.new) result }
     ensures told { H.told host.new ≡ H.told host.old }
     ensures marked { H.marked host.new ≡ H.marked host.old }
     ensures later { IsLater (H.counts host.old) (H.counts host.new) }
@@ -139,7 +143,8 @@ fn draft_pairs<H: Host>(
 ) -> Result<(), Cause>
     requires none { drafts.old.items ≡ [] }
     requires room { length pairs.now ≤ vec_capacity drafts.old }
-    ensures answer { MakesDrafts (map (pair_target plan.now) (pair_numbers pairs.now)) (H.told host.old) (H.counts host.old) (H.counts host.new) (map H.Draft.state drafts.new.items) result }
+    ensures answer { MakesDrafts (map (pair_target plan.now) (pair_numbers pairs.now)) (H.told host.old)
+        (H.counts host.old) (H.counts host.new) (map H.Draft.state drafts.new.items) result }
     ensures whole { draft_faults (map H.Draft.state drafts.new.items) ≡ 0 }
     ensures told { H.told host.new ≡ H.told host.old }
     ensures marked { H.marked host.new ≡ H.marked host.old }
@@ -161,7 +166,8 @@ fn draft_delivery<H: Host>(
     alloc: Global,
     file: FileId,
 ) -> Result<H::Draft, Cause>
-    ensures answer { MakesDraft H.Draft.state (delivery_target plan.now file.0) (H.told host.old) (H.counts host.old) (H.counts host.new) result }
+    ensures answer { MakesDraft H.Draft.state (delivery_target plan.now file.0) (H.told host.old)
+        (H.counts host.old) (H.counts host.new) result }
     ensures told { H.told host.new ≡ H.told host.old }
     ensures marked { H.marked host.new ≡ H.marked host.old }
     ensures later { IsLater (H.counts host.old) (H.counts host.new) }
@@ -185,7 +191,8 @@ pub(crate) fn make_drafts<H: Host>(
 ) -> Result<(), Cause>
     requires none { drafts.old.items ≡ [] }
     requires room { length (writes plan.now task.0) < vec_capacity drafts.old }
-    ensures answer { MakesDrafts (targets plan.now task.0) (H.told host.old) (H.counts host.old) (H.counts host.new) (map H.Draft.state drafts.new.items) result }
+    ensures answer { MakesDrafts (targets plan.now task.0) (H.told host.old) (H.counts host.old)
+        (H.counts host.new) (map H.Draft.state drafts.new.items) result }
     ensures whole { draft_faults (map H.Draft.state drafts.new.items) ≡ 0 }
     ensures told { H.told host.new ≡ H.told host.old }
     ensures marked { H.marked host.new ≡ H.marked host.old }
@@ -216,10 +223,14 @@ pub(crate) fn make_loan<H: Host>(
     alloc: Global,
     task: TaskId,
 ) -> Result<Loan<H>, Cause>
-    ensures readings { IfOk result (λ l. AreReadings plan.now (kind plan.now task.0) (reads plan.now task.0) (H.told host.old) (map H.Reading.state l.readings.items)) }
-    ensures drafts { IfOk result (λ l. map H.Draft.state l.drafts.items ≡ map (fresh_at (H.told host.old)) (targets plan.now task.0)) }
-    ensures asked { IfOk result (λ l. AreMore (count_parts plan.now task.0) 0 0 (H.counts host.old) (H.counts host.new)) }
-    ensures refused { IfErr result (λ c. RefusesLoan plan.now task.0 (H.told host.old) (H.counts host.old) (H.counts host.new) c) }
+    ensures readings { IfOk result (λ l. AreReadings plan.now (kind plan.now task.0) (reads plan.now task.0)
+        (H.told host.old) (map H.Reading.state l.readings.items)) }
+    ensures drafts { IfOk result (λ l. map H.Draft.state l.drafts.items
+        ≡ map (fresh_at (H.told host.old)) (targets plan.now task.0)) }
+    ensures asked { IfOk result (λ l. AreMore (count_parts plan.now task.0) 0 0 (H.counts host.old)
+        (H.counts host.new)) }
+    ensures refused { IfErr result (λ c. RefusesLoan plan.now task.0 (H.told host.old) (H.counts host.old)
+        (H.counts host.new) c) }
     ensures told { H.told host.new ≡ H.told host.old }
     ensures marked { H.marked host.new ≡ H.marked host.old }
     ensures later { IsLater (H.counts host.old) (H.counts host.new) }

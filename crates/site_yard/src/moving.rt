@@ -38,7 +38,8 @@ pub(crate) fn sweep_pair<H: Host>(
     alloc: Global,
     pair: PairId,
 ) -> Result<(), Cause>
-    ensures answer { SweptAway (pair_site_name plan.now pair.0) (pair_file_name plan.now pair.0) (H.told host.old) (H.told host.new) (H.counts host.old) (H.counts host.new) result }
+    ensures answer { SweptAway (pair_site_name plan.now pair.0) (pair_file_name plan.now pair.0)
+        (H.told host.old) (H.told host.new) (H.counts host.old) (H.counts host.new) result }
     ensures marked { H.marked host.new ≡ H.marked host.old }
     ensures later { IsLater (H.counts host.old) (H.counts host.new) }
 {

@@ -98,7 +98,8 @@ pub(crate) fn is_used(plan: &Plan, site: SiteId) -> bool
 
 /// The pair that a Clean removes.
 pub(crate) fn swept_pair(plan: &Plan, task: TaskId) -> Option<PairId>
-    ensures { MatchOption result (is_clean plan.now task.0 ≡ false) (λ q. kind plan.now task.0 ≡ Some (Clean q)) }
+    ensures { MatchOption result (is_clean plan.now task.0 ≡ false)
+        (λ q. kind plan.now task.0 ≡ Some (Clean q)) }
 {
     match plan.kind(task) {
         Some(TaskKind::Clean { pair }) => Some(*pair),

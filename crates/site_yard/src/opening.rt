@@ -35,7 +35,8 @@ pub struct OpenRefused<H> {
 
 /// Whether a site that has a pair is empty.
 fn look_at<H: Host>(plan: &Plan, host: &mut H, alloc: Global, site: SiteId) -> Result<(), OpenFault>
-    ensures answer { LookedAt plan.now site.0 (H.told host.old) (H.counts host.old) (H.counts host.new) result }
+    ensures answer { LookedAt plan.now site.0 (H.told host.old) (H.counts host.old)
+        (H.counts host.new) result }
     ensures told { H.told host.new ≡ H.told host.old }
     ensures marked { H.marked host.new ≡ H.marked host.old }
     ensures later { IsLater (H.counts host.old) (H.counts host.new) }

@@ -25,7 +25,8 @@ fn measure<H: Host>(
     alloc: Global,
     pair: PairId,
 ) -> Result<u64, OpenFault>
-    ensures answer { Measures plan.now pair.0 (H.told host.old) (H.counts host.old) (H.counts host.new) result }
+    ensures answer { Measures plan.now pair.0 (H.told host.old) (H.counts host.old)
+        (H.counts host.new) result }
     ensures told { H.told host.new ≡ H.told host.old }
     ensures marked { H.marked host.new ≡ H.marked host.old }
     ensures later { IsLater (H.counts host.old) (H.counts host.new) }
@@ -52,7 +53,8 @@ fn check_pair<H: Host>(
     alloc: Global,
     pair: PairId,
 ) -> Result<(), OpenFault>
-    ensures answer { Checks plan.now (state_at book.now).held pair.0 (H.told host.old) (H.counts host.old) (H.counts host.new) result }
+    ensures answer { Checks plan.now (state_at book.now).held pair.0 (H.told host.old) (H.counts host.old)
+        (H.counts host.new) result }
     ensures told { H.told host.new ≡ H.told host.old }
     ensures marked { H.marked host.new ≡ H.marked host.old }
     ensures later { IsLater (H.counts host.old) (H.counts host.new) }
@@ -79,7 +81,8 @@ fn check_pairs<H: Host>(
     alloc: Global,
 ) -> Result<(), OpenFault>
     requires { count_pairs plan.now < 2 ^ 32 }
-    ensures answer { ChecksAll plan.now (state_at book.now).held (H.told host.old) (H.counts host.old) (H.counts host.new) result }
+    ensures answer { ChecksAll plan.now (state_at book.now).held (H.told host.old) (H.counts host.old)
+        (H.counts host.new) result }
     ensures told { H.told host.new ≡ H.told host.old }
     ensures marked { H.marked host.new ≡ H.marked host.old }
     ensures later { IsLater (H.counts host.old) (H.counts host.new) }
@@ -113,10 +116,13 @@ impl<H: Host, T: Tool> Yard<H, T> {
         ensures misses { IfOk result (λ y. y.misses ≡ (H.counts host).misses) }
         ensures later { IfOk result (λ y. IsLater (H.counts host) (H.counts y.host)) }
         ensures opened { IfOk result (λ y. y.opened ≡ length book.history.events) }
-        ensures asked { IfOk result (λ y. AreMore (measures ordered.plan (state_at book).held) 0 0 (H.counts host) (H.counts y.host)) }
+        ensures asked { IfOk result (λ y. AreMore (measures ordered.plan (state_at book).held) 0 0
+            (H.counts host) (H.counts y.host)) }
         ensures recorded { IfOk result (λ y. AreRecorded ordered.plan (state_at book).held (H.told host)) }
-        ensures refused { IfErr result (λ e. RefusesAgain ordered.plan (state_at book).held (H.told host) (H.counts host) (H.counts e.host) e.fault) }
-        ensures back { IfErr result (λ e. (e.ordered ≡ ordered) × (H.told e.host ≡ H.told host) × IsLater (H.counts host) (H.counts e.host)) }
+        ensures refused { IfErr result (λ e. RefusesAgain ordered.plan (state_at book).held (H.told host)
+            (H.counts host) (H.counts e.host) e.fault) }
+        ensures back { IfErr result (λ e. (e.ordered ≡ ordered) × (H.told e.host ≡ H.told host)
+            × IsLater (H.counts host) (H.counts e.host)) }
     {
         let faults = host.faults();
         let misses = host.misses();

@@ -21,7 +21,8 @@ pub(crate) struct Publication {
 pub(crate) fn finish_all<H: Host>(host: &mut H, readings: Vec<H::Reading>)
     ensures told { H.told host.new ≡ H.told host.old }
     ensures marked { H.marked host.new ≡ H.marked host.old }
-    ensures asked { AreMore 0 (reading_faults (map H.Reading.state readings.items)) 0 (H.counts host.old) (H.counts host.new) }
+    ensures asked { AreMore 0 (reading_faults (map H.Reading.state readings.items)) 0 (H.counts host.old)
+        (H.counts host.new) }
     ensures later { IsLater (H.counts host.old) (H.counts host.new) }
 {
     let mut readings = readings;
@@ -35,7 +36,8 @@ pub(crate) fn finish_all<H: Host>(host: &mut H, readings: Vec<H::Reading>)
 pub(crate) fn discard_all<H: Host>(host: &mut H, drafts: Vec<H::Draft>)
     ensures told { H.told host.new ≡ H.told host.old }
     ensures marked { H.marked host.new ≡ H.marked host.old }
-    ensures asked { AreMore 0 (draft_faults (map H.Draft.state drafts.items)) 0 (H.counts host.old) (H.counts host.new) }
+    ensures asked { AreMore 0 (draft_faults (map H.Draft.state drafts.items)) 0 (H.counts host.old)
+        (H.counts host.new) }
     ensures later { IsLater (H.counts host.old) (H.counts host.new) }
 {
     let mut drafts = drafts;
@@ -49,7 +51,8 @@ pub(crate) fn discard_all<H: Host>(host: &mut H, drafts: Vec<H::Draft>)
 fn discard_left<H: Host>(host: &mut H, drafts: VecDeque<H::Draft>)
     ensures told { H.told host.new ≡ H.told host.old }
     ensures marked { H.marked host.new ≡ H.marked host.old }
-    ensures asked { AreMore 0 (draft_faults (map H.Draft.state drafts.items)) 0 (H.counts host.old) (H.counts host.new) }
+    ensures asked { AreMore 0 (draft_faults (map H.Draft.state drafts.items)) 0 (H.counts host.old)
+        (H.counts host.new) }
     ensures later { IsLater (H.counts host.old) (H.counts host.new) }
 {
     let mut drafts = drafts;
@@ -65,7 +68,8 @@ pub(crate) fn publish_all<H: Host>(
     alloc: Global,
     drafts: Vec<H::Draft>,
 ) -> Publication
-    ensures answer { Publishes (map H.Draft.state drafts.items) (H.told host.old) (H.told host.new) (H.counts host.old) (H.counts host.new) result.count result.refused }
+    ensures answer { Publishes (map H.Draft.state drafts.items) (H.told host.old) (H.told host.new)
+        (H.counts host.old) (H.counts host.new) result.count result.refused }
     ensures marked { H.marked host.new ≡ H.marked host.old }
     ensures later { IsLater (H.counts host.old) (H.counts host.new) }
 {

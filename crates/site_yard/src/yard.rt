@@ -29,9 +29,12 @@ pub struct Yard<H: Host, T: Tool> {
     ghost same_plan: { book.plan ≡ ordered.plan },
     ghost same_order: { book.order.items ≡ ordered.tasks.items },
     ghost begun: { opened ≤ length book.history.events },
-    ghost kept: { ∥ IsKept T.apply book.plan (task_numbers book.order.items) (take opened book.history.events) (drop opened book.history.events) (H.told host) (H.marked host) faults misses (H.counts host) ∥₁ },
+    ghost kept: { ∥ IsKept T.apply book.plan (task_numbers book.order.items)
+        (take opened book.history.events) (drop opened book.history.events) (H.told host)
+        (H.marked host) faults misses (H.counts host) ∥₁ },
     ghost room: { count_deliveries book.plan ≤ vec_capacity delivered },
-    ghost listed: { ∥ AreDelivered T.apply book.plan (take opened book.history.events) (drop opened book.history.events) (H.told host) (H.marked host) delivered.items ∥₁ },
+    ghost listed: { ∥ AreDelivered T.apply book.plan (take opened book.history.events)
+        (drop opened book.history.events) (H.told host) (H.marked host) delivered.items ∥₁ },
 }
 
 impl<H: Host, T: Tool> Yard<H, T> {
@@ -50,10 +53,13 @@ impl<H: Host, T: Tool> Yard<H, T> {
         ensures misses { IfOk result (λ y. y.misses ≡ (H.counts host).misses) }
         ensures later { IfOk result (λ y. IsLater (H.counts host) (H.counts y.host)) }
         ensures opened { IfOk result (λ y. y.opened ≡ 0) }
-        ensures asked { IfOk result (λ y. AreMore (looks ordered.plan) 0 0 (H.counts host) (H.counts y.host)) }
+        ensures asked { IfOk result (λ y. AreMore (looks ordered.plan) 0 0 (H.counts host)
+            (H.counts y.host)) }
         ensures unused { IfOk result (λ y. AreUnused ordered.plan (H.told host)) }
-        ensures refused { IfErr result (λ e. Refuses ordered.plan (H.told host) (H.counts host) (H.counts e.host) e.fault) }
-        ensures back { IfErr result (λ e. (e.ordered ≡ ordered) × (H.told e.host ≡ H.told host) × IsLater (H.counts host) (H.counts e.host)) }
+        ensures refused { IfErr result (λ e. Refuses ordered.plan (H.told host) (H.counts host)
+            (H.counts e.host) e.fault) }
+        ensures back { IfErr result (λ e. (e.ordered ≡ ordered) × (H.told e.host ≡ H.told host)
+            × IsLater (H.counts host) (H.counts e.host)) }
     {
         let faults = host.faults();
         let misses = host.misses();

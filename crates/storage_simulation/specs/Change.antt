@@ -21,4 +21,5 @@ waits_for_maker p phase t g = list_any (λ u. waits (phase u) && has (makes p u)
 
 -- what a good counts at the place until its Clean t
 abbrev pub cleaned_part : Plan → (ℕ → Phase) → (ℕ → ℕ) → ℕ → ℕ → ℕ → ℕ
-cleaned_part p phase size t s g = cond (lies_at p g s) (cond (waits_for_maker p phase t g) (good_size p g) (size g)) 0
+cleaned_part p phase size t s g = cond (lies_at p g s)
+    (cond (waits_for_maker p phase t g) (good_size p g) (size g)) 0

@@ -32,7 +32,8 @@ is_ready p phase front t = list_all (λ u. not (waits (phase u)) || has front u)
 
 -- the test of one task behind a front
 abbrev pub may_follow : Plan → (ℕ → Phase) → List ℕ → ℕ → Bool
-may_follow p phase front t = nat_lt t (count_tasks p) && (waits (phase t) && (not (has front t) && is_ready p phase front t))
+may_follow p phase front t = nat_lt t (count_tasks p)
+    && (waits (phase t) && (not (has front t) && is_ready p phase front t))
 
 -- the same where the tasks of the front have a mark
 abbrev pub is_marked : List Bool → ℕ → Bool
@@ -42,4 +43,6 @@ abbrev pub AreMarked : List Bool → List ℕ → Type 0
 AreMarked marks front = (t : ℕ) → is_marked marks t ≡ has front t
 
 abbrev pub may_come : Plan → (ℕ → Phase) → List Bool → ℕ → Bool
-may_come p phase marks t = nat_lt t (count_tasks p) && (waits (phase t) && (not (is_marked marks t) && list_all (λ u. not (waits (phase u)) || is_marked marks u) (parents p t)))
+may_come p phase marks t = nat_lt t (count_tasks p)
+    && (waits (phase t) && (not (is_marked marks t)
+    && list_all (λ u. not (waits (phase u)) || is_marked marks u) (parents p t)))

@@ -45,8 +45,10 @@ pub record IsOrderable (p : Plan) : Type 0 where
   pub parents_below : (t u : ℕ) → has (parents p t) u ≡ true → u < count_tasks p
   pub writes_rise : (t : ℕ) → RisesFrom 0 (writes p t)
   pub writes_below : (t q : ℕ) → has (writes p t) q ≡ true → q < count_pairs p
-  pub makes_there : (t g s : ℕ) → s < places p → has (makes p t) g ≡ true → lies_at p g s ≡ true → place p t ≡ Some s
-  pub cleans_there : (t g s : ℕ) → s < places p → cleans p t g ≡ true → lies_at p g s ≡ true → place p t ≡ Some s
+  pub makes_there : (t g s : ℕ) → s < places p → has (makes p t) g ≡ true → lies_at p g s ≡ true
+      → place p t ≡ Some s
+  pub cleans_there : (t g s : ℕ) → s < places p → cleans p t g ≡ true → lies_at p g s ≡ true
+      → place p t ≡ Some s
   pub place_below : (t s : ℕ) → place p t ≡ Some s → s < places p
 
 -- what the steps ask of plan, standing and front

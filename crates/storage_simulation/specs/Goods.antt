@@ -40,7 +40,8 @@ pair_size p None = 0
 pair_size p (Some q) = or_zero (declared p q.file.0)
 
 unfoldable pub good_size : Plan → ℕ → ℕ
-good_size p g = cond (nat_lt g (count_pairs p)) (pair_size p (pair p g)) (delivered_size p (g - count_pairs p))
+good_size p g = cond (nat_lt g (count_pairs p)) (pair_size p (pair p g))
+    (delivered_size p (g - count_pairs p))
 
 -- The places are the sites and behind them, where it has a bound, the output.
 abbrev pub count_sites : Plan → ℕ
@@ -54,7 +55,8 @@ place_bound p s = cond (nat_lt s (count_sites p)) (bound p s) (or_zero (output_b
 
 -- a pair lies at its site, a delivery at the output
 unfoldable pub lies_at : Plan → ℕ → ℕ → Bool
-lies_at p g s = cond (nat_lt g (count_pairs p)) (is_at p g s) (is_delivery p (g - count_pairs p) && (s == count_sites p))
+lies_at p g s = cond (nat_lt g (count_pairs p)) (is_at p g s)
+    (is_delivery p (g - count_pairs p) && (s == count_sites p))
 
 -- The place at which a task changes usage: the site of a Run, of a transfer to a site and of the pair of a Clean, and
 -- the output for a delivery where the output has a bound.

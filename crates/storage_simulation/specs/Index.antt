@@ -27,14 +27,18 @@ homes p = places p + 2
 -- what a task needs of its place, whatever is placed, counted from 2 ^ 62
 abbrev pub need_at : Plan → Progress → ℕ → Option ℕ → ℕ
 need_at p st t None = 0
-need_at p st t (Some s) = 2 ^ 62 + sum_of (size_part p s) (makes p t) - sum_of (held_part p (size st) s) (makes p t)
+need_at p st t (Some s) = 2 ^ 62 + sum_of (size_part p s) (makes p t) - sum_of (held_part p (size st) s)
+    (makes p t)
 
 abbrev pub need : Plan → Progress → ℕ → ℕ
 need p st t = cond (is_clean p t) 0 (need_at p st t (place p t))
 
 -- the key of a task: its score counted from 2 ^ 62, and a Clean before all others
 abbrev pub key : Plan → Progress → List ℕ → ℕ → Key
-key p st front t = record { score = cond (is_clean p t) 0 (2 ^ 62 + comes p st t - goes p st front t); number = t }
+key p st front t = record {
+  score = cond (is_clean p t) 0 (2 ^ 62 + comes p st t - goes p st front t);
+  number = t;
+}
 
 -- the key of a ready task
 abbrev pub ready_key : Plan → Progress → List ℕ → ℕ → Option Key
@@ -42,13 +46,16 @@ ready_key p st front t = cond (is_open p st front t) (Some (key p st front t)) N
 
 -- the key of a task that may be placed: a ready Clean, or a ready task that fits
 abbrev pub open_key : Plan → Progress → List ℕ → ℕ → Option Key
-open_key p st front t = cond (is_open p st front t && (is_clean p t || fits_after p st front t)) (Some (key p st front t)) None
+open_key p st front t = cond (is_open p st front t && (is_clean p t || fits_after p st front t))
+    (Some (key p st front t)) None
 
 -- the least key of the tasks of a home that may be placed
 abbrev pub IsBestAt : Plan → Progress → List ℕ → ℕ → Option Key → Type 0
 IsBestAt p st front h None = (t : ℕ) → t < count_tasks p → home p t ≡ h → open_key p st front t ≡ None
-IsBestAt p st front h (Some k) = ((t : ℕ) × (t < count_tasks p) × (home p t ≡ h) × (open_key p st front t ≡ Some k))
-    × ((t : ℕ) (l : Key) → t < count_tasks p → home p t ≡ h → open_key p st front t ≡ Some l → is_less l k ≡ false)
+IsBestAt p st front h (Some k) = ((t : ℕ) × (t < count_tasks p) × (home p t ≡ h)
+    × (open_key p st front t ≡ Some k))
+    × ((t : ℕ) (l : Key) → t < count_tasks p → home p t ≡ h → open_key p st front t ≡ Some l
+    → is_less l k ≡ false)
 
 -- a spot: a home, a need and a task
 abbrev pub Spot : Type 0
@@ -117,23 +124,33 @@ pub record IsLast (p : Plan) (st : Progress) (front : List ℕ) (c u : ℕ) : Ty
 
 -- the key of a task has nothing to do with c: the task isn't c, or c isn't ready; and it isn't the last parent of c
 abbrev pub IsApart : Plan → Progress → List ℕ → ℕ → ℕ → Type 0
-IsApart p st front c u = (u ≡ c → missing p st front c ≢ 0) × (is_done st front u ≡ false → last_of p st front u c ≡ 0)
+IsApart p st front c u = (u ≡ c → missing p st front c ≢ 0)
+    × (is_done st front u ≡ false → last_of p st front u c ≡ 0)
 
 -- what is told of a task is right after a front, or it is what was told, and the task is apart from all of some tasks
 abbrev pub IsToldBut : Plan → Progress → List ℕ → Index → Index → (ℕ → Bool) → Type 0
-IsToldBut p st front old new among = (u : ℕ) → u < count_tasks p → (told new u ≡ ready_key p st front u) ⊎ ((told new u ≡ told old u) × ((c : ℕ) → among c ≡ true → IsApart p st front c u))
+IsToldBut p st front old new among = (u : ℕ) → u < count_tasks p
+    → (told new u ≡ ready_key p st front u)
+    ⊎ ((told new u ≡ told old u) × ((c : ℕ) → among c ≡ true → IsApart p st front c u))
 
 -- a home has nothing to do with c: it isn't that of c, or c isn't ready; and it isn't that of the last parent of c
 abbrev pub IsAway : Plan → Progress → List ℕ → ℕ → ℕ → Type 0
-IsAway p st front c h = (home p c ≡ h → missing p st front c ≢ 0) × ((u : ℕ) → missing p st front c ≡ 1 → IsLast p st front c u → home p u ≢ h)
+IsAway p st front c h = (home p c ≡ h → missing p st front c ≢ 0)
+    × ((u : ℕ) → missing p st front c ≡ 1 → IsLast p st front c u → home p u ≢ h)
 
 -- the best of a home is right after a front, or it is as before, and the home is away from all of some tasks
 abbrev pub AreBestsBut : Plan → Progress → List ℕ → Index → Index → (ℕ → Bool) → Type 0
-AreBestsBut p st front old new among = (h : ℕ) → h < homes p → IsBestAt p st front h (entry new.best.rows.items 0 h) ⊎ ((entry new.best.rows.items 0 h ≡ entry old.best.rows.items 0 h) × ((c : ℕ) → among c ≡ true → IsAway p st front c h))
+AreBestsBut p st front old new among = (h : ℕ) → h < homes p
+    → IsBestAt p st front h (entry new.best.rows.items 0 h)
+    ⊎ ((entry new.best.rows.items 0 h ≡ entry old.best.rows.items 0 h)
+    × ((c : ℕ) → among c ≡ true → IsAway p st front c h))
 
 -- the bests of the home and of the place of a task are right after a front, and the others as before
 abbrev pub AreOwnBests : Plan → Progress → List ℕ → Index → Index → ℕ → Type 0
-AreOwnBests p st front old new t = (h : ℕ) → h < homes p → IsBestAt p st front h (entry new.best.rows.items 0 h) ⊎ ((entry new.best.rows.items 0 h ≡ entry old.best.rows.items 0 h) × (h ≢ home p t) × (place p t ≡ Some h → ⊥))
+AreOwnBests p st front old new t = (h : ℕ) → h < homes p
+    → IsBestAt p st front h (entry new.best.rows.items 0 h)
+    ⊎ ((entry new.best.rows.items 0 h ≡ entry old.best.rows.items 0 h) × (h ≢ home p t)
+    × (place p t ≡ Some h → ⊥))
 
 -- only the keys have changed; only the bests have
 pub record IsKeyed (old new : Index) : Type 0 where

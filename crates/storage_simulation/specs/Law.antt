@@ -25,11 +25,13 @@ swept p front q = list_any (λ t. cleans p t q) front
 
 -- what the pairs of a site come to after a front: one that it cleans counts nothing, one that it writes its declared size, each other what is held of it
 abbrev pub pair_weight : Plan → (ℕ → ℕ) → List ℕ → ℕ → ℕ
-pair_weight p size front q = cond (swept p front q) 0 (cond (written p front q) (pair_size p (pair p q)) (size q))
+pair_weight p size front q = cond (swept p front q) 0
+    (cond (written p front q) (pair_size p (pair p q)) (size q))
 
 abbrev pub site_usage : Plan → (ℕ → ℕ) → List ℕ → ℕ → ℕ
 site_usage p size front s = total (count_pairs p) (λ q. cond (is_at p q s) (pair_weight p size front q) 0)
 
 -- what the deliveries come to: one in the front counts its declared size, each other what is held of it
 abbrev pub output_usage : Plan → (ℕ → ℕ) → List ℕ → ℕ
-output_usage p size front = total (count_tasks p) (λ t. cond (is_delivery p t) (cond (has front t) (delivered_size p t) (size (count_pairs p + t))) 0)
+output_usage p size front = total (count_tasks p)
+    (λ t. cond (is_delivery p t) (cond (has front t) (delivered_size p t) (size (count_pairs p + t))) 0)

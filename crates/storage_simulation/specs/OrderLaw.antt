@@ -26,7 +26,8 @@ abbrev pub is_open : Plan → Progress → List ℕ → ℕ → Bool
 is_open p st front t = not (is_done st front t) && is_ready p st.phase front t
 
 abbrev pub fits_after : Plan → Progress → List ℕ → ℕ → Bool
-fits_after p st front t = all_below (places p) (λ s. leb (usage p (size st) (front ++ t ∷ []) s) (place_bound p s))
+fits_after p st front t = all_below (places p)
+    (λ s. leb (usage p (size st) (front ++ t ∷ []) s) (place_bound p s))
 
 -- the task that is placed next: the lowest ready Clean, else of the ready tasks that fit the first by `less`
 abbrev pub step : Plan → Progress → (List ℕ → ℕ → ℕ → Bool) → List ℕ → Option ℕ
@@ -43,7 +44,8 @@ and_then (Some t) f = f t
 
 abbrev pub go_on : Plan → Progress → (List ℕ → ℕ → ℕ → Bool) → ℕ → List ℕ → Option (List ℕ)
 go_on p st less zero front = cond (all_placed p st front) (Some front) None
-go_on p st less (suc n) front = cond (all_placed p st front) (Some front) (and_then (step p st less front) (λ t. go_on p st less n (front ++ t ∷ [])))
+go_on p st less (suc n) front = cond (all_placed p st front) (Some front)
+    (and_then (step p st less front) (λ t. go_on p st less n (front ++ t ∷ [])))
 
 -- as many steps as there are tasks are enough
 abbrev pub order_by : Plan → Progress → (List ℕ → ℕ → ℕ → Bool) → Option (List ℕ)

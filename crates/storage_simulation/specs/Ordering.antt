@@ -88,7 +88,8 @@ goes p st front t = total (count_tasks p) (λ c. cond (makes_ready p st front t 
 
 -- the score is less than another's, or equal and the number isn't greater
 abbrev pub IsBefore : Plan → Progress → List ℕ → ℕ → ℕ → Type 0
-IsBefore p st front t u = (comes p st t + goes p st front u < comes p st u + goes p st front t) ⊎ ((comes p st t + goes p st front u ≡ comes p st u + goes p st front t) × (t ≤ u))
+IsBefore p st front t u = (comes p st t + goes p st front u < comes p st u + goes p st front t)
+    ⊎ ((comes p st t + goes p st front u ≡ comes p st u + goes p st front t) × (t ≤ u))
 
 -- the lowest ready Clean
 pub record IsLowestClean (p : Plan) (st : Progress) (front : List ℕ) (t : ℕ) : Type 0 where

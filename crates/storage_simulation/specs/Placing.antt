@@ -8,9 +8,11 @@ use Rattle.storage_simulation.specs.Usage.{usage}
 
 -- the usages that change with a task: none, or that of one place
 abbrev pub IsChange : Plan → Progress → List ℕ → ℕ → Option Change → Type 0
-IsChange p st front t None = (s : ℕ) → s < places p → usage p (size st) (front ++ t ∷ []) s ≡ usage p (size st) front s
+IsChange p st front t None = (s : ℕ) → s < places p
+    → usage p (size st) (front ++ t ∷ []) s ≡ usage p (size st) front s
 IsChange p st front t (Some c) = (c.place < places p) × (c.used ≡ usage p (size st) (front ++ t ∷ []) c.place)
-    × ((s : ℕ) → s < places p → s ≢ c.place → usage p (size st) (front ++ t ∷ []) s ≡ usage p (size st) front s)
+    × ((s : ℕ) → s < places p → s ≢ c.place
+    → usage p (size st) (front ++ t ∷ []) s ≡ usage p (size st) front s)
 
 abbrev pub changed : Option Change → ℕ → ℕ → ℕ
 changed None s x = x

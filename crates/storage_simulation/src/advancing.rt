@@ -28,7 +28,8 @@ fn key_all(plan: &Plan, standing: &Standing, front: &Front, index: &mut Index)
     requires goes { AreGoes plan.now (progress standing.now) (front_of front.now) index.old.goes.items }
     ensures laid { IsLaid plan.now (progress standing.now) index.new }
     ensures goes { AreGoes plan.now (progress standing.now) (front_of front.now) index.new.goes.items }
-    ensures told { (u : ℕ) → u < count_tasks plan.now → told index.new u ≡ ready_key plan.now (progress standing.now) (front_of front.now) u }
+    ensures told { (u : ℕ) → u < count_tasks plan.now
+        → told index.new u ≡ ready_key plan.now (progress standing.now) (front_of front.now) u }
 {
     for task in 0..plan.tasks.as_slice().len() {
         set_key(plan, standing, front, index, task as u32);
@@ -39,10 +40,13 @@ fn key_all(plan: &Plan, standing: &Standing, front: &Front, index: &mut Index)
 fn best_all(plan: &Plan, standing: &Standing, front: &Front, index: &mut Index)
     requires set { IsSet plan.now standing.now front.now }
     requires laid { IsLaid plan.now (progress standing.now) index.old }
-    requires told { (u : ℕ) → u < count_tasks plan.now → told index.old u ≡ ready_key plan.now (progress standing.now) (front_of front.now) u }
+    requires told { (u : ℕ) → u < count_tasks plan.now
+        → told index.old u ≡ ready_key plan.now (progress standing.now) (front_of front.now) u }
     ensures laid { IsLaid plan.now (progress standing.now) index.new }
     ensures settled { IsSettled index.old index.new }
-    ensures bests { (h : ℕ) → h < homes plan.now → IsBestAt plan.now (progress standing.now) (front_of front.now) h (entry index.new.best.rows.items 0 h) }
+    ensures bests { (h : ℕ) → h < homes plan.now
+        → IsBestAt plan.now (progress standing.now) (front_of front.now) h
+        (entry index.new.best.rows.items 0 h) }
 {
     for home in 0..places(plan) + 2 {
         set_best(plan, standing, front, index, home as u32);

@@ -39,8 +39,10 @@ fn size_at(plan: &Plan, place: u32, good: u32) -> u64
 }
 
 fn held_of_pairs(plan: &Plan, standing: &Standing, place: u32, pairs: &[PairId]) -> u64
-    requires few { sum_of (held_part plan.now (sizes (held_of standing.now)) place) (pair_numbers pairs.now) < 2 ^ 63 }
-    ensures { result ≡ sum_of (held_part plan.now (sizes (held_of standing.now)) place) (pair_numbers pairs.now) }
+    requires few { sum_of (held_part plan.now (sizes (held_of standing.now)) place) (pair_numbers pairs.now)
+        < 2 ^ 63 }
+    ensures { result ≡ sum_of (held_part plan.now (sizes (held_of standing.now)) place)
+        (pair_numbers pairs.now) }
 {
     let mut sum = 0;
     for pair in pairs {
@@ -64,8 +66,10 @@ fn size_of_pairs(plan: &Plan, place: u32, pairs: &[PairId]) -> u64
 #[tactic(auto, unfolding(crate::specs::Goods::makes))]
 pub(crate) fn held_of_made(plan: &Plan, standing: &Standing, place: u32, task: TaskId) -> u64
     requires limits { IsWithinLimits plan.now }
-    requires few { sum_of (held_part plan.now (sizes (held_of standing.now)) place) (makes plan.now task.0) < 2 ^ 63 }
-    ensures { result ≡ sum_of (held_part plan.now (sizes (held_of standing.now)) place) (makes plan.now task.0) }
+    requires few { sum_of (held_part plan.now (sizes (held_of standing.now)) place) (makes plan.now task.0)
+        < 2 ^ 63 }
+    ensures { result ≡ sum_of (held_part plan.now (sizes (held_of standing.now)) place)
+        (makes plan.now task.0) }
 {
     if is_delivery(plan, task) {
         return held_at(plan, standing, place, delivered_good(plan, task));
@@ -105,10 +109,12 @@ pub(crate) fn after_making(
     before: u64,
 ) -> u64
     requires limits { IsWithinLimits plan.now }
-    requires enough { sum_of (held_part plan.now (sizes (held_of standing.now)) place) (makes plan.now task.0) ≤ before }
+    requires enough { sum_of (held_part plan.now (sizes (held_of standing.now)) place)
+        (makes plan.now task.0) ≤ before }
     requires held { before < 2 ^ 62 }
     requires few { sum_of (size_part plan.now place) (makes plan.now task.0) < 2 ^ 62 }
-    ensures { result + sum_of (held_part plan.now (sizes (held_of standing.now)) place) (makes plan.now task.0) ≡ before + sum_of (size_part plan.now place) (makes plan.now task.0) }
+    ensures { result + sum_of (held_part plan.now (sizes (held_of standing.now)) place)
+        (makes plan.now task.0) ≡ before + sum_of (size_part plan.now place) (makes plan.now task.0) }
 {
     let held = held_of_made(plan, standing, place, task);
     let made = size_of_made(plan, place, task);
@@ -118,7 +124,8 @@ pub(crate) fn after_making(
 fn any_waits(plan: &Plan, standing: &Standing, some: &[TaskId], good: u32) -> bool
     requires limits { IsWithinLimits plan.now }
     requires goods { KeepsGoods plan.now }
-    ensures { result ≡ list_any (λ (u : TaskId). waits (phase_of standing.now u.0) && has (makes plan.now u.0) good) some.now }
+    ensures { result ≡ list_any (λ (u : TaskId). waits (phase_of standing.now u.0)
+        && has (makes plan.now u.0) good) some.now }
 {
     some.iter().any(|task| standing.waits(*task) && finds_made(plan, *task, good))
 }
@@ -143,7 +150,8 @@ pub(crate) fn cleaned_at(
 ) -> u64
     requires limits { IsWithinLimits plan.now }
     requires goods { KeepsGoods plan.now }
-    ensures { result ≡ cleaned_part plan.now (phase_of standing.now) (sizes (held_of standing.now)) task.0 place good }
+    ensures { result ≡ cleaned_part plan.now (phase_of standing.now)
+        (sizes (held_of standing.now)) task.0 place good }
 {
     if !lies_at(plan, good, place) {
         0

@@ -36,7 +36,9 @@ pub(crate) fn is_open(plan: &Plan, standing: &Standing, front: &Front, task: Tas
 /// The lowest ready task.
 fn lowest_open(plan: &Plan, standing: &Standing, front: &Front) -> Option<TaskId>
     requires set { IsSet plan.now standing.now front.now }
-    ensures { MatchOption result ((u : ℕ) → IsOpen plan.now (progress standing.now) (front_of front.now) u → ⊥) (λ t. IsOpen plan.now (progress standing.now) (front_of front.now) t.0 × ((u : ℕ) → u < t.0 → IsOpen plan.now (progress standing.now) (front_of front.now) u → ⊥)) }
+    ensures { MatchOption result ((u : ℕ) → IsOpen plan.now (progress standing.now) (front_of front.now) u
+        → ⊥) (λ t. IsOpen plan.now (progress standing.now) (front_of front.now) t.0
+        × ((u : ℕ) → u < t.0 → IsOpen plan.now (progress standing.now) (front_of front.now) u → ⊥)) }
 {
     for number in 0..plan.tasks.as_slice().len() {
         let task = TaskId(number as u32);
@@ -50,8 +52,10 @@ fn lowest_open(plan: &Plan, standing: &Standing, front: &Front) -> Option<TaskId
 /// What comes next if no Clean is ready and no ready task fits.
 pub(crate) fn refusal(plan: &Plan, standing: &Standing, front: &Front) -> Next
     requires set { IsSet plan.now standing.now front.now }
-    requires no_clean { (u : ℕ) → IsOpen plan.now (progress standing.now) (front_of front.now) u → is_clean plan.now u ≡ false }
-    requires none_fits { (u : ℕ) → IsOpen plan.now (progress standing.now) (front_of front.now) u → IsFitting plan.now (progress standing.now) (front_of front.now) u → ⊥ }
+    requires no_clean { (u : ℕ) → IsOpen plan.now (progress standing.now) (front_of front.now) u
+        → is_clean plan.now u ≡ false }
+    requires none_fits { (u : ℕ) → IsOpen plan.now (progress standing.now) (front_of front.now) u
+        → IsFitting plan.now (progress standing.now) (front_of front.now) u → ⊥ }
     ensures { IsNext plan.now (progress standing.now) (front_of front.now) result }
 {
     match lowest_open(plan, standing, front) {

@@ -54,8 +54,10 @@ fn after_next(
     requires follows { Follows plan.now (phase_of standing.now) (task_numbers order.now) }
     requires place { place < places plan.now }
     requires within { k < length order.now }
-    requires before { before ≡ usage plan.now (sizes (held_of standing.now)) (take k (task_numbers order.now)) place }
-    ensures { result ≡ usage plan.now (sizes (held_of standing.now)) (take (k + 1) (task_numbers order.now)) place }
+    requires before { before ≡ usage plan.now (sizes (held_of standing.now))
+        (take k (task_numbers order.now)) place }
+    ensures { result ≡ usage plan.now (sizes (held_of standing.now))
+        (take (k + 1) (task_numbers order.now)) place }
 {
     let task = order[k];
     match cleaned_by(plan, task) {
@@ -79,7 +81,9 @@ fn first_past(
     requires start { IsWithin plan.now (sizes (held_of standing.now)) [] }
     requires place { place < places plan.now }
     requires end { end ≤ length order.now }
-    ensures { MatchOption result (KeepsBound plan.now (sizes (held_of standing.now)) (task_numbers order.now) place end) (λ e. IsPastAt plan.now (sizes (held_of standing.now)) (task_numbers order.now) place end e) }
+    ensures { MatchOption result (KeepsBound plan.now (sizes (held_of standing.now))
+        (task_numbers order.now) place end) (λ e. IsPastAt plan.now (sizes (held_of standing.now))
+        (task_numbers order.now) place end e) }
 {
     let bound = place_bound(plan, place);
     let mut sum = usage_after(plan, standing, &[], SiteId(place));
@@ -139,7 +143,8 @@ fn first_of_all(plan: &Plan, standing: &Standing, order: &[TaskId]) -> Option<Pa
     requires standing { IsStanding plan.now standing.now }
     requires follows { Follows plan.now (phase_of standing.now) (task_numbers order.now) }
     requires start { IsWithin plan.now (sizes (held_of standing.now)) [] }
-    ensures { IsFound plan.now (sizes (held_of standing.now)) (task_numbers order.now) (places plan.now) result }
+    ensures { IsFound plan.now (sizes (held_of standing.now)) (task_numbers order.now)
+        (places plan.now) result }
 {
     let mut found = None;
     for place in 0..places(plan) {
@@ -155,8 +160,10 @@ pub fn fits(plan: &Plan, standing: &Standing, order: &[TaskId]) -> Result<(), Ex
     requires standing { IsStanding plan.now standing.now }
     requires follows { Follows plan.now (phase_of standing.now) (task_numbers order.now) }
     requires start { IsWithin plan.now (sizes (held_of standing.now)) [] }
-    ensures fits { IfOk result (λ _. Fits plan.now (phase_of standing.now) (held_of standing.now) (task_numbers order.now)) }
-    ensures first { IfErr result (λ e. IsFirstPast plan.now (sizes (held_of standing.now)) (task_numbers order.now) e) }
+    ensures fits { IfOk result (λ _. Fits plan.now (phase_of standing.now) (held_of standing.now)
+        (task_numbers order.now)) }
+    ensures first { IfErr result (λ e. IsFirstPast plan.now (sizes (held_of standing.now))
+        (task_numbers order.now) e) }
 {
     proper_plans_keep_goods();
     match first_of_all(plan, standing, order) {

@@ -23,7 +23,8 @@ fn is_marked(marks: &[bool], task: TaskId) -> bool
 }
 
 fn none_missing(standing: &Standing, marks: &[bool], parents: &[TaskId]) -> bool
-    ensures { result ≡ list_all (λ (u : TaskId). not (waits (phase_of standing.now u.0)) || is_marked marks.now u.0) parents.now }
+    ensures { result ≡ list_all (λ (u : TaskId). not (waits (phase_of standing.now u.0))
+        || is_marked marks.now u.0) parents.now }
 {
     parents.iter().all(|parent| !standing.waits(*parent) || is_marked(marks, *parent))
 }
@@ -31,7 +32,8 @@ fn none_missing(standing: &Standing, marks: &[bool], parents: &[TaskId]) -> bool
 /// Whether each parent of a task that waits has a mark.
 #[tactic(auto, using(crate::proofs::NumbersLemmas::all_tasks))]
 fn is_ready(plan: &Plan, standing: &Standing, marks: &[bool], task: TaskId) -> bool
-    ensures { result ≡ list_all (λ u. not (waits (phase_of standing.now u)) || is_marked marks.now u) (parents plan.now task.0) }
+    ensures { result ≡ list_all (λ u. not (waits (phase_of standing.now u)) || is_marked marks.now u)
+        (parents plan.now task.0) }
 {
     none_missing(standing, marks, plan.parents(task))
 }
@@ -68,7 +70,8 @@ fn comes_next(
     requires within { k < length order.now }
     requires long { length marks.old.items ≡ count_tasks plan.now }
     requires marked { AreMarked marks.old.items (take k (task_numbers order.now)) }
-    ensures value { result ≡ may_follow plan.now (phase_of standing.now) (take k (task_numbers order.now)) (get_or (task_numbers order.now) k 0) }
+    ensures value { result ≡ may_follow plan.now (phase_of standing.now) (take k (task_numbers order.now))
+        (get_or (task_numbers order.now) k 0) }
     ensures long { length marks.new.items ≡ count_tasks plan.now }
     ensures marked { result ≡ true → AreMarked marks.new.items (take (k + 1) (task_numbers order.now)) }
 {
@@ -95,7 +98,8 @@ pub fn follows(
     standing: &Standing,
     order: &[TaskId],
 ) -> Result<bool, Memory>
-    ensures { IfOk result (λ b. Decides b (Follows plan.now (phase_of standing.now) (task_numbers order.now))) }
+    ensures { IfOk result (λ b. Decides b (Follows plan.now (phase_of standing.now)
+        (task_numbers order.now))) }
 {
     let mut marks = no_marks(alloc, plan)?;
     for k in 0..order.len() {

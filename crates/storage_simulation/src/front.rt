@@ -37,7 +37,8 @@ fn numbers_of(alloc: Global, tasks: &[TaskId]) -> Result<Vec<u32>, Memory>
 fn parent_lists(alloc: Global, plan: &Plan) -> Result<Vec<Vec<u32>>, Memory>
     requires few { count_tasks plan.now < 2 ^ 32 }
     ensures long { IfOk result (λ v. length v.items ≡ count_tasks plan.now) }
-    ensures each { IfOk result (λ v. (t : ℕ) → t < count_tasks plan.now → neighbours (lists_of v.items) t ≡ parents plan.now t) }
+    ensures each { IfOk result (λ v. (t : ℕ) → t < count_tasks plan.now
+        → neighbours (lists_of v.items) t ≡ parents plan.now t) }
 {
     let mut lists = Vec::new(alloc);
     for task in 0..plan.tasks.as_slice().len() {

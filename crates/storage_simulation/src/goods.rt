@@ -217,7 +217,8 @@ pub fn finds_made(plan: &Plan, task: TaskId, good: u32) -> bool
 
 /// The good that a task cleans.
 pub fn cleaned_by(plan: &Plan, task: TaskId) -> Option<u32>
-    ensures { MatchOption result ((g : ℕ) → cleans plan.now task.0 g ≡ false) (λ q. (g : ℕ) → cleans plan.now task.0 g ≡ (q == g)) }
+    ensures { MatchOption result ((g : ℕ) → cleans plan.now task.0 g ≡ false)
+        (λ q. (g : ℕ) → cleans plan.now task.0 g ≡ (q == g)) }
 {
     match plan.kind(task) {
         Some(TaskKind::Clean { pair }) => Some(pair.0),

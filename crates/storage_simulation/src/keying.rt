@@ -70,7 +70,9 @@ pub(crate) fn set_key(plan: &Plan, standing: &Standing, front: &Front, index: &m
     requires goes { AreGoes plan.now (progress standing.now) (front_of front.now) index.old.goes.items }
     ensures laid { IsLaid plan.now (progress standing.now) index.new }
     ensures keyed { IsKeyed index.old index.new }
-    ensures told { (u : ℕ) → u < count_tasks plan.now → told index.new u ≡ cond (u == task) (ready_key plan.now (progress standing.now) (front_of front.now) task) (told index.old u) }
+    ensures told { (u : ℕ) → u < count_tasks plan.now
+        → told index.new u ≡ cond (u == task)
+        (ready_key plan.now (progress standing.now) (front_of front.now) task) (told index.old u) }
 {
     let key = key_now(plan, standing, front, index, task);
     let slot = slot_at(&index.slots, task);
@@ -81,7 +83,8 @@ pub(crate) fn set_key(plan: &Plan, standing: &Standing, front: &Front, index: &m
 #[tactic(auto, using(crate::proofs::KeyingLemmas::before_back))]
 fn start_of(spots: &[Spot], at: u32) -> usize
     requires few { length spots.now ≤ 120000 }
-    requires rising { (i j : ℕ) → i ≤ j → j < length spots.now → IsUpTo (spot_at spots.now i) (spot_at spots.now j) }
+    requires rising { (i j : ℕ) → i ≤ j → j < length spots.now
+        → IsUpTo (spot_at spots.now i) (spot_at spots.now j) }
     ensures { IsCut (λ j. is_before_home at (spot_at spots.now j)) (length spots.now) result }
 {
     let mut low = 0;
@@ -107,7 +110,8 @@ fn is_up_to(spot: Spot, at: u32, room: u64) -> bool
 #[tactic(auto, using(crate::proofs::KeyingLemmas::up_back))]
 fn end_of(spots: &[Spot], at: u32, room: u64) -> usize
     requires few { length spots.now ≤ 120000 }
-    requires rising { (i j : ℕ) → i ≤ j → j < length spots.now → IsUpTo (spot_at spots.now i) (spot_at spots.now j) }
+    requires rising { (i j : ℕ) → i ≤ j → j < length spots.now
+        → IsUpTo (spot_at spots.now i) (spot_at spots.now j) }
     ensures { IsCut (λ j. is_up_to at room (spot_at spots.now j)) (length spots.now) result }
 {
     let mut low = 0;
@@ -127,7 +131,8 @@ fn end_of(spots: &[Spot], at: u32, room: u64) -> usize
 fn room_at(plan: &Plan, standing: &Standing, front: &Front, place: u32) -> u64
     requires set { IsSet plan.now standing.now front.now }
     requires place { place < places plan.now }
-    ensures { result ≡ 2 ^ 62 + min (place_bound plan.now place - get_or front.now.used.items place 0) (2 ^ 62) }
+    ensures { result ≡ 2 ^ 62 + min (place_bound plan.now place - get_or front.now.used.items place 0)
+        (2 ^ 62) }
 {
     let _standing = standing;
     let room = place_bound(plan, place) - front.used(place);
@@ -138,7 +143,10 @@ fn room_at(plan: &Plan, standing: &Standing, front: &Front, place: u32) -> u64
 fn room_of(plan: &Plan, standing: &Standing, front: &Front, at: u32) -> u64
     requires set { IsSet plan.now standing.now front.now }
     requires home { at < homes plan.now }
-    ensures fits { (t : ℕ) → IsOpen plan.now (progress standing.now) (front_of front.now) t → home plan.now t ≡ at → is_clean plan.now t ≡ false → nat_le (need plan.now (progress standing.now) t) result ≡ fits_after plan.now (progress standing.now) (front_of front.now) t }
+    ensures fits { (t : ℕ) → IsOpen plan.now (progress standing.now) (front_of front.now) t
+        → home plan.now t ≡ at → is_clean plan.now t ≡ false
+        → nat_le (need plan.now (progress standing.now) t) result
+        ≡ fits_after plan.now (progress standing.now) (front_of front.now) t }
 {
     if (at as usize) < places(plan) {
         room_at(plan, standing, front, at)
@@ -152,7 +160,8 @@ fn best_of(plan: &Plan, standing: &Standing, front: &Front, index: &Index, at: u
     requires set { IsSet plan.now standing.now front.now }
     requires home { at < homes plan.now }
     requires laid { IsLaid plan.now (progress standing.now) index.now }
-    requires told { (u : ℕ) → u < count_tasks plan.now → told index.now u ≡ ready_key plan.now (progress standing.now) (front_of front.now) u }
+    requires told { (u : ℕ) → u < count_tasks plan.now
+        → told index.now u ≡ ready_key plan.now (progress standing.now) (front_of front.now) u }
     ensures { IsBestAt plan.now (progress standing.now) (front_of front.now) at result }
 {
     let room = room_of(plan, standing, front, at);
@@ -166,11 +175,14 @@ pub(crate) fn set_best(plan: &Plan, standing: &Standing, front: &Front, index: &
     requires set { IsSet plan.now standing.now front.now }
     requires home { at < homes plan.now }
     requires laid { IsLaid plan.now (progress standing.now) index.old }
-    requires told { (u : ℕ) → u < count_tasks plan.now → told index.old u ≡ ready_key plan.now (progress standing.now) (front_of front.now) u }
+    requires told { (u : ℕ) → u < count_tasks plan.now
+        → told index.old u ≡ ready_key plan.now (progress standing.now) (front_of front.now) u }
     ensures laid { IsLaid plan.now (progress standing.now) index.new }
     ensures settled { IsSettled index.old index.new }
-    ensures here { IsBestAt plan.now (progress standing.now) (front_of front.now) at (entry index.new.best.rows.items 0 at) }
-    ensures others { (h : ℕ) → h ≢ at → entry index.new.best.rows.items 0 h ≡ entry index.old.best.rows.items 0 h }
+    ensures here { IsBestAt plan.now (progress standing.now) (front_of front.now) at
+        (entry index.new.best.rows.items 0 at) }
+    ensures others { (h : ℕ) → h ≢ at
+        → entry index.new.best.rows.items 0 h ≡ entry index.old.best.rows.items 0 h }
 {
     let best = best_of(plan, standing, front, index, at);
     index.best.set(at as usize, best);

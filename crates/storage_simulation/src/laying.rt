@@ -39,7 +39,8 @@ pub(crate) fn home_of(plan: &Plan, task: TaskId) -> u32
 fn need_at(plan: &Plan, standing: &Standing, task: TaskId, place: u32) -> u64
     requires limits { IsWithinLimits plan.now }
     requires few_sizes { sum_of (size_part plan.now place) (makes plan.now task.0) < 2 ^ 62 }
-    requires few_held { sum_of (held_part plan.now (size (progress standing.now)) place) (makes plan.now task.0) < 2 ^ 62 }
+    requires few_held { sum_of (held_part plan.now (size (progress standing.now)) place)
+        (makes plan.now task.0) < 2 ^ 62 }
     ensures { result ≡ need_at plan.now (progress standing.now) task.0 (Some place) }
 {
     (1 << 62) + size_of_made(plan, place, task) - held_of_made(plan, standing, place, task)
@@ -82,7 +83,8 @@ fn fill_spots(plan: &Plan, standing: &Standing, spots: &mut Vec<Spot>)
     requires standing { IsStanding plan.now standing.now }
     requires long { length spots.old.items ≡ count_tasks plan.now }
     ensures long { length spots.new.items ≡ count_tasks plan.now }
-    ensures each { (t : ℕ) → t < count_tasks plan.now → spot_at spots.new.items t ≡ (home plan.now t, need plan.now (progress standing.now) t, t) }
+    ensures each { (t : ℕ) → t < count_tasks plan.now
+        → spot_at spots.new.items t ≡ (home plan.now t, need plan.now (progress standing.now) t, t) }
 {
     for task in 0..plan.tasks.as_slice().len() {
         spots[task] = spot_of(plan, standing, task as u32);
@@ -91,7 +93,8 @@ fn fill_spots(plan: &Plan, standing: &Standing, spots: &mut Vec<Spot>)
 
 fn sort_spots(spots: &mut Vec<Spot>)
     ensures permutation { IsPermutation spots.old.items spots.new.items }
-    ensures sorted { IsSorted (λ (x y : Spot). ordering_then (nat_cmp x.0 y.0) (ordering_then (nat_cmp x.1 y.1) (nat_cmp x.2 y.2))) spots.new.items }
+    ensures sorted { IsSorted (λ (x y : Spot). ordering_then (nat_cmp x.0 y.0)
+        (ordering_then (nat_cmp x.1 y.1) (nat_cmp x.2 y.2))) spots.new.items }
 {
     spots.sort_unstable();
 }
@@ -100,7 +103,8 @@ fn sort_spots(spots: &mut Vec<Spot>)
 fn fill_slots(spots: &[Spot], slots: &mut Vec<u32>)
     requires few { length spots.now ≤ 120000 }
     requires below { (j : ℕ) → j < length spots.now → (spot_at spots.now j).2 < length slots.old.items }
-    requires once { (i j : ℕ) → i < j → j < length spots.now → (spot_at spots.now i).2 ≢ (spot_at spots.now j).2 }
+    requires once { (i j : ℕ) → i < j → j < length spots.now
+        → (spot_at spots.now i).2 ≢ (spot_at spots.now j).2 }
     ensures long { length slots.new.items ≡ length slots.old.items }
     ensures slotted { (j : ℕ) → j < length spots.now → get_or slots.new.items (spot_at spots.now j).2 0 ≡ j }
 {
@@ -115,7 +119,8 @@ fn fill_comes(plan: &Plan, standing: &Standing, table: &mut Vec<u64>)
     requires limits { IsWithinLimits plan.now }
     requires long { length table.old.items ≡ count_tasks plan.now }
     ensures long { length table.new.items ≡ count_tasks plan.now }
-    ensures each { (t : ℕ) → t < count_tasks plan.now → get_or table.new.items t 0 ≡ comes plan.now (progress standing.now) t }
+    ensures each { (t : ℕ) → t < count_tasks plan.now
+        → get_or table.new.items t 0 ≡ comes plan.now (progress standing.now) t }
 {
     for task in 0..plan.tasks.as_slice().len() {
         table[task] = comes_of(plan, standing, TaskId(task as u32));

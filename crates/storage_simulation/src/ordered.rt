@@ -30,7 +30,8 @@ pub struct Ordered {
     ghost limits: { IsWithinLimits plan },
     ghost order: { ∥ IsOrder plan at_start (task_numbers tasks.items) ∥₁ },
     ghost fits: { Fits plan all_wait nothing_held (task_numbers tasks.items) },
-    ghost peaks_are: { ∥ ((s : ℕ) → s < places plan → IsPeak plan at_start (task_numbers tasks.items) s (get_or peaks.items s 0)) ∥₁ },
+    ghost peaks_are: { ∥ ((s : ℕ) → s < places plan
+        → IsPeak plan at_start (task_numbers tasks.items) s (get_or peaks.items s 0)) ∥₁ },
 }
 
 /// Why there is no order.
@@ -94,7 +95,8 @@ fn order_of(alloc: Global, plan: &Plan) -> Result<Bench, OrderFault>
     requires proper { IsProper plan.now }
     requires limits { IsWithinLimits plan.now }
     ensures order { IfOk result (λ b. IsOrder plan.now at_start (front_of b.front)) }
-    ensures peaks { IfOk result (λ b. (s : ℕ) → s < places plan.now → IsPeak plan.now at_start (front_of b.front) s (get_or b.front.peaks.items s 0)) }
+    ensures peaks { IfOk result (λ b. (s : ℕ) → s < places plan.now
+        → IsPeak plan.now at_start (front_of b.front) s (get_or b.front.peaks.items s 0)) }
     ensures fault { IfErr result (λ f. IsFault plan.now f) }
 {
     let standing = Standing::start(alloc, plan)?;

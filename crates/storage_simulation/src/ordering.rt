@@ -68,7 +68,9 @@ pub fn order_from(plan: &Plan, standing: &Standing, bench: &mut Bench) -> Result
     requires start { IsWithin plan.now (sizes (held_of standing.now)) [] }
     requires bench { IsFor plan.now bench.old }
     ensures order { OnOk result (IsOrder plan.now (progress standing.now) (front_of bench.new.front)) }
-    ensures peaks { OnOk result ((s : ℕ) → s < places plan.now → IsPeak plan.now (progress standing.now) (front_of bench.new.front) s (get_or bench.new.front.peaks.items s 0)) }
+    ensures peaks { OnOk result ((s : ℕ) → s < places plan.now
+        → IsPeak plan.now (progress standing.now) (front_of bench.new.front) s
+        (get_or bench.new.front.peaks.items s 0)) }
     ensures exceeds { IfErr result (λ e. IsExceeds plan.now (progress standing.now) e) }
     ensures empty { OnErr result (bench.new.front.placed.items ≡ []) }
     ensures bench { IsFor plan.now bench.new }

@@ -66,7 +66,8 @@ pub fn count_down(counts: &mut Vec<u32>, tasks: &[u32])
     requires in_range { (c : ℕ) → has tasks.now c ≡ true → c < length counts.old.items }
     requires enough { (c : ℕ) → has tasks.now c ≡ true → 0 < get_or counts.old.items c 0 }
     ensures long { length counts.new.items ≡ length counts.old.items }
-    ensures each { (c : ℕ) → get_or counts.new.items c 0 + cond (has tasks.now c) 1 0 ≡ get_or counts.old.items c 0 }
+    ensures each { (c : ℕ) → get_or counts.new.items c 0 + cond (has tasks.now c) 1 0
+        ≡ get_or counts.old.items c 0 }
 {
     for task in tasks {
         counts[*task as usize] -= 1;

@@ -29,7 +29,8 @@ fn touch(plan: &Plan, standing: &Standing, front: &Front, index: &mut Index, tas
     requires goes { AreGoes plan.now (progress standing.now) (front_of front.now) index.old.goes.items }
     ensures laid { IsLaid plan.now (progress standing.now) index.new }
     ensures keyed { IsKeyed index.old index.new }
-    ensures told { IsToldBut plan.now (progress standing.now) (front_of front.now) index.old index.new (λ c. c == task) }
+    ensures told { IsToldBut plan.now (progress standing.now) (front_of front.now) index.old index.new
+        (λ c. c == task) }
 {
     let missing = front.missing(task);
     if missing == 0 {
@@ -47,7 +48,8 @@ fn touch_all(plan: &Plan, standing: &Standing, front: &Front, index: &mut Index,
     requires goes { AreGoes plan.now (progress standing.now) (front_of front.now) index.old.goes.items }
     ensures laid { IsLaid plan.now (progress standing.now) index.new }
     ensures keyed { IsKeyed index.old index.new }
-    ensures told { IsToldBut plan.now (progress standing.now) (front_of front.now) index.old index.new (has tasks.now) }
+    ensures told { IsToldBut plan.now (progress standing.now) (front_of front.now) index.old index.new
+        (has tasks.now) }
 {
     for task in tasks {
         touch(plan, standing, front, index, *task);
@@ -59,10 +61,12 @@ fn settle(plan: &Plan, standing: &Standing, front: &Front, index: &mut Index, ta
     requires set { IsSet plan.now standing.now front.now }
     requires in_range { task < count_tasks plan.now }
     requires laid { IsLaid plan.now (progress standing.now) index.old }
-    requires told { (u : ℕ) → u < count_tasks plan.now → told index.old u ≡ ready_key plan.now (progress standing.now) (front_of front.now) u }
+    requires told { (u : ℕ) → u < count_tasks plan.now
+        → told index.old u ≡ ready_key plan.now (progress standing.now) (front_of front.now) u }
     ensures laid { IsLaid plan.now (progress standing.now) index.new }
     ensures settled { IsSettled index.old index.new }
-    ensures bests { AreBestsBut plan.now (progress standing.now) (front_of front.now) index.old index.new (λ c. c == task) }
+    ensures bests { AreBestsBut plan.now (progress standing.now) (front_of front.now) index.old index.new
+        (λ c. c == task) }
 {
     let missing = front.missing(task);
     if missing == 0 {
@@ -77,10 +81,12 @@ fn settle_all(plan: &Plan, standing: &Standing, front: &Front, index: &mut Index
     requires set { IsSet plan.now standing.now front.now }
     requires in_range { (c : ℕ) → has tasks.now c ≡ true → c < count_tasks plan.now }
     requires laid { IsLaid plan.now (progress standing.now) index.old }
-    requires told { (u : ℕ) → u < count_tasks plan.now → told index.old u ≡ ready_key plan.now (progress standing.now) (front_of front.now) u }
+    requires told { (u : ℕ) → u < count_tasks plan.now
+        → told index.old u ≡ ready_key plan.now (progress standing.now) (front_of front.now) u }
     ensures laid { IsLaid plan.now (progress standing.now) index.new }
     ensures settled { IsSettled index.old index.new }
-    ensures bests { AreBestsBut plan.now (progress standing.now) (front_of front.now) index.old index.new (has tasks.now) }
+    ensures bests { AreBestsBut plan.now (progress standing.now) (front_of front.now) index.old index.new
+        (has tasks.now) }
 {
     for task in tasks {
         settle(plan, standing, front, index, *task);
@@ -101,10 +107,14 @@ pub(crate) fn rekey(
     requires children { (c : ℕ) → has children.now c ≡ true → c < count_tasks plan.now }
     requires laid { IsLaid plan.now (progress standing.now) index.old }
     requires goes { AreGoes plan.now (progress standing.now) (front_of front.now) index.old.goes.items }
-    requires kept { (u : ℕ) → u < count_tasks plan.now → u ≢ task → ((c : ℕ) → has children.now c ≡ true → IsApart plan.now (progress standing.now) (front_of front.now) c u) → told index.old u ≡ ready_key plan.now (progress standing.now) (front_of front.now) u }
+    requires kept { (u : ℕ) → u < count_tasks plan.now → u ≢ task
+        → ((c : ℕ) → has children.now c ≡ true
+        → IsApart plan.now (progress standing.now) (front_of front.now) c u)
+        → told index.old u ≡ ready_key plan.now (progress standing.now) (front_of front.now) u }
     ensures laid { IsLaid plan.now (progress standing.now) index.new }
     ensures keyed { IsKeyed index.old index.new }
-    ensures told { (u : ℕ) → u < count_tasks plan.now → told index.new u ≡ ready_key plan.now (progress standing.now) (front_of front.now) u }
+    ensures told { (u : ℕ) → u < count_tasks plan.now
+        → told index.new u ≡ ready_key plan.now (progress standing.now) (front_of front.now) u }
 {
     set_key(plan, standing, front, index, task);
     touch_all(plan, standing, front, index, children);
@@ -114,10 +124,12 @@ pub(crate) fn rekey(
 fn set_own(plan: &Plan, standing: &Standing, front: &Front, index: &mut Index, task: u32)
     requires set { IsSet plan.now standing.now front.now }
     requires laid { IsLaid plan.now (progress standing.now) index.old }
-    requires told { (u : ℕ) → u < count_tasks plan.now → told index.old u ≡ ready_key plan.now (progress standing.now) (front_of front.now) u }
+    requires told { (u : ℕ) → u < count_tasks plan.now
+        → told index.old u ≡ ready_key plan.now (progress standing.now) (front_of front.now) u }
     ensures laid { IsLaid plan.now (progress standing.now) index.new }
     ensures settled { IsSettled index.old index.new }
-    ensures bests { AreOwnBests plan.now (progress standing.now) (front_of front.now) index.old index.new task }
+    ensures bests { AreOwnBests plan.now (progress standing.now)
+        (front_of front.now) index.old index.new task }
 {
     set_best(plan, standing, front, index, home_of(plan, TaskId(task)));
     match place_of(plan, TaskId(task)) {
@@ -139,11 +151,19 @@ pub(crate) fn rebest(
     requires in_range { task < count_tasks plan.now }
     requires children { (c : ℕ) → has children.now c ≡ true → c < count_tasks plan.now }
     requires laid { IsLaid plan.now (progress standing.now) index.old }
-    requires told { (u : ℕ) → u < count_tasks plan.now → told index.old u ≡ ready_key plan.now (progress standing.now) (front_of front.now) u }
-    requires kept { (h : ℕ) → h < homes plan.now → h ≢ home plan.now task → (place plan.now task ≡ Some h → ⊥) → ((c : ℕ) → has children.now c ≡ true → IsAway plan.now (progress standing.now) (front_of front.now) c h) → IsBestAt plan.now (progress standing.now) (front_of front.now) h (entry index.old.best.rows.items 0 h) }
+    requires told { (u : ℕ) → u < count_tasks plan.now
+        → told index.old u ≡ ready_key plan.now (progress standing.now) (front_of front.now) u }
+    requires kept { (h : ℕ) → h < homes plan.now → h ≢ home plan.now task
+        → (place plan.now task ≡ Some h → ⊥)
+        → ((c : ℕ) → has children.now c ≡ true
+        → IsAway plan.now (progress standing.now) (front_of front.now) c h)
+        → IsBestAt plan.now (progress standing.now) (front_of front.now) h
+        (entry index.old.best.rows.items 0 h) }
     ensures laid { IsLaid plan.now (progress standing.now) index.new }
     ensures settled { IsSettled index.old index.new }
-    ensures bests { (h : ℕ) → h < homes plan.now → IsBestAt plan.now (progress standing.now) (front_of front.now) h (entry index.new.best.rows.items 0 h) }
+    ensures bests { (h : ℕ) → h < homes plan.now
+        → IsBestAt plan.now (progress standing.now) (front_of front.now) h
+        (entry index.new.best.rows.items 0 h) }
 {
     set_own(plan, standing, front, index, task);
     settle_all(plan, standing, front, index, children);

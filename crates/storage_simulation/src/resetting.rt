@@ -28,7 +28,8 @@ fn reset_done(plan: &Plan, standing: &Standing, done: &mut Vec<bool>)
     requires limits { IsWithinLimits plan.now }
     requires long { length done.old.items ≡ count_tasks plan.now }
     ensures long { length done.new.items ≡ count_tasks plan.now }
-    ensures each { (t : ℕ) → t < count_tasks plan.now → get_or done.new.items t true ≡ is_done (progress standing.now) [] t }
+    ensures each { (t : ℕ) → t < count_tasks plan.now
+        → get_or done.new.items t true ≡ is_done (progress standing.now) [] t }
 {
     for task in 0..plan.tasks.as_slice().len() {
         done[task] = has_begun(standing, TaskId(task as u32));
@@ -36,8 +37,10 @@ fn reset_done(plan: &Plan, standing: &Standing, done: &mut Vec<bool>)
 }
 
 fn count_waiting(standing: &Standing, tasks: &[TaskId]) -> u32
-    requires few { sum_of (λ u. cond (is_done (progress standing.now) [] u) 0 1) (task_numbers tasks.now) < 2 ^ 32 }
-    ensures { result ≡ sum_of (λ u. cond (is_done (progress standing.now) [] u) 0 1) (task_numbers tasks.now) }
+    requires few { sum_of (λ u. cond (is_done (progress standing.now) [] u) 0 1) (task_numbers tasks.now)
+        < 2 ^ 32 }
+    ensures { result ≡ sum_of (λ u. cond (is_done (progress standing.now) [] u) 0 1)
+        (task_numbers tasks.now) }
 {
     let mut count = 0;
     for task in tasks {
@@ -62,7 +65,8 @@ fn reset_missing(plan: &Plan, standing: &Standing, counts: &mut Vec<u32>)
     requires few { (t : ℕ) → missing plan.now (progress standing.now) [] t < 2 ^ 32 }
     requires long { length counts.old.items ≡ count_tasks plan.now }
     ensures long { length counts.new.items ≡ count_tasks plan.now }
-    ensures each { (t : ℕ) → t < count_tasks plan.now → get_or counts.new.items t 0 ≡ missing plan.now (progress standing.now) [] t }
+    ensures each { (t : ℕ) → t < count_tasks plan.now
+        → get_or counts.new.items t 0 ≡ missing plan.now (progress standing.now) [] t }
 {
     for task in 0..plan.tasks.as_slice().len() {
         counts[task] = waited_for(plan, standing, TaskId(task as u32));
@@ -75,7 +79,8 @@ fn reset_used(plan: &Plan, standing: &Standing, used: &mut Vec<u64>)
     requires standing { IsStanding plan.now standing.now }
     requires long { length used.old.items ≡ places plan.now }
     ensures long { length used.new.items ≡ places plan.now }
-    ensures each { (s : ℕ) → s < places plan.now → get_or used.new.items s 0 ≡ usage plan.now (size (progress standing.now)) [] s }
+    ensures each { (s : ℕ) → s < places plan.now
+        → get_or used.new.items s 0 ≡ usage plan.now (size (progress standing.now)) [] s }
 {
     for place in 0..places(plan) {
         used[place] = usage_after(plan, standing, &[], SiteId(place as u32));

@@ -24,7 +24,8 @@ pub(crate) fn used_after(
     requires set { IsSet plan.now standing.now front.now }
     requires opens { IsOpen plan.now (progress standing.now) (front_of front.now) task.0 }
     requires place { place < places plan.now }
-    ensures { result ≡ usage plan.now (size (progress standing.now)) (front_of front.now ++ task.0 ∷ []) place }
+    ensures { result ≡ usage plan.now (size (progress standing.now))
+        (front_of front.now ++ task.0 ∷ []) place }
 {
     let before = front.used(place);
     match cleaned_by(plan, task) {

@@ -37,9 +37,12 @@ fn raise_one(plan: &Plan, standing: &Standing, front: &Front, table: &mut Vec<u6
     requires long { length table.old.items ≡ count_tasks plan.now }
     requires small { (v : ℕ) → get_or table.old.items v 0 ≤ 2 ^ 63 }
     ensures long { length table.new.items ≡ count_tasks plan.now }
-    ensures each { (v : ℕ) → is_done (progress standing.now) (front_of front.now) v ≡ false → get_or table.new.items v 0 ≡ get_or table.old.items v 0 + last_of plan.now (progress standing.now) (front_of front.now) v task }
+    ensures each { (v : ℕ) → is_done (progress standing.now) (front_of front.now) v ≡ false
+        → get_or table.new.items v 0 ≡ get_or table.old.items v 0 + last_of plan.now (progress standing.now)
+        (front_of front.now) v task }
     ensures small { (v : ℕ) → get_or table.new.items v 0 ≤ get_or table.old.items v 0 + 2 ^ 40 }
-    ensures others { (v : ℕ) → is_done (progress standing.now) (front_of front.now) v ≡ true → get_or table.new.items v 0 ≡ get_or table.old.items v 0 }
+    ensures others { (v : ℕ) → is_done (progress standing.now) (front_of front.now) v ≡ true
+        → get_or table.new.items v 0 ≡ get_or table.old.items v 0 }
 {
     if front.missing(task) == 1 {
         let last = last_parent(plan, standing, front, task);
@@ -55,8 +58,11 @@ fn raise_all(plan: &Plan, standing: &Standing, front: &Front, table: &mut Vec<u6
     requires long { length table.old.items ≡ count_tasks plan.now }
     requires small { (v : ℕ) → get_or table.old.items v 0 ≤ 2 ^ 62 }
     ensures long { length table.new.items ≡ count_tasks plan.now }
-    ensures each { (v : ℕ) → is_done (progress standing.now) (front_of front.now) v ≡ false → get_or table.new.items v 0 ≡ get_or table.old.items v 0 + sum_of (last_of plan.now (progress standing.now) (front_of front.now) v) tasks.now }
-    ensures others { (v : ℕ) → is_done (progress standing.now) (front_of front.now) v ≡ true → get_or table.new.items v 0 ≡ get_or table.old.items v 0 }
+    ensures each { (v : ℕ) → is_done (progress standing.now) (front_of front.now) v ≡ false
+        → get_or table.new.items v 0 ≡ get_or table.old.items v 0 + sum_of
+        (last_of plan.now (progress standing.now) (front_of front.now) v) tasks.now }
+    ensures others { (v : ℕ) → is_done (progress standing.now) (front_of front.now) v ≡ true
+        → get_or table.new.items v 0 ≡ get_or table.old.items v 0 }
 {
     for task in tasks {
         raise_one(plan, standing, front, table, *task);
@@ -99,7 +105,10 @@ pub(crate) fn keep_goes(
     requires in_range { (c : ℕ) → has tasks.now c ≡ true → c < count_tasks plan.now }
     requires long { length table.old.items ≡ count_tasks plan.now }
     requires small { (v : ℕ) → get_or table.old.items v 0 ≤ 2 ^ 62 }
-    requires next { (v : ℕ) → is_done (progress standing.now) (front_of front.now) v ≡ false → goes plan.now (progress standing.now) (front_of front.now) v ≡ get_or table.old.items v 0 + sum_of (last_of plan.now (progress standing.now) (front_of front.now) v) tasks.now }
+    requires next { (v : ℕ) → is_done (progress standing.now) (front_of front.now) v ≡ false
+        → goes plan.now (progress standing.now) (front_of front.now) v
+        ≡ get_or table.old.items v 0 + sum_of
+        (last_of plan.now (progress standing.now) (front_of front.now) v) tasks.now }
     ensures long { length table.new.items ≡ count_tasks plan.now }
     ensures goes { AreGoes plan.now (progress standing.now) (front_of front.now) table.new.items }
 {

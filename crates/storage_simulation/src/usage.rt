@@ -62,7 +62,8 @@ fn weight(plan: &Plan, standing: &Standing, front: &[TaskId], good: u32) -> u64
 fn part(plan: &Plan, standing: &Standing, front: &[TaskId], place: u32, good: u32) -> u64
     requires limits { IsWithinLimits plan.now }
     requires standing { IsStanding plan.now standing.now }
-    ensures value { result ≡ part plan.now (sizes (held_of standing.now)) (task_numbers front.now) place good }
+    ensures value { result ≡ part plan.now (sizes (held_of standing.now))
+        (task_numbers front.now) place good }
     ensures small { result ≤ 2 ^ 40 }
 {
     if lies_at(plan, good, place) {

@@ -36,19 +36,23 @@ first_declined apply p t blobs = declined_among apply p.jobs (jobs_in (kind p t)
 
 -- of these bytes each job of the task makes something, in the end these outputs
 abbrev pub Makes : Apply → Plan → ℕ → List (List ℕ) → List (List ℕ) → Type 0
-Makes apply p t blobs outs = (map (computed apply p t blobs) (files_of p (writes p t)) ≡ map Some outs) × (first_declined apply p t blobs ≡ None)
+Makes apply p t blobs outs = (map (computed apply p t blobs) (files_of p (writes p t)) ≡ map Some outs)
+    × (first_declined apply p t blobs ≡ None)
 
 -- What the computing of a Run answers, of the bytes that were read, with the tool's count before and after: one output for
 -- each of its writes, in order; the first job on whose inputs the tool makes nothing; a job at which the tool failed; or
 -- want of memory.
 abbrev pub Computes : Apply → Plan → ℕ → List (List ℕ) → ℕ → ℕ → Result (Vec (List ℕ) Global) Cause → Type 0
 Computes apply p t blobs before later (Ok outs) = Makes apply p t blobs outs.items
-Computes apply p t blobs before later (Err (Declined j)) = (first_declined apply p t blobs ≡ Some j.0) × (has_job (kind p t) j.0 ≡ true)
-Computes apply p t blobs before later (Err (ToolFailed j)) = Rose before later × (has_job (kind p t) j.0 ≡ true)
+Computes apply p t blobs before later (Err (Declined j)) = (first_declined apply p t blobs ≡ Some j.0)
+    × (has_job (kind p t) j.0 ≡ true)
+Computes apply p t blobs before later (Err (ToolFailed j)) = Rose before later
+    × (has_job (kind p t) j.0 ≡ true)
 Computes apply p t blobs before later (Err Memory) = Unit {0}
 Computes apply p t blobs before later (Err _) = ⊥
 
 -- What the writers of the task's reads carry was read; then what its jobs make is what the task carries.
-pub record IsComputed (apply : Apply) (p : Plan) (c : ℕ → ℕ → Option (List ℕ)) (t : ℕ) (blobs : List (List ℕ)) : Type 0 where
+pub record IsComputed (apply : Apply) (p : Plan) (c : ℕ → ℕ → Option (List ℕ)) (t : ℕ)
+    (blobs : List (List ℕ)) : Type 0 where
   pub carries : (f : ℕ) → c t f ≡ computed apply p t blobs f
   pub declines : declined apply p c t ≡ first_declined apply p t blobs

@@ -22,7 +22,8 @@ use Rattle.task_work.specs.declared.filling.Filled.TheVariants.{Moved, Made}
 -- for each write a draft with room for what is declared. A Clean has none.
 abbrev pub AreParts : Plan → ℕ → Option TaskKind → List ReadState → List DraftState → Type 0
 AreParts p t (Some (Transfer f from to)) (r ∷ []) (d ∷ []) = r.size ≤ d.limit
-AreParts p t (Some (Run s js)) rs ds = (length rs ≡ length (reads p t)) × (map limit_of ds ≡ map (pair_limit p) (writes p t))
+AreParts p t (Some (Run s js)) rs ds = (length rs ≡ length (reads p t))
+    × (map limit_of ds ≡ map (pair_limit p) (writes p t))
 AreParts p t _ rs ds = ⊥
 
 -- all bytes of the one reading were moved to the one draft
@@ -31,7 +32,8 @@ AreMoved (r ∷ []) (d ∷ []) (e ∷ []) n digest = HasMoved r d e n digest
 AreMoved _ _ _ n digest = ⊥
 
 -- A Transfer's bytes were moved, their digest agrees, and of a delivery it is handed on.
-pub record IsTransferred (p : Plan) (t : ℕ) (rs : List ReadState) (ds0 ds1 : List DraftState) (n : ℕ) (given : Option (List ℕ)) : Type 0 where
+pub record IsTransferred (p : Plan) (t : ℕ) (rs : List ReadState) (ds0 ds1 : List DraftState) (n : ℕ)
+    (given : Option (List ℕ)) : Type 0 where
   pub digest : List ℕ
   pub moved : AreMoved rs ds0 ds1 n digest
   pub agrees : IsAgreeing p (kind p t) digest
@@ -40,8 +42,10 @@ pub record IsTransferred (p : Plan) (t : ℕ) (rs : List ReadState) (ds0 ds1 : L
 
 -- what the drafts of a Transfer or a Run hold
 abbrev pub HasFilled : Apply → Plan → ℕ → List ReadState → List DraftState → List DraftState → Filled → Type 0
-HasFilled apply p t rs ds0 ds1 (Moved n given) = (is_transfer p t ≡ true) × IsTransferred p t rs ds0 ds1 n given
-HasFilled apply p t rs ds0 ds1 (Made sizes) = (is_run p t ≡ true) × OfRead p t rs (AreStored apply p t ds0 ds1 sizes.items)
+HasFilled apply p t rs ds0 ds1 (Moved n given) = (is_transfer p t ≡ true)
+    × IsTransferred p t rs ds0 ds1 n given
+HasFilled apply p t rs ds0 ds1 (Made sizes) = (is_run p t ≡ true)
+    × OfRead p t rs (AreStored apply p t ds0 ds1 sizes.items)
 
 -- Why they don't. The digest of a Checksum is that of the bytes that were moved.
 abbrev pub IsWhy : Apply → Plan → ℕ → List ReadState → List DraftState → List DraftState → Cause → Type 0
@@ -49,9 +53,11 @@ IsWhy apply p t rs ds0 ds1 (Checksum d) = (n : ℕ) × AreMoved rs ds0 ds1 n d
 IsWhy apply p t rs ds0 ds1 cause = IsRunCause apply p t rs cause
 
 -- what the filling of a Transfer's draft answers
-abbrev pub FillsTransfer : Plan → ℕ → List ReadState → List ReadState → List DraftState → List DraftState → Result Filled Cause → Type 0
+abbrev pub FillsTransfer : Plan → ℕ → List ReadState → List ReadState → List DraftState → List DraftState
+    → Result Filled Cause → Type 0
 FillsTransfer p t rs0 rs1 ds0 ds1 (Ok (Moved n given)) = IsTransferred p t rs0 ds0 ds1 n given
-FillsTransfer p t rs0 rs1 ds0 ds1 (Err (Checksum d)) = ((n : ℕ) × AreMoved rs0 ds0 ds1 n d) × (is_from_pfn (kind p t) ≡ true) × (is_wrong_for p (kind p t) d ≡ true)
+FillsTransfer p t rs0 rs1 ds0 ds1 (Err (Checksum d)) = ((n : ℕ) × AreMoved rs0 ds0 ds1 n d)
+    × (is_from_pfn (kind p t) ≡ true) × (is_wrong_for p (kind p t) d ≡ true)
 FillsTransfer p t rs0 rs1 ds0 ds1 (Err HostFailed) = Rose (part_faults rs0 ds0) (part_faults rs1 ds1)
 FillsTransfer p t rs0 rs1 ds0 ds1 (Err Memory) = Unit {0}
 FillsTransfer p t rs0 rs1 ds0 ds1 _ = ⊥

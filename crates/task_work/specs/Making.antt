@@ -57,7 +57,8 @@ pub record OfRead (p : Plan) (t : ℕ) (rs : List ReadState) (Holds : List (List
   pub holds : Holds blobs
 
 -- what is made of these bytes stands in the drafts, none too long, and these are the lengths
-pub record AreStored (apply : Apply) (p : Plan) (t : ℕ) (ds0 ds1 : List DraftState) (sizes : List ℕ) (blobs : List (List ℕ)) : Type 0 where
+pub record AreStored (apply : Apply) (p : Plan) (t : ℕ) (ds0 ds1 : List DraftState) (sizes : List ℕ)
+    (blobs : List (List ℕ)) : Type 0 where
   pub outs : List (List ℕ)
   pub made : Makes apply p t blobs outs
   pub within : AreWithin p (writes p t) outs
@@ -66,11 +67,14 @@ pub record AreStored (apply : Apply) (p : Plan) (t : ℕ) (ds0 ds1 : List DraftS
 
 -- of what is made of these bytes an output is too long
 abbrev pub MakesOverlong : Apply → Plan → ℕ → ℕ → ℕ → ℕ → List (List ℕ) → Type 0
-MakesOverlong apply p t j f n blobs = (outs : List (List ℕ)) × Makes apply p t blobs outs × IsOverlong p t outs j f n
+MakesOverlong apply p t j f n blobs = (outs : List (List ℕ)) × Makes apply p t blobs outs
+    × IsOverlong p t outs j f n
 
 -- what is made of bytes, none too long; or why nothing is
-abbrev pub MakesWithin : Apply → Plan → ℕ → List (List ℕ) → ℕ → ℕ → Result (Vec (List ℕ) Global) Cause → Type 0
-MakesWithin apply p t blobs before later (Ok outs) = Makes apply p t blobs outs.items × AreWithin p (writes p t) outs.items
+abbrev pub MakesWithin : Apply → Plan → ℕ → List (List ℕ) → ℕ → ℕ → Result (Vec (List ℕ) Global) Cause
+    → Type 0
+MakesWithin apply p t blobs before later (Ok outs) = Makes apply p t blobs outs.items
+    × AreWithin p (writes p t) outs.items
 MakesWithin apply p t blobs before later (Err (Oversize j f n)) = MakesOverlong apply p t j.0 f.0 n blobs
 MakesWithin apply p t blobs before later (Err cause) = Computes apply p t blobs before later (Err cause)
 

@@ -45,7 +45,8 @@ digest_of delivers d = cond delivers (Some d) None
 -- a call of a part failed; or memory was wanted.
 abbrev pub Moves : Plan → ℕ → ReadState → ReadState → DraftState → DraftState → Result Moved Cause → Type 0
 Moves p t r0 r1 d0 d1 (Ok m) = HasMoved r0 d0 d1 m.length m.digest × IsAgreeing p (kind p t) m.digest
-Moves p t r0 r1 d0 d1 (Err (Checksum d)) = ((n : ℕ) × HasMoved r0 d0 d1 n d) × (is_from_pfn (kind p t) ≡ true) × (is_wrong_for p (kind p t) d ≡ true)
+Moves p t r0 r1 d0 d1 (Err (Checksum d)) = ((n : ℕ) × HasMoved r0 d0 d1 n d)
+    × (is_from_pfn (kind p t) ≡ true) × (is_wrong_for p (kind p t) d ≡ true)
 Moves p t r0 r1 d0 d1 (Err HostFailed) = Rose (r0.faults + d0.faults) (r1.faults + d1.faults)
 Moves p t r0 r1 d0 d1 (Err Memory) = Unit {0}
 Moves p t r0 r1 d0 d1 (Err _) = ⊥

@@ -56,6 +56,7 @@ pub record HasRead (r0 : ReadState) (bytes : List ℕ) : Type 0 where
 
 -- bytes were written to an empty draft
 abbrev pub HasWritten : DraftState → DraftState → List ℕ → Result (Unit {0}) HostFault → Type 0
-HasWritten d0 d1 bytes (Ok u) = (d1.told ≡ option_map (extended bytes) d0.told) × (d1.size ≡ length bytes) × (d1.limit ≡ d0.limit) × (d1.faults ≡ d0.faults)
+HasWritten d0 d1 bytes (Ok u) = (d1.told ≡ option_map (extended bytes) d0.told) × (d1.size ≡ length bytes)
+    × (d1.limit ≡ d0.limit) × (d1.faults ≡ d0.faults)
 HasWritten d0 d1 bytes (Err (Over l n)) = ⊥
 HasWritten d0 d1 bytes (Err e) = AppendsOn d0 d1 bytes (Err e)

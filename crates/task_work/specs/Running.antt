@@ -30,9 +30,12 @@ pub record Places (makes_ : Option (List (List ℕ))) (os : List ℕ) (v w : ℕ
   pub many : length outs ≡ length os
   pub at : (f : ℕ) → w f ≡ or_else (part f os outs) (v f)
 
-abbrev pub RunsTool : Apply → PlanJob → ℕ → List (List ℕ) → (ℕ → Option (List ℕ)) → (ℕ → Option (List ℕ)) → ℕ → ℕ → Result (Unit {0}) Cause → Type 0
-RunsTool apply job j ins v w before later (Ok u) = Places (made_by apply job ins) (file_numbers job.outputs) v w
-RunsTool apply job j ins v w before later (Err cause) = IsToolCause (made_by apply job ins) j before later cause
+abbrev pub RunsTool : Apply → PlanJob → ℕ → List (List ℕ) → (ℕ → Option (List ℕ)) → (ℕ → Option (List ℕ)) → ℕ
+    → ℕ → Result (Unit {0}) Cause → Type 0
+RunsTool apply job j ins v w before later (Ok u) =
+    Places (made_by apply job ins) (file_numbers job.outputs) v w
+RunsTool apply job j ins v w before later (Err cause) =
+    IsToolCause (made_by apply job ins) j before later cause
 
 -- what job j makes of what stands at its inputs
 abbrev pub made_of : Apply → List PlanJob → ℕ → (ℕ → Option (List ℕ)) → Option (List (List ℕ))
@@ -44,19 +47,24 @@ pub record RanJob (apply : Apply) (jobs : List PlanJob) (j : ℕ) (v w : ℕ →
   pub at : (f : ℕ) → w f ≡ after_job apply jobs j v f
   pub there : (f : ℕ) → has (outputs jobs j) f ≡ true → is_some (w f) ≡ true
 
-abbrev pub RunsJob : Apply → List PlanJob → ℕ → (ℕ → Option (List ℕ)) → (ℕ → Option (List ℕ)) → ℕ → ℕ → Result (Unit {0}) Cause → Type 0
+abbrev pub RunsJob : Apply → List PlanJob → ℕ → (ℕ → Option (List ℕ)) → (ℕ → Option (List ℕ)) → ℕ → ℕ
+    → Result (Unit {0}) Cause → Type 0
 RunsJob apply jobs j v w before later (Ok u) = RanJob apply jobs j v w
 RunsJob apply jobs j v w before later (Err cause) = IsToolCause (made_of apply jobs j v) j before later cause
 
 -- several jobs, one by one
-pub record RanJobs (apply : Apply) (jobs : List PlanJob) (js : List JobId) (v w : ℕ → Option (List ℕ)) : Type 0 where
+pub record RanJobs (apply : Apply) (jobs : List PlanJob) (js : List JobId)
+    (v w : ℕ → Option (List ℕ)) : Type 0 where
   pub none : declined_among apply jobs js v ≡ None
   pub at : (f : ℕ) → w f ≡ after_jobs apply jobs js v f
   pub there : (f : ℕ) → makes jobs js f ≡ true → is_some (w f) ≡ true
 
-abbrev pub RunsJobs : Apply → List PlanJob → List JobId → (ℕ → Option (List ℕ)) → (ℕ → Option (List ℕ)) → ℕ → ℕ → Result (Unit {0}) Cause → Type 0
+abbrev pub RunsJobs : Apply → List PlanJob → List JobId → (ℕ → Option (List ℕ)) → (ℕ → Option (List ℕ)) → ℕ
+    → ℕ → Result (Unit {0}) Cause → Type 0
 RunsJobs apply jobs js v w before later (Ok u) = RanJobs apply jobs js v w
-RunsJobs apply jobs js v w before later (Err (Declined j)) = (declined_among apply jobs js v ≡ Some j.0) × (has (job_numbers js) j.0 ≡ true)
-RunsJobs apply jobs js v w before later (Err (ToolFailed j)) = Rose before later × (has (job_numbers js) j.0 ≡ true)
+RunsJobs apply jobs js v w before later (Err (Declined j)) = (declined_among apply jobs js v ≡ Some j.0)
+    × (has (job_numbers js) j.0 ≡ true)
+RunsJobs apply jobs js v w before later (Err (ToolFailed j)) = Rose before later
+    × (has (job_numbers js) j.0 ≡ true)
 RunsJobs apply jobs js v w before later (Err Memory) = Unit {0}
 RunsJobs apply jobs js v w before later (Err _) = ⊥

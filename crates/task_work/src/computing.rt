@@ -48,9 +48,11 @@ fn table_of(alloc: Global, plan: &Plan, task: TaskId, blobs: Vec<Blob>) -> Resul
 
 /// What stands at the files of a task's writes, taken out.
 fn outputs_of(alloc: Global, plan: &Plan, task: TaskId, table: Table) -> Result<Vec<Blob>, Memory>
-    requires there { (f : ℕ) → has (files_of plan.now (writes plan.now task.0)) f ≡ true → is_some (at table f) ≡ true }
+    requires there { (f : ℕ) → has (files_of plan.now (writes plan.now task.0)) f ≡ true
+        → is_some (at table f) ≡ true }
     requires once { AreOnce (files_of plan.now (writes plan.now task.0)) }
-    ensures { IfOk result (λ v. map (at table) (files_of plan.now (writes plan.now task.0)) ≡ map Some v.items) }
+    ensures { IfOk result (λ v. map (at table) (files_of plan.now (writes plan.now task.0))
+        ≡ map Some v.items) }
 {
     let files = pair_files(alloc, plan, plan.writes(task))?;
     table.take_all(alloc, &files)
@@ -66,7 +68,8 @@ pub(crate) fn compute<T: Tool>(
 ) -> Result<Vec<Blob>, Cause>
     requires proper { IsProper plan.now }
     requires run { is_run plan.now task.0 ≡ true }
-    ensures answer { Computes T.apply plan.now task.0 blobs.items (T.faults tool.old) (T.faults tool.new) result }
+    ensures answer { Computes T.apply plan.now task.0 blobs.items (T.faults tool.old)
+        (T.faults tool.new) result }
     ensures tool { T.faults tool.old ≤ T.faults tool.new }
 {
     // Laws for the proof: they do nothing.

@@ -32,11 +32,14 @@ fn fill_transfer<I: ReadPart, O: WritePart>(
     drafts: &mut [O],
 ) -> Result<Filled, Cause>
     requires transfer { is_transfer plan.now task.0 ≡ true }
-    requires parts { AreParts plan.now task.0 (kind plan.now task.0) (map I.state readings.old) (map O.state drafts.old) }
+    requires parts { AreParts plan.now task.0 (kind plan.now task.0) (map I.state readings.old)
+        (map O.state drafts.old) }
     requires start { AreBegun (map I.state readings.old) }
     requires empty { AreEmpty (map O.state drafts.old) }
-    ensures fills { FillsTransfer plan.now task.0 (map I.state readings.old) (map I.state readings.new) (map O.state drafts.old) (map O.state drafts.new) result }
-    ensures once { part_faults (map I.state readings.new) (map O.state drafts.new) ≤ part_faults (map I.state readings.old) (map O.state drafts.old) + blames result }
+    ensures fills { FillsTransfer plan.now task.0 (map I.state readings.old) (map I.state readings.new)
+        (map O.state drafts.old) (map O.state drafts.new) result }
+    ensures once { part_faults (map I.state readings.new) (map O.state drafts.new)
+        ≤ part_faults (map I.state readings.old) (map O.state drafts.old) + blames result }
     ensures readings { Each IsSteadyReading (map I.state readings.old) (map I.state readings.new) }
     ensures drafts { Each IsSteadyDraft (map O.state drafts.old) (map O.state drafts.new) }
 {
@@ -56,13 +59,20 @@ pub fn fill<I: ReadPart, O: WritePart, T: Tool>(
     tool: &mut T,
 ) -> Result<Filled, Cause>
     requires proper { IsProper plan.now }
-    requires parts { AreParts plan.now task.0 (kind plan.now task.0) (map I.state readings.old) (map O.state drafts.old) }
+    requires parts { AreParts plan.now task.0 (kind plan.now task.0) (map I.state readings.old)
+        (map O.state drafts.old) }
     requires start { AreBegun (map I.state readings.old) }
     requires empty { AreEmpty (map O.state drafts.old) }
-    ensures filled { IfOk result (λ f. HasFilled T.apply plan.now task.0 (map I.state readings.old) (map O.state drafts.old) (map O.state drafts.new) f) }
-    ensures why { IfErr result (λ c. IsWhy T.apply plan.now task.0 (map I.state readings.old) (map O.state drafts.old) (map O.state drafts.new) c) }
-    ensures shown { IfErr result (λ c. IsShown (part_faults (map I.state readings.old) (map O.state drafts.old)) (part_faults (map I.state readings.new) (map O.state drafts.new)) (T.faults tool.old) (T.faults tool.new) c) }
-    ensures once { part_faults (map I.state readings.new) (map O.state drafts.new) ≤ part_faults (map I.state readings.old) (map O.state drafts.old) + blames result }
+    ensures filled { IfOk result (λ f. HasFilled T.apply plan.now task.0 (map I.state readings.old)
+        (map O.state drafts.old) (map O.state drafts.new) f) }
+    ensures why { IfErr result (λ c. IsWhy T.apply plan.now task.0 (map I.state readings.old)
+        (map O.state drafts.old) (map O.state drafts.new) c) }
+    ensures shown { IfErr result (λ c. IsShown
+        (part_faults (map I.state readings.old) (map O.state drafts.old))
+        (part_faults (map I.state readings.new) (map O.state drafts.new)) (T.faults tool.old)
+        (T.faults tool.new) c) }
+    ensures once { part_faults (map I.state readings.new) (map O.state drafts.new)
+        ≤ part_faults (map I.state readings.old) (map O.state drafts.old) + blames result }
     ensures fits { IfErr result (λ c. CauseFits plan.now task.0 c []) }
     ensures readings { Each IsSteadyReading (map I.state readings.old) (map I.state readings.new) }
     ensures drafts { Each IsSteadyDraft (map O.state drafts.old) (map O.state drafts.new) }

@@ -29,8 +29,10 @@ fn keep(blobs: &mut Vec<Blob>, blob: Blob) -> Result<(), Memory>
 fn read_all<I: ReadPart>(alloc: Global, readings: &mut [I]) -> Result<Vec<Blob>, HostFault>
     requires start { AreBegun (map I.state readings.old) }
     ensures read { IfOk result (λ v. Each HasRead (map I.state readings.old) v.items) }
-    ensures fault { IfErr result (λ e. IsFaultOf (reading_faults (map I.state readings.old)) (reading_faults (map I.state readings.new)) e) }
-    ensures once { reading_faults (map I.state readings.new) ≤ reading_faults (map I.state readings.old) + fails_in result }
+    ensures fault { IfErr result (λ e. IsFaultOf (reading_faults (map I.state readings.old))
+        (reading_faults (map I.state readings.new)) e) }
+    ensures once { reading_faults (map I.state readings.new)
+        ≤ reading_faults (map I.state readings.old) + fails_in result }
     ensures steady { Each IsSteadyReading (map I.state readings.old) (map I.state readings.new) }
 {
     let mut blobs = Vec::new(alloc);
@@ -57,8 +59,10 @@ fn write_all<O: WritePart>(
     requires many { length outputs.now ≡ length drafts.old }
     requires fit { Each Fits (map O.state drafts.old) outputs.now }
     ensures written { OnOk result (AreWritten (map O.state drafts.old) (map O.state drafts.new) outputs.now) }
-    ensures fault { IfErr result (λ e. IsFaultOf (draft_faults (map O.state drafts.old)) (draft_faults (map O.state drafts.new)) e) }
-    ensures once { draft_faults (map O.state drafts.new) ≤ draft_faults (map O.state drafts.old) + fails_in result }
+    ensures fault { IfErr result (λ e. IsFaultOf (draft_faults (map O.state drafts.old))
+        (draft_faults (map O.state drafts.new)) e) }
+    ensures once { draft_faults (map O.state drafts.new)
+        ≤ draft_faults (map O.state drafts.old) + fails_in result }
     ensures steady { Each IsSteadyDraft (map O.state drafts.old) (map O.state drafts.new) }
 {
     for k in 0..outputs.len() {
@@ -90,7 +94,8 @@ fn make_outputs<T: Tool>(
 ) -> Result<Vec<Blob>, Cause>
     requires proper { IsProper plan.now }
     requires run { is_run plan.now task.0 ≡ true }
-    ensures makes { MakesWithin T.apply plan.now task.0 blobs.items (T.faults tool.old) (T.faults tool.new) result }
+    ensures makes { MakesWithin T.apply plan.now task.0 blobs.items (T.faults tool.old)
+        (T.faults tool.new) result }
     ensures fits { IfErr result (λ c. CauseFits plan.now task.0 c []) }
     ensures tool { T.faults tool.old ≤ T.faults tool.new }
 {
@@ -113,10 +118,13 @@ fn store<O: WritePart>(
     requires empty { AreEmpty (map O.state drafts.old) }
     requires many { length outputs.now ≡ length drafts.old }
     requires fit { Each Fits (map O.state drafts.old) outputs.now }
-    ensures written { IfOk result (λ v. AreWritten (map O.state drafts.old) (map O.state drafts.new) outputs.now) }
+    ensures written { IfOk result (λ v. AreWritten (map O.state drafts.old)
+        (map O.state drafts.new) outputs.now) }
     ensures sizes { IfOk result (λ v. v.items ≡ map length outputs.now) }
-    ensures fault { IfErr result (λ e. IsFaultOf (draft_faults (map O.state drafts.old)) (draft_faults (map O.state drafts.new)) e) }
-    ensures once { draft_faults (map O.state drafts.new) ≤ draft_faults (map O.state drafts.old) + fails_in result }
+    ensures fault { IfErr result (λ e. IsFaultOf (draft_faults (map O.state drafts.old))
+        (draft_faults (map O.state drafts.new)) e) }
+    ensures once { draft_faults (map O.state drafts.new)
+        ≤ draft_faults (map O.state drafts.old) + fails_in result }
     ensures steady { Each IsSteadyDraft (map O.state drafts.old) (map O.state drafts.new) }
 {
     match write_all(alloc, drafts, outputs) {
@@ -141,13 +149,19 @@ pub(crate) fn make_files<I: ReadPart, O: WritePart, T: Tool>(
     requires proper { IsProper plan.now }
     requires run { is_run plan.now task.0 ≡ true }
     requires many { length (map I.state readings.old) ≡ length (reads plan.now task.0) }
-    requires limits { map limit_of (map O.state drafts.old) ≡ map (pair_limit plan.now) (writes plan.now task.0) }
+    requires limits { map limit_of (map O.state drafts.old)
+        ≡ map (pair_limit plan.now) (writes plan.now task.0) }
     requires start { AreBegun (map I.state readings.old) }
     requires empty { AreEmpty (map O.state drafts.old) }
-    ensures made { IfOk result (λ v. OfRead plan.now task.0 (map I.state readings.old) (AreStored T.apply plan.now task.0 (map O.state drafts.old) (map O.state drafts.new) v.items)) }
+    ensures made { IfOk result (λ v. OfRead plan.now task.0 (map I.state readings.old)
+        (AreStored T.apply plan.now task.0 (map O.state drafts.old) (map O.state drafts.new) v.items)) }
     ensures cause { IfErr result (λ c. IsRunCause T.apply plan.now task.0 (map I.state readings.old) c) }
-    ensures shown { IfErr result (λ c. IsShown (part_faults (map I.state readings.old) (map O.state drafts.old)) (part_faults (map I.state readings.new) (map O.state drafts.new)) (T.faults tool.old) (T.faults tool.new) c) }
-    ensures once { part_faults (map I.state readings.new) (map O.state drafts.new) ≤ part_faults (map I.state readings.old) (map O.state drafts.old) + blames result }
+    ensures shown { IfErr result (λ c. IsShown
+        (part_faults (map I.state readings.old) (map O.state drafts.old))
+        (part_faults (map I.state readings.new) (map O.state drafts.new)) (T.faults tool.old)
+        (T.faults tool.new) c) }
+    ensures once { part_faults (map I.state readings.new) (map O.state drafts.new)
+        ≤ part_faults (map I.state readings.old) (map O.state drafts.old) + blames result }
     ensures fits { IfErr result (λ c. CauseFits plan.now task.0 c []) }
     ensures readings { Each IsSteadyReading (map I.state readings.old) (map I.state readings.new) }
     ensures drafts { Each IsSteadyDraft (map O.state drafts.old) (map O.state drafts.new) }

@@ -83,8 +83,10 @@ pub(crate) fn move_file<I: ReadPart, O: WritePart>(
     requires start { (I.state reading.old).given ≡ 0 }
     requires empty { (O.state draft.old).size ≡ 0 }
     requires limit { (I.state reading.old).size ≤ (O.state draft.old).limit }
-    ensures once { (I.state reading.new).faults + (O.state draft.new).faults ≤ (I.state reading.old).faults + (O.state draft.old).faults + blames result }
-    ensures moves { Moves plan.now task.0 (I.state reading.old) (I.state reading.new) (O.state draft.old) (O.state draft.new) result }
+    ensures once { (I.state reading.new).faults + (O.state draft.new).faults
+        ≤ (I.state reading.old).faults + (O.state draft.old).faults + blames result }
+    ensures moves { Moves plan.now task.0 (I.state reading.old) (I.state reading.new) (O.state draft.old)
+        (O.state draft.new) result }
     ensures reading { IsSteadyReading (I.state reading.old) (I.state reading.new) }
     ensures draft { IsSteadyDraft (O.state draft.old) (O.state draft.new) }
 {

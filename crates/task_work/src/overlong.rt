@@ -24,7 +24,8 @@ pub(crate) struct Past {
 /// The first output that is longer than the declared size of its pair's file.
 pub(crate) fn first_past(plan: &Plan, pairs: &[PairId], outputs: &[Blob]) -> Option<Past>
     requires { length outputs.now ≡ length pairs.now }
-    ensures { MatchOption result (AreWithin plan.now (pair_numbers pairs.now) outputs.now) (λ e. IsFirstPast plan.now (pair_numbers pairs.now) outputs.now e.pair.0 e.length) }
+    ensures { MatchOption result (AreWithin plan.now (pair_numbers pairs.now) outputs.now)
+        (λ e. IsFirstPast plan.now (pair_numbers pairs.now) outputs.now e.pair.0 e.length) }
 {
     for k in 0..pairs.len() {
         let length = outputs[k].as_slice().len() as u64;
@@ -105,7 +106,8 @@ pub(crate) fn find_overlong(plan: &Plan, task: TaskId, outputs: &[Blob]) -> Opti
     requires proper { IsProper plan.now }
     requires kind { is_run plan.now task.0 ≡ true }
     requires many { length outputs.now ≡ length (writes plan.now task.0) }
-    ensures { MatchOption result (AreWithin plan.now (writes plan.now task.0) outputs.now) (λ e. IsOverlong plan.now task.0 outputs.now e.job.0 e.file.0 e.length) }
+    ensures { MatchOption result (AreWithin plan.now (writes plan.now task.0) outputs.now)
+        (λ e. IsOverlong plan.now task.0 outputs.now e.job.0 e.file.0 e.length) }
 {
     // A law for the proof: it does nothing.
     files_are_listed_by_pair();

@@ -31,9 +31,12 @@ fn move_by<I: ReadPart, O: WritePart>(
     requires empty { (O.state draft.old).size ≡ 0 }
     requires limit { (I.state reading.old).size ≤ (O.state draft.old).limit }
     requires room { 0 < length piece.old }
-    ensures moved { IfOk result (λ m. HasMoved (I.state reading.old) (O.state draft.old) (O.state draft.new) m.length m.digest) }
-    ensures fault { IfErr result (λ e. IsPartFault (I.state reading.old) (I.state reading.new) (O.state draft.old) (O.state draft.new) e) }
-    ensures once { (I.state reading.new).faults + (O.state draft.new).faults ≤ (I.state reading.old).faults + (O.state draft.old).faults + fails_in result }
+    ensures moved { IfOk result (λ m. HasMoved (I.state reading.old) (O.state draft.old)
+        (O.state draft.new) m.length m.digest) }
+    ensures fault { IfErr result (λ e. IsPartFault (I.state reading.old) (I.state reading.new)
+        (O.state draft.old) (O.state draft.new) e) }
+    ensures once { (I.state reading.new).faults + (O.state draft.new).faults
+        ≤ (I.state reading.old).faults + (O.state draft.old).faults + fails_in result }
     ensures reading { IsSteadyReading (I.state reading.old) (I.state reading.new) }
     ensures draft { IsSteadyDraft (O.state draft.old) (O.state draft.new) }
 {
@@ -67,9 +70,12 @@ pub fn move_pieces<I: ReadPart, O: WritePart>(
     requires start { (I.state reading.old).given ≡ 0 }
     requires empty { (O.state draft.old).size ≡ 0 }
     requires limit { (I.state reading.old).size ≤ (O.state draft.old).limit }
-    ensures moved { IfOk result (λ m. HasMoved (I.state reading.old) (O.state draft.old) (O.state draft.new) m.length m.digest) }
-    ensures fault { IfErr result (λ e. IsPartFault (I.state reading.old) (I.state reading.new) (O.state draft.old) (O.state draft.new) e) }
-    ensures once { (I.state reading.new).faults + (O.state draft.new).faults ≤ (I.state reading.old).faults + (O.state draft.old).faults + fails_in result }
+    ensures moved { IfOk result (λ m. HasMoved (I.state reading.old) (O.state draft.old)
+        (O.state draft.new) m.length m.digest) }
+    ensures fault { IfErr result (λ e. IsPartFault (I.state reading.old) (I.state reading.new)
+        (O.state draft.old) (O.state draft.new) e) }
+    ensures once { (I.state reading.new).faults + (O.state draft.new).faults
+        ≤ (I.state reading.old).faults + (O.state draft.old).faults + fails_in result }
     ensures reading { IsSteadyReading (I.state reading.old) (I.state reading.new) }
     ensures draft { IsSteadyDraft (O.state draft.old) (O.state draft.new) }
 {

@@ -28,7 +28,8 @@ fn run_tool<T: Tool>(
 ) -> Result<Vec<Blob>, Cause>
     ensures made { IfOk result (λ v. made_by T.apply job.now inputs.now ≡ Some v.items) }
     ensures many { IfOk result (λ v. length v.items ≡ length (file_numbers job.now.outputs)) }
-    ensures cause { IfErr result (λ c. IsToolCause (made_by T.apply job.now inputs.now) number.0 (T.faults tool.old) (T.faults tool.new) c) }
+    ensures cause { IfErr result (λ c. IsToolCause (made_by T.apply job.now inputs.now) number.0
+        (T.faults tool.old) (T.faults tool.new) c) }
     ensures tool { T.faults tool.old ≤ T.faults tool.new }
 {
     let made = tool.run(
@@ -55,7 +56,8 @@ fn fill_outputs<T: Tool>(
     table: &mut Table,
     tool: &mut T,
 ) -> Result<(), Cause>
-    ensures answer { RunsTool T.apply job.now number.0 inputs.now (at table.old) (at table.new) (T.faults tool.old) (T.faults tool.new) result }
+    ensures answer { RunsTool T.apply job.now number.0 inputs.now (at table.old) (at table.new)
+        (T.faults tool.old) (T.faults tool.new) result }
     ensures tool { T.faults tool.old ≤ T.faults tool.new }
 {
     match run_tool(alloc, number, job, inputs, tool) {
@@ -75,7 +77,8 @@ fn run_job<T: Tool>(
     table: &mut Table,
     tool: &mut T,
 ) -> Result<(), Cause>
-    ensures answer { RunsJob T.apply plan.now.jobs number.0 (at table.old) (at table.new) (T.faults tool.old) (T.faults tool.new) result }
+    ensures answer { RunsJob T.apply plan.now.jobs number.0 (at table.old) (at table.new) (T.faults tool.old)
+        (T.faults tool.new) result }
     ensures tool { T.faults tool.old ≤ T.faults tool.new }
 {
     match find_job(plan, number) {
@@ -96,7 +99,8 @@ pub(crate) fn run_jobs<T: Tool>(
     table: &mut Table,
     tool: &mut T,
 ) -> Result<(), Cause>
-    ensures answer { RunsJobs T.apply plan.now.jobs jobs.now (at table.old) (at table.new) (T.faults tool.old) (T.faults tool.new) result }
+    ensures answer { RunsJobs T.apply plan.now.jobs jobs.now (at table.old) (at table.new)
+        (T.faults tool.old) (T.faults tool.new) result }
     ensures tool { T.faults tool.old ≤ T.faults tool.new }
 {
     for number in jobs {

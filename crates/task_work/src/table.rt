@@ -53,7 +53,8 @@ impl Table {
 
     /// Sets the bytes of some files, one by one. Of a file that comes twice the first ones count.
     pub(crate) fn place(&mut self, files: &[FileId], blobs: Vec<Blob>) -> Result<(), Memory>
-        ensures { OnOk result ((f : ℕ) → at self.new f ≡ or_else (part f (file_numbers files.now) blobs.items) (at self.old f)) }
+        ensures { OnOk result ((f : ℕ)
+            → at self.new f ≡ or_else (part f (file_numbers files.now) blobs.items) (at self.old f)) }
     {
         let mut blobs = blobs;
         let mut k = files.len().min(blobs.len());

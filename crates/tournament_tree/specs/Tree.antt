@@ -21,7 +21,8 @@ least f (suc n) = better (least f n) (f n)
 -- none from a on and below b has a key, or this is one of their keys and none of them is less
 abbrev pub IsLeast : (ℕ → Option Key) → ℕ → ℕ → Option Key → Type 0
 IsLeast f a b None = (i : ℕ) → a ≤ i → i < b → f i ≡ None
-IsLeast f a b (Some k) = ((i : ℕ) × (a ≤ i) × (i < b) × (f i ≡ Some k)) × ((i : ℕ) (l : Key) → a ≤ i → i < b → f i ≡ Some l → is_less l k ≡ false)
+IsLeast f a b (Some k) = ((i : ℕ) × (a ≤ i) × (i < b) × (f i ≡ Some k))
+    × ((i : ℕ) (l : Key) → a ≤ i → i < b → f i ≡ Some l → is_less l k ≡ false)
 
 -- the least from a on and below b
 abbrev pub least_from : (ℕ → Option Key) → ℕ → ℕ → Option Key
@@ -32,7 +33,8 @@ abbrev pub with_first : (ℕ → Option Key) → ℕ → ℕ → Option Key → 
 with_first f low high best = cond (nat_lt low high && (low % 2 == 1)) (better best (f low)) best
 
 abbrev pub with_last : (ℕ → Option Key) → ℕ → ℕ → Option Key → Option Key
-with_last f low high best = cond (nat_lt (low + low % 2) high && (high % 2 == 1)) (better (f (high - 1)) best) best
+with_last f low high best = cond (nat_lt (low + low % 2) high && (high % 2 == 1))
+    (better (f (high - 1)) best) best
 
 abbrev pub keys_in : Option (Vec (Option Key) Global) → List (Option Key)
 keys_in None = []
@@ -55,7 +57,8 @@ pub record IsTree (rs : List (Vec (Option Key) Global)) : Type 0 where
   pub small : (h : ℕ) → length (row rs h) ≤ 200000
   pub covers : halved (length rs) (length (row rs 0)) ≡ 0
   pub wide : (h i : ℕ) → h + 1 < length rs → i < length (row rs h) → i / 2 < length (row rs (h + 1))
-  pub pairs : (h i : ℕ) → h + 1 < length rs → entry rs (h + 1) i ≡ better (entry rs h (2 * i)) (entry rs h (2 * i + 1))
+  pub pairs : (h i : ℕ) → h + 1 < length rs
+      → entry rs (h + 1) i ≡ better (entry rs h (2 * i)) (entry rs h (2 * i + 1))
 
 -- so many places, and no key
 pub record IsBare (xs : List (Option Key)) (n : ℕ) : Type 0 where

@@ -103,7 +103,8 @@ fn write(rows: &mut Vec<Vec<Option<Key>>>, height: usize, at: usize, key: Option
     requires at { at < length (row rows.old.items height) }
     ensures long { length rows.new.items ≡ length rows.old.items }
     ensures wide { (h : ℕ) → length (row rows.new.items h) ≡ length (row rows.old.items h) }
-    ensures each { (h i : ℕ) → entry rows.new.items h i ≡ cond ((h == height) && (i == at)) key (entry rows.old.items h i) }
+    ensures each { (h i : ℕ) → entry rows.new.items h i
+        ≡ cond ((h == height) && (i == at)) key (entry rows.old.items h i) }
 {
     put(&mut rows[height], at, key);
 }
@@ -169,7 +170,8 @@ impl Tree {
         requires at { at < length (row self.old.rows.items 0) }
         ensures tree { IsTree self.new.rows.items }
         ensures wide { length (row self.new.rows.items 0) ≡ length (row self.old.rows.items 0) }
-        ensures each { (i : ℕ) → entry self.new.rows.items 0 i ≡ cond (i == at) key (entry self.old.rows.items 0 i) }
+        ensures each { (i : ℕ) → entry self.new.rows.items 0 i
+            ≡ cond (i == at) key (entry self.old.rows.items 0 i) }
     {
         write(&mut self.rows, 0, at, key);
         let mut place = at;

@@ -22,7 +22,8 @@ site_rows =
 
 -- whether a text names what is installed or what is stageable
 abbrev pub installed_named : List ℕ → List ℕ → Result Bool TreeFault
-installed_named path s = if bytes_eq s (codes "installed") then Ok true else (if bytes_eq s (codes "stageable") then Ok false else Err (faults.Unsupported path s))
+installed_named path s = if bytes_eq s (codes "installed") then Ok true
+    else (if bytes_eq s (codes "stageable") then Ok false else Err (faults.Unsupported path s))
 
 -- that of the text at a key
 abbrev pub installed_at : List ℕ → Data → List ℕ → Result Bool TreeFault

@@ -55,7 +55,8 @@ impl<'a> Hash for Key<'a> {
     ghost use Rattle.std.proofs.Common.{rules};
     ghost use Rattle.std.specs.Cmp.Rules.{hashing};
 
-    ghost hash_input = { λ t. fed.option fed.str t.namespace ++ fed.str t.name ++ fed.option fed.str t.version };
+    ghost hash_input = { λ t. fed.option fed.str t.namespace ++ fed.str t.name
+        ++ fed.option fed.str t.version };
 
     ghost respects_eq = { Prim.search (hashing, rules) };
 

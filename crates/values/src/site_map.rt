@@ -89,7 +89,8 @@ impl SiteMap {
     pub fn remove(&mut self, site: &str, name: &str) -> bool
         ensures removed { result ≡ true → self.new ≡ take_pair self.old site.now name.now }
         ensures stood { result ≡ true → pair_at self.old site.now name.now ≡ None → ⊥ }
-        ensures absent { result ≡ false → (self.new ≡ self.old) × (pair_at self.old site.now name.now ≡ None) }
+        ensures absent { result ≡ false
+            → (self.new ≡ self.old) × (pair_at self.old site.now name.now ≡ None) }
     {
         match self.sites.get_mut(site) {
             Some(files) => {

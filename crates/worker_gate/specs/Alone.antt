@@ -34,7 +34,8 @@ is_repeat (Some u) t = u == t
 
 abbrev pub without_repeats : Option ℕ → List ℕ → List ℕ
 without_repeats last [] = []
-without_repeats last (t ∷ ts) = cond (is_repeat last t) (without_repeats last ts) (t ∷ without_repeats (Some t) ts)
+without_repeats last (t ∷ ts) = cond (is_repeat last t) (without_repeats last ts)
+    (t ∷ without_repeats (Some t) ts)
 
 -- the tasks that entries begin, one that was tried again at once named once
 abbrev pub tried : List Event → List ℕ

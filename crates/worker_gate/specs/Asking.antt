@@ -25,7 +25,8 @@ IsAskedBy _ ts = ts ≡ []
 -- entry by entry, in their order
 abbrev pub AreAskedBy : List Event → List ℕ → Type 0
 AreAskedBy [] ts = ts ≡ []
-AreAskedBy (e ∷ r) ts = (first : List ℕ) × (rest : List ℕ) × IsAskedBy e first × AreAskedBy r rest × (ts ≡ first ++ rest)
+AreAskedBy (e ∷ r) ts = (first : List ℕ) × (rest : List ℕ) × IsAskedBy e first × AreAskedBy r rest
+    × (ts ≡ first ++ rest)
 
 -- A gate that had been asked for these tasks was then asked for these, by entries.
 pub record IsAskedFor (r : List Event) (earlier later : List ℕ) : Type 0 where
@@ -41,4 +42,5 @@ pub record AsksOwn (mine after : List Event) (earlier later : List ℕ) : Type 0
 
 -- Each worker's gate was asked as that worker's entries say: what it was asked for before and after, member by member.
 pub record AreGatesAsked (r : List Event) (before after : List (List ℕ)) : Type 0 where
-  pub each : (k : ℕ) → k < length before → IsAskedFor (entries_by k r) (get_or before k []) (get_or after k [])
+  pub each : (k : ℕ) → k < length before
+      → IsAskedFor (entries_by k r) (get_or before k []) (get_or after k [])

@@ -14,7 +14,8 @@ count_at n (suc k) = 0
 
 module _ {C G I : Type 0} {g : _} where
   -- a new pass of the lock
-  pub record IsDealt (lock : RuledLock C G I) (charter : Option G) (seen : List I) (k count : ℕ) (p : Pass C G I g) : Type 0 where
+  pub record IsDealt (lock : RuledLock C G I) (charter : Option G) (seen : List I) (k count : ℕ)
+      (p : Pass C G I g) : Type 0 where
     pub of : IsOf lock p
     pub new : IsNewPass k charter seen count p
 
@@ -35,13 +36,16 @@ module _ {C M G I : Type 0} {g : _} where
 
   -- new passes with the numbers from 0, of which the first holds the count; those after the first
   abbrev pub AreDealt : RuledLock C G I → Option G → List I → ℕ → List (Hand C M G I g) → Type 0
-  AreDealt lock charter seen n hs = (k : ℕ) (d : Hand C M G I g) → k < length hs → IsDealt lock charter seen k (count_at n k) (get_or hs k d).pass
+  AreDealt lock charter seen n hs = (k : ℕ) (d : Hand C M G I g) → k < length hs
+      → IsDealt lock charter seen k (count_at n k) (get_or hs k d).pass
 
   abbrev pub AreOthers : RuledLock C G I → Option G → List I → List (Hand C M G I g) → Type 0
-  AreOthers lock charter seen hs = (k : ℕ) (d : Hand C M G I g) → k < length hs → IsDealt lock charter seen (suc k) 0 (get_or hs k d).pass
+  AreOthers lock charter seen hs = (k : ℕ) (d : Hand C M G I g) → k < length hs
+      → IsDealt lock charter seen (suc k) 0 (get_or hs k d).pass
 
   abbrev pub AreReady : RuledLock C G I → List (Hand C M G I g) → Type 0
-  AreReady lock hs = (k : ℕ) (d : Hand C M G I g) → k < length hs → IsReady lock (count_at (length hs) k) (get_or hs k d).pass
+  AreReady lock hs = (k : ℕ) (d : Hand C M G I g) → k < length hs
+      → IsReady lock (count_at (length hs) k) (get_or hs k d).pass
 
   abbrev pub AreReadyToJoin : RuledLock C G I → List (Hand C M G I g) → Type 0
   AreReadyToJoin lock hs = (k : ℕ) (d : Hand C M G I g) → k < length hs → IsReady lock 0 (get_or hs k d).pass

@@ -26,16 +26,19 @@ pub record OfInputs (p : Plan) (t : ℕ) (Holds : List (List ℕ) → Type 0) : 
 
 -- of some such bytes the outputs are made, and this holds of them
 abbrev pub OfOutputs : Apply → Plan → ℕ → (List (List ℕ) → Type 0) → Type 0
-OfOutputs apply p t Holds = OfInputs p t (λ blobs. (outs : List (List ℕ)) × Makes apply p t blobs outs × Holds outs)
+OfOutputs apply p t Holds = OfInputs p t (λ blobs. (outs : List (List ℕ)) × Makes apply p t blobs outs
+    × Holds outs)
 
 -- some bytes have this digest, no more of them than are declared of the file that the task moves
 abbrev pub IsDigestOfBytes : Plan → Option TaskKind → List ℕ → Type 0
-IsDigestOfBytes p (Some (Transfer f from to)) d = (bytes : List ℕ) × (sha256 bytes ≡ d) × (length bytes ≤ or_zero (declared p f.0))
+IsDigestOfBytes p (Some (Transfer f from to)) d = (bytes : List ℕ) × (sha256 bytes ≡ d)
+    × (length bytes ≤ or_zero (declared p f.0))
 IsDigestOfBytes p _ d = ⊥
 
 -- Some bytes have this length, and where they come from a pfn for whose file a checksum is registered, they have it.
 abbrev pub AreBytesMoved : Plan → Option TaskKind → ℕ → Type 0
-AreBytesMoved p (Some (Transfer f (Pfn x) to)) n = (bytes : List ℕ) × (length bytes ≡ n) × IfSome (checksum p f.0) (λ wanted. sha256 bytes ≡ wanted)
+AreBytesMoved p (Some (Transfer f (Pfn x) to)) n = (bytes : List ℕ) × (length bytes ≡ n)
+    × IfSome (checksum p f.0) (λ wanted. sha256 bytes ≡ wanted)
 AreBytesMoved p (Some (Transfer f from to)) n = (bytes : List ℕ) × (length bytes ≡ n)
 AreBytesMoved p _ n = ⊥
 
@@ -43,7 +46,8 @@ AreBytesMoved p _ n = ⊥
 -- such output, of this length. A digest that differs from the registered checksum is that of some bytes.
 abbrev pub IsCauseOfInputs : Apply → Plan → ℕ → Cause → Type 0
 IsCauseOfInputs apply p t (Declined j) = OfInputs p t (λ blobs. first_declined apply p t blobs ≡ Some j.0)
-IsCauseOfInputs apply p t (Oversize j f n) = OfOutputs apply p t (λ outs. (q : ℕ) × IsFirstPast p (writes p t) outs q n × (pair_file p q ≡ f.0))
+IsCauseOfInputs apply p t (Oversize j f n) = OfOutputs apply p t
+    (λ outs. (q : ℕ) × IsFirstPast p (writes p t) outs q n × (pair_file p q ≡ f.0))
 IsCauseOfInputs apply p t (Checksum d) = IsDigestOfBytes p (kind p t) d
 IsCauseOfInputs apply p t _ = Unit {0}
 

@@ -10,5 +10,6 @@ use Rattle.lease_rules.specs.State.{State, after}
 
 pub record HasLeaseLaws (p : Plan) : Type 0 where
   pub one_choice : (s : State) (t u : ℕ) → IsChoice p s t → IsChoice p s u → t ≡ u
-  pub room_falls : (s : State) (e : Event) → IsConsistent p s → Allowed p s e → entries_room p (after p s e) + 1 ≤ entries_room p s
+  pub room_falls : (s : State) (e : Event) → IsConsistent p s → Allowed p s e
+      → entries_room p (after p s e) + 1 ≤ entries_room p s
   pub consistent : (s : State) (e : Event) → IsConsistent p s → Allowed p s e → IsConsistent p (after p s e)

@@ -27,7 +27,9 @@ pub record WorksMany (p : Plan) (order : List ℕ) (n : ℕ) (unstarted : Bool) 
 
 -- How often each worker's tool has failed: member k's count has not fallen, and rose as often as entries of worker k say.
 pub record AreToolsCounted (r : List Event) (before after : List ℕ) : Type 0 where
-  pub each : (k : ℕ) → k < length before → (get_or before k 0 ≤ get_or after k 0) × RoseBy (tool_faults k r) (get_or before k 0) (get_or after k 0)
+  pub each : (k : ℕ) → k < length before
+      → (get_or before k 0 ≤ get_or after k 0)
+      × RoseBy (tool_faults k r) (get_or before k 0) (get_or after k 0)
 
 -- a pass with which a worker may begin
 module _ {C : Type 0} {g : _} where
@@ -38,21 +40,30 @@ module _ {C : Type 0} {g : _} where
     pub none_open : IfSome (charter_of p) (λ c. NoneOpenFor c (worker_of p) (seen_of p))
 
   -- the pass p is q after the work, and the tool's count, which was `before`, shows it
-  pub record HasWorked (apply : Apply) (lock : RuledLock C Charter Event) (p q : Pass C Charter Event g) (before later : ℕ) : Type 0 where
+  pub record HasWorked (apply : Apply) (lock : RuledLock C Charter Event) (p q : Pass C Charter Event g)
+      (before later : ℕ) : Type 0 where
     pub of : IsOf lock q
     pub idle : IsIdle q
     pub same : IsSamePass p q
-    pub works : IfSome (charter_of p) (λ c. Works c (worker_of p) (mine_of p) (mine_of q) (seen_of q) before later)
+    pub works : IfSome (charter_of p) (λ c. Works c (worker_of p) (mine_of p) (mine_of q)
+        (seen_of q) before later)
     pub inputs : IfSome (charter_of p) (λ c. AddsOfInputs apply (plan_of c) (mine_of p) (mine_of q))
     pub tool : before ≤ later
 
 -- the same of each hand
 module _ {C M : Type 0} {g : _} where
   abbrev pub CanAllWork : RuledLock C Charter Event → List (Hand C M Charter Event g) → Type 0
-  CanAllWork lock hs = (k : ℕ) (d : Hand C M Charter Event g) → k < length hs → CanWork lock (get_or hs k d).pass
+  CanAllWork lock hs = (k : ℕ) (d : Hand C M Charter Event g) → k < length hs
+      → CanWork lock (get_or hs k d).pass
 
-  abbrev pub HaveAllWorked : Apply → RuledLock C Charter Event → (M → ℕ) → List (Hand C M Charter Event g) → List (Hand C M Charter Event g) → Type 0
-  HaveAllWorked apply lock faults hs after = (k : ℕ) (d : Hand C M Charter Event g) → k < length hs → HasWorked apply lock (get_or hs k d).pass (get_or after k d).pass (faults (get_or hs k d).member) (faults (get_or after k d).member)
+  abbrev pub HaveAllWorked : Apply → RuledLock C Charter Event → (M → ℕ) → List (Hand C M Charter Event g)
+      → List (Hand C M Charter Event g) → Type 0
+  HaveAllWorked apply lock faults hs after = (k : ℕ) (d : Hand C M Charter Event g) → k < length hs
+      → HasWorked apply lock (get_or hs k d).pass (get_or after k d).pass (faults (get_or hs k d).member)
+      (faults (get_or after k d).member)
 
-  abbrev pub HaveAllAsked : (M → List ℕ) → List (Hand C M Charter Event g) → List (Hand C M Charter Event g) → Type 0
-  HaveAllAsked asked hs after = (k : ℕ) (d : Hand C M Charter Event g) → k < length hs → AsksOwn (mine_of (get_or hs k d).pass) (mine_of (get_or after k d).pass) (asked (get_or hs k d).member) (asked (get_or after k d).member)
+  abbrev pub HaveAllAsked : (M → List ℕ) → List (Hand C M Charter Event g) → List (Hand C M Charter Event g)
+      → Type 0
+  HaveAllAsked asked hs after = (k : ℕ) (d : Hand C M Charter Event g) → k < length hs
+      → AsksOwn (mine_of (get_or hs k d).pass) (mine_of (get_or after k d).pass)
+      (asked (get_or hs k d).member) (asked (get_or after k d).member)

@@ -16,7 +16,8 @@ pub record DoesTask (w : ℕ) (r after : List Event) (t before later : ℕ) : Ty
 
 -- What is added after a record r, whose state is s: worker 0's entries, each of which begins what is left first. In the
 -- state that follows no task is open.
-pub record WorksOn (p : Plan) (s : State) (r after : List Event) (next : State) (before later : ℕ) : Type 0 where
+pub record WorksOn (p : Plan) (s : State) (r after : List Event) (next : State)
+    (before later : ℕ) : Type 0 where
   pub added : List Event
   pub is : after ≡ r ++ added
   pub by_zero : AllBy 0 added

@@ -80,13 +80,16 @@ AreUnread told _ _ = ⊥
 
 -- What a worker knows of a loan that is out. `told` is used by its case alone, so it may be the charter's; nothing is said
 -- of the yard as it is now, so no turn of another worker changes it.
-pub record IsHeld (apply : Apply) (p : Plan) (first : List Event) (marked : Store) (told : Option Store) (t : ℕ) (rs : List ReadState) (ds : List DraftState) : Type 0 where
+pub record IsHeld (apply : Apply) (p : Plan) (first : List Event) (marked : Store) (told : Option Store)
+    (t : ℕ) (rs : List ReadState) (ds : List DraftState) : Type 0 where
   pub unread : AreUnread told (limits_in p (kind p t) (reads p t)) rs
   pub drafts : ds ≡ map (fresh_at told) (targets p t)
-  pub carried : IsOpening apply p first marked → IfSome told (λ s. map read_told rs ≡ inputs p (carries apply p marked) t (kind p t) (reads p t))
+  pub carried : IsOpening apply p first marked
+      → IfSome told (λ s. map read_told rs ≡ inputs p (carries apply p marked) t (kind p t) (reads p t))
 
 -- what an abandoned loan asks
-pub record CanAbandon (apply : Apply) (p : Plan) (first : List Event) (marked : Store) (told : Option Store) (t : ℕ) (rs : List ReadState) (ds : List DraftState) (cause : Cause) : Type 0 where
+pub record CanAbandon (apply : Apply) (p : Plan) (first : List Event) (marked : Store) (told : Option Store)
+    (t : ℕ) (rs : List ReadState) (ds : List DraftState) (cause : Cause) : Type 0 where
   pub loan : IsLoan p told t rs ds
   pub kind_is : IsWorkers cause
   pub fits : CauseFits p t cause []
@@ -103,12 +106,15 @@ digest_in (Moved n digest) = digest
 digest_in (Made sizes) = None
 
 -- a loan may be settled with what was filled, or abandoned with the cause
-abbrev pub CanFinish : Apply → Plan → List Event → Store → Option Store → ℕ → List ReadState → List DraftState → Result Filled Cause → Type 0
-CanFinish apply p first marked told t rs ds (Ok filled) = CanSettle apply p first marked told t rs ds (sizes_in filled) (digest_in filled)
+abbrev pub CanFinish : Apply → Plan → List Event → Store → Option Store → ℕ → List ReadState
+    → List DraftState → Result Filled Cause → Type 0
+CanFinish apply p first marked told t rs ds (Ok filled) =
+    CanSettle apply p first marked told t rs ds (sizes_in filled) (digest_in filled)
 CanFinish apply p first marked told t rs ds (Err cause) = CanAbandon apply p first marked told t rs ds cause
 
 -- What the filling of a task's drafts has come to, with the states of the parts and the tool's count before and after.
-pub record Fills (apply : Apply) (p : Plan) (t : ℕ) (rs0 rs1 : List ReadState) (ds0 ds1 : List DraftState) (before later : ℕ) (result : Result Filled Cause) : Type 0 where
+pub record Fills (apply : Apply) (p : Plan) (t : ℕ) (rs0 rs1 : List ReadState) (ds0 ds1 : List DraftState)
+    (before later : ℕ) (result : Result Filled Cause) : Type 0 where
   pub filled : IfOk result (HasFilled apply p t rs0 ds0 ds1)
   pub why : IfErr result (IsWhy apply p t rs0 ds0 ds1)
   pub shown : IfErr result (IsShown (part_faults rs0 ds0) (part_faults rs1 ds1) before later)

@@ -45,7 +45,8 @@ pub record IsOverFor (g : Charter) (w : ℕ) (r : List Event) : Type 0 where
   pub none_open : NoneOpenFor g w r
 
 -- The loan is one of a task of the charter's plan, as it was made.
-pub record IsHeldFor (apply : Apply) (g : Option Charter) (t : ℕ) (rs : List ReadState) (ds : List DraftState) : Type 0 where
+pub record IsHeldFor (apply : Apply) (g : Option Charter) (t : ℕ) (rs : List ReadState)
+    (ds : List DraftState) : Type 0 where
   pub charter : Charter
   pub is : g ≡ Some charter
   pub proper : IsProper (plan_of charter)
@@ -54,7 +55,8 @@ pub record IsHeldFor (apply : Apply) (g : Option Charter) (t : ℕ) (rs : List R
 
 -- what a lease answers, with the worker's own entries before and after, and the record after
 abbrev pub LeasesOwn : Option Charter → ℕ → List Event → List Event → List Event → Leased → Type 0
-LeasesOwn g w mine after seen (leased.Granted t) = (after ≡ mine ++ Grant w t.0 ∷ []) ⊎ (after ≡ mine ++ Regrant w t.0 ∷ [])
+LeasesOwn g w mine after seen (leased.Granted t) = (after ≡ mine ++ Grant w t.0 ∷ [])
+    ⊎ (after ≡ mine ++ Regrant w t.0 ∷ [])
 LeasesOwn g w mine after seen (leased.Swept t) = Finishes w t.0 0 mine after
 LeasesOwn g w mine after seen (leased.Failed t) = Finishes w t.0 0 mine after
 LeasesOwn g w mine after seen (leased.Again t) = Finishes w t.0 0 mine after

@@ -15,9 +15,12 @@ use Rattle.worker_gate.specs.Tending.{Fills, IsLast}
 use Rattle.worker_gate.specs.Turning.{NoneOpenBy, NoneOpenFor, plan_of, state_of}
 
 -- what the filling of a task's drafts comes to by a plan; without one memory was wanted
-abbrev pub FillsWith : Apply → Result Plan Memory → ℕ → List ReadState → List ReadState → List DraftState → List DraftState → ℕ → ℕ → Result Filled Cause → Type 0
-FillsWith apply (Ok p) t rs0 rs1 ds0 ds1 before later filled = Fills apply p t rs0 rs1 ds0 ds1 before later filled
-FillsWith apply (Err refused) t rs0 rs1 ds0 ds1 before later filled = (rs1 ≡ rs0) × (ds1 ≡ ds0) × (later ≡ before) × (filled ≡ Err why.Memory)
+abbrev pub FillsWith : Apply → Result Plan Memory → ℕ → List ReadState → List ReadState → List DraftState
+    → List DraftState → ℕ → ℕ → Result Filled Cause → Type 0
+FillsWith apply (Ok p) t rs0 rs1 ds0 ds1 before later filled =
+    Fills apply p t rs0 rs1 ds0 ds1 before later filled
+FillsWith apply (Err refused) t rs0 rs1 ds0 ds1 before later filled = (rs1 ≡ rs0) × (ds1 ≡ ds0)
+    × (later ≡ before) × (filled ≡ Err why.Memory)
 
 -- one entry more, by which the worker is done with the task, and which its tool's count shows
 pub record DoesOwn (w t : ℕ) (mine after : List Event) (before later : ℕ) : Type 0 where

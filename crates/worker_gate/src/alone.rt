@@ -22,9 +22,13 @@ pub fn run_alone<H: Host, T: Tool, G: Gate>(
     crew: &mut Crew<T, G>,
 ) -> Yard<H, T>
     requires { NoneOpen (state_at yard.book) }
-    ensures works { WorksAlone yard.ordered.plan (task_numbers yard.ordered.tasks.items) yard.book.history.events result.book.history.events (T.faults crew.old.tool) (T.faults crew.new.tool) }
-    ensures calls { AddsCalls yard.ordered.plan yard.book.history.events result.book.history.events (H.counts yard.host) (H.counts result.host) }
-    ensures inputs { AddsOfInputs T.apply yard.ordered.plan yard.book.history.events result.book.history.events }
+    ensures works { WorksAlone yard.ordered.plan
+        (task_numbers yard.ordered.tasks.items) yard.book.history.events result.book.history.events
+        (T.faults crew.old.tool) (T.faults crew.new.tool) }
+    ensures calls { AddsCalls yard.ordered.plan yard.book.history.events result.book.history.events
+        (H.counts yard.host) (H.counts result.host) }
+    ensures inputs { AddsOfInputs T.apply yard.ordered.plan yard.book.history.events
+        result.book.history.events }
     ensures tool { T.faults crew.old.tool ≤ T.faults crew.new.tool }
     ensures gate { crew.new.gate ≡ crew.old.gate }
     ensures same { IsSameYard yard result }

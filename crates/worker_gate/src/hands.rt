@@ -27,7 +27,8 @@ fn deal_others<C: Chronicle, M>(
     requires empty { hands.old.items ≡ [] }
     requires workers { length crew.old.items + 1 ≤ workers_of lock.now }
     requires room { length crew.old.items ≤ vec_capacity hands.old }
-    ensures first { IsDealt lock.now (charter_of first.old) (seen_of first.old) 0 (length crew.old.items + 1) first.new }
+    ensures first { IsDealt lock.now (charter_of first.old) (seen_of first.old) 0
+        (length crew.old.items + 1) first.new }
     ensures others { AreOthers lock.now (charter_of first.old) (seen_of first.old) hands.new.items }
     ensures members { map member_of hands.new.items ≡ crew.old.items }
     ensures crew { crew.new.items ≡ [] }
@@ -56,7 +57,8 @@ pub(crate) fn deal<C: Chronicle, M>(
     requires members { 0 < length crew.old.items }
     requires workers { length crew.old.items ≤ workers_of lock.now }
     requires room { length crew.old.items ≤ vec_capacity hands.old }
-    ensures dealt { AreDealt lock.now (charter_of first) (seen_of first) (length crew.old.items) hands.new.items }
+    ensures dealt { AreDealt lock.now (charter_of first) (seen_of first)
+        (length crew.old.items) hands.new.items }
     ensures members { map member_of hands.new.items ≡ crew.old.items }
     ensures crew { crew.new.items ≡ [] }
     ensures crew_room { vec_capacity crew.new ≡ vec_capacity crew.old }

@@ -34,8 +34,10 @@ fn work_hand<R: Wait, H: Host, T: Tool, G: Gate>(
     hand: &mut Hand<Yard<H, T>, Crew<T, G>>,
 )
     requires { CanWork lock.now hand.old.pass }
-    ensures worked { HasWorked T.apply lock.now hand.old.pass hand.new.pass (T.faults hand.old.member.tool) (T.faults hand.new.member.tool) }
-    ensures asked { AsksOwn (mine_of hand.old.pass) (mine_of hand.new.pass) (G.asked hand.old.member.gate) (G.asked hand.new.member.gate) }
+    ensures worked { HasWorked T.apply lock.now hand.old.pass hand.new.pass (T.faults hand.old.member.tool)
+        (T.faults hand.new.member.tool) }
+    ensures asked { AsksOwn (mine_of hand.old.pass) (mine_of hand.new.pass) (G.asked hand.old.member.gate)
+        (G.asked hand.new.member.gate) }
 {
     work(rt, alloc, lock, &mut hand.pass, &mut hand.member);
 }
@@ -72,17 +74,24 @@ where
     requires members { (0 < length crew.items) × (length crew.items ≤ 16) }
     requires empty { yard.book.history.events ≡ [] }
     ensures ordered { result.yard.ordered ≡ yard.ordered }
-    ensures opened { take result.yard.opened result.yard.book.history.events ≡ take yard.opened yard.book.history.events }
+    ensures opened { take result.yard.opened result.yard.book.history.events
+        ≡ take yard.opened yard.book.history.events }
     ensures marked { H.marked result.yard.host ≡ H.marked yard.host }
     ensures faults { result.yard.faults ≡ yard.faults }
     ensures misses { result.yard.misses ≡ yard.misses }
     ensures tells { is_some (H.told result.yard.host) ≡ is_some (H.told yard.host) }
     ensures members { length result.crew.items ≡ length crew.items }
-    ensures works { WorksMany yard.ordered.plan (task_numbers yard.ordered.tasks.items) (length crew.items) result.unstarted result.yard.book.history.events }
-    ensures tools { AreToolsCounted result.yard.book.history.events (map (λ (c : Crew T G). T.faults c.tool) crew.items) (map (λ (c : Crew T G). T.faults c.tool) result.crew.items) }
-    ensures gates { AreGatesAsked result.yard.book.history.events (map (λ (c : Crew T G). G.asked c.gate) crew.items) (map (λ (c : Crew T G). G.asked c.gate) result.crew.items) }
+    ensures works { WorksMany yard.ordered.plan (task_numbers yard.ordered.tasks.items)
+        (length crew.items) result.unstarted result.yard.book.history.events }
+    ensures tools { AreToolsCounted result.yard.book.history.events
+        (map (λ (c : Crew T G). T.faults c.tool) crew.items)
+        (map (λ (c : Crew T G). T.faults c.tool) result.crew.items) }
+    ensures gates { AreGatesAsked result.yard.book.history.events
+        (map (λ (c : Crew T G). G.asked c.gate) crew.items)
+        (map (λ (c : Crew T G). G.asked c.gate) result.crew.items) }
     ensures inputs { AreOfInputs T.apply yard.ordered.plan result.yard.book.history.events }
-    ensures unstarted { result.unstarted ≡ true → (result.yard.book.history.events ≡ []) × (result.crew.items ≡ crew.items) }
+    ensures unstarted { result.unstarted ≡ true
+        → (result.yard.book.history.events ≡ []) × (result.crew.items ≡ crew.items) }
 {
     // Laws for the proof: they do nothing.
     over_records_end();

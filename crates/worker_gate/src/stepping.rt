@@ -25,9 +25,12 @@ pub fn do_task<H: Host, T: Tool>(
     task: TaskId,
 )
     requires { IsOpen (state_at yard.old.book) worker task.0 }
-    ensures does { DoesTask worker yard.old.book.history.events yard.new.book.history.events task.0 (T.faults tool.old) (T.faults tool.new) }
-    ensures calls { AddsCalls yard.old.ordered.plan yard.old.book.history.events yard.new.book.history.events (H.counts yard.old.host) (H.counts yard.new.host) }
-    ensures inputs { AddsOfInputs T.apply yard.old.ordered.plan yard.old.book.history.events yard.new.book.history.events }
+    ensures does { DoesTask worker yard.old.book.history.events yard.new.book.history.events task.0
+        (T.faults tool.old) (T.faults tool.new) }
+    ensures calls { AddsCalls yard.old.ordered.plan yard.old.book.history.events yard.new.book.history.events
+        (H.counts yard.old.host) (H.counts yard.new.host) }
+    ensures inputs { AddsOfInputs T.apply yard.old.ordered.plan yard.old.book.history.events
+        yard.new.book.history.events }
     ensures tool { T.faults tool.old ≤ T.faults tool.new }
     ensures same { IsSameYard yard.old yard.new }
 {
@@ -43,9 +46,13 @@ pub fn do_task<H: Host, T: Tool>(
 /// Leases as worker 0 and does the task. It tells whether the record goes on.
 pub(crate) fn step<H: Host, T: Tool>(alloc: Global, yard: &mut Yard<H, T>, tool: &mut T) -> bool
     requires { NoneOpen (state_at yard.old.book) }
-    ensures steps { Steps yard.old.ordered.plan (state_at yard.old.book) yard.old.book.history.events yard.new.book.history.events (state_at yard.new.book) (T.faults tool.old) (T.faults tool.new) result }
-    ensures calls { AddsCalls yard.old.ordered.plan yard.old.book.history.events yard.new.book.history.events (H.counts yard.old.host) (H.counts yard.new.host) }
-    ensures inputs { AddsOfInputs T.apply yard.old.ordered.plan yard.old.book.history.events yard.new.book.history.events }
+    ensures steps { Steps yard.old.ordered.plan
+        (state_at yard.old.book) yard.old.book.history.events yard.new.book.history.events
+        (state_at yard.new.book) (T.faults tool.old) (T.faults tool.new) result }
+    ensures calls { AddsCalls yard.old.ordered.plan yard.old.book.history.events yard.new.book.history.events
+        (H.counts yard.old.host) (H.counts yard.new.host) }
+    ensures inputs { AddsOfInputs T.apply yard.old.ordered.plan yard.old.book.history.events
+        yard.new.book.history.events }
     ensures tool { T.faults tool.old ≤ T.faults tool.new }
     ensures same { IsSameYard yard.old yard.new }
 {

@@ -28,10 +28,13 @@ pub(crate) fn fill_loan<H: Host, T: Tool>(
     tool: &mut T,
 ) -> Result<Filled, Cause>
     requires proper { IsProper plan.now }
-    requires parts { AreParts plan.now task.0 (kind plan.now task.0) (map H.Reading.state loan.old.readings.items) (map H.Draft.state loan.old.drafts.items) }
+    requires parts { AreParts plan.now task.0 (kind plan.now task.0)
+        (map H.Reading.state loan.old.readings.items) (map H.Draft.state loan.old.drafts.items) }
     requires start { AreBegun (map H.Reading.state loan.old.readings.items) }
     requires empty { AreEmpty (map H.Draft.state loan.old.drafts.items) }
-    ensures fills { Fills T.apply plan.now task.0 (map H.Reading.state loan.old.readings.items) (map H.Reading.state loan.new.readings.items) (map H.Draft.state loan.old.drafts.items) (map H.Draft.state loan.new.drafts.items) (T.faults tool.old) (T.faults tool.new) result }
+    ensures fills { Fills T.apply plan.now task.0 (map H.Reading.state loan.old.readings.items)
+        (map H.Reading.state loan.new.readings.items) (map H.Draft.state loan.old.drafts.items)
+        (map H.Draft.state loan.new.drafts.items) (T.faults tool.old) (T.faults tool.new) result }
 {
     fill(
         alloc,
@@ -53,11 +56,17 @@ pub(crate) fn finish_at<H: Host, T: Tool>(
     filled: Result<Filled, Cause>,
 )
     requires open { IsOpen (state_at yard.old.book) worker task.0 }
-    requires can { CanFinish T.apply yard.old.ordered.plan (take yard.old.opened yard.old.book.history.events) (H.marked yard.old.host) (H.told yard.old.host) task.0 (map H.Reading.state loan.readings.items) (map H.Draft.state loan.drafts.items) filled }
+    requires can { CanFinish T.apply yard.old.ordered.plan
+        (take yard.old.opened yard.old.book.history.events) (H.marked yard.old.host)
+        (H.told yard.old.host) task.0 (map H.Reading.state loan.readings.items)
+        (map H.Draft.state loan.drafts.items) filled }
     requires inputs { IsFilledOf T.apply yard.old.ordered.plan task.0 filled }
-    ensures ends { EndsTask worker task.0 (failures_in filled) yard.old.book.history.events yard.new.book.history.events }
-    ensures calls { EndsCalls yard.old.ordered.plan task.0 yard.old.book.history.events yard.new.book.history.events (H.counts yard.old.host) (H.counts yard.new.host) }
-    ensures inputs { AddsOfInputs T.apply yard.old.ordered.plan yard.old.book.history.events yard.new.book.history.events }
+    ensures ends { EndsTask worker task.0
+        (failures_in filled) yard.old.book.history.events yard.new.book.history.events }
+    ensures calls { EndsCalls yard.old.ordered.plan task.0 yard.old.book.history.events
+        yard.new.book.history.events (H.counts yard.old.host) (H.counts yard.new.host) }
+    ensures inputs { AddsOfInputs T.apply yard.old.ordered.plan yard.old.book.history.events
+        yard.new.book.history.events }
     ensures same { IsSameYard yard.old yard.new }
 {
     match filled {

@@ -30,7 +30,8 @@ pub(crate) fn copy_plan<R: Wait, H: Host, T: Tool>(
 ) -> Result<Plan, Memory>
     requires of { IsOf lock.now pass.old }
     requires idle { IsIdle pass.old }
-    requires none_open { IfSome (charter_of pass.old) (λ g. NoneOpenFor g (worker_of pass.old) (seen_of pass.old)) }
+    requires none_open { IfSome (charter_of pass.old)
+        (λ g. NoneOpenFor g (worker_of pass.old) (seen_of pass.old)) }
     ensures keeps { KeepsTurn lock.now pass.old pass.new }
     ensures mine { mine_of pass.new ≡ mine_of pass.old }
     ensures none_open { NoneOpenBy (mine_of pass.old) }
@@ -56,8 +57,10 @@ pub(crate) fn lease<R: Wait, H: Host, T: Tool>(
     requires worker { worker_of pass.old < 16 }
     requires none_open { NoneOpenBy (mine_of pass.old) }
     ensures keeps { KeepsTurn lock.now pass.old pass.new }
-    ensures leased { LeasesOwn (charter_of pass.old) (worker_of pass.old) (mine_of pass.old) (mine_of pass.new) (seen_of pass.new) result }
-    ensures inputs { IfSome (charter_of pass.old) (λ g. AddsOfInputs T.apply (plan_of g) (mine_of pass.old) (mine_of pass.new)) }
+    ensures leased { LeasesOwn (charter_of pass.old) (worker_of pass.old) (mine_of pass.old)
+        (mine_of pass.new) (seen_of pass.new) result }
+    ensures inputs { IfSome (charter_of pass.old)
+        (λ g. AddsOfInputs T.apply (plan_of g) (mine_of pass.old) (mine_of pass.new)) }
     ensures asked { (ts : List ℕ) → AsksOwn (mine_of pass.old) (mine_of pass.new) ts ts }
 {
     own_entries_tell_open_tasks();
@@ -79,10 +82,13 @@ pub(crate) fn begin<R: Wait, H: Host, T: Tool>(
     requires idle { IsIdle pass.old }
     requires open { is_open_after task.0 false (mine_of pass.old) ≡ true }
     ensures keeps { KeepsTurn lock.now pass.old pass.new }
-    ensures held { IfSome result (λ l. IsHeldFor T.apply (charter_of pass.old) task.0 (map H.Reading.state l.readings.items) (map H.Draft.state l.drafts.items)) }
+    ensures held { IfSome result (λ l. IsHeldFor T.apply (charter_of pass.old) task.0
+        (map H.Reading.state l.readings.items) (map H.Draft.state l.drafts.items)) }
     ensures mine { IfSome result (λ l. mine_of pass.new ≡ mine_of pass.old) }
-    ensures none { IfNone result (Finishes (worker_of pass.old) task.0 0 (mine_of pass.old) (mine_of pass.new)) }
-    ensures inputs { IfSome (charter_of pass.old) (λ g. AddsOfInputs T.apply (plan_of g) (mine_of pass.old) (mine_of pass.new)) }
+    ensures none { IfNone result (Finishes (worker_of pass.old) task.0 0 (mine_of pass.old)
+        (mine_of pass.new)) }
+    ensures inputs { IfSome (charter_of pass.old)
+        (λ g. AddsOfInputs T.apply (plan_of g) (mine_of pass.old) (mine_of pass.new)) }
     ensures asked { (ts : List ℕ) → AsksOwn (mine_of pass.old) (mine_of pass.new) ts ts }
 {
     // Laws for the proof: they do nothing.
@@ -106,11 +112,15 @@ pub(crate) fn finish<R: Wait, H: Host, T: Tool>(
     requires of { IsOf lock.now pass.old }
     requires idle { IsIdle pass.old }
     requires open { is_open_after task.0 false (mine_of pass.old) ≡ true }
-    requires can { IfSome (charter_of pass.old) (λ g. CanFinish T.apply (plan_of g) g.opened g.marked (told_of g) task.0 (map H.Reading.state loan.readings.items) (map H.Draft.state loan.drafts.items) filled) }
+    requires can { IfSome (charter_of pass.old)
+        (λ g. CanFinish T.apply (plan_of g) g.opened g.marked (told_of g) task.0
+        (map H.Reading.state loan.readings.items) (map H.Draft.state loan.drafts.items) filled) }
     requires inputs { IfSome (charter_of pass.old) (λ g. IsFilledOf T.apply (plan_of g) task.0 filled) }
     ensures keeps { KeepsTurn lock.now pass.old pass.new }
-    ensures finishes { Finishes (worker_of pass.old) task.0 (failures_in filled) (mine_of pass.old) (mine_of pass.new) }
-    ensures inputs { IfSome (charter_of pass.old) (λ g. AddsOfInputs T.apply (plan_of g) (mine_of pass.old) (mine_of pass.new)) }
+    ensures finishes { Finishes (worker_of pass.old) task.0 (failures_in filled) (mine_of pass.old)
+        (mine_of pass.new) }
+    ensures inputs { IfSome (charter_of pass.old)
+        (λ g. AddsOfInputs T.apply (plan_of g) (mine_of pass.old) (mine_of pass.new)) }
     ensures asked { (ts : List ℕ) → AsksOwn (mine_of pass.old) (mine_of pass.new) ts (ts ++ task.0 ∷ []) }
 {
     own_entries_tell_open_tasks();

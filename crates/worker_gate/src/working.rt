@@ -34,10 +34,13 @@ fn fill_with<H: Host, T: Tool>(
     tool: &mut T,
 ) -> Result<Filled, Cause>
     requires proper { IfOk plan.now IsProper }
-    requires parts { IfOk plan.now (λ p. AreParts p task.0 (kind p task.0) (map H.Reading.state loan.old.readings.items) (map H.Draft.state loan.old.drafts.items)) }
+    requires parts { IfOk plan.now (λ p. AreParts p task.0 (kind p task.0)
+        (map H.Reading.state loan.old.readings.items) (map H.Draft.state loan.old.drafts.items)) }
     requires start { AreBegun (map H.Reading.state loan.old.readings.items) }
     requires empty { AreEmpty (map H.Draft.state loan.old.drafts.items) }
-    ensures fills { FillsWith T.apply plan.now task.0 (map H.Reading.state loan.old.readings.items) (map H.Reading.state loan.new.readings.items) (map H.Draft.state loan.old.drafts.items) (map H.Draft.state loan.new.drafts.items) (T.faults tool.old) (T.faults tool.new) result }
+    ensures fills { FillsWith T.apply plan.now task.0 (map H.Reading.state loan.old.readings.items)
+        (map H.Reading.state loan.new.readings.items) (map H.Draft.state loan.old.drafts.items)
+        (map H.Draft.state loan.new.drafts.items) (T.faults tool.old) (T.faults tool.new) result }
 {
     match plan {
         Ok(plan) => fill_loan(alloc, plan, task, loan, tool),
@@ -60,10 +63,13 @@ fn do_task<R: Wait, H: Host, T: Tool, G: Gate>(
     requires open { is_open_after task.0 false (mine_of pass.old) ≡ true }
     requires plan { IsPlanOf (charter_of pass.old) plan.now }
     ensures keeps { KeepsTurn lock.now pass.old pass.new }
-    ensures does { DoesOwn (worker_of pass.old) task.0 (mine_of pass.old) (mine_of pass.new) (T.faults crew.old.tool) (T.faults crew.new.tool) }
-    ensures inputs { IfSome (charter_of pass.old) (λ g. AddsOfInputs T.apply (plan_of g) (mine_of pass.old) (mine_of pass.new)) }
+    ensures does { DoesOwn (worker_of pass.old) task.0 (mine_of pass.old) (mine_of pass.new)
+        (T.faults crew.old.tool) (T.faults crew.new.tool) }
+    ensures inputs { IfSome (charter_of pass.old)
+        (λ g. AddsOfInputs T.apply (plan_of g) (mine_of pass.old) (mine_of pass.new)) }
     ensures tool { T.faults crew.old.tool ≤ T.faults crew.new.tool }
-    ensures asked { AsksOwn (mine_of pass.old) (mine_of pass.new) (G.asked crew.old.gate) (G.asked crew.new.gate) }
+    ensures asked { AsksOwn (mine_of pass.old) (mine_of pass.new) (G.asked crew.old.gate)
+        (G.asked crew.new.gate) }
 {
     // Laws for the proof: they do nothing.
     plan_laws();
@@ -88,12 +94,17 @@ pub fn work<R: Wait, H: Host, T: Tool, G: Gate>(
     requires of { IsOf lock.now pass.old }
     requires idle { IsIdle pass.old }
     requires worker { worker_of pass.old < 16 }
-    requires none_open { IfSome (charter_of pass.old) (λ g. NoneOpenFor g (worker_of pass.old) (seen_of pass.old)) }
+    requires none_open { IfSome (charter_of pass.old)
+        (λ g. NoneOpenFor g (worker_of pass.old) (seen_of pass.old)) }
     ensures keeps { KeepsTurn lock.now pass.old pass.new }
-    ensures works { IfSome (charter_of pass.old) (λ g. Works g (worker_of pass.old) (mine_of pass.old) (mine_of pass.new) (seen_of pass.new) (T.faults crew.old.tool) (T.faults crew.new.tool)) }
-    ensures inputs { IfSome (charter_of pass.old) (λ g. AddsOfInputs T.apply (plan_of g) (mine_of pass.old) (mine_of pass.new)) }
+    ensures works { IfSome (charter_of pass.old)
+        (λ g. Works g (worker_of pass.old) (mine_of pass.old) (mine_of pass.new) (seen_of pass.new)
+        (T.faults crew.old.tool) (T.faults crew.new.tool)) }
+    ensures inputs { IfSome (charter_of pass.old)
+        (λ g. AddsOfInputs T.apply (plan_of g) (mine_of pass.old) (mine_of pass.new)) }
     ensures tool { T.faults crew.old.tool ≤ T.faults crew.new.tool }
-    ensures asked { AsksOwn (mine_of pass.old) (mine_of pass.new) (G.asked crew.old.gate) (G.asked crew.new.gate) }
+    ensures asked { AsksOwn (mine_of pass.old) (mine_of pass.new) (G.asked crew.old.gate)
+        (G.asked crew.new.gate) }
 {
     let plan = copy_plan(rt, alloc, lock, pass);
     for _ in rt.forever() {

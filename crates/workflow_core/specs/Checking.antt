@@ -31,7 +31,8 @@ abbrev pub are_named : Workflow → Bool
 are_named w = are_distinct bytes_eq (map (λ (j : Job). j.id) w.jobs) && are_distinct bytes_eq w.files
 
 abbrev pub are_numbered : Workflow → Bool
-are_numbered w = list_all (is_job_over (length w.files)) w.jobs && list_all (is_pair_of (length w.jobs)) w.pairs
+are_numbered w = list_all (is_job_over (length w.files)) w.jobs
+    && list_all (is_pair_of (length w.jobs)) w.pairs
 
 abbrev pub passes : Workflow → Bool
 passes w = are_few w && (are_named w && are_numbered w)

@@ -10,5 +10,7 @@ pub record NumbersNames : Type 0 where
   pub gathered : (ns : List (List ℕ)) → with_names [] ns ≡ distinct ns
   pub once : (ns : List (List ℕ)) → are_distinct bytes_eq (distinct ns) ≡ true
   pub known : (ns : List (List ℕ)) → list_all (λ n. list_any (bytes_eq n) (distinct ns)) ns ≡ true
-  pub within : (names : List (List ℕ)) (n : List ℕ) → list_any (bytes_eq n) names ≡ true → number names n < length names
-  pub apart : (names : List (List ℕ)) (m n : List ℕ) → list_any (bytes_eq m) names ≡ true → bytes_eq m n ≡ false → nat_eq (number names m) (number names n) ≡ false
+  pub within : (names : List (List ℕ)) (n : List ℕ) → list_any (bytes_eq n) names ≡ true
+      → number names n < length names
+  pub apart : (names : List (List ℕ)) (m n : List ℕ) → list_any (bytes_eq m) names ≡ true
+      → bytes_eq m n ≡ false → nat_eq (number names m) (number names n) ≡ false

@@ -15,7 +15,8 @@ is_requested w f = list_any (requests f) w.jobs
 -- of the files with these names, the first of which has number f, the requested ones
 abbrev pub requested_from : Workflow → ℕ → List (List ℕ) → List ℕ
 requested_from w f [] = []
-requested_from w f (name ∷ names) = if is_requested w f then f ∷ requested_from w (suc f) names else requested_from w (suc f) names
+requested_from w f (name ∷ names) = if is_requested w f then f ∷ requested_from w (suc f) names
+    else requested_from w (suc f) names
 
 -- the numbers of the requested files, rising
 abbrev pub requested : Workflow → List ℕ

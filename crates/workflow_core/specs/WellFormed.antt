@@ -51,4 +51,5 @@ pub record IsWellFormed (w : Workflow) : Type 0 where
   pub ids : are_distinct bytes_eq (map (λ (j : Job). j.id) w.jobs) ≡ true
   pub names : are_distinct bytes_eq w.files ≡ true
   pub jobs : AllByRecursion (IsJobOver (length w.files)) w.jobs
-  pub pairs : AllByRecursion (λ (p : JobId × JobId). (before p < length w.jobs) × (after p < length w.jobs)) w.pairs
+  pub pairs : AllByRecursion (λ (p : JobId × JobId). (before p < length w.jobs)
+      × (after p < length w.jobs)) w.pairs

@@ -19,7 +19,8 @@ made_by_number b w a = slice_index_or (map (made_by b w (tool_at b a)) w.jobs) a
 -- the first job in this order of whose inputs' values its tool makes nothing
 unfoldable pub first_undefined : Basis → Workflow → List JobId → Option ℕ
 first_undefined b w [] = None
-first_undefined b w (a ∷ order) = if is_some (made_by_number b w a.0) then first_undefined b w order else Some a.0
+first_undefined b w (a ∷ order) = if is_some (made_by_number b w a.0) then first_undefined b w order
+    else Some a.0
 
 -- The job comes in this order, and each job before it makes something.
 pub record IsReached (b : Basis) (w : Workflow) (order : List JobId) (j : JobId) : Type 0 where
@@ -29,7 +30,8 @@ pub record IsReached (b : Basis) (w : Workflow) (order : List JobId) (j : JobId)
   pub before : first_undefined b w (take place order) ≡ None
 
 -- The answer of an evaluation in this order. `rose` says that the tool's count rose.
-abbrev pub Evaluates : Basis → Workflow → List JobId → Type 0 → Result (Vec (List ℕ) Global) EvalFault → Type 0
+abbrev pub Evaluates : Basis → Workflow → List JobId → Type 0 → Result (Vec (List ℕ) Global) EvalFault
+    → Type 0
 Evaluates b w order rose (Ok values) = AreValues b w values.items × (first_undefined b w order ≡ None)
 Evaluates b w order rose (Err (Declined j)) = (first_undefined b w order ≡ Some j.0) × (j.0 < length w.jobs)
 Evaluates b w order rose (Err (ToolFailed j)) = rose × (j.0 < length w.jobs)

@@ -28,7 +28,8 @@ fn run_job<T: Tool>(
 ) -> Result<Vec<Blob>, EvalFault>
     ensures ok { IfOk result (λ v. run_of T.apply name.now job.now (Some inputs.now) ≡ Some v.items) }
     ensures as_many { IfOk result (λ v. length job.now.outputs ≡ length v.items) }
-    ensures fault { IfErr result (λ e. IsFaultOf (run_of T.apply name.now job.now (Some inputs.now)) number.0 (Rose (T.faults tool.old) (T.faults tool.new)) e) }
+    ensures fault { IfErr result (λ e. IsFaultOf (run_of T.apply name.now job.now (Some inputs.now)) number.0
+        (Rose (T.faults tool.old) (T.faults tool.new)) e) }
     ensures faults { T.faults tool.old ≤ T.faults tool.new }
 {
     let made = tool.run(
@@ -61,8 +62,10 @@ pub fn evaluate_in<T: Tool>(
     requires tools { length tools.now ≡ length workflow.now.jobs }
     requires bases { length table.items ≡ length workflow.now.files }
     requires based { AllBased (basis T.apply tools.now table.items) workflow.now }
-    ensures answer { Evaluates (basis T.apply tools.now table.items) workflow.now graph.now.ordered (Rose (T.faults tool.old) (T.faults tool.new)) result }
-    ensures reached { (j : JobId) → result ≡ Err (ToolFailed j) → IsReached (basis T.apply tools.now table.items) workflow.now graph.now.ordered j }
+    ensures answer { Evaluates (basis T.apply tools.now table.items) workflow.now graph.now.ordered
+        (Rose (T.faults tool.old) (T.faults tool.new)) result }
+    ensures reached { (j : JobId) → result ≡ Err (ToolFailed j)
+        → IsReached (basis T.apply tools.now table.items) workflow.now graph.now.ordered j }
     ensures faults { T.faults tool.old ≤ T.faults tool.new }
 {
     // A law for the proof: it does nothing.
@@ -93,8 +96,10 @@ pub fn evaluate<T: Tool>(
     requires tools { length tools.now ≡ length workflow.now.jobs }
     requires bases { length base.now ≡ length workflow.now.files }
     requires based { AllBased (basis T.apply tools.now base.now) workflow.now }
-    ensures answer { Evaluates (basis T.apply tools.now base.now) workflow.now graph.now.ordered (Rose (T.faults tool.old) (T.faults tool.new)) result }
-    ensures reached { (j : JobId) → result ≡ Err (ToolFailed j) → IsReached (basis T.apply tools.now base.now) workflow.now graph.now.ordered j }
+    ensures answer { Evaluates (basis T.apply tools.now base.now) workflow.now graph.now.ordered
+        (Rose (T.faults tool.old) (T.faults tool.new)) result }
+    ensures reached { (j : JobId) → result ≡ Err (ToolFailed j)
+        → IsReached (basis T.apply tools.now base.now) workflow.now graph.now.ordered j }
     ensures faults { T.faults tool.old ≤ T.faults tool.new }
 {
     let Ok(table) = table_of(alloc, base) else {

@@ -48,7 +48,8 @@ abbrev pub add : ℕ → Job
 add n = job (codes "mAdd") 0 (each n bg) (mosaic n) true
 
 abbrev pub jobs : ℕ → List Job
-jobs n = each n project ++ (each (n - 1) diff_fit ++ (concat_fit n ∷ bg_model n ∷ (each n background ++ add n ∷ [])))
+jobs n = each n project ++ (each (n - 1) diff_fit
+    ++ (concat_fit n ∷ bg_model n ∷ (each n background ++ add n ∷ [])))
 
 abbrev pub workflow_text : ℕ → List ℕ
 workflow_text n = piece_text piece.Workflow ++ commas (map job_text (jobs n)) ++ piece_text piece.Dependencies

@@ -109,7 +109,8 @@ pub(crate) fn push_job(
     output: &File,
     requested: bool,
 ) -> Result<(), Memory>
-    ensures { OnOk result (text.new.items ≡ text.old.items ++ job_text (job named.name.now named.number inputs.now output.now requested)) }
+    ensures { OnOk result (text.new.items ≡ text.old.items
+        ++ job_text (job named.name.now named.number inputs.now output.now requested)) }
 {
     push_head(text, named)?;
     push_inputs(alloc, text, inputs)?;

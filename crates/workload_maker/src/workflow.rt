@@ -133,7 +133,8 @@ fn push_projects(alloc: Global, text: &mut Vec<u8>, images: u32) -> Result<(), M
 fn push_diff_fits(alloc: Global, text: &mut Vec<u8>, images: u32) -> Result<(), Memory>
     requires some { 1 ≤ images }
     requires few { images ≤ 3000 }
-    ensures { OnOk result (text.new.items ≡ text.old.items ++ flat_map followed (each (images - 1) diff_fit)) }
+    ensures { OnOk result (text.new.items ≡ text.old.items
+        ++ flat_map followed (each (images - 1) diff_fit)) }
 {
     for number in 0..images - 1 {
         let named = Named {

@@ -65,13 +65,15 @@ IsUnjudged i (BadRecord k) = IsBad i k
 IsUnjudged i fault = IsUnplanned i.surveyed fault
 
 -- When each answer comes, and the text before its line, for what is printed of a judged record.
-abbrev pub SaysOf : (Plan → List ℕ → List Event → Verdict → List ℕ → Type 0) → Recorded → List ℕ → Answer → Type 0
+abbrev pub SaysOf : (Plan → List ℕ → List Event → Verdict → List ℕ → Type 0) → Recorded → List ℕ → Answer
+    → Type 0
 SaysOf Prints i text (Ok None) = IsJudgedBy i (λ p order r v. Prints p order r v text)
 SaysOf Prints i text (Ok (Some given)) = ⊥
 SaysOf Prints i text (Err Memory) = Unit {0}
 SaysOf Prints i text (Err fault) = IsUnjudged i fault × (text ≡ [])
 
-pub record Judges (Prints : Plan → List ℕ → List Event → Verdict → List ℕ → Type 0) (w : Work) (t : Tools) (i : Recorded) (text : List ℕ) (answer : Answer) : Type 0 where
+pub record Judges (Prints : Plan → List ℕ → List Event → Verdict → List ℕ → Type 0) (w : Work) (t : Tools)
+    (i : Recorded) (text : List ℕ) (answer : Answer) : Type 0 where
   pub untouched : w.after ≡ w.before
   pub says : SaysOf Prints i text answer
 

@@ -32,9 +32,13 @@ joint_name m f = prefixed m.name (name_of m.survey f)
 -- Each file that a member asks for stands as `m/f`, with m's own value of it: by its own workflow, tools and bases. Every
 -- other name is as it was.
 pub record AreDelivered (w : Work) (ms : List Member) (old new : Store) : Type 0 where
-  pub there : (i : ℕ) (m : Member) (f : ℕ) → IsAsked ms i m f → is_some (files.get new.delivered (joint_name m f)) ≡ true
-  pub valued : (i : ℕ) (m : Member) (f : ℕ) → IsAsked ms i m f → files.get new.delivered (joint_name m f) ≡ value_of w.apply (replicas_of old) m.request m.survey f
-  pub others : (name : List ℕ) → ((i : ℕ) (m : Member) (f : ℕ) → IsAsked ms i m f → joint_name m f ≡ name → ⊥) → files.get new.delivered name ≡ files.get old.delivered name
+  pub there : (i : ℕ) (m : Member) (f : ℕ) → IsAsked ms i m f
+      → is_some (files.get new.delivered (joint_name m f)) ≡ true
+  pub valued : (i : ℕ) (m : Member) (f : ℕ) → IsAsked ms i m f
+      → files.get new.delivered (joint_name m f) ≡ value_of w.apply (replicas_of old) m.request m.survey f
+  pub others : (name : List ℕ)
+      → ((i : ℕ) (m : Member) (f : ℕ) → IsAsked ms i m f → joint_name m f ≡ name → ⊥)
+      → files.get new.delivered name ≡ files.get old.delivered name
 
 -- where each member's replicas are honest
 abbrev pub DeliversMembers : Work → List Member → Store → Store → Type 0
@@ -43,12 +47,18 @@ DeliversMembers w ms old new = AreHonestMembers w.apply (replicas_of old) ms →
 -- ---- the commands
 
 -- The joint's plan was run, or why not; where it is done, all members have what they ask for.
-pub record RunsJoint (Runs : Work → Tools → Surveyed → List ℕ → Answer → Type 0) (w : Work) (t : Tools) (j : Joined) (text : List ℕ) (answer : Answer) : Type 0 where
+pub record RunsJoint (Runs : Work → Tools → Surveyed → List ℕ → Answer → Type 0) (w : Work) (t : Tools)
+    (j : Joined) (text : List ℕ) (answer : Answer) : Type 0 where
   pub runs : Runs w t j.surveyed text answer
   pub delivers : answer ≡ done → ∥ ShownBy w (DeliversMembers w j.members) ∥₁
 
 abbrev pub over_ensemble : List ℕ → (Work → Tools → Surveyed → List ℕ → Answer → Type 0) → CommandSpec
-over_ensemble name Runs = record { Inputs = Joined; Comes = Joins name; Works = RunsJoint Runs; CanFinish = MayJoin name CanRun }
+over_ensemble name Runs = record {
+  Inputs = Joined;
+  Comes = Joins name;
+  Works = RunsJoint Runs;
+  CanFinish = MayJoin name CanRun;
+}
 
 -- by the first member of the crew, and by several
 abbrev pub ensemble : List ℕ → CommandSpec

@@ -17,7 +17,12 @@ abbrev pub moment_of : WorkMoment → Moment
 moment_of m = record { told = m.told; counts = m.counts; tool = m.tool }
 
 abbrev pub meeting_of : Work → Meeting
-meeting_of w = record { apply = w.apply; known = w.known; before = moment_of w.before; after = moment_of w.after }
+meeting_of w = record {
+  apply = w.apply;
+  known = w.known;
+  before = moment_of w.before;
+  after = moment_of w.after;
+}
 
 -- what is evaluated of a survey
 abbrev pub subject_of : Surveyed → Subject
@@ -31,7 +36,8 @@ pub record IsUnvalued (w : Work) (s : Surveyed) (answer : CallFault) : Type 0 wh
 
 -- When each answer comes, and the text before its line.
 abbrev pub Says : Work → Surveyed → List ℕ → Answer → Type 0
-Says w s text (Ok None) = (all : List Valued) × HasValues (meeting_of w) (subject_of s) all × (text ≡ value_lines all)
+Says w s text (Ok None) = (all : List Valued) × HasValues (meeting_of w) (subject_of s) all
+    × (text ≡ value_lines all)
 Says w s text (Ok (Some given)) = ⊥
 Says w s text (Err Memory) = Unit {0}
 Says w s text (Err fault) = IsUnvalued w s fault × (text ≡ [])

@@ -66,7 +66,8 @@ pub record Plans (w : Work) (t : Tools) (s : Surveyed) (text : List ℕ) (answer
 
 -- planning has no fault
 abbrev pub HasNoFault : Surveyed → Type 0
-HasNoFault s = (fault : PlanFault) → CannotPlan s.request s.survey task_limit fault → fault ≡ plan_faults.Memory
+HasNoFault s = (fault : PlanFault) → CannotPlan s.request s.survey task_limit fault
+    → fault ≡ plan_faults.Memory
 
 abbrev pub plan : List ℕ → CommandSpec
 plan name = over_survey name Plans (λ w s. HasNoFault s)

@@ -61,7 +61,8 @@ pub record IsInside (n : ℕ) (outer inner : Work) : Type 0 where
   pub tool_after : inner.after.tool ≡ outer.after.tool
 
 -- The workload's plan was run inside by some workers.
-pub record RunsInside (n workers : ℕ) (outer : Work) (t : Tools) (s : Surveyed) (answer : Answer) : Type 0 where
+pub record RunsInside (n workers : ℕ) (outer : Work) (t : Tools) (s : Surveyed)
+    (answer : Answer) : Type 0 where
   pub inner : Work
   pub inside : IsInside n outer inner
   pub text : List ℕ
@@ -84,11 +85,13 @@ pub record IsStoreAfter (n : ℕ) (p : Plan) (x : Rehearsal) (content : List ℕ
   pub replicas : (host_store x.host).replicas ≡ (workload_store n).replicas
   pub changes : (host_store x.host).trace ≡ trace_of p x.record.events
   pub mosaic : files.get (host_store x.host).delivered mosaic_name ≡ Some content
-  pub others : (name : List ℕ) → (name ≡ mosaic_name → ⊥) → files.get (host_store x.host).delivered name ≡ None
+  pub others : (name : List ℕ) → (name ≡ mosaic_name → ⊥)
+      → files.get (host_store x.host).delivered name ≡ None
 
 -- A rehearsal that ended Done. That its record is legal, complete and by these workers, and that every bound was kept, is
 -- in the run, as for every run of a plan; the mosaic is its value.
-pub record HasRehearsed (n workers : ℕ) (outer : Work) (t : Tools) (s : Surveyed) (text : List ℕ) (x : Rehearsal) : Type 0 where
+pub record HasRehearsed (n workers : ℕ) (outer : Work) (t : Tools) (s : Surveyed) (text : List ℕ)
+    (x : Rehearsal) : Type 0 where
   pub run : RunsInside n workers outer t s done
   pub record_is : x.record.events ≡ run.ran.ran.r
   pub tells : run.inner.after.told ≡ Some (host_store x.host)
@@ -108,7 +111,8 @@ IsOfTools (run_faults.ToolFailed id) = Unit {0}
 IsOfTools fault = ⊥
 
 -- A rehearsal in which a tool failed or declined, or made too much; no call of the store inside has failed.
-pub record HasFailed (n workers : ℕ) (outer : Work) (t : Tools) (s : Surveyed) (fault : RunFault) : Type 0 where
+pub record HasFailed (n workers : ℕ) (outer : Work) (t : Tools) (s : Surveyed)
+    (fault : RunFault) : Type 0 where
   pub of_tools : IsOfTools fault
   pub run : RunsInside n workers outer t s (not_for (Failed fault))
   pub none_failed : run.inner.after.counts.faults ≡ 0
@@ -122,7 +126,8 @@ Says n workers w t s text (Err (Failed fault)) = (text ≡ []) × ∥ HasFailed 
 Says n workers w t s text (Err fault) = IsUnrun w t s text (Err fault)
 
 -- the host of the call is as it was, whatever the answer
-pub record Rehearses (n workers : ℕ) (w : Work) (t : Tools) (s : Surveyed) (text : List ℕ) (answer : Answer) : Type 0 where
+pub record Rehearses (n workers : ℕ) (w : Work) (t : Tools) (s : Surveyed) (text : List ℕ)
+    (answer : Answer) : Type 0 where
   pub told : w.after.told ≡ w.before.told
   pub counts : w.after.counts ≡ w.before.counts
   pub says : Says n workers w t s text answer
@@ -138,14 +143,25 @@ pub record CanRunInside (n : ℕ) (w : Work) (p : Plan) : Type 0 where
 pub record CanRehearse (n : ℕ) (w : Work) : Type 0 where
   pub made : (fault : PlanFault) → RefusesWorkload n fault → fault ≡ plan_faults.Memory
   pub no_fault : (s : Surveyed) → IsSurveyedWorkload n s → HasNoFault s
-  pub plan : (s : Surveyed) (p : Plan) → IsSurveyedWorkload n s → IsPlanOf s.request s.survey task_limit p → CanRunInside n w p
+  pub plan : (s : Surveyed) (p : Plan) → IsSurveyedWorkload n s → IsPlanOf s.request s.survey task_limit p
+      → CanRunInside n w p
 
 -- with one worker it is the first member of the crew
 abbrev pub rehearse : ℕ → CommandSpec
-rehearse n = record { Inputs = Surveyed; Comes = Makes n; Works = λ w t. Rehearses n 1 w (first_tool w); CanFinish = λ told. CanRehearse n }
+rehearse n = record {
+  Inputs = Surveyed;
+  Comes = Makes n;
+  Works = λ w t. Rehearses n 1 w (first_tool w);
+  CanFinish = λ told. CanRehearse n;
+}
 
 abbrev pub rehearse_by : ℕ → ℕ → CommandSpec
-rehearse_by n workers = record { Inputs = Surveyed; Comes = Makes n; Works = Rehearses n workers; CanFinish = λ told. CanRehearse n }
+rehearse_by n workers = record {
+  Inputs = Surveyed;
+  Comes = Makes n;
+  Works = Rehearses n workers;
+  CanFinish = λ told. CanRehearse n;
+}
 
 -- ---- parts of a rehearsal
 
@@ -154,7 +170,8 @@ abbrev pub prepared : Surveyed → MemoryHost → Prepared
 prepared s host = record { surveyed = s; host = host }
 
 -- What is told of a run that is done, and given back.
-pub record Closes (n : ℕ) (f : Figures) (log : Option Log) (host : MemoryHost) (text : List ℕ) (x : Rehearsal) : Type 0 where
+pub record Closes (n : ℕ) (f : Figures) (log : Option Log) (host : MemoryHost) (text : List ℕ)
+    (x : Rehearsal) : Type 0 where
   pub record_is : option_map (λ (h : Log). h.events) log ≡ Some x.record.events
   pub host_is : x.host ≡ host
   pub content : List ℕ

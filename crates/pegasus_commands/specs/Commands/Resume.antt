@@ -30,7 +30,8 @@ use Rattle.pegasus_commands.specs.PlanRun.{AllDelivered, AreHonestIn, AreSet, De
 use Rattle.pegasus_commands.specs.Recorded.{over_record}
 
 -- A plan of the documents with its order, all of whose tools are known, and the record that stands at the front of the bytes.
-pub record IsGiven (known : List ℕ → Bool) (i : Recorded) (p : Plan) (order : List TaskId) (given : List Event) : Type 0 where
+pub record IsGiven (known : List ℕ → Bool) (i : Recorded) (p : Plan) (order : List TaskId)
+    (given : List Event) : Type 0 where
   pub ready : IsReady known i.surveyed p order
   pub is_record : IsRecordOf i.bytes given
 
@@ -68,10 +69,12 @@ HeldRecord w p given old = IsOpening w.apply p (without_fails given) old
 -- as it was.
 pub record AllStand (w : Work) (s : Surveyed) (p : Plan) (old new : Store) : Type 0 where
   pub carried : AreSet s (IsDeliveryOf p (carries w.apply p old)) old.delivered new.delivered
-  pub valued : AreHonestIn w s old → AreSet s (λ f content. content ≡ value_in w s old f) old.delivered new.delivered
+  pub valued : AreHonestIn w s old
+      → AreSet s (λ f content. content ≡ value_in w s old f) old.delivered new.delivered
 
 -- The record of the bytes was gone on with by a plan of the documents.
-pub record HasResumedPlan (w : Work) (t : Tools) (i : Recorded) (text : List ℕ) (answer : Answer) : Type 0 where
+pub record HasResumedPlan (w : Work) (t : Tools) (i : Recorded) (text : List ℕ)
+    (answer : Answer) : Type 0 where
   pub plan : Plan
   pub order : List TaskId
   pub given : List Event
@@ -80,21 +83,25 @@ pub record HasResumedPlan (w : Work) (t : Tools) (i : Recorded) (text : List ℕ
   pub run : HasResumed w t plan (task_numbers order) given text end
   pub answers : answer ≡ resumed_answer end
   -- whatever the answer, each file that was delivered since is a requested one under its name, as its delivery carries it
-  pub delivers : ShownBy w (λ old new. HeldRecord w plan given old → DeliversRequested w i.surveyed plan run.gone_on.r old new)
+  pub delivers : ShownBy w (λ old new. HeldRecord w plan given old
+      → DeliversRequested w i.surveyed plan run.gone_on.r old new)
   -- where all is done, each requested file is delivered, by the whole record
   pub complete : AllDelivered i.surveyed plan (without_fails given ++ run.gone_on.r) answer
   -- so each of them stands at its name, also what was delivered before
-  pub stands : answer ≡ done → ShownBy w (λ old new. HeldRecord w plan given old → AllStand w i.surveyed plan old new)
+  pub stands : answer ≡ done → ShownBy w (λ old new. HeldRecord w plan given old
+      → AllStand w i.surveyed plan old new)
 
 -- It was gone on with, or why not.
 abbrev pub ResumesPlan : Work → Tools → Recorded → List ℕ → Answer → Type 0
-ResumesPlan w t i text answer = ∥ (IsUndone (RefusedWith w.known i) w t text answer ⊎ HasResumedPlan w t i text answer) ∥₁
+ResumesPlan w t i text answer = ∥ (IsUndone (RefusedWith w.known i) w t text answer
+    ⊎ HasResumedPlan w t i text answer) ∥₁
 
 -- Planning has no fault and the tools of its plan are known; the bytes are a record's, and nothing keeps a run by the plan
 -- and its order from going on from it to the end.
 pub record CanResume (w : Work) (i : Recorded) : Type 0 where
   pub no_fault : HasNoFault i.surveyed
-  pub tools : (p : Plan) → IsPlanOf i.surveyed.request i.surveyed.survey task_limit p → unknown_tool w.known p.jobs ≡ None
+  pub tools : (p : Plan) → IsPlanOf i.surveyed.request i.surveyed.survey task_limit p
+      → unknown_tool w.known p.jobs ≡ None
   pub given : List Event
   pub is_record : IsRecordOf i.bytes given
   pub ends : (p : Plan) (order : List ℕ) → IsOrdered i.surveyed p order → CanEnd w p order given

@@ -13,7 +13,8 @@ use Rattle.pegasus_commands.specs.Recorded.{over_record}
 
 -- a text to which the sums of a record were added
 abbrev pub AddsSums : Plan → List ℕ → List Event → List ℕ → List ℕ → Type 0
-AddsSums p order r front text = (sums : Statistics) × AreSums p order r sums × (text ≡ front ++ statistics_lines sums)
+AddsSums p order r front text = (sums : Statistics) × AreSums p order r sums
+    × (text ≡ front ++ statistics_lines sums)
 
 -- the verdict, and the sums of a record that isn't illegal
 abbrev pub PrintsSums : Plan → List ℕ → List Event → Verdict → List ℕ → Type 0

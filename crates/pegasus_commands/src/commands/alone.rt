@@ -24,7 +24,8 @@ pub(crate) fn run_survey<H: Host, T: Tool, G: Gate>(
     host: H,
     crew: &mut Crew<T, G>,
 ) -> Worked<H>
-    ensures works { (t : Tools) → RunsAlone (working T.apply T.known (work_moment H.Host host (T.faults crew.old.tool))
+    ensures works { (t : Tools)
+        → RunsAlone (working T.apply T.known (work_moment H.Host host (T.faults crew.old.tool))
         (work_moment H.Host result.host (T.faults crew.new.tool)))
         t surveyed.now result.told.text.items result.told.answer }
     ensures gate { crew.new.gate ≡ crew.old.gate }

@@ -49,7 +49,8 @@ fn judged_text(alloc: Global, recorded: &Recorded) -> Told
 
 pub(crate) fn work<D: Docs>(alloc: Global, name: &str, history: &str, docs: &mut D) -> Told
     ensures { (w : Work) (t : Tools) → w.after ≡ w.before → t.after ≡ t.before
-        → Does (audit name.now history.now) (doing (docs_moment D.Docs docs.old) (docs_moment D.Docs docs.new) w t)
+        → Does (audit name.now history.now) (doing (docs_moment D.Docs docs.old)
+        (docs_moment D.Docs docs.new) w t)
         result.text.items result.answer }
 {
     match read_recorded(alloc, docs, name, history) {

@@ -21,7 +21,8 @@ fn values_text<H: Host, T: Tool>(
     host: &mut H,
     tool: &mut T,
 ) -> Told
-    ensures { (t : Tools) → Evaluates (working T.apply T.known (work_moment H.Host host.old (T.faults tool.old))
+    ensures { (t : Tools) → Evaluates (working T.apply T.known
+        (work_moment H.Host host.old (T.faults tool.old))
         (work_moment H.Host host.new (T.faults tool.new)))
         t surveyed.now result.text.items result.answer }
 {

@@ -81,7 +81,8 @@ fn run_survey<H: Host, T: Tool, G: Gate>(
     crew: &mut Crew<T, G>,
 ) -> Worked<H>
     requires named { AreFilesNamed surveyed.now.survey }
-    ensures works { (t : Tools) → Produces (working T.apply T.known (work_moment H.Host host (T.faults crew.old.tool))
+    ensures works { (t : Tools)
+        → Produces (working T.apply T.known (work_moment H.Host host (T.faults crew.old.tool))
         (work_moment H.Host result.host (T.faults crew.new.tool)))
         t surveyed.now result.told.text.items result.told.answer }
     ensures gate { crew.new.gate ≡ crew.old.gate }

@@ -28,7 +28,8 @@ use storage_simulation::Ordered;
 
 /// The figures of a plan with its order, if it has a site.
 fn figures_of(surveyed: &Surveyed, ordered: &Ordered) -> Option<Figures>
-    ensures { IfSome result (AreFigures surveyed.now ordered.now.plan (task_numbers ordered.now.tasks.items)) }
+    ensures { IfSome result (AreFigures surveyed.now ordered.now.plan
+        (task_numbers ordered.now.tasks.items)) }
 {
     let plan = ordered.plan();
     let Some(site) = plan.sites.as_slice().first() else {
@@ -219,9 +220,11 @@ pub(crate) fn work_by<R: Threads + Wait + Sync, T: Tool + Send, G: Gate + Send>(
     requires images { AreImages images }
     requires workers { AreFew workers }
     requires crew { length crew.old.items ≡ 16 }
-    ensures does { (d : DocsMoment) (m : WorkMoment) → let before = crew_moment T.Tool G.Gate crew.old.items in
+    ensures does { (d : DocsMoment) (m : WorkMoment)
+        → let before = crew_moment T.Tool G.Gate crew.old.items in
         let after = crew_moment T.Tool G.Gate crew.new.items in
-        Does (rehearse_by images workers) (doing d d (working T.apply T.known (with_tool m (first_count before))
+        Does (rehearse_by images workers) (doing d d
+        (working T.apply T.known (with_tool m (first_count before))
         (with_tool m (first_count after))) (counting before after)) result.text.items result.answer }
     ensures crew { length crew.new.items ≡ 16 }
     ensures others { drop workers crew.new.items ≡ drop workers crew.old.items }

@@ -52,7 +52,8 @@ fn resume_recorded<H: Host, T: Tool, G: Gate>(
         (work_moment H.Host result.host (first_count after)))
         (counting before after) recorded.now result.told.text.items result.told.answer }
     ensures crew { length crew.new.items ≡ 16 }
-    ensures gates { map (λ (c : Crew T G). c.gate) crew.new.items ≡ map (λ (c : Crew T G). c.gate) crew.old.items }
+    ensures gates { map (λ (c : Crew T G). c.gate) crew.new.items
+        ≡ map (λ (c : Crew T G). c.gate) crew.old.items }
 {
     // Laws for the proof: they do nothing.
     ordered_plans_fit();
@@ -91,7 +92,8 @@ pub(crate) fn work<D: Docs, H: Host, T: Tool, G: Gate>(
         (work_moment H.Host result.host (first_count after)))
         (counting before after)) result.told.text.items result.told.answer }
     ensures crew { length crew.new.items ≡ 16 }
-    ensures gates { map (λ (c : Crew T G). c.gate) crew.new.items ≡ map (λ (c : Crew T G). c.gate) crew.old.items }
+    ensures gates { map (λ (c : Crew T G). c.gate) crew.new.items
+        ≡ map (λ (c : Crew T G). c.gate) crew.old.items }
 {
     match read_recorded(alloc, docs, name, history) {
         Ok(recorded) => {

@@ -36,7 +36,8 @@ fn sums_text(alloc: Global, judged: &Judged) -> Result<Vec<u8>, Memory>
     requires judged { IsJudged judged.now.ordered.plan (task_numbers judged.now.ordered.tasks.items)
         judged.now.history.events judged.now.verdict }
     requires retries { retries judged.now.ordered.plan ≤ 10 }
-    ensures { IfOk result (λ text. PrintsSums judged.now.ordered.plan (task_numbers judged.now.ordered.tasks.items)
+    ensures { IfOk result (λ text. PrintsSums judged.now.ordered.plan
+        (task_numbers judged.now.ordered.tasks.items)
         judged.now.history.events judged.now.verdict text.items) }
 {
     let mut text = verdict_text(alloc, judged.verdict)?;
@@ -78,7 +79,8 @@ fn judged_text(alloc: Global, recorded: &Recorded) -> Told
 
 pub(crate) fn work<D: Docs>(alloc: Global, name: &str, history: &str, docs: &mut D) -> Told
     ensures { (w : Work) (t : Tools) → w.after ≡ w.before → t.after ≡ t.before
-        → Does (stat name.now history.now) (doing (docs_moment D.Docs docs.old) (docs_moment D.Docs docs.new) w t)
+        → Does (stat name.now history.now) (doing (docs_moment D.Docs docs.old)
+        (docs_moment D.Docs docs.new) w t)
         result.text.items result.answer }
 {
     match read_recorded(alloc, docs, name, history) {

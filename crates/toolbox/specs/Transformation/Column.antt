@@ -10,4 +10,5 @@ abbrev pub piece : ℕ → List ℕ → List ℕ
 piece c line = slice_index_or (slice_split (λ b. b == 9) line) (c - 1) []
 
 abbrev pub column : List (List ℕ) → List ℕ → Option (List ℕ)
-column args input = option_and_then (λ c. if c == 0 then None else Some (written (map (piece c) (lines input)))) (first_number args)
+column args input = option_and_then (λ c. if c == 0 then None
+    else Some (written (map (piece c) (lines input)))) (first_number args)

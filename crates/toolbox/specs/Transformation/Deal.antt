@@ -7,10 +7,12 @@ use Rattle.toolbox.specs.Lines.{lines, written}
 -- of lines that are numbered from k, those whose number leaves the remainder j at a division by outs
 abbrev pub hand : ℕ → ℕ → ℕ → List (List ℕ) → List (List ℕ)
 hand outs j k [] = []
-hand outs j k (line ∷ rest) = if k % outs == j then line ∷ hand outs j (k + 1) rest else hand outs j (k + 1) rest
+hand outs j k (line ∷ rest) = if k % outs == j then line ∷ hand outs j (k + 1) rest
+    else hand outs j (k + 1) rest
 
 abbrev pub dealt : List ℕ → ℕ → Option (List (List ℕ))
-dealt input outs = if outs == 0 then None else Some (map (λ j. written (hand outs j 0 (lines input))) (range_with_len 0 outs))
+dealt input outs = if outs == 0 then None else Some
+    (map (λ j. written (hand outs j 0 (lines input))) (range_with_len 0 outs))
 
 -- the bytes of each text
 abbrev pub texts_of : List (Vec ℕ Global) → List (List ℕ)

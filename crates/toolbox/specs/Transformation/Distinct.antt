@@ -12,7 +12,8 @@ is_among lines line = list_any (bytes_eq line) lines
 abbrev pub new_lines : List (List ℕ) → List (List ℕ) → List (List ℕ)
 new_lines before [] = []
 new_lines before (line ∷ rest) =
-    if is_among before line then new_lines (before ++ line ∷ []) rest else line ∷ new_lines (before ++ line ∷ []) rest
+    if is_among before line then new_lines (before ++ line ∷ []) rest
+    else line ∷ new_lines (before ++ line ∷ []) rest
 
 abbrev pub distinct : List ℕ → List ℕ
 distinct input = written (new_lines [] (lines input))

@@ -11,4 +11,5 @@ stands_in pattern (b ∷ bytes) = starts_with nat_eq (b ∷ bytes) pattern || st
 -- a pattern is the first argument, and not empty
 abbrev pub holding : List (List ℕ) → List ℕ → Option (List ℕ)
 holding [] input = None
-holding (pattern ∷ args) input = if length pattern == 0 then None else Some (written (filter (stands_in pattern) (lines input)))
+holding (pattern ∷ args) input = if length pattern == 0 then None
+    else Some (written (filter (stands_in pattern) (lines input)))

@@ -25,7 +25,10 @@ fn empty_texts(alloc: Global, count: usize) -> Result<Vec<Vec<u8>>, Memory>
 fn add(texts: &mut Vec<Vec<u8>>, place: usize, line: &[u8]) -> Result<(), Memory>
     requires { place < length texts.old.items }
     ensures long { length texts.new.items ≡ length texts.old.items }
-    ensures added { OnOk result ((k : ℕ) → text_at (texts_of texts.new.items) k ≡ (cond (place == k) (text_at (texts_of texts.old.items) k ++ line.now ++ 10 ∷ []) (text_at (texts_of texts.old.items) k))) }
+    ensures added { OnOk result ((k : ℕ)
+        → text_at (texts_of texts.new.items) k
+        ≡ (cond (place == k) (text_at (texts_of texts.old.items) k ++ line.now ++ 10 ∷ [])
+        (text_at (texts_of texts.old.items) k))) }
 {
     push_line(&mut texts[place], line)?;
     Ok(())
@@ -35,7 +38,8 @@ fn add(texts: &mut Vec<Vec<u8>>, place: usize, line: &[u8]) -> Result<(), Memory
 fn hands(alloc: Global, lines: &[&[u8]], count: usize) -> Result<Vec<Vec<u8>>, Memory>
     requires { 0 < count }
     ensures long { IfOk result (λ texts. length texts.items ≡ count) }
-    ensures dealt { IfOk result (λ texts. (j : ℕ) → j < count → text_at (texts_of texts.items) j ≡ written (hand count j 0 (bytes_of lines.now))) }
+    ensures dealt { IfOk result (λ texts. (j : ℕ) → j < count
+        → text_at (texts_of texts.items) j ≡ written (hand count j 0 (bytes_of lines.now))) }
 {
     let mut texts = empty_texts(alloc, count)?;
     for (k, line) in lines.iter().enumerate() {
