@@ -37,6 +37,7 @@ pub data Threaded : Type 0 where
   EnsembleBy : List ℕ → ℕ → Threaded
   RehearseBy : ℕ → ℕ → Threaded
 
+-- a command, and whether it starts threads
 pub data Command : Type 0 where
   Quickly : Quick → Command
   InThreads : Threaded → Command
@@ -87,6 +88,7 @@ images_in digits = number_in 2 3000 digits
 
 -- ---- what words say: a command's word, one or two words more, and the digits of the option for workers
 
+-- the word and what follows it
 pub data Said : Type 0 where
   One : List ℕ → List ℕ → Said
   Two : List ℕ → List ℕ → List ℕ → Said

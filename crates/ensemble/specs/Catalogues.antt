@@ -22,11 +22,13 @@ abbrev pub first_sites : List Member → SiteCatalog
 first_sites [] = record { sites = []; ignored = [] }
 first_sites (m ∷ ms) = m.survey.sites
 
+-- the joint's replicas: those of all members, and no key of them is left over
 pub record AreJointReplicas (ms : List Member) (c : ReplicaCatalog) : Type 0 where
   pub entries : c.entries ≡ joint_replicas ms
   pub listed : c.listed ≡ length (joint_replicas ms)
   pub ignored : c.ignored ≡ []
 
+-- the same of its transformations
 pub record AreJointTransformations (ms : List Member) (c : TransformationCatalog) : Type 0 where
   pub entries : c.entries ≡ joint_entries ms
   pub ignored : c.ignored ≡ []

@@ -33,6 +33,7 @@ pub record FitsAfter (files : ℕ) (j : Job) : Type 0 where
   pub inputs : All (λ (f : FileId). files + f.0 < 2 ^ 32) j.inputs
   pub outputs : All (λ (o : Output). files + o.file.0 < 2 ^ 32) j.outputs
 
+-- a stated pair of jobs behind so many jobs
 pub record PairFitsAfter (jobs : ℕ) (p : JobId × JobId) : Type 0 where
   pub before : jobs + before p < 2 ^ 32
   pub after : jobs + after p < 2 ^ 32

@@ -42,6 +42,7 @@ pub record IsValued (on : Basis) (s : Subject) (all : List Valued) : Type 0 wher
   pub defined : first_undefined on s.workflow s.order ≡ None
   pub values : AreValued on s.workflow (requested s.workflow) all
 
+-- these are the requested files' values, on bases that the host gave
 pub record HasValues (m : Meeting) (s : Subject) (all : List Valued) : Type 0 where
   pub on : Basis
   pub bases : HasBases m s on

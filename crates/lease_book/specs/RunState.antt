@@ -27,6 +27,7 @@ pub record HasLengths (p : Plan) (st : Standing) : Type 0 where
   pub tasks : length st.tasks ≡ count_tasks p
   pub deliveries : length st.deliveries ≡ count_tasks p
 
+-- each list of a state is as long as the plan asks for
 pub record HasRoom (p : Plan) (s : RunState) : Type 0 where
   pub standing : HasLengths p s.standing
   pub holders : length s.holders.items ≡ count_tasks p

@@ -8,6 +8,7 @@ use Rattle.lease_rules.specs.Choice.{start}
 use Rattle.lease_book.specs.RunState.{HasLengths}
 use Rattle.lease_rules.specs.State.{State, held_after, phase_after}
 
+-- it has a place for each task and good of the plan
 pub record HasPlace (p : Plan) (x : Trial) : Type 0 where
   pub standing : HasLengths p x.standing
 

@@ -109,6 +109,7 @@ begins t _ = false
 abbrev pub IsPlain : Plan → Type 0
 IsPlain p = p.policy ≡ plain
 
+-- under the plain policy: which tasks run, and that rest is the order without those that were begun
 pub record IsPlainlyRead (order : List ℕ) (r : List Event) (s : State) : Type 0 where
   pub runs : (t : ℕ) → runs (s.phase t) ≡ (list_any (grants t) r && not (list_any (ends t) r))
   pub rest : s.rest ≡ filter (λ t. not (list_any (begins t) r)) order

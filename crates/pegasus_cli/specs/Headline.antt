@@ -29,6 +29,7 @@ use Rattle.pegasus_cli.specs.Outcome.{line_of}
 use Rattle.pegasus_cli.specs.declared.outcome.Outcome.{Outcome}
 use Rattle.pegasus_cli.specs.declared.outcome.Outcome.TheVariants.{Done}
 
+-- The run of the survey's plan that ended with `done`: its record, and what was delivered.
 pub record Headline (w : Work) (workers : ℕ) (s : Surveyed) (text : List ℕ) : Type 0 where
   -- the plan and the order that are stated for the documents, and the run's one record
   pub plan : Plan

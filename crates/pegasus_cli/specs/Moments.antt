@@ -25,6 +25,7 @@ pub record Output : Type 0 where
   pub before : SinkMoment
   pub after : SinkMoment
 
+-- a call: what it was asked, what its objects were before and after, and what it wrote
 pub record Call : Type 0 where
   pub asked : Asked
   pub work : Work

@@ -57,6 +57,7 @@ pub record IsUnsurveyed (e : Ensemble) (name : List ℕ) (r : Requested) (answer
   pub refuses : Refuses (of_ensemble e r.request) r.documents fault
   pub answers : answer ≡ member_answer name (plan_answer fault)
 
+-- its documents came, and planning refuses them
 pub record IsRefused (e : Ensemble) (x : MemberEntry) (before after : DocsMoment)
     (answer : CallFault) : Type 0 where
   pub requested : Requested
@@ -128,6 +129,7 @@ pub record AreTooMany (ms : List Member) (answer : CallFault) : Type 0 where
   pub refuses : are_few ms ≡ Err fault
   pub answers : answer ≡ join_answer fault
 
+-- all members came, and are too many together
 pub record IsUnjoined (name : List ℕ) (before after : DocsMoment) (answer : CallFault) : Type 0 where
   pub ensemble : Ensemble
   pub members : List Member

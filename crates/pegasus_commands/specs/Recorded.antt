@@ -29,6 +29,7 @@ pub record IsRecorded (r : WithRecord) (i : Recorded) : Type 0 where
   pub surveyed : IsSurveyed r.requested i.surveyed
   pub bytes : i.bytes ≡ r.bytes
 
+-- all documents and the record came, and are what the command goes on with
 pub record GoesOn (name history : List ℕ) (before after : DocsMoment) (i : Recorded) : Type 0 where
   pub given : WithRecord
   pub came : IsStep (documents_with name history) before after (Ok given)

@@ -45,6 +45,7 @@ pub record CanClean (p : Plan) (b : Peaks) (t n : ℕ) : Type 0 where
   pub enters : CanEnter p b (λ w. Clean w t)
   pub frees : Frees p enters.state t n
 
+-- some worker's Again of the task is allowed, and this is held of what its Clean would free
 pub record CanTryAgain (p : Plan) (b : Peaks) (t n : ℕ) : Type 0 where
   pub cause : Cause
   pub published : List ℕ

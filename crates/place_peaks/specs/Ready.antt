@@ -64,6 +64,7 @@ AreRising line homes seats = (j k q : ℕ) → j < k → k < length line
     → get_or homes (get_or line j 0) None ≡ Some q → get_or homes (get_or line k 0) None ≡ Some q
     → get_or seats (get_or line j 0) 0 ≤ get_or seats (get_or line k 0) 0
 
+-- the index is right for all tasks, and seats rise along the line at each place
 pub record IsIndexed (p : Plan) (b : Peaks) : Type 0 where
   pub grouped : HasGroups p b
   pub small : AreSmall b

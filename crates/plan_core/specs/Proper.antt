@@ -81,6 +81,7 @@ abbrev pub are_rising : List Pair → Bool
 are_rising [] = true
 are_rising (q ∷ qs) = rise_after q qs
 
+-- numbers in range, names of which none stands twice, pairs in rising order
 pub record HasTables (p : Plan) : Type 0 where
   pub in_range : IsInRange p
   pub site_names : IsDistinct bytes_eq (map (λ (s : PlanSite). s.name) p.sites)
@@ -131,6 +132,7 @@ pub record AreParents (p : Plan) (t : ℕ) : Type 0 where
 abbrev pub is_written : Plan → ℕ → Bool
 is_written p q = list_any (λ (t : Task). has (pair_numbers t.writes) q) p.tasks
 
+-- Each pair has one writer and at most one Clean, each file at most one delivery, and no way along parents leads back.
 pub record HasFlow (p : Plan) : Type 0 where
   pub written : (q : ℕ) → q < count_pairs p → is_written p q ≡ true
   pub one_writer : (t u q : ℕ) → has (writes p t) q ≡ true → has (writes p u) q ≡ true → t ≡ u
@@ -139,6 +141,7 @@ pub record HasFlow (p : Plan) : Type 0 where
   pub parents : (t : ℕ) → AreParents p t
   pub acyclic : (t : ℕ) → Returns (is_parent p) t → ⊥
 
+-- What `check` decides of a plan.
 pub record IsProper (p : Plan) : Type 0 where
   pub tables : HasTables p
   pub tasks : (t : ℕ) → IsTask p (slice_get p.tasks t)

@@ -53,6 +53,7 @@ pub record HasReads (p : Plan) (t : Option Task) : Type 0 where
       (λ q. on_pair (kind_reads p.jobs (kind_in t)) (slice_get p.pairs q))
   pub stand : (s f : ℕ) → kind_reads p.jobs (kind_in t) s f ≡ true → stands p s f ≡ true
 
+-- its writes are the pairs that its kind writes, in rising order, and each of these is a pair of the plan
 pub record HasWrites (p : Plan) (t : Option Task) : Type 0 where
   pub listed : writes_in t ≡ below (count_pairs p)
       (λ q. on_pair (kind_writes p.jobs (kind_in t)) (slice_get p.pairs q))

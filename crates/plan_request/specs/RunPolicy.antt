@@ -23,6 +23,7 @@ abbrev pub IsSmallBound : Option ℕ → Type 0
 IsSmallBound None = Unit {0}
 IsSmallBound (Some n) = n ≤ 2 ^ 60
 
+-- at most ten retries, and a bound on the output of at most 2^60 bytes
 pub record IsPolicyInRange (p : Policy) : Type 0 where
   pub retries : p.retries ≤ 10
   pub output : IsSmallBound p.output

@@ -71,6 +71,7 @@ CanWrite-prop p ds = Prim.hlevel (props, IsDistinct-prop)
 
 -- ---- what the type of a digest says: it has 32 bytes
 
+-- a SHA-256
 pub record IsDigest (digest : List ℕ) : Type 0 where
   pub long : length digest ≡ 32
   pub bytes : IsBytes digest

@@ -22,6 +22,7 @@ use Rattle.plan_core.specs.Names.{file_name, pair_file, pair_file_name, pair_sit
 use Rattle.site_yard.specs.Places.{IsUndelivered, IsUntouched, is_delivered, is_published, is_swept}
 use Rattle.site_yard.specs.Trace.{trace_of}
 
+-- the laws of a proper plan that the yard's proofs rest on
 pub record HasPlanLaws (p : Plan) : Type 0 where
   pub rising : (n : ℕ) (test : ℕ → Bool) (xs : List ℕ) → RisesFrom 0 xs
       → ((x : ℕ) → has xs x ≡ true → (x < n) × (test x ≡ true))

@@ -105,6 +105,7 @@ AreDrafts told [] [] = Unit {0}
 AreDrafts told (x ∷ xs) (d ∷ ds) = IsDraftOf told x d × AreDrafts told xs ds
 AreDrafts told _ _ = ⊥
 
+-- a reading for each thing that the task reads, and a draft for each that it makes, empty or begun
 pub record IsLoan (p : Plan) (told : Option Store) (t : ℕ) (rs : List ReadState)
     (ds : List DraftState) : Type 0 where
   pub readings : length rs ≡ count_readings (kind p t) (reads p t)

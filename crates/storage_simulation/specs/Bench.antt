@@ -4,6 +4,7 @@ use Rattle.storage_simulation.specs.declared.bench.Bench.{Bench}
 use Rattle.storage_simulation.specs.Front.{IsFrontFor}
 use Rattle.storage_simulation.specs.Index.{IsIndexFor}
 
+-- front and index are made for the plan
 pub record IsFor (p : Plan) (b : Bench) : Type 0 where
   pub front : IsFrontFor p b.front
   pub index : IsIndexFor p b.index

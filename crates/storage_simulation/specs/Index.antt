@@ -160,6 +160,7 @@ pub record IsKeyed (old new : Index) : Type 0 where
   pub comes : new.comes ≡ old.comes
   pub goes : new.goes ≡ old.goes
 
+-- all stays but the bests
 pub record IsSettled (old new : Index) : Type 0 where
   pub spots : new.spots ≡ old.spots
   pub slots : new.slots ≡ old.slots

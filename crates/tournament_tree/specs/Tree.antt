@@ -51,6 +51,7 @@ abbrev pub halved : ℕ → ℕ → ℕ
 halved zero n = n
 halved (suc h) n = halved h n / 2
 
+-- Rows of keys, each half as long as the one below it: a key is the better of the two below.
 pub record IsTree (rs : List (Vec (Option Key) Global)) : Type 0 where
   pub some : 0 < length rs
   pub few : length rs ≤ 64

@@ -7,6 +7,7 @@ use Rattle.transfer_refiner.specs.declared.tables.Tables.{Tables}
 use Rattle.transfer_refiner.specs.Draft.{Draft, stands, sizes_of}
 use Rattle.transfer_refiner.specs.Tasks.{part_of, count_files}
 
+-- what the tables say of the draft: the jobs of each part, the files at each site, those requested, and their sizes
 pub record AreTables (d : Draft) (t : Tables) : Type 0 where
   pub held : (c j : ℕ) → edge t.held c j ≡ has (part_of d c) j
   pub stood : (s f : ℕ) → edge t.stood s f ≡ stands d s f

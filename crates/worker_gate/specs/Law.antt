@@ -8,6 +8,7 @@ use Rattle.lease_rules.specs.Legal.{Allowed}
 use Rattle.lease_rules.specs.Room.{entries_room}
 use Rattle.lease_rules.specs.State.{State, after}
 
+-- the laws of records that the workers' proofs rest on
 pub record HasLeaseLaws (p : Plan) : Type 0 where
   pub one_choice : (s : State) (t u : ℕ) → IsChoice p s t → IsChoice p s u → t ≡ u
   pub room_falls : (s : State) (e : Event) → IsConsistent p s → Allowed p s e

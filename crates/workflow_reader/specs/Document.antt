@@ -6,6 +6,7 @@ use Rattle.workflow_reader.specs.declared.document.Document.{Document}
 use Rattle.workflow_reader.specs.declared.document.JobEntry.{JobEntry}
 use Rattle.workflow_reader.specs.declared.document.Dependency.{Dependency}
 
+-- a workflow's document once its keys are known
 pub record DocumentEntry : Type 0 where
   pub name : List ℕ
   pub jobs : List JobEntry

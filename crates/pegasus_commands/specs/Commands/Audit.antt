@@ -72,6 +72,7 @@ SaysOf Prints i text (Ok (Some given)) = ⊥
 SaysOf Prints i text (Err Memory) = Unit {0}
 SaysOf Prints i text (Err fault) = IsUnjudged i fault × (text ≡ [])
 
+-- `audit` and `stat` change nothing, and say what they are to say of the record
 pub record Judges (Prints : Plan → List ℕ → List Event → Verdict → List ℕ → Type 0) (w : Work) (t : Tools)
     (i : Recorded) (text : List ℕ) (answer : Answer) : Type 0 where
   pub untouched : w.after ≡ w.before

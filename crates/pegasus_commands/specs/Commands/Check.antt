@@ -14,6 +14,7 @@ Says s text (Ok None) = text ≡ check_lines s
 Says s text (Err Memory) = Unit {0}
 Says s text _ = ⊥
 
+-- it changes nothing of the host, and says what was read
 pub record Checks (w : Work) (t : Tools) (s : Surveyed) (text : List ℕ) (answer : Answer) : Type 0 where
   pub untouched : w.after ≡ w.before
   pub says : Says s.survey text answer

@@ -60,6 +60,7 @@ Says s text (Ok (Some given)) = ⊥
 Says s text (Err Memory) = Unit {0}
 Says s text (Err fault) = IsUnplanned s fault × (text ≡ [])
 
+-- it changes nothing of the host, and says the plan and its order
 pub record Plans (w : Work) (t : Tools) (s : Surveyed) (text : List ℕ) (answer : Answer) : Type 0 where
   pub untouched : w.after ≡ w.before
   pub says : Says s text answer

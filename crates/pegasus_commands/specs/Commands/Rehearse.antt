@@ -45,6 +45,7 @@ abbrev pub IsMade : ℕ → Result Surveyed CallFault → Type 0
 IsMade n (Ok s) = IsSurveyedWorkload n s
 IsMade n (Err answer) = IsUnmade n answer
 
+-- the workload is made, and no document is asked for
 pub record Makes (n : ℕ) (before after : DocsMoment) (result : Result Surveyed CallFault) : Type 0 where
   pub not_asked : after ≡ before
   pub made : IsMade n result

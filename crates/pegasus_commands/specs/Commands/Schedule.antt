@@ -31,6 +31,7 @@ Says s text (Ok (Some given)) = ⊥
 Says s text (Err Memory) = Unit {0}
 Says s text (Err fault) = IsUnscheduled s fault × (text ≡ [])
 
+-- it changes nothing of the host, and says the schedule
 pub record Schedules (w : Work) (t : Tools) (s : Surveyed) (text : List ℕ) (answer : Answer) : Type 0 where
   pub untouched : w.after ≡ w.before
   pub says : Says s text answer
