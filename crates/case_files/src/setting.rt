@@ -6,11 +6,9 @@ use crate::fault::Complaint;
 use crate::words::{name_of, number_of, words_of};
 use std::alloc::Global;
 
-/// How often a held run looks whether another one was answered: for some seconds.
+/// How often a held run looks whether another one was answered, or a task that is held at its gate whether another one
+/// came: for some seconds, in which a busy machine has given the other thread its turn.
 const HELD_LOOKS: u64 = 1_000_000_000;
-
-/// How often a task that is held at its gate looks whether another one came.
-const GATE_LOOKS: u64 = 10_000_000;
 
 /// Adds the call of a line of words; tells whether it is one.
 pub fn add_words(alloc: Global, setup: &mut Setup, line: &str) -> Result<bool, Complaint> {
@@ -33,7 +31,7 @@ pub fn add_setting(alloc: Global, draft: &mut Draft, line: &str) -> Result<(), C
         return Ok(());
     }
     if line == "first gate held" {
-        draft.weather.gate_held = Some(GATE_LOOKS);
+        draft.weather.gate_held = Some(HELD_LOOKS);
         return Ok(());
     }
     if let Some(numbers) = line.strip_prefix("failing part ") {
