@@ -16,7 +16,7 @@ import tempfile
 import threading
 import time
 
-from folders import ALONE, CALLS, PROGRAM, begin, call, comes, end, files, parts
+from folders import ALONE, CALLS, PROGRAM, begin, call, comes, end, files, hole, parts
 from workflows import delivery, job, replica, write
 
 CHECK = ("check", "request.json")
@@ -390,6 +390,30 @@ def second_run(place):
     return tried
 
 
+def second_run_before_files(place):
+    """Nor does a second run go on before the first has brought a file, or beside one that only delivers: the first to write has
+    the folder until it has ended. What writes nothing is done meanwhile."""
+    line = hole(place / "zeros")
+    tried = 0
+    delivered = ([delivery("a")], "failed host 0", [line, "done"])
+    brought = ([job("total", [], ["a"], ["x"])], "failed scratch pool", None)
+    for jobs, refused, lines in (delivered, brought):
+        write(place, jobs, [replica("a", "zeros")])
+        for first in CALLS:
+            with stopped(place, first, lambda: parts(place)) as running:
+                before = files(place)
+                for second in CALLS:
+                    assert call(place, second) == (6, [refused]) and files(place) == before, (first, second)
+                    tried += 1
+                assert call(place, CHECK)[0] == 0 and call(place, ("plan", "request.json"))[0] == 0
+                running.send_signal(signal.SIGCONT)
+                status, last = end(running)
+                assert status == (0 if lines else status) and lines in (None, last), (first, last)
+            for top in ("sites", "output"):
+                shutil.rmtree(place / top, ignore_errors=True)
+    return tried
+
+
 def begun_workflow(place):
     """Jobs that sort some lines each, and files of a megabyte that are delivered, so that an end comes in the middle of one."""
     lines = mixed(10_000)
@@ -456,7 +480,7 @@ def main():
         return
     subjects = (
         leaving, named_documents, links, forbidden, fills, no_names_left, folders_as_files, exchanged, streams, devices, growing,
-        second_run, killed,
+        second_run, second_run_before_files, killed,
     )
     count = 0
     for subject in subjects:

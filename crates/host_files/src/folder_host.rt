@@ -6,6 +6,7 @@ ghost use Rattle.outside.specs.Lending.{with_faults};
 ghost use Rattle.host_files.specs.FolderHost.{Refuses};
 ghost use Rattle.host_files.specs.Writing.{part_path};
 
+use crate::claim::Claim;
 use crate::folder_draft::{FolderDraft, make_draft, write_whole};
 use crate::folder_reading::FolderReading;
 use crate::opening::{find_at_site, open_file, read_file};
@@ -20,27 +21,52 @@ use std::rt::Files;
 use std::{fs, io};
 
 /// Replicas are files of the machine, a site's file is `sites/SITE/NAME` in the working folder and a delivered one
-/// `output/NAME`, with names escaped. What it holds isn't told. One run at a time has the working folder.
+/// `output/NAME`, with names escaped. What it holds isn't told. One host at a time has the working folder: the first that
+/// looks at a site, writes or removes, until it is dropped. Then no site is empty for another, whose other calls fail.
 #[derive(Drop)]
-pub struct FolderHost<R> {
+pub struct FolderHost<R: Files> {
     rt: R,
     counts: Counts,
+    /// The working folder, once this host has it.
+    folder: Option<R::File>,
     /// How many drafts were made: each is in a file of its own, which has this number.
     drafts: u64,
 }
 
-impl<R: Files + Drop> FolderHost<R> {
+impl<R: Files + Drop> FolderHost<R>
+where
+    R::File: Claim,
+{
     pub fn new(rt: R) -> FolderHost<R>
         ensures { ⟦<FolderHost<R> as Host>⟧.counts result ≡ no_calls }
     {
         FolderHost {
             rt,
             counts: Counts::zero(),
+            folder: None,
             drafts: 0,
         }
     }
 
-    /// The path of a draft that this host has made none at. It fails where the numbers are used up.
+    /// Takes the working folder, and tells whether this host has it now. One that can't be opened is had by none.
+    fn has_folder(&mut self) -> bool
+        ensures counts { self.new.counts ≡ self.old.counts }
+        ensures drafts { self.new.drafts ≡ self.old.drafts }
+    {
+        if self.folder.is_some() {
+            return true;
+        }
+        let Ok(folder) = fs::open(&self.rt, ".") else {
+            return true;
+        };
+        if !folder.claim() {
+            return false;
+        }
+        self.folder = Some(folder);
+        true
+    }
+
+    /// The path of a draft that this host has made none at. It fails where another has the folder, or the numbers are used up.
     fn next_part(&mut self, alloc: Global) -> Result<String, HostFault>
         ensures part { IfOk result (λ p. string_bytes p ≡ part_path self.new.drafts) }
         ensures next { OnOk result (self.new.drafts ≡ self.old.drafts + 1) }
@@ -48,9 +74,12 @@ impl<R: Files + Drop> FolderHost<R> {
         ensures err { IfErr result (Refuses self.old.counts self.new.counts) }
         ensures later { IsLater self.old.counts self.new.counts }
     {
-        let Some(number) = self.drafts.checked_add(1) else {
-            self.counts.add_fault();
-            return Err(HostFault::Failed);
+        let number = match self.drafts.checked_add(1) {
+            Some(number) if self.has_folder() => number,
+            _ => {
+                self.counts.add_fault();
+                return Err(HostFault::Failed);
+            }
         };
         let part = part_path(alloc, number)?;
         self.drafts = number;
@@ -99,7 +128,10 @@ fn remove_at_site<R: Files>(rt: &R, at: &SitePath) -> io::Result<bool> {
     }
 }
 
-impl<R: Files + Drop> Host for FolderHost<R> {
+impl<R: Files + Drop> Host for FolderHost<R>
+where
+    R::File: Claim,
+{
     ghost use Rattle.std.specs.Prelude.{None};
     ghost use Rattle.outside.specs.Store.{blank};
 
@@ -163,6 +195,10 @@ impl<R: Files + Drop> Host for FolderHost<R> {
 
     fn remove(&mut self, alloc: Global, site: &str, name: &str) -> Result<(), HostFault> {
         let at = site_path(alloc, site, name)?;
+        if !self.has_folder() {
+            self.counts.add_fault();
+            return Err(HostFault::Failed);
+        }
         match remove_at_site(&self.rt, &at) {
             Ok(true) => {
                 self.counts.add_done();
@@ -181,6 +217,10 @@ impl<R: Files + Drop> Host for FolderHost<R> {
 
     fn scratch_empty(&mut self, alloc: Global, site: &str) -> Result<bool, HostFault> {
         let folder = site_folder(alloc, site)?;
+        if !self.has_folder() {
+            self.counts.add_miss();
+            return Ok(false);
+        }
         match is_empty(alloc, &self.rt, folder.as_str()) {
             Ok(true) => {
                 self.counts.add_done();

@@ -11,6 +11,7 @@
 //! a text is written.
 #![tactic(auto)]
 
+mod claim;
 mod file_name;
 mod folder_docs;
 mod folder_draft;
@@ -28,6 +29,7 @@ mod target;
 mod wiping_sink;
 mod writing;
 
+pub use claim::Claim;
 pub use file_name::path_in;
 pub use folder_docs::FolderDocs;
 pub use folder_draft::FolderDraft;

@@ -60,7 +60,10 @@ fn length_of<R: Files + Drop>(
     alloc: Global,
     host: &mut FolderHost<R>,
     pfn: &str,
-) -> Result<usize, HostFault> {
+) -> Result<usize, HostFault>
+where
+    R::File: Claim,
+{
     let replica = host.read_replica(alloc, pfn, 5)?;
     Ok(replica.as_slice().len())
 }
@@ -94,7 +97,10 @@ fn scratch_at<R: Files + Drop>(
     host: &mut FolderHost<R>,
     site: &str,
     name: &str,
-) -> Result<usize, HostFault> {
+) -> Result<usize, HostFault>
+where
+    R::File: Claim,
+{
     let bytes = host.read_scratch(alloc, site, name, 5)?;
     Ok(bytes.as_slice().len())
 }
