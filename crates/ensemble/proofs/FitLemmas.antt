@@ -5,7 +5,7 @@ use Rattle.std.proofs.lemmas.List.Elements.{All-from_recursion}
 use Rattle.workflow_core.specs.WellFormed.{IsJobOver}
 use Rattle.ensemble.specs.declared.member.Member.{Member}
 use Rattle.ensemble.specs.Jobs.{FitsAfter, PairFitsAfter}
-use Rattle.ensemble.specs.Member.{IsMember, count_files, files_of, jobs_of}
+use Rattle.ensemble.specs.Member.{IsMember, count_files, count_jobs, files_of, jobs_of}
 use Rattle.ensemble.proofs.DistinctLemmas.{all_weaker}
 use Rattle.ensemble.proofs.JobsLemmas.{IsPairBelow, fits_after, pair_fits_after}
 
@@ -23,3 +23,9 @@ pub files_at_most : (ms : List Member) (i : ℕ) (d : Member) → i < length ms 
 files_at_most [] i d h = absurd (omega arith)
 files_at_most (m ∷ ms) zero d h = omega arith
 files_at_most (m ∷ ms) (suc i) d h = files_at_most ms i d (omega arith)
+
+-- and its jobs
+pub jobs_at_most : (ms : List Member) (i : ℕ) (d : Member) → i < length ms → jobs_of (get_or ms i d) ≤ count_jobs (drop i ms)
+jobs_at_most [] i d h = absurd (omega arith)
+jobs_at_most (m ∷ ms) zero d h = omega arith
+jobs_at_most (m ∷ ms) (suc i) d h = jobs_at_most ms i d (omega arith)

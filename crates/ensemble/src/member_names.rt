@@ -1,7 +1,9 @@
 //! The names of members, of which there are few and none comes twice.
 
 ghost use Rattle.std.specs.Prelude.{◌≡◌, length};
-ghost use Rattle.ensemble.specs.Reader.{GivesEnsemble, few_members, named_once};
+ghost use Rattle.std.specs.Str.{bytes_eq};
+ghost use Rattle.peg_json.specs.Duplicates.{first_repeat};
+ghost use Rattle.ensemble.specs.Reader.{GivesEnsemble, few_members, named_once, names_of, twice_refused};
 
 use crate::document::MemberEntry;
 use crate::fault::EnsembleFault;
@@ -21,11 +23,11 @@ pub fn check_count(members: &[MemberEntry]) -> Result<(), EnsembleFault>
     Ok(())
 }
 
-/// Refuses a member whose name is there before.
-pub fn check_names(alloc: Global, members: &[MemberEntry]) -> Result<(), EnsembleFault>
-    ensures { GivesEnsemble (λ u. u) result (named_once members.now) }
+/// Adds the members' names, and refuses one that is there before.
+fn add_names(alloc: Global, known: &mut Names, members: &[MemberEntry]) -> Result<(), EnsembleFault>
+    ensures { GivesEnsemble (λ u. u) result
+        (twice_refused (first_repeat bytes_eq known.old (names_of members.now))) }
 {
-    let mut known = Names::new(alloc);
     for member in members {
         if known.contains(&member.name) {
             return Err(EnsembleFault::DuplicateMember(member.name.copied(alloc)?));
@@ -33,4 +35,14 @@ pub fn check_names(alloc: Global, members: &[MemberEntry]) -> Result<(), Ensembl
         known.add(alloc, &member.name)?;
     }
     Ok(())
+}
+
+/// Refuses a member whose name is there before.
+pub fn check_names(alloc: Global, members: &[MemberEntry]) -> Result<(), EnsembleFault>
+    ensures { GivesEnsemble (λ u. u) result (named_once members.now) }
+{
+    let mut known = Names::new(alloc);
+    let checked = add_names(alloc, &mut known, members);
+    drop(known);
+    checked
 }

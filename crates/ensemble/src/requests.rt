@@ -13,7 +13,6 @@ use plan_request::{PlanRequest, Selector, SizeOf, ToolOf};
 use std::alloc::Global;
 use values::{Items, Memory, Text};
 
-#[tactic(auto, using(crate::proofs::FitLemmas::one_size_each))]
 fn joint_sizes(alloc: Global, members: &[Member]) -> Result<Items<SizeOf>, Memory>
     requires { All IsMember members.now }
     ensures { IfOk result (λ sizes. sizes ≡ joint_sizes members.now) }

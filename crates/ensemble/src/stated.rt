@@ -72,6 +72,21 @@ fn tool_of(alloc: Global, known: &Tools<'_>, member: &Text, job: &Job) -> Result
     })
 }
 
+fn add_known(
+    alloc: Global,
+    tools: &mut Vec<ToolOf>,
+    known: &Tools<'_>,
+    member: &Text,
+    jobs: &[Job],
+) -> Result<(), Memory>
+    ensures { OnOk result (tools.new.items ≡ tools.old.items ++ stated_tools member.now known.now jobs.now) }
+{
+    for job in jobs {
+        tools.push(tool_of(alloc, known, member, job)?)?;
+    }
+    Ok(())
+}
+
 /// Adds the tool of each job of a member, by the member's own request.
 pub fn add_tools(
     alloc: Global,
@@ -84,8 +99,7 @@ pub fn add_tools(
         ≡ tools.old.items ++ stated_tools member.now request.now.tools jobs.now) }
 {
     let known = Tools::new(alloc, request)?;
-    for job in jobs {
-        tools.push(tool_of(alloc, &known, member, job)?)?;
-    }
-    Ok(())
+    let added = add_known(alloc, tools, &known, member, jobs);
+    drop(known);
+    added
 }

@@ -34,7 +34,6 @@ fn joint_jobs(alloc: Global, members: &[Member]) -> Result<Items<Job>, Memory>
     Ok(Items::new(jobs))
 }
 
-#[tactic(auto, using(crate::proofs::FitLemmas::pairs_fit))]
 fn joint_pairs(alloc: Global, members: &[Member]) -> Result<Items<(JobId, JobId)>, Memory>
     requires members { All IsMember members.now }
     requires few { count_jobs members.now ≤ 10000 }

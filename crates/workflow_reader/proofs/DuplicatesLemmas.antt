@@ -1,22 +1,21 @@
 -- The steps of a search for what comes twice, and for what no job has.
 use Rattle.std.proofs.Common.{◌≡◌, ℕ, Bool, true, false, not, cond, ◌&&◌, ◌||◌, List, [], ◌∷◌, ◌++◌, refl, sym, ap, ◌∙◌}
-use Rattle.std.specs.Prelude.{Option, Some, None, Ok, Err}
+use Rattle.std.specs.Prelude.{Option, Some, None, Err}
 use Rattle.std.specs.List.{list_any}
 use Rattle.std.specs.Str.{bytes_eq}
 use Rattle.std.specs.Option.{option_or}
 use Rattle.std.proofs.lemmas.List.{append-nil}
 use Rattle.std.proofs.lemmas.List.Folds.{find-append}
 use Rattle.workflow_reader.specs.declared.document.Dependency.{Dependency}
-use Rattle.peg_json.specs.declared.read_fault.ReadFault.TheVariants.{DuplicateUse, UnknownJob}
-use Rattle.workflow_reader.specs.declared.document.JobEntry.{JobEntry}
+use Rattle.peg_json.specs.declared.read_fault.ReadFault.TheVariants.{UnknownJob}
 use Rattle.workflow_reader.specs.declared.document.Direction.{Direction}
 use Rattle.workflow_reader.specs.declared.document.Direction.TheVariants.{Input, Output}
 use Rattle.workflow_reader.specs.declared.document.Use.{Use}
 use Rattle.workflow_core.specs.Names.{with_name}
 use Rattle.peg_json.specs.Duplicates.{first_repeat, refused, first_unknown}
 use Rattle.workflow_reader.specs.Files.{same_direction, lfns_of, uses_as}
-use Rattle.workflow_reader.specs.Known.{is_named, inputs_with, outputs_with, repeat_after}
-use Rattle.workflow_reader.specs.Linking.{same_use, used_once, ids_in}
+use Rattle.workflow_reader.specs.Known.{repeat_after}
+use Rattle.workflow_reader.specs.Linking.{same_use, ids_in}
 
 -- a use as d of the file with this name
 abbrev pub same_as : Direction → List ℕ → Use → Bool
@@ -77,19 +76,9 @@ uses_split known (u ∷ us) = by u.direction refl (uses_split (known ++ u ∷ []
             ∙ ap (λ (ns : List (List ℕ)). repeat_after ns (names Output (known ++ u ∷ [])) us) (named Input Output known u is ∙ append-nil (names Input known))
             ∙ ap (λ (ns : List (List ℕ)). repeat_after (names Input known) ns us) (named Output Output known u is)
 
--- once all uses are seen, and once one is there already
-pub none_left : (j : JobEntry) (inputs outputs : List (List ℕ)) (rest : List Use) → rest ≡ [] → repeat_after inputs outputs rest ≡ repeat_after [] [] j.uses → used_once j ≡ Ok tt
-none_left j inputs outputs rest nothing so_far =
-    ap (refused (λ (u : Use). DuplicateUse j.id u.lfn))
-    (uses_split [] j.uses ∙ sym so_far ∙ ap (λ (us : List Use). repeat_after inputs outputs us) nothing)
-
-pub one_left : (j : JobEntry) (inputs outputs : List (List ℕ)) (u : Use) (rest later : List Use) → rest ≡ u ∷ later → is_named inputs outputs u ≡ true → repeat_after inputs outputs rest ≡ repeat_after [] [] j.uses → used_once j ≡ Err (DuplicateUse j.id u.lfn)
-one_left j inputs outputs u rest later cut there so_far =
-    ap (refused (λ (v : Use). DuplicateUse j.id v.lfn))
-    (uses_split [] j.uses
-    ∙ sym so_far
-    ∙ ap (λ (us : List Use). repeat_after inputs outputs us) cut
-    ∙ ap (λ (b : Bool). cond b (Some u) (repeat_after (inputs_with inputs u) (outputs_with outputs u) later)) there)
+-- from the first use on
+pub uses_apart : (us : List Use) → first_repeat same_use [] us ≡ repeat_after [] [] us
+uses_apart us = uses_split [] us
 
 -- the ids of one more dependency
 unknown_more : (ids : List (List ℕ)) (ds rest : List Dependency) (d : Dependency) → ds ≡ d ∷ rest → first_unknown ids (ids_in ds) ≡ option_or (first_unknown ids (d.id ∷ d.children)) (first_unknown ids (ids_in rest))

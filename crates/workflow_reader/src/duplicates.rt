@@ -1,14 +1,14 @@
 //! Jobs that have one id, and a job's uses of one file.
 
-ghost use Rattle.std.specs.Prelude.{◌≡◌, [], not, IfOk, OnOk};
+ghost use Rattle.std.specs.Prelude.{◌≡◌, ◌++◌, [], not, option_map, IfOk, OnOk};
 ghost use Rattle.std.specs.List.{list_any};
 ghost use Rattle.std.specs.Str.{bytes_eq};
 ghost use Rattle.peg_json.specs.ReadFault.{GivesRead};
 ghost use Rattle.peg_json.specs.declared.read_fault.ReadFault.TheVariants.{DuplicateJob};
 ghost use Rattle.workflow_core.specs.Names.{with_name};
 ghost use Rattle.peg_json.specs.Duplicates.{first_repeat, refused};
-ghost use Rattle.workflow_reader.specs.Known.{is_named, inputs_with, outputs_with};
-ghost use Rattle.workflow_reader.specs.Linking.{ids_of, used_once, all_used_once};
+ghost use Rattle.workflow_reader.specs.Known.{is_named, inputs_with, outputs_with, repeat_after};
+ghost use Rattle.workflow_reader.specs.Linking.{ids_of, same_use, used_once, all_used_once};
 
 use crate::document::{Direction, JobEntry, Use};
 use peg_json::ReadFault;
@@ -16,19 +16,33 @@ use std::alloc::Global;
 use values::{Memory, Text};
 use workflow_core::Names;
 
-/// The ids of jobs, each once.
-pub fn ids_of(alloc: Global, jobs: &[JobEntry]) -> Result<Names, ReadFault>
-    ensures answer { GivesRead (λ _. tt) result (refused DuplicateJob (first_repeat bytes_eq [] (ids_of jobs.now))) }
-    ensures ids { IfOk result (λ ids. ids ≡ ids_of jobs.now) }
+/// Adds the jobs' ids, and refuses one that is there before.
+fn add_ids(alloc: Global, ids: &mut Names, jobs: &[JobEntry]) -> Result<(), ReadFault>
+    ensures answer { GivesRead (λ u. u) result (refused DuplicateJob (first_repeat bytes_eq ids.old (ids_of jobs.now))) }
+    ensures ids { OnOk result (ids.new ≡ ids.old ++ ids_of jobs.now) }
 {
-    let mut ids = Names::new(alloc);
     for job in jobs {
         if ids.contains(&job.id) {
             return Err(ReadFault::DuplicateJob(job.id.copied(alloc)?));
         }
         ids.add(alloc, &job.id)?;
     }
-    Ok(ids)
+    Ok(())
+}
+
+/// The ids of jobs, each once.
+pub fn ids_of(alloc: Global, jobs: &[JobEntry]) -> Result<Names, ReadFault>
+    ensures answer { GivesRead (λ _. tt) result (refused DuplicateJob (first_repeat bytes_eq [] (ids_of jobs.now))) }
+    ensures ids { IfOk result (λ ids. ids ≡ ids_of jobs.now) }
+{
+    let mut ids = Names::new(alloc);
+    match add_ids(alloc, &mut ids, jobs) {
+        Ok(()) => Ok(ids),
+        Err(fault) => {
+            drop(ids);
+            Err(fault)
+        }
+    }
 }
 
 /// Adds a name, and says whether it is new.
@@ -58,20 +72,51 @@ fn insert_use(
     }
 }
 
-fn used_once(alloc: Global, job: &JobEntry) -> Result<(), ReadFault>
-    ensures { GivesRead (λ u. u) result (used_once job.now) }
+/// Adds the files of uses, up to the first one that is there before.
+fn repeated<'a>(
+    alloc: Global,
+    inputs: &mut Names,
+    outputs: &mut Names,
+    uses: &'a [Use],
+) -> Result<Option<&'a Use>, Memory>
+    ensures { IfOk result (λ found. option_map (λ u. u.now) found ≡ repeat_after inputs.old outputs.old uses.now) }
+{
+    for used in uses {
+        let is_new = insert_use(alloc, inputs, outputs, used)?;
+        if !is_new {
+            return Ok(Some(used));
+        }
+    }
+    Ok(None)
+}
+
+/// The first use of a job that is there before.
+#[tactic(auto, using(crate::proofs::DuplicatesLemmas::uses_apart))]
+fn repeated_use(alloc: Global, job: &JobEntry) -> Result<Option<&Use>, Memory>
+    ensures { IfOk result (λ found. option_map (λ u. u.now) found ≡ first_repeat same_use [] job.now.uses) }
 {
     let mut inputs = Names::new(alloc);
     let mut outputs = Names::new(alloc);
-    for used in job.uses.as_slice() {
-        let is_new = insert_use(alloc, &mut inputs, &mut outputs, used)?;
-        if !is_new {
-            let id = job.id.copied(alloc)?;
-            let lfn = used.lfn.copied(alloc)?;
-            return Err(ReadFault::DuplicateUse(id, lfn));
+    let found = repeated(alloc, &mut inputs, &mut outputs, job.uses.as_slice());
+    drop(inputs);
+    drop(outputs);
+    found
+}
+
+fn used_once(alloc: Global, job: &JobEntry) -> Result<(), ReadFault>
+    ensures { GivesRead (λ u. u) result (used_once job.now) }
+{
+    let Some(used) = repeated_use(alloc, job)? else {
+        return Ok(());
+    };
+    let id = job.id.copied(alloc)?;
+    match used.lfn.copied(alloc) {
+        Ok(lfn) => Err(ReadFault::DuplicateUse(id, lfn)),
+        Err(Memory) => {
+            drop(id);
+            Err(ReadFault::from(Memory))
         }
     }
-    Ok(())
 }
 
 /// Refuses a use that is there before in its job.

@@ -58,8 +58,16 @@ fn linked_job(alloc: Global, files: &Names, job: JobEntry) -> Result<Job, Memory
     requires { length files.now ≤ 50000 }
     ensures { IfOk result (λ linked. linked ≡ linked_job files.now job) }
 {
-    let inputs = inputs_of(alloc, files, job.uses.as_slice())?;
-    let outputs = outputs_of(alloc, files, job.uses.as_slice())?;
+    let Ok(inputs) = inputs_of(alloc, files, job.uses.as_slice()) else {
+        drop(job);
+        return Err(Memory);
+    };
+    let Ok(outputs) = outputs_of(alloc, files, job.uses.as_slice()) else {
+        drop(inputs);
+        drop(job);
+        return Err(Memory);
+    };
+    drop(job.uses);
     Ok(Job {
         id: job.id,
         transformation: job.transformation,

@@ -16,7 +16,7 @@ use crate::linking::workflow_of;
 use peg_json::{FromTree, ReadFault, ignored_below, parse, root};
 use serde_json::Value;
 use std::alloc::Global;
-use values::Text;
+use values::{Memory, Text};
 use workflow_core::Workflow;
 
 /// Reads the tree of a workflow's document, which stands under a path.
@@ -29,7 +29,10 @@ pub fn from_tree(alloc: Global, value: &Value, path: &Text) -> Result<Workflow, 
     ensures well_formed { IfOk result (λ w. IsWellFormed w) }
 {
     let document = Document::from_tree(alloc, value, path)?;
-    let ignored = ignored_below::<Document>(alloc, value, path)?;
+    let Ok(ignored) = ignored_below::<Document>(alloc, value, path) else {
+        drop(document);
+        return Err(ReadFault::from(Memory));
+    };
     let workflow = workflow_of(alloc, document, ignored)?;
     Ok(workflow)
 }
@@ -44,7 +47,12 @@ pub fn read(alloc: Global, bytes: &[u8]) -> Result<Workflow, ReadFault>
     ensures well_formed { IfOk result (λ w. IsWellFormed w) }
 {
     let value = parse(alloc, bytes)?;
-    let start = root(alloc)?;
-    let workflow = from_tree(alloc, &value, &start)?;
-    Ok(workflow)
+    let Ok(start) = root(alloc) else {
+        drop(value);
+        return Err(ReadFault::from(Memory));
+    };
+    let workflow = from_tree(alloc, &value, &start);
+    drop(start);
+    drop(value);
+    workflow
 }
