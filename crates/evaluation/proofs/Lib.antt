@@ -1,4 +1,5 @@
 pub mod RestLemmas
+pub mod StepLemmas
 pub mod PreparedLemmas
 pub mod BasesLemmas
 pub mod ValueLinesLemmas

@@ -51,7 +51,10 @@ fn prepare<T: Tool>(
             sources,
             tools: Items::new(tools),
         }),
-        Err(fault) => Err(fault),
+        Err(fault) => {
+            drop(sources);
+            Err(fault)
+        }
     }
 }
 
@@ -110,11 +113,20 @@ pub fn values_of<H: Host, T: Tool>(
     };
     let bases = match read_bases(alloc, host, prepared.sources.as_slice()) {
         Ok(bases) => bases,
-        Err(fault) => return Err(fault),
+        Err(fault) => {
+            drop(prepared);
+            return Err(fault);
+        }
     };
     let tools = prepared.tools.as_slice();
     match evaluate_in(alloc, workflow, graph, tools, bases, tool) {
-        Ok(values) => Ok(values),
-        Err(fault) => Err(of_eval_fault(alloc, workflow, fault)),
+        Ok(values) => {
+            drop(prepared);
+            Ok(values)
+        }
+        Err(fault) => {
+            drop(prepared);
+            Err(of_eval_fault(alloc, workflow, fault))
+        }
     }
 }

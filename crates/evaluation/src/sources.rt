@@ -78,8 +78,30 @@ fn source_if_base(
     registered(alloc, replicas, lfn)
 }
 
-/// The source of each file that no job makes, by number. The first file without one is refused.
+/// The source of each file that no job makes, in these entries, up to the first file without one.
 #[tactic(auto, unfolding(crate::specs::Sources::sources_of))]
+fn registered_sources(
+    alloc: Global,
+    workflow: &Workflow,
+    graph: &Graph,
+    replicas: &Replicas<'_>,
+) -> Result<Vec<Option<Source>>, EvaluationFault>
+    requires well_formed { IsWellFormed workflow.now }
+    requires graph { IsGraphOf workflow.now graph.now }
+    ensures { UnlessMemory result (items_of result ≡ sources_of workflow.now replicas.now) }
+{
+    let mut sources = Vec::new(alloc);
+    for (number, lfn) in workflow.files.as_slice().iter().enumerate() {
+        let file = FileId(number as u32);
+        match source_if_base(alloc, workflow, graph, replicas, file, lfn) {
+            Ok(source) => sources.push(source)?,
+            Err(fault) => return Err(fault),
+        }
+    }
+    Ok(sources)
+}
+
+/// The source of each file that no job makes, by number. The first file without one is refused.
 pub(crate) fn sources_of(
     alloc: Global,
     workflow: &Workflow,
@@ -91,13 +113,7 @@ pub(crate) fn sources_of(
     ensures { UnlessMemory result (items_of result ≡ sources_of workflow.now catalog.now.entries) }
 {
     let replicas = Replicas::new(alloc, catalog)?;
-    let mut sources = Vec::new(alloc);
-    for (number, lfn) in workflow.files.as_slice().iter().enumerate() {
-        let file = FileId(number as u32);
-        match source_if_base(alloc, workflow, graph, &replicas, file, lfn) {
-            Ok(source) => sources.push(source)?,
-            Err(fault) => return Err(fault),
-        }
-    }
-    Ok(sources)
+    let sources = registered_sources(alloc, workflow, graph, &replicas);
+    drop(replicas);
+    sources
 }

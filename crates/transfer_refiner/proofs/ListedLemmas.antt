@@ -1,5 +1,6 @@
 -- A task's lists.
-use Rattle.std.proofs.Common.{◌≡◌, List, length, sym, ap, ◌∙◌}
+use Rattle.std.proofs.Common.{◌≡◌, ◌<◌, ◌+◌, ℕ, List, [], ◌∷◌, ◌++◌, get_or, length, map, take, sym, ap, ◌∙◌}
+use Rattle.std.proofs.lemmas.List.{map-append, take_more}
 use Rattle.std.specs.Prelude.{Some, slice_get}
 use Rattle.plan_core.specs.declared.plan.Pair.{Pair}
 use Rattle.plan_core.specs.declared.plan.PlanJob.{PlanJob}
@@ -15,3 +16,8 @@ listed_of jobs pairs kind t is reads writes = record {
   reads = reads ∙ ap (λ (k : TaskKind). below (length pairs) (λ q. on_pair (kind_reads jobs (Some k)) (slice_get pairs q))) (sym is);
   writes = writes ∙ ap (λ (k : TaskKind). below (length pairs) (λ q. on_pair (kind_writes jobs (Some k)) (slice_get pairs q))) (sym is);
 }
+
+-- one task more, of the next kind
+pub kinds_more : (given : List TaskKind) (i : ℕ) (k : TaskKind) (tasks after : List Task) (x : Task) → i < length given → k ≡ get_or given i k → map (λ (t : Task). t.kind) tasks ≡ take i given → x.kind ≡ k → after ≡ tasks ++ x ∷ [] → map (λ (t : Task). t.kind) after ≡ take (i + 1) given
+kinds_more given i k tasks after x low at so_far is more =
+    ap (map (λ (t : Task). t.kind)) more ∙ map-append (λ (t : Task). t.kind) tasks (x ∷ []) ∙ ap (λ (ks : List TaskKind). ks ++ x.kind ∷ []) so_far ∙ ap (λ (z : TaskKind). take i given ++ z ∷ []) (is ∙ at) ∙ sym (take_more given i k low)

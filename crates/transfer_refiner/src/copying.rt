@@ -1,6 +1,6 @@
 //! The tables of sites, jobs and files.
 
-ghost use Rattle.std.specs.Prelude.{◌≡◌, ◌≤◌, ◌<◌, true, map, length, IfOk};
+ghost use Rattle.std.specs.Prelude.{◌≡◌, ◌≤◌, ◌<◌, ℕ, true, map, length, IfOk};
 ghost use Rattle.plan_core.specs.Numbers.{RisesFrom, below, has};
 ghost use Rattle.workflow_core.specs.declared.workflow.Output.{Output};
 ghost use Rattle.transfer_refiner.specs.Conditions.{IsDraft};
@@ -61,10 +61,28 @@ fn planned_job(
     ensures { IfOk result (λ j. j ≡ planned_job tools.now job.now site) }
 {
     let id = job.id.copied(alloc)?;
-    let tool = tools.tool_of(&job.transformation.name).copied(alloc)?;
-    let arguments = texts_copied(alloc, job.arguments.as_slice())?;
-    let inputs = copied(alloc, job.inputs.as_slice())?;
-    let outputs = made_files(alloc, job.outputs.as_slice())?;
+    let Ok(tool) = tools.tool_of(&job.transformation.name).copied(alloc) else {
+        drop(id);
+        return Err(Memory);
+    };
+    let Ok(arguments) = texts_copied(alloc, job.arguments.as_slice()) else {
+        drop(tool);
+        drop(id);
+        return Err(Memory);
+    };
+    let Ok(inputs) = copied(alloc, job.inputs.as_slice()) else {
+        drop(arguments);
+        drop(tool);
+        drop(id);
+        return Err(Memory);
+    };
+    let Ok(outputs) = made_files(alloc, job.outputs.as_slice()) else {
+        drop(inputs);
+        drop(arguments);
+        drop(tool);
+        drop(id);
+        return Err(Memory);
+    };
     Ok(PlanJob {
         id,
         tool,
@@ -98,8 +116,9 @@ pub fn jobs_of(alloc: Global, view: &View<'_>) -> Result<Items<PlanJob>, Memory>
     ensures { IfOk result (λ jobs. jobs ≡ jobs_of view.now.request.now.tools view.now.workflow.now.jobs view.now.sites.now) }
 {
     let tools = Tools::new(alloc, view.request)?;
-    let jobs = planned_jobs(alloc, &tools, view.workflow.jobs.as_slice(), view.sites)?;
-    Ok(Items::new(jobs))
+    let jobs = planned_jobs(alloc, &tools, view.workflow.jobs.as_slice(), view.sites);
+    drop(tools);
+    Ok(Items::new(jobs?))
 }
 
 fn checksum_of(view: &View<'_>, file: FileId) -> Option<[u8; 32]>
@@ -132,17 +151,35 @@ fn planned_file(
     })
 }
 
-/// The files.
+/// The files; those with the flag that they are to be registered are given, in rising order.
 #[tactic(auto, using(crate::proofs::GridLemmas::first_of_all, crate::proofs::GridLemmas::one_more))]
+fn planned_files(
+    alloc: Global,
+    view: &View<'_>,
+    tables: &Tables,
+    flagged: &[u32],
+) -> Result<Vec<PlanFile>, Memory>
+    requires draft { IsDraft (draft_of view.now) }
+    requires tables { AreTables (draft_of view.now) tables.now }
+    requires rises { RisesFrom 0 flagged.now }
+    requires same { (f : ℕ) → has flagged.now f ≡ is_flagged view.now.workflow.now f }
+    ensures { IfOk result (λ files. files.items ≡ files_of (draft_of view.now)) }
+{
+    let mut files = Vec::new(alloc);
+    for file in 0..view.workflow.files.as_slice().len() {
+        files.push(planned_file(alloc, view, tables, flagged, FileId(file as u32))?)?;
+    }
+    Ok(files)
+}
+
+/// The files.
 pub fn files_of(alloc: Global, view: &View<'_>, tables: &Tables) -> Result<Items<PlanFile>, Memory>
     requires draft { IsDraft (draft_of view.now) }
     requires tables { AreTables (draft_of view.now) tables.now }
     ensures { IfOk result (λ files. files ≡ files_of (draft_of view.now)) }
 {
     let flagged = flagged_files(alloc, view.workflow)?;
-    let mut files = Vec::new(alloc);
-    for file in 0..view.workflow.files.as_slice().len() {
-        files.push(planned_file(alloc, view, tables, &flagged, FileId(file as u32))?)?;
-    }
-    Ok(Items::new(files))
+    let files = planned_files(alloc, view, tables, &flagged);
+    drop(flagged);
+    Ok(Items::new(files?))
 }

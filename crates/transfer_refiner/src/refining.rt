@@ -1,14 +1,18 @@
 //! The plan of a workflow whose jobs are clustered and placed.
 
-ghost use Rattle.std.specs.Prelude.{◌≡◌, ◌<◌, ◌^◌, ◌+◌, length, IfOk};
+ghost use Rattle.std.specs.Prelude.{◌≡◌, ◌<◌, ◌^◌, ◌+◌, ℕ, true, length, map, slice_get, IfOk};
+ghost use Rattle.digraph.specs.Digraph.{edge};
 ghost use Rattle.dependency_graph.specs.Graph.{IsGraphOf};
+ghost use Rattle.plan_core.specs.declared.plan.Task.{Task as DeclaredTask};
+ghost use Rattle.plan_core.specs.Numbers.{has};
+ghost use Rattle.plan_core.specs.Words.{writes_in};
 ghost use Rattle.transfer_refiner.specs.Conditions.{IsDraft};
 ghost use Rattle.transfer_refiner.specs.Refined.{IsRefined, Refines};
-ghost use Rattle.transfer_refiner.specs.Steps.{AreTasks};
+ghost use Rattle.transfer_refiner.specs.Steps.{AreParented, AreTasks};
 ghost use Rattle.transfer_refiner.specs.Tables.{AreTables};
 ghost use Rattle.plan_core.specs.Proper.{IsProper};
 ghost use Rattle.transfer_refiner.specs.Draft.{moves, planned};
-ghost use Rattle.transfer_refiner.specs.Tasks.{count_all, count_cleans, count_files, count_sites, grid, kinds_of, pairs_of};
+ghost use Rattle.transfer_refiner.specs.Tasks.{comes_after, count_all, count_cleans, count_files, count_sites, files_of, grid, jobs_of, kinds_of, pairs_of, part_of, planned_site};
 ghost use Rattle.transfer_refiner.specs.View.{draft_of};
 
 use crate::copying::{files_of, jobs_of, policy_copied, sites_of};
@@ -16,18 +20,45 @@ use crate::edges::stated;
 use crate::fault::RefineFault;
 use crate::lacking::first_fault;
 use crate::listing::{kinds_of, moved, pairs_of};
-use crate::places::Places;
 use crate::tables::{Tables, tables_of};
 use crate::tasks::tasks_of;
 use crate::view::View;
 use crate::waiting::{with_parents, writers};
 use dependency_graph::Graph;
-use plan_core::{Pair, Plan, PlanJob, Task, TaskKind};
+use digraph::Digraph;
+use plan_core::{Pair, Plan, PlanFile, PlanJob, PlanSite, Task, TaskKind};
 use plan_request::{Cleanup, PlanRequest};
 use replica_catalog::{ReplicaCatalog, Replicas};
 use std::alloc::Global;
 use values::{Items, Memory, SiteId};
 use workflow_core::{Clusters, Workflow};
+
+/// Tasks with their parents, each in place of the one without.
+fn with_all_parents(
+    alloc: Global,
+    view: &View<'_>,
+    held: &Digraph,
+    pairs: usize,
+    bare: &[Task],
+) -> Result<Items<Task>, Memory>
+    requires draft { IsDraft (draft_of view.now) }
+    requires held { (c j : ℕ) → edge held.now c j ≡ has (part_of (draft_of view.now) c) j }
+    requires few_pairs { pairs < 2 ^ 32 }
+    requires few_tasks { length bare.now < 2 ^ 32 }
+    requires kinds { map (λ (t : DeclaredTask). t.kind) bare.now ≡ kinds_of (draft_of view.now) }
+    requires in_range { (t q : ℕ) → has (writes_in (slice_get bare.now t)) q ≡ true → q < pairs }
+    ensures { IfOk result (λ ts. AreParented (comes_after (draft_of view.now)) bare.now ts (length bare.now)) }
+{
+    let writers = writers(alloc, bare, pairs)?;
+    let Ok(stated) = stated(alloc, view, held) else {
+        drop(writers);
+        return Err(Memory);
+    };
+    let tasks = with_parents(alloc, &writers, &stated, bare);
+    drop(stated);
+    drop(writers);
+    tasks
+}
 
 /// The tasks, with their parents.
 fn all_tasks(
@@ -45,12 +76,57 @@ fn all_tasks(
     requires few { length kinds.now < 2 ^ 32 }
     ensures { IfOk result (λ ts. AreTasks (draft_of view.now) jobs.now ts) }
 {
-    let places = Places::new(alloc, pairs)?;
-    let bare = tasks_of(alloc, jobs, &places, kinds)?;
-    let writers = writers(alloc, &bare, pairs.len())?;
-    let stated = stated(alloc, view, &tables.held)?;
-    let tasks = with_parents(alloc, &writers, &stated, &bare)?;
-    Ok(tasks)
+    let bare = tasks_of(alloc, jobs, pairs, kinds)?;
+    let tasks = with_all_parents(alloc, view, &tables.held, pairs.len(), &bare);
+    drop(bare);
+    tasks
+}
+
+/// The jobs of a plan, and its tasks.
+fn jobs_and_tasks(
+    alloc: Global,
+    view: &View<'_>,
+    tables: &Tables,
+    pairs: &[Pair],
+    kinds: &[TaskKind],
+) -> Result<(Items<PlanJob>, Items<Task>), Memory>
+    requires draft { IsDraft (draft_of view.now) }
+    requires tables { AreTables (draft_of view.now) tables.now }
+    requires pairs { pairs.now ≡ pairs_of (draft_of view.now) }
+    requires kinds { kinds.now ≡ kinds_of (draft_of view.now) }
+    requires few { length kinds.now < 2 ^ 32 }
+    ensures jobs { IfOk result (λ x. x.0 ≡ jobs_of view.now.request.now.tools view.now.workflow.now.jobs view.now.sites.now) }
+    ensures tasks { IfOk result (λ x. AreTasks (draft_of view.now) x.0 x.1) }
+{
+    let jobs = jobs_of(alloc, view)?;
+    match all_tasks(alloc, view, tables, jobs.as_slice(), pairs, kinds) {
+        Ok(tasks) => Ok((jobs, tasks)),
+        Err(Memory) => {
+            drop(jobs);
+            Err(Memory)
+        }
+    }
+}
+
+/// The sites of a plan, and its files.
+fn sites_and_files(
+    alloc: Global,
+    view: &View<'_>,
+    tables: &Tables,
+) -> Result<(Items<PlanSite>, Items<PlanFile>), Memory>
+    requires draft { IsDraft (draft_of view.now) }
+    requires tables { AreTables (draft_of view.now) tables.now }
+    ensures sites { IfOk result (λ x. x.0 ≡ map planned_site view.now.request.now.execute) }
+    ensures files { IfOk result (λ x. x.1 ≡ files_of (draft_of view.now)) }
+{
+    let sites = sites_of(alloc, view.request.execute.as_slice())?;
+    match files_of(alloc, view, tables) {
+        Ok(files) => Ok((sites, files)),
+        Err(Memory) => {
+            drop(sites);
+            Err(Memory)
+        }
+    }
 }
 
 fn plan_of(
@@ -67,18 +143,22 @@ fn plan_of(
     requires few { length kinds.now < 2 ^ 32 }
     ensures { IfOk result (λ p. IsRefined (draft_of view.now) p) }
 {
-    let workflow = view.workflow.name.copied(alloc)?;
-    let sites = sites_of(alloc, view.request.execute.as_slice())?;
-    let files = files_of(alloc, view, tables)?;
-    let jobs = jobs_of(alloc, view)?;
-    let tasks = all_tasks(
-        alloc,
-        view,
-        tables,
-        jobs.as_slice(),
-        pairs.as_slice(),
-        kinds,
-    )?;
+    let Ok(workflow) = view.workflow.name.copied(alloc) else {
+        drop(pairs);
+        return Err(Memory);
+    };
+    let Ok((sites, files)) = sites_and_files(alloc, view, tables) else {
+        drop(workflow);
+        drop(pairs);
+        return Err(Memory);
+    };
+    let Ok((jobs, tasks)) = jobs_and_tasks(alloc, view, tables, pairs.as_slice(), kinds) else {
+        drop(files);
+        drop(sites);
+        drop(workflow);
+        drop(pairs);
+        return Err(Memory);
+    };
     Ok(Plan {
         workflow,
         sites,
@@ -138,9 +218,65 @@ fn plan_without_fault(
     requires few { length (kinds_of (draft_of view.now)) < 2 ^ 32 }
     ensures { IfOk result (λ p. IsRefined (draft_of view.now) p) }
 {
-    let kinds = kinds_of(alloc, view, tables, moved)?;
-    let plan = plan_of(alloc, view, tables, pairs, &kinds)?;
-    Ok(plan)
+    let Ok(kinds) = kinds_of(alloc, view, tables, moved) else {
+        drop(pairs);
+        return Err(Memory);
+    };
+    let plan = plan_of(alloc, view, tables, pairs, &kinds);
+    drop(kinds);
+    plan
+}
+
+fn plan_or_fault(
+    alloc: Global,
+    view: &View<'_>,
+    tables: &Tables,
+    moved: &[(u32, u32)],
+    pairs: Items<Pair>,
+    limit: u64,
+) -> Result<Plan, RefineFault>
+    requires draft { IsDraft (draft_of view.now) }
+    requires graph { IsGraphOf view.now.workflow.now view.now.graph.now }
+    requires tables { AreTables (draft_of view.now) tables.now }
+    requires moved { moved.now ≡ grid (count_files (draft_of view.now)) (count_sites (draft_of view.now)) (moves (draft_of view.now)) }
+    requires pairs { pairs ≡ pairs_of (draft_of view.now) }
+    requires few { limit < 2 ^ 32 }
+    ensures { Refines (draft_of view.now) limit result }
+{
+    let count = count_all(view, tables, moved, pairs.as_slice());
+    match first_fault(alloc, view, tables, count, limit) {
+        Ok(None) => Ok(plan_without_fault(alloc, view, tables, moved, pairs)?),
+        Ok(Some(fault)) => {
+            drop(pairs);
+            Err(fault)
+        }
+        Err(Memory) => {
+            drop(pairs);
+            Err(RefineFault::Memory)
+        }
+    }
+}
+
+fn refined_over(
+    alloc: Global,
+    view: &View<'_>,
+    tables: &Tables,
+    limit: u64,
+) -> Result<Plan, RefineFault>
+    requires draft { IsDraft (draft_of view.now) }
+    requires graph { IsGraphOf view.now.workflow.now view.now.graph.now }
+    requires tables { AreTables (draft_of view.now) tables.now }
+    requires few { limit < 2 ^ 32 }
+    ensures { Refines (draft_of view.now) limit result }
+{
+    let moved = moved(alloc, view, tables)?;
+    let Ok(pairs) = pairs_of(alloc, view, tables) else {
+        drop(moved);
+        return Err(RefineFault::Memory);
+    };
+    let plan = plan_or_fault(alloc, view, tables, &moved, pairs, limit);
+    drop(moved);
+    plan
 }
 
 fn refined(alloc: Global, view: &View<'_>, limit: u64) -> Result<Plan, RefineFault>
@@ -150,13 +286,9 @@ fn refined(alloc: Global, view: &View<'_>, limit: u64) -> Result<Plan, RefineFau
     ensures { Refines (draft_of view.now) limit result }
 {
     let tables = tables_of(alloc, view)?;
-    let moved = moved(alloc, view, &tables)?;
-    let pairs = pairs_of(alloc, view, &tables)?;
-    let count = count_all(view, &tables, &moved, pairs.as_slice());
-    match first_fault(alloc, view, &tables, count, limit)? {
-        Some(fault) => Err(fault),
-        None => Ok(plan_without_fault(alloc, view, &tables, &moved, pairs)?),
-    }
+    let plan = refined_over(alloc, view, &tables, limit);
+    drop(tables);
+    plan
 }
 
 /// The plan, without Cleans, or its first fault. `limit` is that on tasks, Cleans among them.
@@ -184,5 +316,7 @@ pub fn refine(
         replicas: Replicas::new(alloc, replicas)?,
         request,
     };
-    refined(alloc, &view, limit)
+    let plan = refined(alloc, &view, limit);
+    drop(view);
+    plan
 }

@@ -163,9 +163,21 @@ fn with_its_parents(
     ensures parents { IfOk result (λ x. task_numbers x.parents ≡ below (length tasks.now) (λ u. task_waits (slice_get tasks.now t) (slice_get tasks.now u) || edge stated.now u t)) }
 {
     let parents = parents_at(alloc, writers, stated, tasks, t)?;
-    let kind = kind_copied(alloc, &tasks[t].kind)?;
-    let reads = copied(alloc, tasks[t].reads.as_slice())?;
-    let writes = copied(alloc, tasks[t].writes.as_slice())?;
+    let Ok(kind) = kind_copied(alloc, &tasks[t].kind) else {
+        drop(parents);
+        return Err(Memory);
+    };
+    let Ok(reads) = copied(alloc, tasks[t].reads.as_slice()) else {
+        drop(kind);
+        drop(parents);
+        return Err(Memory);
+    };
+    let Ok(writes) = copied(alloc, tasks[t].writes.as_slice()) else {
+        drop(reads);
+        drop(kind);
+        drop(parents);
+        return Err(Memory);
+    };
     Ok(Task {
         kind,
         reads,

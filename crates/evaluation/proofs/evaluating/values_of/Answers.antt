@@ -75,8 +75,8 @@ returns-in-Ok-evaluate_in-clause-requested g c =
     let evaluated = subst (λ (b : Basis). Evaluates b w order rose (Ok values)) on_is c.in-Ok-evaluate_in.ensures.answer in
     values_are m s on values.items has evaluated.0 evaluated.1
 
-pub returns-clause-answer : goal.returns-clause-answer
-returns-clause-answer g c =
+pub returns-in-Err-evaluate_in-clause-answer : goal.returns-in-Err-evaluate_in-clause-answer
+returns-in-Err-evaluate_in-clause-answer g c =
     let w = c.args.workflow.now in
     let order = c.args.graph.now.ordered in
     let m = meeting g.H.Host g.T.Tool c.args.host.now c.args.tool.now c.read_bases.new.host c.evaluate_in.new.tool in
