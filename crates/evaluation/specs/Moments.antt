@@ -34,11 +34,13 @@ pub record Meeting : Type 0 where
   pub before : Moment
   pub after : Moment
 
-abbrev pub moment : {H Reading Draft T : Type 0} → host.Ghosts H Reading Draft → tool.Ghosts T → H → T → Moment
+abbrev pub moment : {H Reading Draft T : Type 0} → host.Ghosts H Reading Draft → tool.Ghosts T → H → T
+    → Moment
 moment h t host tool = record { told = h.told host; counts = h.counts host; tool = t.faults tool }
 
 -- by the ghost members of a host's and a tool's bounds: what they are before, and after
-abbrev pub meeting : {H Reading Draft T : Type 0} → host.Ghosts H Reading Draft → tool.Ghosts T → H → T → H → T → Meeting
+abbrev pub meeting : {H Reading Draft T : Type 0} → host.Ghosts H Reading Draft → tool.Ghosts T → H → T → H
+    → T → Meeting
 meeting h t host tool new_host new_tool =
     record {
       apply = t.apply;

@@ -40,7 +40,8 @@ fn prepare<T: Tool>(
     requires well_formed { IsWellFormed workflow.now }
     requires graph { IsGraphOf workflow.now graph.now }
     ensures { UnlessMemory result
-        (result ≡ prepared T.known (subject workflow.now graph.now.ordered replicas.now.entries request.now.tools)) }
+        (result ≡ prepared T.known
+        (subject workflow.now graph.now.ordered replicas.now.entries request.now.tools)) }
 {
     let sources = match sources_of(alloc, workflow, graph, replicas) {
         Ok(sources) => Items::new(sources),

@@ -18,7 +18,7 @@ use Rattle.plan_core.specs.Proper.{is_parent}
 use Rattle.plan_core.proofs.TestLemmas.{same_number, is_itself, both, and_both, either, or_left, or_right, not_true}
 use Rattle.plan_core.proofs.NumbersLemmas.{any_has}
 use Rattle.plan_core.specs.Grounded.{Grounded, ground}
-use Rattle.transfer_refiner.proofs.GroundedLemmas.{all_grounded}
+use Rattle.plan_core.proofs.GroundedLemmas.{all_grounded}
 use Rattle.transfer_refiner.specs.Draft.{Draft, uses, makes, needs, site_of, made_at, moves, home, chosen, first_of, pfns_of}
 use Rattle.transfer_refiner.specs.Tasks.{run, transfer, delivery, comes_after, part_of}
 use Rattle.transfer_refiner.specs.Conditions.{IsDraft, leads}

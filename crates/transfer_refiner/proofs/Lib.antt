@@ -24,7 +24,6 @@ pub mod PlanJobsLemmas
 pub mod PlanPairsLemmas
 pub mod OneWriterLemmas
 pub mod WaitingLemmas
-pub mod GroundedLemmas
 pub mod GroundingLemmas
 pub mod GridRisesLemmas
 pub mod SequenceLemmas

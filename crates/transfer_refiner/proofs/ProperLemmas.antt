@@ -31,7 +31,7 @@ use Rattle.transfer_refiner.proofs.PlanPairsLemmas.{has_kind, pair_stands, stand
 use Rattle.transfer_refiner.proofs.OneWriterLemmas.{one_writer}
 use Rattle.transfer_refiner.proofs.WaitingLemmas.{all_reads, all_writes, are_parents}
 use Rattle.transfer_refiner.proofs.GroundingLemmas.{task_grounded}
-use Rattle.transfer_refiner.proofs.GroundedLemmas.{never_returns}
+use Rattle.plan_core.proofs.GroundedLemmas.{never_returns}
 use Rattle.transfer_refiner.proofs.SequenceLemmas.{sequence}
 use Rattle.transfer_refiner.proofs.TableLemmas.{has_tables, all_long}
 use Rattle.transfer_refiner.proofs.TogetherLemmas.{no_size}

@@ -20,11 +20,15 @@ leads d a b = not (a == b) && list_any (λ i. list_any (λ j. edge d.workflow i 
 
 -- each job's inputs that jobs of its part make are made by jobs before it
 abbrev pub IsOrdered : Draft → List JobId → Type 0
-IsOrdered d js = (done later : List JobId) (j : JobId) → js ≡ done ++ j ∷ later → (f : ℕ) → has (read_by d.workflow j.0) f ≡ true → list_any (λ (i : JobId). has (written_by d.workflow i.0) f) js ≡ true → list_any (λ (i : JobId). has (written_by d.workflow i.0) f) done ≡ true
+IsOrdered d js = (done later : List JobId) (j : JobId) → js ≡ done ++ j ∷ later → (f : ℕ)
+    → has (read_by d.workflow j.0) f ≡ true
+    → list_any (λ (i : JobId). has (written_by d.workflow i.0) f) js ≡ true
+    → list_any (λ (i : JobId). has (written_by d.workflow i.0) f) done ≡ true
 
 -- no job stands twice
 abbrev pub IsOnce : List JobId → Type 0
-IsOnce js = (done later : List JobId) (j : JobId) → js ≡ done ++ j ∷ later → has (job_numbers later) j.0 ≡ false
+IsOnce js = (done later : List JobId) (j : JobId) → js ≡ done ++ j ∷ later
+    → has (job_numbers later) j.0 ≡ false
 
 -- The workflow is well formed and sound, and has for each job an execution site or none. The execution sites are few and distinct. Each job
 -- is in at most one part, once, after those of its part of whose files it reads; each part has a site; no parts lead round.
@@ -34,11 +38,13 @@ pub record IsDraft (d : Draft) : Type 0 where
   pub few_sites : length d.request.execute ≤ 64
   pub site_names : IsDistinct bytes_eq (map (λ (e : Execution). e.site) d.request.execute)
   pub jobs_placed : length d.sites ≡ length d.workflow.jobs
-  pub sites_below : (j : ℕ) (s : SiteId) → slice_get d.sites j ≡ Some (Some s) → s.0 < length d.request.execute
+  pub sites_below : (j : ℕ) (s : SiteId) → slice_get d.sites j ≡ Some (Some s)
+      → s.0 < length d.request.execute
   pub jobs_below : (c j : ℕ) → has (part_of d c) j ≡ true → j < length d.workflow.jobs
   pub one_part : (a b j : ℕ) → has (part_of d a) j ≡ true → has (part_of d b) j ≡ true → a ≡ b
   pub once : (c : ℕ) → IsOnce (slice_index_or d.parts c [])
   pub few_parts : length d.parts ≤ length d.workflow.jobs
-  pub site_below : (c : ℕ) → c < length d.parts → site_of d (slice_index_or d.parts c []) < length d.request.execute
+  pub site_below : (c : ℕ) → c < length d.parts
+      → site_of d (slice_index_or d.parts c []) < length d.request.execute
   pub ordered : (c : ℕ) → IsOrdered d (slice_index_or d.parts c [])
   pub acyclic : (c : ℕ) → Returns (leads d) c → ⊥

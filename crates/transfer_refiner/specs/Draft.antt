@@ -25,7 +25,13 @@ pub record Draft : Type 0 where
   pub request : PlanRequest
 
 abbrev pub planned : Workflow → Clusters → List (Option SiteId) → ReplicaCatalog → PlanRequest → Draft
-planned w c sites replicas r = record { workflow = w; parts = c.parts; sites = sites; replicas = replicas.entries; request = r }
+planned w c sites replicas r = record {
+  workflow = w;
+  parts = c.parts;
+  sites = sites;
+  replicas = replicas.entries;
+  request = r;
+}
 
 -- ---- what a part's jobs read and make
 

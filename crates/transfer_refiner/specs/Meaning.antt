@@ -17,11 +17,13 @@ use Rattle.transfer_refiner.specs.Tasks.{is_made}
 
 -- what a job makes for one of its outputs, where v stands at its inputs
 abbrev pub made_of : Apply → List ToolOf → (ℕ → Option (List ℕ)) → Job → ℕ → Option (List ℕ)
-made_of apply tools v j f = option_and_then (part f (outputs_of j)) (run_of apply (tool_of tools j.transformation.name) j (all_of (map v (inputs_of j))))
+made_of apply tools v j f = option_and_then (part f (outputs_of j))
+    (run_of apply (tool_of tools j.transformation.name) j (all_of (map v (inputs_of j))))
 
 -- each output of each job is worth what the job makes of the values of its inputs
 abbrev pub AreValues : Apply → List ToolOf → Workflow → (ℕ → Option (List ℕ)) → Type 0
-AreValues apply tools w v = (a f : ℕ) (j : Job) → slice_get w.jobs a ≡ Some j → has_output f j ≡ true → v f ≡ made_of apply tools v j f
+AreValues apply tools w v = (a f : ℕ) (j : Job) → slice_get w.jobs a ≡ Some j → has_output f j ≡ true
+    → v f ≡ made_of apply tools v j f
 
 -- each registered copy holds its file's value; `told` are the bytes at each pfn
 abbrev pub AreHeld : Draft → (List ℕ → Option (List ℕ)) → (ℕ → Option (List ℕ)) → Type 0
@@ -29,4 +31,5 @@ AreHeld d told v = (f : ℕ) → AllByRecursion (λ (x : Pfn). told x.pfn ≡ v 
 
 -- a requested file that no part makes is registered
 abbrev pub AreAtHand : Draft → Type 0
-AreAtHand d = (f : ℕ) → is_requested d.workflow f ≡ true → is_made d f ≡ false → is_registered d.replicas (name_of d f) ≡ true
+AreAtHand d = (f : ℕ) → is_requested d.workflow f ≡ true → is_made d f ≡ false
+    → is_registered d.replicas (name_of d f) ≡ true

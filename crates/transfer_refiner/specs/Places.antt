@@ -12,7 +12,8 @@ is_pair_of s f q = (s == q.site.0) && (f == q.file.0)
 
 -- no pair stands twice
 abbrev pub AreOnce : List Pair → Type 0
-AreOnce pairs = (q r s f : ℕ) → pair_at (slice_get pairs q) s f ≡ true → pair_at (slice_get pairs r) s f ≡ true → q ≡ r
+AreOnce pairs = (q r s f : ℕ) → pair_at (slice_get pairs q) s f ≡ true
+    → pair_at (slice_get pairs r) s f ≡ true → q ≡ r
 
 -- the number of a file, and the numbers of some files, at a site
 abbrev pub place_of : List Pair → ℕ → ℕ → List ℕ

@@ -21,7 +21,8 @@ pub record IsRefined (d : Draft) (p : Plan) : Type 0 where
   pub kinds : map (λ (t : Task). t.kind) p.tasks ≡ kinds_of d
   pub reads : (t : ℕ) → t < count_tasks p → reads p t ≡ below (count_pairs p) (reads_pair p t)
   pub writes : (t : ℕ) → t < count_tasks p → writes p t ≡ below (count_pairs p) (writes_pair p t)
-  pub parents : (t : ℕ) → t < count_tasks p → parents p t ≡ below (count_tasks p) (λ u. waits_for p t u || comes_after d t u)
+  pub parents : (t : ℕ) → t < count_tasks p
+      → parents p t ≡ below (count_tasks p) (λ u. waits_for p t u || comes_after d t u)
 
 -- the plan where there is no fault, else the first fault; want of memory is free
 abbrev pub Refines : Draft → ℕ → Result Plan RefineFault → Type 0

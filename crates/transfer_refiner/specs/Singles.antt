@@ -16,7 +16,8 @@ singles js = map single js
 
 -- The workflow is well formed and sound. The execution sites passed the check of a request, and each job has one or none. The kept jobs are
 -- jobs of the workflow, none stands twice, and each has a site.
-pub record ArePlaced (w : Workflow) (request : PlanRequest) (sites : List (Option SiteId)) (js : List JobId) : Type 0 where
+pub record ArePlaced (w : Workflow) (request : PlanRequest) (sites : List (Option SiteId))
+    (js : List JobId) : Type 0 where
   pub formed : IsWellFormed w
   pub sound : IsSound w
   pub checked : execute_checked request.execute ≡ Ok tt
@@ -25,4 +26,5 @@ pub record ArePlaced (w : Workflow) (request : PlanRequest) (sites : List (Optio
   pub few : length js ≤ length w.jobs
   pub below : (n : ℕ) (j : JobId) → slice_get js n ≡ Some j → j.0 < length w.jobs
   pub once : (m n : ℕ) (i j : JobId) → slice_get js m ≡ Some i → slice_get js n ≡ Some j → i.0 ≡ j.0 → m ≡ n
-  pub placed : (n : ℕ) (j : JobId) → slice_get js n ≡ Some j → (s : SiteId) × (slice_get sites j.0 ≡ Some (Some s))
+  pub placed : (n : ℕ) (j : JobId) → slice_get js n ≡ Some j
+      → (s : SiteId) × (slice_get sites j.0 ≡ Some (Some s))

@@ -52,14 +52,16 @@ abbrev pub run : Draft → List JobId → TaskKind
 run d js = Run (record { 0 = site_of d js }) js
 
 abbrev pub transfer : Draft → ℕ × ℕ → TaskKind
-transfer d x = Transfer (record { 0 = x.0 }) (source (home d x.0) (chosen d x.0 x.1)) (Into (record { 0 = x.1 }))
+transfer d x = Transfer (record { 0 = x.0 }) (source (home d x.0) (chosen d x.0 x.1))
+    (Into (record { 0 = x.1 }))
 
 abbrev pub delivery : Draft → ℕ → TaskKind
 delivery d f = Transfer (record { 0 = f }) (source (home d f) (first_of (pfns_of d f))) Delivery
 
 -- a Run for each part; a Transfer for each file and site that it has to come to, by (file, site); a delivery for each requested file
 unfoldable pub kinds_of : Draft → List TaskKind
-kinds_of d = map (run d) d.parts ++ (map (transfer d) (grid (count_files d) (count_sites d) (moves d)) ++ map (delivery d) (below (count_files d) (is_requested d.workflow)))
+kinds_of d = map (run d) d.parts ++ (map (transfer d) (grid (count_files d) (count_sites d) (moves d))
+    ++ map (delivery d) (below (count_files d) (is_requested d.workflow)))
 
 -- the jobs of the part with a number
 abbrev pub part_of : Draft → ℕ → List ℕ
@@ -67,7 +69,9 @@ part_of d t = job_numbers (slice_index_or d.parts t [])
 
 -- part t holds the second job of a stated pair of which part u holds the first
 unfoldable pub comes_after : Draft → ℕ → ℕ → Bool
-comes_after d t u = not (t == u) && list_any (λ (pair : JobId × JobId). has (part_of d u) (before pair) && has (part_of d t) (after pair)) d.workflow.pairs
+comes_after d t u = not (t == u) && list_any
+    (λ (pair : JobId × JobId). has (part_of d u) (before pair)
+    && has (part_of d t) (after pair)) d.workflow.pairs
 
 -- ---- tables
 
@@ -82,7 +86,14 @@ abbrev pub planned_site : Execution → PlanSite
 planned_site e = record { name = e.site; bound = e.bound }
 
 abbrev pub planned_job : List ToolOf → Job → Option SiteId → PlanJob
-planned_job tools j s = record { id = j.id; tool = tool_of tools j.transformation.name; arguments = j.arguments; inputs = j.inputs; outputs = map (λ (o : Output). o.file) j.outputs; site = s }
+planned_job tools j s = record {
+  id = j.id;
+  tool = tool_of tools j.transformation.name;
+  arguments = j.arguments;
+  inputs = j.inputs;
+  outputs = map (λ (o : Output). o.file) j.outputs;
+  site = s;
+}
 
 -- each job with its site
 abbrev pub jobs_of : List ToolOf → List Job → List (Option SiteId) → List PlanJob
@@ -98,7 +109,12 @@ abbrev pub is_flagged : Workflow → ℕ → Bool
 is_flagged w f = list_any (flags f) w.jobs
 
 abbrev pub planned_file : Draft → ℕ → PlanFile
-planned_file d f = record { lfn = name_of d f; declared = declared_of d f; checksum = option_and_then (λ (e : Replica). e.checksum) (entry_of d f); register = is_flagged d.workflow f }
+planned_file d f = record {
+  lfn = name_of d f;
+  declared = declared_of d f;
+  checksum = option_and_then (λ (e : Replica). e.checksum) (entry_of d f);
+  register = is_flagged d.workflow f;
+}
 
 abbrev pub files_of : Draft → List PlanFile
 files_of d = map (planned_file d) (below (count_files d) (λ f. true))

@@ -113,7 +113,8 @@ fn planned_jobs(
 /// The jobs, kept or not.
 pub fn jobs_of(alloc: Global, view: &View<'_>) -> Result<Items<PlanJob>, Memory>
     requires { IsDraft (draft_of view.now) }
-    ensures { IfOk result (λ jobs. jobs ≡ jobs_of view.now.request.now.tools view.now.workflow.now.jobs view.now.sites.now) }
+    ensures { IfOk result (λ jobs. jobs
+        ≡ jobs_of view.now.request.now.tools view.now.workflow.now.jobs view.now.sites.now) }
 {
     let tools = Tools::new(alloc, view.request)?;
     let jobs = planned_jobs(alloc, &tools, view.workflow.jobs.as_slice(), view.sites);

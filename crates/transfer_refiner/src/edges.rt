@@ -40,7 +40,8 @@ fn push_files(edges: &mut Vec<(u32, u32)>, from: u32, files: &[FileId]) -> Resul
 }
 
 fn push_outputs(edges: &mut Vec<(u32, u32)>, from: u32, outputs: &[Output]) -> Result<(), Memory>
-    ensures { OnOk result (edges.new.items ≡ edges.old.items ++ fan from (map (λ (o : Output). o.file.0) outputs.now)) }
+    ensures { OnOk result (edges.new.items ≡ edges.old.items
+        ++ fan from (map (λ (o : Output). o.file.0) outputs.now)) }
 {
     for output in outputs {
         edges.push((from, output.file.0))?;
@@ -143,8 +144,11 @@ fn push_stated(
     pair: &(JobId, JobId),
 ) -> Result<(), Memory>
     requires held { (c j : ℕ) → edge held.now c j ≡ has (part_of (draft_of view.now) c) j }
-    ensures { OnOk result ((u t : ℕ) → list_any (λ (p : ℕ × ℕ). p.0 == u && p.1 == t) edges.new.items ≡ (list_any (λ (p : ℕ × ℕ). p.0 == u && p.1 == t) edges.old.items
-        || (not (t == u) && (has (part_of (draft_of view.now) u) (before pair.now) && has (part_of (draft_of view.now) t) (after pair.now))))) }
+    ensures { OnOk result ((u t : ℕ)
+        → list_any (λ (p : ℕ × ℕ). p.0 == u && p.1 == t) edges.new.items
+        ≡ (list_any (λ (p : ℕ × ℕ). p.0 == u && p.1 == t) edges.old.items
+        || (not (t == u) && (has (part_of (draft_of view.now) u) (before pair.now)
+        && has (part_of (draft_of view.now) t) (after pair.now))))) }
 {
     let firsts = before(held, pair.0.0);
     let seconds = before(held, pair.1.0);
@@ -154,7 +158,8 @@ fn push_stated(
 
 fn stated_edges(alloc: Global, view: &View<'_>, held: &Digraph) -> Result<Vec<(u32, u32)>, Memory>
     requires held { (c j : ℕ) → edge held.now c j ≡ has (part_of (draft_of view.now) c) j }
-    ensures { IfOk result (λ v. (u t : ℕ) → list_any (λ (p : ℕ × ℕ). p.0 == u && p.1 == t) v.items ≡ comes_after (draft_of view.now) t u) }
+    ensures { IfOk result (λ v. (u t : ℕ)
+        → list_any (λ (p : ℕ × ℕ). p.0 == u && p.1 == t) v.items ≡ comes_after (draft_of view.now) t u) }
 {
     let mut edges = Vec::new(alloc);
     for pair in view.workflow.pairs.as_slice() {

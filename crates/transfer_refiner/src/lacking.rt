@@ -105,7 +105,8 @@ fn without_replica(view: &View<'_>, tables: &Tables) -> Option<FileId>
     requires draft { IsDraft (draft_of view.now) }
     requires graph { IsGraphOf view.now.workflow.now view.now.graph.now }
     requires tables { AreTables (draft_of view.now) tables.now }
-    ensures { option_map (λ (f : FileId). f.0) result ≡ least (count_files (draft_of view.now)) (lacks_replica (draft_of view.now)) }
+    ensures { option_map (λ (f : FileId). f.0) result
+        ≡ least (count_files (draft_of view.now)) (lacks_replica (draft_of view.now)) }
 {
     for f in 0..view.workflow.files.as_slice().len() {
         if lacks_replica(view, tables, FileId(f as u32)) {
@@ -120,7 +121,8 @@ fn without_replica(view: &View<'_>, tables: &Tables) -> Option<FileId>
 fn without_size(view: &View<'_>, tables: &Tables) -> Option<FileId>
     requires draft { IsDraft (draft_of view.now) }
     requires tables { AreTables (draft_of view.now) tables.now }
-    ensures { option_map (λ (f : FileId). f.0) result ≡ least (count_files (draft_of view.now)) (lacks_size (draft_of view.now)) }
+    ensures { option_map (λ (f : FileId). f.0) result
+        ≡ least (count_files (draft_of view.now)) (lacks_size (draft_of view.now)) }
 {
     for f in 0..view.workflow.files.as_slice().len() {
         if lacks_size(view, tables, FileId(f as u32)) {
@@ -138,7 +140,8 @@ fn replica_fault(
     requires draft { IsDraft (draft_of view.now) }
     requires graph { IsGraphOf view.now.workflow.now view.now.graph.now }
     requires tables { AreTables (draft_of view.now) tables.now }
-    ensures { IfOk result (λ o. o ≡ option_map (λ f. NoReplica (name_of (draft_of view.now) f)) (least (count_files (draft_of view.now)) (lacks_replica (draft_of view.now)))) }
+    ensures { IfOk result (λ o. o ≡ option_map (λ f. NoReplica (name_of (draft_of view.now) f))
+        (least (count_files (draft_of view.now)) (lacks_replica (draft_of view.now)))) }
 {
     match without_replica(view, tables) {
         Some(file) => Ok(Some(RefineFault::NoReplica(name_of(alloc, view, file)?))),
@@ -153,7 +156,8 @@ fn size_fault(
 ) -> Result<Option<RefineFault>, Memory>
     requires draft { IsDraft (draft_of view.now) }
     requires tables { AreTables (draft_of view.now) tables.now }
-    ensures { IfOk result (λ o. o ≡ option_map (λ f. NoSize (name_of (draft_of view.now) f)) (least (count_files (draft_of view.now)) (lacks_size (draft_of view.now)))) }
+    ensures { IfOk result (λ o. o ≡ option_map (λ f. NoSize (name_of (draft_of view.now) f))
+        (least (count_files (draft_of view.now)) (lacks_size (draft_of view.now)))) }
 {
     match without_size(view, tables) {
         Some(file) => Ok(Some(RefineFault::NoSize(name_of(alloc, view, file)?))),

@@ -22,7 +22,8 @@ use std::alloc::Global;
 use values::{FileId, Items, Memory, SiteId};
 
 fn push_pairs(pairs: &mut Vec<Pair>, site: SiteId, files: &[u32]) -> Result<(), Memory>
-    ensures { OnOk result (pairs.new.items ≡ pairs.old.items ++ map (λ (f : ℕ). pair_of (site.0, f)) files.now) }
+    ensures { OnOk result (pairs.new.items ≡ pairs.old.items
+        ++ map (λ (f : ℕ). pair_of (site.0, f)) files.now) }
 {
     for file in files {
         pairs.push(Pair {
@@ -76,7 +77,8 @@ fn push_moved(
     home: Option<SiteId>,
     sites: &[u32],
 ) -> Result<(), Memory>
-    ensures { OnOk result (moved.new.items ≡ moved.old.items ++ moved_from (option_map (λ (s : SiteId). s.0) home) file sites.now) }
+    ensures { OnOk result (moved.new.items ≡ moved.old.items
+        ++ moved_from (option_map (λ (s : SiteId). s.0) home) file sites.now) }
 {
     for site in sites {
         if !is_at(home, *site) {
@@ -96,7 +98,9 @@ fn push_moves(
     requires graph { IsGraphOf view.now.workflow.now view.now.graph.now }
     requires tables { AreTables (draft_of view.now) tables.now }
     requires in_range { file < length view.now.workflow.now.files }
-    ensures { OnOk result (moved.new.items ≡ moved.old.items ++ map (λ (s : ℕ). (file, s)) (below (count_sites (draft_of view.now)) (moves (draft_of view.now) file))) }
+    ensures { OnOk result (moved.new.items ≡ moved.old.items
+        ++ map (λ (s : ℕ). (file, s)) (below (count_sites (draft_of view.now))
+        (moves (draft_of view.now) file))) }
 {
     let home = home(view, tables, FileId(file));
     let sites = before(&tables.stood, file);
@@ -110,7 +114,8 @@ pub fn moved(alloc: Global, view: &View<'_>, tables: &Tables) -> Result<Vec<(u32
     requires draft { IsDraft (draft_of view.now) }
     requires graph { IsGraphOf view.now.workflow.now view.now.graph.now }
     requires tables { AreTables (draft_of view.now) tables.now }
-    ensures { IfOk result (λ v. v.items ≡ grid (count_files (draft_of view.now)) (count_sites (draft_of view.now)) (moves (draft_of view.now))) }
+    ensures { IfOk result (λ v. v.items ≡ grid (count_files (draft_of view.now))
+        (count_sites (draft_of view.now)) (moves (draft_of view.now))) }
 {
     let mut moved = Vec::new(alloc);
     for file in 0..view.workflow.files.as_slice().len() {
@@ -120,7 +125,8 @@ pub fn moved(alloc: Global, view: &View<'_>, tables: &Tables) -> Result<Vec<(u32
 }
 
 fn push_runs(alloc: Global, kinds: &mut Vec<TaskKind>, view: &View<'_>) -> Result<(), Memory>
-    ensures { OnOk result (kinds.new.items ≡ kinds.old.items ++ map (run (draft_of view.now)) view.now.parts.now) }
+    ensures { OnOk result (kinds.new.items ≡ kinds.old.items
+        ++ map (run (draft_of view.now)) view.now.parts.now) }
 {
     for part in view.parts {
         let jobs = copied(alloc, part.as_slice())?;
@@ -141,7 +147,8 @@ fn push_transfers(
     requires graph { IsGraphOf view.now.workflow.now view.now.graph.now }
     requires tables { AreTables (draft_of view.now) tables.now }
     requires in_range { All (λ (x : ℕ × ℕ). x.0 < length view.now.workflow.now.files) moved.now }
-    ensures { OnOk result (kinds.new.items ≡ kinds.old.items ++ map (transfer (draft_of view.now)) moved.now) }
+    ensures { OnOk result (kinds.new.items ≡ kinds.old.items
+        ++ map (transfer (draft_of view.now)) moved.now) }
 {
     for place in moved {
         kinds.push(transfer(alloc, view, tables, FileId(place.0), SiteId(place.1))?)?;
@@ -159,7 +166,8 @@ fn push_deliveries(
     requires graph { IsGraphOf view.now.workflow.now view.now.graph.now }
     requires tables { AreTables (draft_of view.now) tables.now }
     requires in_range { All (λ f. f < length view.now.workflow.now.files) tables.now.requested.items }
-    ensures { OnOk result (kinds.new.items ≡ kinds.old.items ++ map (delivery (draft_of view.now)) tables.now.requested.items) }
+    ensures { OnOk result (kinds.new.items ≡ kinds.old.items
+        ++ map (delivery (draft_of view.now)) tables.now.requested.items) }
 {
     for file in &tables.requested {
         kinds.push(delivery(alloc, view, tables, FileId(*file))?)?;
@@ -178,7 +186,8 @@ pub fn kinds_of(
     requires draft { IsDraft (draft_of view.now) }
     requires graph { IsGraphOf view.now.workflow.now view.now.graph.now }
     requires tables { AreTables (draft_of view.now) tables.now }
-    requires moved { moved.now ≡ grid (count_files (draft_of view.now)) (count_sites (draft_of view.now)) (moves (draft_of view.now)) }
+    requires moved { moved.now ≡ grid (count_files (draft_of view.now)) (count_sites (draft_of view.now))
+        (moves (draft_of view.now)) }
     ensures { IfOk result (λ kinds. kinds.items ≡ kinds_of (draft_of view.now)) }
 {
     let mut kinds = Vec::new(alloc);

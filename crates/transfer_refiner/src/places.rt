@@ -40,7 +40,8 @@ fn key_of(pair: &Pair) -> (u32, u32)
 /// The first number of each pair.
 fn numbers_of(alloc: Global, pairs: &[Pair]) -> Result<IndexMap<(u32, u32), u32>, Memory>
     requires few { length pairs.now < 2 ^ 32 }
-    ensures { IfOk result (λ numbers. (s f : ℕ) → get_by (is_place s f) numbers ≡ position (is_pair_of s f) pairs.now) }
+    ensures { IfOk result (λ numbers. (s f : ℕ)
+        → get_by (is_place s f) numbers ≡ position (is_pair_of s f) pairs.now) }
 {
     let mut numbers = IndexMap::new(alloc);
     for (place, pair) in pairs.iter().enumerate() {
@@ -120,7 +121,8 @@ pub fn pairs_at(
     found: &SiteFiles,
 ) -> Result<Items<PairId>, Memory>
     requires once { AreOnce places.now }
-    ensures { IfOk result (λ ids. (test : ℕ → ℕ → Bool) → AreFilesOf test found.now → pair_numbers ids ≡ below (length places.now) (λ q. on_pair test (slice_get places.now q))) }
+    ensures { IfOk result (λ ids. (test : ℕ → ℕ → Bool) → AreFilesOf test found.now
+        → pair_numbers ids ≡ below (length places.now) (λ q. on_pair test (slice_get places.now q))) }
 {
     let numbers = sorted(places_at(alloc, places, found.site.0, &found.files)?);
     let ids = pair_ids(alloc, &numbers)?;

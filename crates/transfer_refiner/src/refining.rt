@@ -47,7 +47,8 @@ fn with_all_parents(
     requires few_tasks { length bare.now < 2 ^ 32 }
     requires kinds { map (λ (t : DeclaredTask). t.kind) bare.now ≡ kinds_of (draft_of view.now) }
     requires in_range { (t q : ℕ) → has (writes_in (slice_get bare.now t)) q ≡ true → q < pairs }
-    ensures { IfOk result (λ ts. AreParented (comes_after (draft_of view.now)) bare.now ts (length bare.now)) }
+    ensures { IfOk result (λ ts. AreParented (comes_after (draft_of view.now)) bare.now ts
+        (length bare.now)) }
 {
     let writers = writers(alloc, bare, pairs)?;
     let Ok(stated) = stated(alloc, view, held) else {
@@ -95,7 +96,8 @@ fn jobs_and_tasks(
     requires pairs { pairs.now ≡ pairs_of (draft_of view.now) }
     requires kinds { kinds.now ≡ kinds_of (draft_of view.now) }
     requires few { length kinds.now < 2 ^ 32 }
-    ensures jobs { IfOk result (λ x. x.0 ≡ jobs_of view.now.request.now.tools view.now.workflow.now.jobs view.now.sites.now) }
+    ensures jobs { IfOk result
+        (λ x. x.0 ≡ jobs_of view.now.request.now.tools view.now.workflow.now.jobs view.now.sites.now) }
     ensures tasks { IfOk result (λ x. AreTasks (draft_of view.now) x.0 x.1) }
 {
     let jobs = jobs_of(alloc, view)?;
@@ -194,7 +196,8 @@ fn count_cleans(cleanup: &Cleanup, pairs: &[Pair]) -> u64
 fn count_all(view: &View<'_>, tables: &Tables, moved: &[(u32, u32)], pairs: &[Pair]) -> u64
     requires draft { IsDraft (draft_of view.now) }
     requires tables { AreTables (draft_of view.now) tables.now }
-    requires moved { moved.now ≡ grid (count_files (draft_of view.now)) (count_sites (draft_of view.now)) (moves (draft_of view.now)) }
+    requires moved { moved.now ≡ grid (count_files (draft_of view.now)) (count_sites (draft_of view.now))
+        (moves (draft_of view.now)) }
     requires pairs { pairs.now ≡ pairs_of (draft_of view.now) }
     ensures { result ≡ count_all (draft_of view.now) }
 {
@@ -213,7 +216,8 @@ fn plan_without_fault(
     requires draft { IsDraft (draft_of view.now) }
     requires graph { IsGraphOf view.now.workflow.now view.now.graph.now }
     requires tables { AreTables (draft_of view.now) tables.now }
-    requires moved { moved.now ≡ grid (count_files (draft_of view.now)) (count_sites (draft_of view.now)) (moves (draft_of view.now)) }
+    requires moved { moved.now ≡ grid (count_files (draft_of view.now)) (count_sites (draft_of view.now))
+        (moves (draft_of view.now)) }
     requires pairs { pairs ≡ pairs_of (draft_of view.now) }
     requires few { length (kinds_of (draft_of view.now)) < 2 ^ 32 }
     ensures { IfOk result (λ p. IsRefined (draft_of view.now) p) }
@@ -238,7 +242,8 @@ fn plan_or_fault(
     requires draft { IsDraft (draft_of view.now) }
     requires graph { IsGraphOf view.now.workflow.now view.now.graph.now }
     requires tables { AreTables (draft_of view.now) tables.now }
-    requires moved { moved.now ≡ grid (count_files (draft_of view.now)) (count_sites (draft_of view.now)) (moves (draft_of view.now)) }
+    requires moved { moved.now ≡ grid (count_files (draft_of view.now)) (count_sites (draft_of view.now))
+        (moves (draft_of view.now)) }
     requires pairs { pairs ≡ pairs_of (draft_of view.now) }
     requires few { limit < 2 ^ 32 }
     ensures { Refines (draft_of view.now) limit result }
@@ -305,7 +310,8 @@ pub fn refine(
     requires draft { IsDraft (planned workflow.now clusters.now sites.now replicas.now request.now) }
     requires graph { IsGraphOf workflow.now graph.now }
     requires few { limit < 2 ^ 32 }
-    ensures plan { Refines (planned workflow.now clusters.now sites.now replicas.now request.now) limit result }
+    ensures plan { Refines (planned workflow.now clusters.now sites.now replicas.now request.now) limit
+        result }
     ensures proper { IfOk result (λ p. IsProper p) }
 {
     let view = View {

@@ -13,5 +13,7 @@ ghost use Rattle.transfer_refiner.specs.Singles.{ArePlaced, singles};
 
 /// Kept jobs that are placed can be refined, each as a cluster of its own.
 pub fn single_jobs_are_a_draft()
-    ensures { (w : Workflow) (js : List JobId) (c : Clusters) (sites : List (Option SiteId)) (rs : ReplicaCatalog) (r : PlanRequest) → ArePlaced w r sites js → c.parts ≡ singles js → IsDraft (planned w c sites rs r) }
+    ensures { (w : Workflow) (js : List JobId) (c : Clusters) (sites : List (Option SiteId))
+        (rs : ReplicaCatalog) (r : PlanRequest) → ArePlaced w r sites js → c.parts ≡ singles js
+        → IsDraft (planned w c sites rs r) }
 {}

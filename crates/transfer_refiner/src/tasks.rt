@@ -21,7 +21,9 @@ fn reads_of(
     kind: &TaskKind,
 ) -> Result<Items<PairId>, Memory>
     requires once { AreOnce places.now }
-    ensures { IfOk result (λ ids. pair_numbers ids ≡ below (length places.now) (λ q. on_pair (kind_reads jobs.now (Some kind.now)) (slice_get places.now q))) }
+    ensures { IfOk result (λ ids. pair_numbers ids
+        ≡ below (length places.now) (λ q. on_pair (kind_reads jobs.now (Some kind.now))
+        (slice_get places.now q))) }
 {
     let files = files_read(alloc, jobs, kind)?;
     let pairs = pairs_at(alloc, places, &files);
@@ -37,7 +39,9 @@ fn writes_of(
     kind: &TaskKind,
 ) -> Result<Items<PairId>, Memory>
     requires once { AreOnce places.now }
-    ensures { IfOk result (λ ids. pair_numbers ids ≡ below (length places.now) (λ q. on_pair (kind_writes jobs.now (Some kind.now)) (slice_get places.now q))) }
+    ensures { IfOk result (λ ids. pair_numbers ids
+        ≡ below (length places.now) (λ q. on_pair (kind_writes jobs.now (Some kind.now))
+        (slice_get places.now q))) }
 {
     let files = files_written(alloc, jobs, kind)?;
     let pairs = pairs_at(alloc, places, &files);

@@ -71,7 +71,9 @@ pub fn writers(alloc: Global, tasks: &[Task], pairs: usize) -> Result<Digraph, M
 }
 
 fn push_writers(list: &mut Vec<u32>, writers: &Digraph, pairs: &[PairId]) -> Result<(), Memory>
-    ensures { OnOk result ((u : ℕ) → has list.new.items u ≡ (has list.old.items u || list_any (λ (q : ℕ). edge writers.now u q) (pair_numbers pairs.now))) }
+    ensures { OnOk result ((u : ℕ)
+        → has list.new.items u ≡ (has list.old.items u
+        || list_any (λ (q : ℕ). edge writers.now u q) (pair_numbers pairs.now))) }
 {
     for pair in pairs {
         list.extend_from_slice(before(writers, pair.0))?;
@@ -90,7 +92,8 @@ fn task_ids(alloc: Global, numbers: &[u32]) -> Result<Items<TaskId>, Memory>
 }
 
 fn push_stated(list: &mut Vec<u32>, stated: &Digraph, task: u32) -> Result<(), Memory>
-    ensures { OnOk result ((u : ℕ) → has list.new.items u ≡ (has list.old.items u || edge stated.now u task)) }
+    ensures { OnOk result ((u : ℕ)
+        → has list.new.items u ≡ (has list.old.items u || edge stated.now u task)) }
 {
     list.extend_from_slice(before(stated, task))?;
     Ok(())
@@ -103,7 +106,9 @@ fn awaited(
     task: u32,
     reads: &[PairId],
 ) -> Result<Vec<u32>, Memory>
-    ensures { IfOk result (λ v. (u : ℕ) → has v.items u ≡ (list_any (λ (q : ℕ). edge writers.now u q) (pair_numbers reads.now) || edge stated.now u task)) }
+    ensures { IfOk result (λ v. (u : ℕ)
+        → has v.items u ≡ (list_any (λ (q : ℕ). edge writers.now u q) (pair_numbers reads.now)
+        || edge stated.now u task)) }
 {
     let mut list = Vec::new(alloc);
     push_writers(&mut list, writers, reads)?;
@@ -119,8 +124,11 @@ fn parents_of(
     task: u32,
     reads: &[PairId],
 ) -> Result<Items<TaskId>, Memory>
-    ensures { IfOk result (λ us. (n : ℕ) → ((u : ℕ) → (list_any (λ (q : ℕ). edge writers.now u q) (pair_numbers reads.now) || edge stated.now u task) ≡ true → u < n)
-        → task_numbers us ≡ below n (λ u. list_any (λ (q : ℕ). edge writers.now u q) (pair_numbers reads.now) || edge stated.now u task)) }
+    ensures { IfOk result (λ us. (n : ℕ)
+        → ((u : ℕ) → (list_any (λ (q : ℕ). edge writers.now u q) (pair_numbers reads.now)
+        || edge stated.now u task) ≡ true → u < n)
+        → task_numbers us ≡ below n (λ u. list_any (λ (q : ℕ). edge writers.now u q) (pair_numbers reads.now)
+        || edge stated.now u task)) }
 {
     let numbers = sorted(awaited(alloc, writers, stated, task, reads)?);
     let ids = task_ids(alloc, &numbers)?;
@@ -140,7 +148,9 @@ fn parents_at(
     requires no_cleans { (u : ℕ) → is_clean_kind (kind_in (slice_get tasks.now u)) ≡ false }
     requires writers { (u q : ℕ) → edge writers.now u q ≡ has (writes_in (slice_get tasks.now u)) q }
     requires stated { (u v : ℕ) → edge stated.now u v ≡ true → u < length tasks.now }
-    ensures { IfOk result (λ us. task_numbers us ≡ below (length tasks.now) (λ u. task_waits (slice_get tasks.now t) (slice_get tasks.now u) || edge stated.now u t)) }
+    ensures { IfOk result (λ us. task_numbers us
+        ≡ below (length tasks.now) (λ u. task_waits (slice_get tasks.now t) (slice_get tasks.now u)
+        || edge stated.now u t)) }
 {
     let reads = reads_at(tasks, t);
     let ids = parents_of(alloc, writers, stated, t as u32, reads)?;
@@ -160,7 +170,9 @@ fn with_its_parents(
     requires writers { (u q : ℕ) → edge writers.now u q ≡ has (writes_in (slice_get tasks.now u)) q }
     requires stated { (u v : ℕ) → edge stated.now u v ≡ true → u < length tasks.now }
     ensures same { IfOk result (λ x. IsSame (slice_get tasks.now t) x) }
-    ensures parents { IfOk result (λ x. task_numbers x.parents ≡ below (length tasks.now) (λ u. task_waits (slice_get tasks.now t) (slice_get tasks.now u) || edge stated.now u t)) }
+    ensures parents { IfOk result (λ x. task_numbers x.parents
+        ≡ below (length tasks.now) (λ u. task_waits (slice_get tasks.now t) (slice_get tasks.now u)
+        || edge stated.now u t)) }
 {
     let parents = parents_at(alloc, writers, stated, tasks, t)?;
     let Ok(kind) = kind_copied(alloc, &tasks[t].kind) else {
@@ -197,7 +209,8 @@ pub fn with_parents(
     requires no_cleans { (u : ℕ) → is_clean_kind (kind_in (slice_get tasks.now u)) ≡ false }
     requires writers { (u q : ℕ) → edge writers.now u q ≡ has (writes_in (slice_get tasks.now u)) q }
     requires stated { (u v : ℕ) → edge stated.now u v ≡ true → u < length tasks.now }
-    ensures { IfOk result (λ done. AreParented (λ t u. edge stated.now u t) tasks.now done (length tasks.now)) }
+    ensures { IfOk result (λ done. AreParented (λ t u. edge stated.now u t) tasks.now done
+        (length tasks.now)) }
 {
     let mut done = Vec::new(alloc);
     for t in 0..tasks.len() {

@@ -18,7 +18,8 @@ number_text path None = Err (faults.Unsupported path (codes "number"))
 
 -- the text of a number
 abbrev pub by_number : List ℕ → Data → Result (List ℕ) TreeFault
-by_number path d = some_or (faults.WrongKind path) (find.as_number d) >>= λ n. number_text path (find.as_integer n)
+by_number path d = some_or (faults.WrongKind path) (find.as_number d) >>= λ n. number_text path
+    (find.as_integer n)
 
 -- a text, or else the text of a number
 abbrev pub by_text : List ℕ → Data → Option (List ℕ) → Result (List ℕ) TreeFault

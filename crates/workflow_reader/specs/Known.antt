@@ -25,11 +25,13 @@ outputs_with outputs u = if is_input u then outputs else with_name outputs u.lfn
 -- the first use of a file that is there already
 abbrev pub repeat_after : List (List ℕ) → List (List ℕ) → List Use → Option Use
 repeat_after inputs outputs [] = None
-repeat_after inputs outputs (u ∷ us) = if is_named inputs outputs u then Some u else repeat_after (inputs_with inputs u) (outputs_with outputs u) us
+repeat_after inputs outputs (u ∷ us) = if is_named inputs outputs u then Some u
+    else repeat_after (inputs_with inputs u) (outputs_with outputs u) us
 
 -- the sizes of files with that of one more use
 abbrev pub with_size : List (List ℕ) → List (Option ℕ) → Use → List (Option ℕ)
-with_size files sizes u = slice_set sizes (number files u.lfn) (option_or (slice_index_or sizes (number files u.lfn) None) u.size)
+with_size files sizes u = slice_set sizes (number files u.lfn)
+    (option_or (slice_index_or sizes (number files u.lfn) None) u.size)
 
 abbrev pub with_sizes : List (List ℕ) → List (Option ℕ) → List Use → List (Option ℕ)
 with_sizes files sizes [] = sizes

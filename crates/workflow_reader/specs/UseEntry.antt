@@ -24,7 +24,8 @@ use_rows =
 
 -- the direction that a text names
 abbrev pub direction_named : List ℕ → List ℕ → Result Direction TreeFault
-direction_named path s = if bytes_eq s (codes "input") then Ok Input else (if bytes_eq s (codes "output") then Ok Output else Err (faults.Unsupported path s))
+direction_named path s = if bytes_eq s (codes "input") then Ok Input
+    else (if bytes_eq s (codes "output") then Ok Output else Err (faults.Unsupported path s))
 
 -- the direction at a key
 abbrev pub direction_at : List ℕ → Data → List ℕ → Result Direction TreeFault
@@ -39,7 +40,13 @@ use_of path d = do
   stage_out ← optional flag_of path d (codes "stageOut")
   register ← optional flag_of path d (codes "registerReplica")
   size ← optional (number_of (2 ^ 40)) path d (codes "size")
-  Ok (record { lfn = lfn; direction = direction; stage_out = unwrap_or stage_out true; register = unwrap_or register true; size = size })
+  Ok (record {
+    lfn = lfn;
+    direction = direction;
+    stage_out = unwrap_or stage_out true;
+    register = unwrap_or register true;
+    size = size;
+  })
 
 -- the paths of a use's keys that are in no table
 unfoldable pub unknown_use : List ℕ → Data → List (List ℕ)

@@ -18,7 +18,8 @@ use workflow_core::Names;
 
 /// Adds the jobs' ids, and refuses one that is there before.
 fn add_ids(alloc: Global, ids: &mut Names, jobs: &[JobEntry]) -> Result<(), ReadFault>
-    ensures answer { GivesRead (λ u. u) result (refused DuplicateJob (first_repeat bytes_eq ids.old (ids_of jobs.now))) }
+    ensures answer { GivesRead (λ u. u) result
+        (refused DuplicateJob (first_repeat bytes_eq ids.old (ids_of jobs.now))) }
     ensures ids { OnOk result (ids.new ≡ ids.old ++ ids_of jobs.now) }
 {
     for job in jobs {
@@ -32,7 +33,8 @@ fn add_ids(alloc: Global, ids: &mut Names, jobs: &[JobEntry]) -> Result<(), Read
 
 /// The ids of jobs, each once.
 pub fn ids_of(alloc: Global, jobs: &[JobEntry]) -> Result<Names, ReadFault>
-    ensures answer { GivesRead (λ _. tt) result (refused DuplicateJob (first_repeat bytes_eq [] (ids_of jobs.now))) }
+    ensures answer { GivesRead (λ _. tt) result
+        (refused DuplicateJob (first_repeat bytes_eq [] (ids_of jobs.now))) }
     ensures ids { IfOk result (λ ids. ids ≡ ids_of jobs.now) }
 {
     let mut ids = Names::new(alloc);
@@ -79,7 +81,8 @@ fn repeated<'a>(
     outputs: &mut Names,
     uses: &'a [Use],
 ) -> Result<Option<&'a Use>, Memory>
-    ensures { IfOk result (λ found. option_map (λ u. u.now) found ≡ repeat_after inputs.old outputs.old uses.now) }
+    ensures { IfOk result (λ found. option_map (λ u. u.now) found
+        ≡ repeat_after inputs.old outputs.old uses.now) }
 {
     for used in uses {
         let is_new = insert_use(alloc, inputs, outputs, used)?;

@@ -43,7 +43,8 @@ fn inputs_of(alloc: Global, files: &Names, uses: &[Use]) -> Result<Items<FileId>
 
 fn outputs_of(alloc: Global, files: &Names, uses: &[Use]) -> Result<Items<Output>, Memory>
     requires { length files.now ≤ 50000 }
-    ensures { IfOk result (λ outputs. outputs ≡ map (output_of files.now) (uses_as directions.Output uses.now)) }
+    ensures { IfOk result (λ outputs. outputs
+        ≡ map (output_of files.now) (uses_as directions.Output uses.now)) }
 {
     let mut outputs = Vec::new(alloc);
     for used in uses {

@@ -51,7 +51,8 @@ fn few_files_of(alloc: Global, jobs: &[JobEntry]) -> Result<Names, ReadFault>
 /// Looks for a fault, and numbers files and jobs.
 #[tactic(auto, unfolding(crate::specs::Linking::linked))]
 fn tables_of(alloc: Global, document: &Document) -> Result<Tables, ReadFault>
-    ensures answer { GivesRead (λ _. workflow_entry (entry document.now)) result (linked (entry document.now)) }
+    ensures answer { GivesRead (λ _. workflow_entry (entry document.now)) result
+        (linked (entry document.now)) }
     ensures files { IfOk result (λ t. t.files ≡ files_of document.now.jobs) }
     ensures ids { IfOk result (λ t. t.ids ≡ ids_of document.now.jobs) }
     ensures few_files { IfOk result (λ t. length t.files ≤ 50000) }

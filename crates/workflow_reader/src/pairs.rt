@@ -14,7 +14,8 @@ use workflow_core::Names;
 
 /// The first id of a dependency that no job has.
 fn unknown_in<'a>(ids: &Names, dependency: &'a Dependency) -> Option<&'a Text>
-    ensures { option_map (λ t. t.now) result ≡ first_unknown ids.now (dependency.now.id ∷ dependency.now.children) }
+    ensures { option_map (λ t. t.now) result
+        ≡ first_unknown ids.now (dependency.now.id ∷ dependency.now.children) }
 {
     if !ids.contains(&dependency.id) {
         return Some(&dependency.id);
@@ -29,7 +30,8 @@ fn unknown_in<'a>(ids: &Names, dependency: &'a Dependency) -> Option<&'a Text>
 
 /// Refuses an id that no job has.
 pub fn all_known(alloc: Global, ids: &Names, dependencies: &[Dependency]) -> Result<(), ReadFault>
-    ensures { GivesRead (λ u. u) result (refused UnknownJob (first_unknown ids.now (ids_in dependencies.now))) }
+    ensures { GivesRead (λ u. u) result (refused UnknownJob
+        (first_unknown ids.now (ids_in dependencies.now))) }
 {
     for dependency in dependencies {
         if let Some(id) = unknown_in(ids, dependency) {
