@@ -1,6 +1,7 @@
 pub mod PlaceLemmas
 pub mod LookupLemmas
 pub mod SliceLemmas
+pub mod PushLemmas
 pub mod OnceLemmas
 pub mod GridLemmas
 pub mod RowsLemmas

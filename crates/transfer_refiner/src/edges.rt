@@ -71,7 +71,7 @@ fn push_part(edges: &mut Vec<(u32, u32)>, view: &View<'_>, jobs: &[JobId]) -> Re
     Ok(())
 }
 
-#[tactic(auto, using(crate::proofs::EdgesLemmas::held_none, crate::proofs::EdgesLemmas::held_more))]
+#[tactic(auto, using(crate::proofs::EdgesLemmas::held_none))]
 fn held_edges(alloc: Global, view: &View<'_>) -> Result<Vec<(u32, u32)>, Memory>
     requires few { length view.now.parts.now < 2 ^ 32 }
     ensures { IfOk result (λ v. v.items ≡ held_edges (draft_of view.now) (length view.now.parts.now)) }

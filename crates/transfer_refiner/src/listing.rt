@@ -109,7 +109,7 @@ fn push_moves(
 }
 
 /// Each file and site to which it has to come.
-#[tactic(auto, using(crate::proofs::GridLemmas::grid_none, crate::proofs::GridLemmas::more_rows))]
+#[tactic(auto, using(crate::proofs::GridLemmas::grid_none))]
 pub fn moved(alloc: Global, view: &View<'_>, tables: &Tables) -> Result<Vec<(u32, u32)>, Memory>
     requires draft { IsDraft (draft_of view.now) }
     requires graph { IsGraphOf view.now.workflow.now view.now.graph.now }

@@ -45,7 +45,7 @@ fn push_pairs(edges: &mut Vec<(u32, u32)>, task: u32, pairs: &[PairId]) -> Resul
     Ok(())
 }
 
-#[tactic(auto, using(crate::proofs::WritersLemmas::writer_none, crate::proofs::WritersLemmas::writer_more))]
+#[tactic(auto, using(crate::proofs::WritersLemmas::writer_none))]
 fn writer_edges(alloc: Global, tasks: &[Task]) -> Result<Vec<(u32, u32)>, Memory>
     requires few { length tasks.now < 2 ^ 32 }
     ensures { IfOk result (λ v. v.items ≡ writer_edges tasks.now (length tasks.now)) }
