@@ -29,31 +29,6 @@ pub fn policy_copied(policy: &Policy) -> Policy
     }
 }
 
-/// Two texts, each of which may be absent.
-#[derive(Drop)]
-pub struct Options {
-    pub first: Option<Text>,
-    pub second: Option<Text>,
-}
-
-pub fn options_copied(
-    alloc: Global,
-    first: &Option<Text>,
-    second: &Option<Text>,
-) -> Result<Options, Memory>
-    ensures first { IfOk result (λ copies. copies.first ≡ first.now) }
-    ensures second { IfOk result (λ copies. copies.second ≡ second.now) }
-{
-    let first = option_copied(alloc, first)?;
-    match option_copied(alloc, second) {
-        Ok(second) => Ok(Options { first, second }),
-        Err(Memory) => {
-            drop(first);
-            Err(Memory)
-        }
-    }
-}
-
 pub fn option_copied(alloc: Global, text: &Option<Text>) -> Result<Option<Text>, Memory>
     ensures { IfOk result (λ copy. copy ≡ text.now) }
 {

@@ -3,7 +3,7 @@
 ghost use Rattle.std.specs.Prelude.{◌≡◌, ◌++◌, map, IfOk, OnOk};
 ghost use Rattle.ensemble.specs.Entries.{entry_of, replica_of};
 
-use crate::copying::options_copied;
+use crate::copying::option_copied;
 use crate::prefix::{prefixed, transformation_of};
 use replica_catalog::{Pfn, Replica};
 use std::alloc::Global;
@@ -72,24 +72,12 @@ fn entry_of(
 ) -> Result<TransformationEntry, Memory>
     ensures { IfOk result (λ e. e ≡ entry_of member.now entry.now) }
 {
-    let transformation = transformation_of(alloc, member, &entry.transformation)?;
-    let Ok(sites) = offers_copied(alloc, entry.sites.as_slice()) else {
-        drop(transformation);
-        return Err(Memory);
-    };
-    match options_copied(alloc, &entry.cluster_size, &entry.cluster_num) {
-        Ok(clusters) => Ok(TransformationEntry {
-            transformation,
-            sites,
-            cluster_size: clusters.first,
-            cluster_num: clusters.second,
-        }),
-        Err(Memory) => {
-            drop(sites);
-            drop(transformation);
-            Err(Memory)
-        }
-    }
+    Ok(TransformationEntry {
+        transformation: transformation_of(alloc, member, &entry.transformation)?,
+        sites: offers_copied(alloc, entry.sites.as_slice())?,
+        cluster_size: option_copied(alloc, &entry.cluster_size)?,
+        cluster_num: option_copied(alloc, &entry.cluster_num)?,
+    })
 }
 
 /// Adds the entries of a member's transformation catalogue.

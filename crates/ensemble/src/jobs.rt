@@ -5,14 +5,13 @@ ghost use Rattle.std.specs.List.{All};
 ghost use Rattle.values.specs.declared.numbers.FileId as file_ids;
 ghost use Rattle.workflow_core.specs.declared.workflow.Output as made_files;
 ghost use Rattle.ensemble.specs.Jobs.{FitsAfter, PairFitsAfter, file_after, job_of, output_after, pair_after};
-ghost use Rattle.ensemble.specs.Prefix.{prefixed, transformation_of};
 
-use crate::copying::options_copied;
+use crate::copying::option_copied;
 use crate::prefix::{prefixed, transformation_of};
 use plan_core::texts_copied;
 use std::alloc::Global;
 use values::{FileId, Items, JobId, Memory, Text};
-use workflow_core::{Job, Output, Transformation};
+use workflow_core::{Job, Output};
 
 fn files_after(alloc: Global, first: u32, files: &[FileId]) -> Result<Items<FileId>, Memory>
     requires { All (λ (f : file_ids.FileId). first + f.0 < 2 ^ 32) files.now }
@@ -40,95 +39,22 @@ fn outputs_after(alloc: Global, first: u32, outputs: &[Output]) -> Result<Items<
     Ok(Items::new(later))
 }
 
-/// What a job does.
-#[derive(Drop)]
-struct Call {
-    id: Text,
-    transformation: Transformation,
-    arguments: Items<Text>,
-}
-
-fn call_of(alloc: Global, member: &Text, job: &Job) -> Result<Call, Memory>
-    ensures id { IfOk result (λ c. c.id ≡ prefixed member.now job.now.id) }
-    ensures transformation { IfOk result
-        (λ c. c.transformation ≡ transformation_of member.now job.now.transformation) }
-    ensures arguments { IfOk result (λ c. c.arguments ≡ job.now.arguments) }
-{
-    let id = prefixed(alloc, member, &job.id)?;
-    let Ok(transformation) = transformation_of(alloc, member, &job.transformation) else {
-        drop(id);
-        return Err(Memory);
-    };
-    match texts_copied(alloc, job.arguments.as_slice()) {
-        Ok(arguments) => Ok(Call {
-            id,
-            transformation,
-            arguments,
-        }),
-        Err(Memory) => {
-            drop(transformation);
-            drop(id);
-            Err(Memory)
-        }
-    }
-}
-
-/// The files that a job reads and makes.
-#[derive(Drop)]
-struct Files {
-    inputs: Items<FileId>,
-    outputs: Items<Output>,
-}
-
-fn files_of(alloc: Global, first: u32, job: &Job) -> Result<Files, Memory>
-    requires { FitsAfter first job.now }
-    ensures inputs { IfOk result (λ f. f.inputs ≡ map (file_after first) job.now.inputs) }
-    ensures outputs { IfOk result (λ f. f.outputs ≡ map (output_after first) job.now.outputs) }
-{
-    let inputs = files_after(alloc, first, job.inputs.as_slice())?;
-    match outputs_after(alloc, first, job.outputs.as_slice()) {
-        Ok(outputs) => Ok(Files { inputs, outputs }),
-        Err(Memory) => {
-            drop(inputs);
-            Err(Memory)
-        }
-    }
-}
-
 /// A job under its member's name, where the members before have `first` files.
 fn job_of(alloc: Global, member: &Text, first: u32, job: &Job) -> Result<Job, Memory>
     requires { FitsAfter first job.now }
     ensures { IfOk result (λ j. j ≡ job_of member.now first job.now) }
 {
-    let call = call_of(alloc, member, job)?;
-    let Ok(files) = files_of(alloc, first, job) else {
-        drop(call);
-        return Err(Memory);
-    };
-    let Ok(clusters) = options_copied(alloc, &job.cluster_size, &job.cluster_num) else {
-        drop(files);
-        drop(call);
-        return Err(Memory);
-    };
-    match options_copied(alloc, &job.label, &job.pinned) {
-        Ok(label_and_site) => Ok(Job {
-            id: call.id,
-            transformation: call.transformation,
-            arguments: call.arguments,
-            inputs: files.inputs,
-            outputs: files.outputs,
-            label: label_and_site.first,
-            cluster_size: clusters.first,
-            cluster_num: clusters.second,
-            pinned: label_and_site.second,
-        }),
-        Err(Memory) => {
-            drop(clusters);
-            drop(files);
-            drop(call);
-            Err(Memory)
-        }
-    }
+    Ok(Job {
+        id: prefixed(alloc, member, &job.id)?,
+        transformation: transformation_of(alloc, member, &job.transformation)?,
+        arguments: texts_copied(alloc, job.arguments.as_slice())?,
+        inputs: files_after(alloc, first, job.inputs.as_slice())?,
+        outputs: outputs_after(alloc, first, job.outputs.as_slice())?,
+        label: option_copied(alloc, &job.label)?,
+        cluster_size: option_copied(alloc, &job.cluster_size)?,
+        cluster_num: option_copied(alloc, &job.cluster_num)?,
+        pinned: option_copied(alloc, &job.pinned)?,
+    })
 }
 
 /// Adds a member's jobs, where the members before have `first` files.

@@ -3,7 +3,7 @@
 ghost use Rattle.std.specs.Prelude.{◌≡◌, ◌++◌, map, IfOk, OnOk};
 ghost use Rattle.ensemble.specs.Prefix.{prefixed, transformation_of};
 
-use crate::copying::options_copied;
+use crate::copying::option_copied;
 use std::alloc::Global;
 use values::{Memory, Text};
 use workflow_core::Transformation;
@@ -41,16 +41,12 @@ pub fn transformation_of(
 ) -> Result<Transformation, Memory>
     ensures { IfOk result (λ t. t ≡ transformation_of member.now transformation.now) }
 {
+    let namespace = option_copied(alloc, &transformation.namespace)?;
     let name = prefixed(alloc, member, &transformation.name)?;
-    match options_copied(alloc, &transformation.namespace, &transformation.version) {
-        Ok(copies) => Ok(Transformation {
-            namespace: copies.first,
-            name,
-            version: copies.second,
-        }),
-        Err(Memory) => {
-            drop(name);
-            Err(Memory)
-        }
-    }
+    let version = option_copied(alloc, &transformation.version)?;
+    Ok(Transformation {
+        namespace,
+        name,
+        version,
+    })
 }

@@ -61,28 +61,10 @@ fn planned_job(
     ensures { IfOk result (λ j. j ≡ planned_job tools.now job.now site) }
 {
     let id = job.id.copied(alloc)?;
-    let Ok(tool) = tools.tool_of(&job.transformation.name).copied(alloc) else {
-        drop(id);
-        return Err(Memory);
-    };
-    let Ok(arguments) = texts_copied(alloc, job.arguments.as_slice()) else {
-        drop(tool);
-        drop(id);
-        return Err(Memory);
-    };
-    let Ok(inputs) = copied(alloc, job.inputs.as_slice()) else {
-        drop(arguments);
-        drop(tool);
-        drop(id);
-        return Err(Memory);
-    };
-    let Ok(outputs) = made_files(alloc, job.outputs.as_slice()) else {
-        drop(inputs);
-        drop(arguments);
-        drop(tool);
-        drop(id);
-        return Err(Memory);
-    };
+    let tool = tools.tool_of(&job.transformation.name).copied(alloc)?;
+    let arguments = texts_copied(alloc, job.arguments.as_slice())?;
+    let inputs = copied(alloc, job.inputs.as_slice())?;
+    let outputs = made_files(alloc, job.outputs.as_slice())?;
     Ok(PlanJob {
         id,
         tool,

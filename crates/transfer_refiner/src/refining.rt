@@ -12,7 +12,7 @@ ghost use Rattle.transfer_refiner.specs.Steps.{AreParented, AreTasks};
 ghost use Rattle.transfer_refiner.specs.Tables.{AreTables};
 ghost use Rattle.plan_core.specs.Proper.{IsProper};
 ghost use Rattle.transfer_refiner.specs.Draft.{moves, planned};
-ghost use Rattle.transfer_refiner.specs.Tasks.{comes_after, count_all, count_cleans, count_files, count_sites, files_of, grid, jobs_of, kinds_of, pairs_of, part_of, planned_site};
+ghost use Rattle.transfer_refiner.specs.Tasks.{comes_after, count_all, count_cleans, count_files, count_sites, grid, kinds_of, pairs_of, part_of};
 ghost use Rattle.transfer_refiner.specs.View.{draft_of};
 
 use crate::copying::{files_of, jobs_of, policy_copied, sites_of};
@@ -26,7 +26,7 @@ use crate::view::View;
 use crate::waiting::{with_parents, writers};
 use dependency_graph::Graph;
 use digraph::Digraph;
-use plan_core::{Pair, Plan, PlanFile, PlanJob, PlanSite, Task, TaskKind};
+use plan_core::{Pair, Plan, PlanJob, Task, TaskKind};
 use plan_request::{Cleanup, PlanRequest};
 use replica_catalog::{ReplicaCatalog, Replicas};
 use std::alloc::Global;
@@ -83,54 +83,6 @@ fn all_tasks(
     tasks
 }
 
-/// The jobs of a plan, and its tasks.
-fn jobs_and_tasks(
-    alloc: Global,
-    view: &View<'_>,
-    tables: &Tables,
-    pairs: &[Pair],
-    kinds: &[TaskKind],
-) -> Result<(Items<PlanJob>, Items<Task>), Memory>
-    requires draft { IsDraft (draft_of view.now) }
-    requires tables { AreTables (draft_of view.now) tables.now }
-    requires pairs { pairs.now ≡ pairs_of (draft_of view.now) }
-    requires kinds { kinds.now ≡ kinds_of (draft_of view.now) }
-    requires few { length kinds.now < 2 ^ 32 }
-    ensures jobs { IfOk result
-        (λ x. x.0 ≡ jobs_of view.now.request.now.tools view.now.workflow.now.jobs view.now.sites.now) }
-    ensures tasks { IfOk result (λ x. AreTasks (draft_of view.now) x.0 x.1) }
-{
-    let jobs = jobs_of(alloc, view)?;
-    match all_tasks(alloc, view, tables, jobs.as_slice(), pairs, kinds) {
-        Ok(tasks) => Ok((jobs, tasks)),
-        Err(Memory) => {
-            drop(jobs);
-            Err(Memory)
-        }
-    }
-}
-
-/// The sites of a plan, and its files.
-fn sites_and_files(
-    alloc: Global,
-    view: &View<'_>,
-    tables: &Tables,
-) -> Result<(Items<PlanSite>, Items<PlanFile>), Memory>
-    requires draft { IsDraft (draft_of view.now) }
-    requires tables { AreTables (draft_of view.now) tables.now }
-    ensures sites { IfOk result (λ x. x.0 ≡ map planned_site view.now.request.now.execute) }
-    ensures files { IfOk result (λ x. x.1 ≡ files_of (draft_of view.now)) }
-{
-    let sites = sites_of(alloc, view.request.execute.as_slice())?;
-    match files_of(alloc, view, tables) {
-        Ok(files) => Ok((sites, files)),
-        Err(Memory) => {
-            drop(sites);
-            Err(Memory)
-        }
-    }
-}
-
 fn plan_of(
     alloc: Global,
     view: &View<'_>,
@@ -145,22 +97,18 @@ fn plan_of(
     requires few { length kinds.now < 2 ^ 32 }
     ensures { IfOk result (λ p. IsRefined (draft_of view.now) p) }
 {
-    let Ok(workflow) = view.workflow.name.copied(alloc) else {
-        drop(pairs);
-        return Err(Memory);
-    };
-    let Ok((sites, files)) = sites_and_files(alloc, view, tables) else {
-        drop(workflow);
-        drop(pairs);
-        return Err(Memory);
-    };
-    let Ok((jobs, tasks)) = jobs_and_tasks(alloc, view, tables, pairs.as_slice(), kinds) else {
-        drop(files);
-        drop(sites);
-        drop(workflow);
-        drop(pairs);
-        return Err(Memory);
-    };
+    let workflow = view.workflow.name.copied(alloc)?;
+    let sites = sites_of(alloc, view.request.execute.as_slice())?;
+    let files = files_of(alloc, view, tables)?;
+    let jobs = jobs_of(alloc, view)?;
+    let tasks = all_tasks(
+        alloc,
+        view,
+        tables,
+        jobs.as_slice(),
+        pairs.as_slice(),
+        kinds,
+    )?;
     Ok(Plan {
         workflow,
         sites,

@@ -38,23 +38,10 @@ pub fn tables_of(alloc: Global, view: &View<'_>) -> Result<Tables, Memory>
     ensures { IfOk result (λ t. AreTables (draft_of view.now) t) }
 {
     let held = held(alloc, view)?;
-    let Ok(stood) = stood(alloc, view) else {
-        drop(held);
-        return Err(Memory);
-    };
-    let Ok(requested) = requested_files(alloc, view.workflow) else {
-        drop(stood);
-        drop(held);
-        return Err(Memory);
-    };
+    let stood = stood(alloc, view)?;
+    let requested = requested_files(alloc, view.workflow)?;
     let names = view.workflow.files.as_slice();
-    let stated = view.workflow.sizes.as_slice();
-    let Ok(sizes) = declared_sizes(alloc, view.request, names, stated) else {
-        drop(requested);
-        drop(stood);
-        drop(held);
-        return Err(Memory);
-    };
+    let sizes = declared_sizes(alloc, view.request, names, view.workflow.sizes.as_slice())?;
     Ok(Tables {
         held,
         stood,
