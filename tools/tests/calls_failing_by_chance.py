@@ -86,10 +86,11 @@ static int fails(const char *kind, const char *path) {
 
 static int is_at_site(const char *path) { return strncmp(path, "sites/", 6) == 0; }
 
-/* What is done to a file by opening it: nothing that concerns a run for a document. */
+/* What is done to a file by opening it: nothing that concerns a run for a document, and for the working folder, which is
+   opened for its lock alone. */
 static const char *opening_of(const char *path, int flags) {
     size_t length = strlen(path);
-    if (path[0] == '/' || (length > 5 && strcmp(path + length - 5, ".json") == 0)) return NULL;
+    if (path[0] == '/' || strcmp(path, ".") == 0 || (length > 5 && strcmp(path + length - 5, ".json") == 0)) return NULL;
     return flags & O_CREAT ? "draft" : is_at_site(path) ? "site" : "replica";
 }
 
