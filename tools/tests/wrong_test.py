@@ -153,6 +153,13 @@ for name, text in GOOD.items():
     (top / "crates/low/wrong" / name).write_text(text)
 status, lines, _ = call(top, "--look", "low")
 assert status == 1 and lines[-1] == "wrong: looked at 5 edits outside the gate and 0 of the gate, 1 bad", lines
+(top / "crates/low/unsettled").mkdir()
+(top / "crates/low/unsettled/twice.edit").write_text(FAULTS["twice.edit"][0])
+shutil.copy(top / "crates/low/wrong" / next(iter(GOOD)), top / "crates/low/unsettled")
+status, lines, _ = call(top, "--look", "low")
+assert status == 1 and lines[-1] == "wrong: looked at 5 edits outside the gate and 0 of the gate, 2 bad; 1 unsettled besides", lines
+assert call(top, "--unsettled", "high")[0] == 2
+shutil.rmtree(top / "crates/low/unsettled")
 
 rt = work / "bin" / "rt"
 rt.parent.mkdir()
