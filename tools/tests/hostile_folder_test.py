@@ -414,6 +414,23 @@ def second_run_before_files(place):
     return tried
 
 
+def resumed_beside(place):
+    """A run that failed isn't gone on with beside another one in the folder, and is once that one has ended."""
+    write(place, [delivery("a")], [replica("a", "zeros")])
+    resume = ("resume", "request.json", "record")
+    failed, _ = begin(place, ALONE).communicate(timeout=120)
+    (place / "record").write_text(failed)
+    line = hole(place / "zeros")
+    with stopped(place, ALONE, lambda: parts(place)) as running:
+        before = files(place)
+        for second in (resume, ("produce", "request.json")):
+            assert call(place, second) == (6, ["failed host 0"]) and files(place) == before, second
+        running.send_signal(signal.SIGCONT)
+        assert end(running) == (0, [line, "done"])
+    assert call(place, resume) == (0, [line, "done"])
+    return 5
+
+
 def begun_workflow(place):
     """Jobs that sort some lines each, and files of a megabyte that are delivered, so that an end comes in the middle of one."""
     lines = mixed(10_000)
@@ -480,7 +497,7 @@ def main():
         return
     subjects = (
         leaving, named_documents, links, forbidden, fills, no_names_left, folders_as_files, exchanged, streams, devices, growing,
-        second_run, second_run_before_files, killed,
+        second_run, second_run_before_files, resumed_beside, killed,
     )
     count = 0
     for subject in subjects:
