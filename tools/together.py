@@ -68,7 +68,8 @@ def grouped(plan, key):
         after = {place[parent] for task in tasks for parent in task.after}
         earlier = sorted(parent for parent in after if columns[parent] < column)
         groups.append(Group(at, kind, site, label, earlier, column=column, members=tasks))
-    return draw.Plan(plan.name, plan.sites, tasks=groups, order=list(range(len(groups))))
+    marked = {place[number]: f"{plan.tasks[number].named()} {said}" for number, said in plan.marked.items()}
+    return draw.Plan(plan.name, plan.sites, tasks=groups, order=list(range(len(groups))), marked=marked)
 
 
 def groups_of(plan, names):

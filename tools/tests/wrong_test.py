@@ -1,9 +1,10 @@
-"""Tests of tools/wrong over small edits: each fault is told; what a stand-in for rt answers is counted, over a copy in which
-the edits stand in must-fail/, and the repository is as it was; edits are put together by the functions that they change,
-and what the stand-in says of each function is read."""
+"""Tests of tools/wrong: each edit of the repository can be applied. And over small ones: each fault is told, and each rule
+listed; what a stand-in for rt answers is counted, over a copy in which the edits stand in must-fail/, and the repository is as
+it was; edits are put together by the functions that they change, and what the stand-in says of each function is read."""
 import importlib.machinery
 import os
 import pathlib
+import re
 import shutil
 import subprocess
 import sys
@@ -13,8 +14,11 @@ CODE = "fn one() -> u64 {\n    1 + 1\n}\n"
 FAULTS = {
     "absent.edit": ("file: src/lib.rt\nold: 2\nnew: 3\n", "its text stands 0 times in src/lib.rt, and not once: 2"),
     "bare.edit": ("file: src/lib.rt\n", "it has no pair of 'old:' and 'new:'"),
+    "blank.edit": ("rule: \nfile: src/lib.rt\nold: 1 + 1\nnew: 2\n", "its first line, `rule: RULE`, doesn't tell the rule that it breaks"),
     "headless.edit": ("old: fn\nnew: fm\n", "a line 'new:' has no 'file:' or no 'old:' before it"),
     "lost.edit": ("file: src/gone.rt\nold: 1\nnew: 2\n", "there is no file src/gone.rt"),
+    "late.edit": ("file: src/lib.rt\nrule: One.\nold: 1 + 1\nnew: 2\n", "its first line, `rule: RULE`, doesn't tell the rule that it breaks"),
+    "long.edit": ("rule: " + "o" * 101 + "\nfile: src/lib.rt\nold: 1 + 1\nnew: 2\n", "its rule has 101 characters, and at most 100 are wanted"),
     "odd.edit": ("file: src/lib.rt\nold: fn\nor: fm\n", "a line that is none of 'file: ', 'old: ' and 'new: ': or: fm"),
     "outer.edit": ("file: ../x/src/lib.rt\nold: 1\nnew: 2\n", "../x/src/lib.rt is no file below src/, specs/ or proofs/"),
     "same.edit": ("file: src/lib.rt\nold: fn\nnew: fn\n", "it changes nothing"),
@@ -22,12 +26,14 @@ FAULTS = {
     "wrong.txt": ("", "an edit stands right in its folder, and its name ends in .edit"),
 }
 GOOD = {
-    "a.edit": "file: src/lib.rt\nold: 1 + 1\nnew: 1 + 2\n",
-    "b.edit": "file: src/lib.rt\nold: 1 + 1\nnew: 1 + 2 + 3\nold: + 3\nnew: + 4\n",
-    "c.edit": "file: src/lib.rt\nold: fn one\nnew:\n",
-    "d.edit": "file: src/lib.rt\nold: u64\nnew: u32\n",
-    "e.edit": "file: src/lib.rt\nold: u64\nnew: u16\n",
+    "a.edit": "rule: " + "o" * 100 + "\nfile: src/lib.rt\nold: 1 + 1\nnew: 1 + 2\n",
+    "b.edit": "rule: Two.\nfile: src/lib.rt\nold: 1 + 1\nnew: 1 + 2 + 3\nold: + 3\nnew: + 4\n",
+    "c.edit": "rule: Three.\nfile: src/lib.rt\nold: fn one\nnew:\n",
+    "d.edit": "rule: Four.\nfile: src/lib.rt\nold: u64\nnew: u32\n",
+    "e.edit": "rule: Five.\nfile: src/lib.rt\nold: u64\nnew: u16\n",
 }
+GATE = "file: src/lib.rt\nold: 1 + 1\nnew: 0\n"
+RULES = 'RULES = {"low/zero": "One and one are two.", "low/gone": "None.", "lower/zero": "Of another crate."}\n'
 RT = """#!/usr/bin/env bash
 [ "$1" = must-fail ] && [ "$2" = low ] && [ ! -e crates/low/wrong ] && [ -e crates/low/out/rlib/low.rlib/format ] || exit 2
 [ "$(echo crates/low/must-fail/*)" = "$(printf 'crates/low/must-fail/%s.edit ' a b c d e | sed 's/ $//')" ] || exit 2
@@ -132,10 +138,15 @@ def call(top, *words, **env):
     return ran.returncode, ran.stdout.splitlines(), ran.stderr
 
 
+status, lines, _ = call(pathlib.Path.cwd(), "--look")
+looked = re.match(r"wrong: looked at (\d+) edits outside the gate and (\d+) of the gate, 0 bad", lines[-1])
+assert status == 0 and looked and int(looked[1]) + int(looked[2]) >= 100, lines
+
 top = work / "top"
 for folder in ("tools", "crates/low/src", "crates/low/wrong", "crates/low/must-fail", "crates/low/out/rlib/low.rlib", "crates/high/src"):
     (top / folder).mkdir(parents=True)
 shutil.copy("tools/wrong", top / "tools")
+(top / "tools/gate_rules.py").write_text("RULES = {}\n")
 (top / "crates.txt").write_text("# the crates\nhigh: low std\nlow:\n")
 (top / "HANDLES").write_text("Handles allowed: none.\n")
 (top / "crates/low/src/lib.rt").write_text(CODE)
@@ -144,7 +155,7 @@ shutil.copy("tools/wrong", top / "tools")
 for name, (text, _) in FAULTS.items():
     (top / "crates/low/wrong" / name).write_text(text)
 status, lines, _ = call(top, "--look")
-assert status == 1 and lines[-1] == "wrong: looked at 0 edits outside the gate and 0 of the gate, 9 bad", lines
+assert status == 1 and lines[-1] == f"wrong: looked at 0 edits outside the gate and 0 of the gate, {len(FAULTS)} bad", lines
 assert sorted(lines[:-1]) == [f"wrong: crates/low/wrong/{it}: BAD EDIT: {why}" for it, (_, why) in sorted(FAULTS.items())], lines
 for name in FAULTS:
     (top / "crates/low/wrong" / name).unlink()
@@ -153,13 +164,29 @@ for name, text in GOOD.items():
     (top / "crates/low/wrong" / name).write_text(text)
 status, lines, _ = call(top, "--look", "low")
 assert status == 1 and lines[-1] == "wrong: looked at 5 edits outside the gate and 0 of the gate, 1 bad", lines
-(top / "crates/low/unsettled").mkdir()
-(top / "crates/low/unsettled/twice.edit").write_text(FAULTS["twice.edit"][0])
-shutil.copy(top / "crates/low/wrong" / next(iter(GOOD)), top / "crates/low/unsettled")
+(top / "crates/low/must-fail/twice.edit").unlink()
+(top / "crates/low/must-fail/zero.edit").write_text(GATE)
+status, lines, _ = call(top, "--look")
+assert status == 1 and lines[0] == "wrong: crates/low/must-fail/zero.edit: BAD EDIT: tools/gate_rules.py doesn't tell the rule that it breaks", lines
+(top / "tools/gate_rules.py").write_text(RULES)
+status, lines, _ = call(top, "--look")
+lost = [f"wrong: tools/gate_rules.py has a rule of {it}, and there is no such edit in must-fail/" for it in ("low/gone", "lower/zero")]
+assert status == 1 and lines[:-1] == lost, lines
+(top / "tools/gate_rules.py").write_text(RULES.partition(", ")[0] + "}\n")
 status, lines, _ = call(top, "--look", "low")
-assert status == 1 and lines[-1] == "wrong: looked at 5 edits outside the gate and 0 of the gate, 2 bad; 1 unsettled besides", lines
-assert call(top, "--unsettled", "high")[0] == 2
-shutil.rmtree(top / "crates/low/unsettled")
+assert status == 0 and lines == ["wrong: looked at 5 edits outside the gate and 1 of the gate, 0 bad"], lines
+told = [f"low {name[0]}: {text.splitlines()[0][6:]}" for name, text in GOOD.items()] + ["low zero: One and one are two."]
+assert call(top, "--list") == (0, told, "") and call(top, "--list", "low") == (0, told, ""), call(top, "--list")
+assert call(top, "--list", "high")[0] == 2
+for k in range(5):
+    (top / f"crates/low/wrong/more{k}.edit").write_text(f"rule: More {k // 4}.\nfile: src/lib.rt\nold: u64\nnew: u{k + 1}\n")
+status, lines, _ = call(top, "--look")
+assert status == 1 and lines[0] == "wrong: crates/low has 11 edits, and at most 10 are wanted", lines
+assert lines[1:4] == [f"wrong: crates/low/wrong/more{k}.edit and crates/low/wrong/more0.edit break the same rule" for k in (1, 2, 3)], lines
+assert lines[4:] == ["wrong: looked at 10 edits outside the gate and 1 of the gate, 4 bad"], lines
+for k in range(5):
+    (top / f"crates/low/wrong/more{k}.edit").unlink()
+(top / "crates/low/must-fail/zero.edit").unlink()
 
 rt = work / "bin" / "rt"
 rt.parent.mkdir()
@@ -179,8 +206,9 @@ for name, text in TOGETHER.items():
     (top / "crates/mid" / name).write_text(text)
 (top / "crates/mid/wrong").mkdir()
 for name, (file, old, new, _) in PLANTS.items():
-    (top / "crates/mid/wrong" / name).write_text(f"file: {file}\nold: {old}\nnew: {new}\n")
+    (top / "crates/mid/wrong" / name).write_text(f"rule: Of {name}.\nfile: {file}\nold: {old}\nnew: {new}\n")
 sys.dont_write_bytecode = True
+sys.path.insert(0, str(top / "tools"))
 tool = importlib.machinery.SourceFileLoader("wrong", str(top / "tools/wrong")).load_module()
 places = {it.name: tool.place_of(tool.changes_of(it, "mid"), "mid") for it in tool.edits_of("mid", "wrong")[0]}
 assert {it: place and place.name for it, place in places.items()} == {it: plant[3] for it, plant in PLANTS.items()}, places
@@ -196,4 +224,4 @@ assert lines[-2].startswith("wrong: mid: 8 edits in 7 checks and "), lines
 assert lines[-1] == "wrong: 2 refused at a goal, 3 refused otherwise, 2 not refused, 1 bad, 0 not tried", lines
 assert (into / "mid.txt").read_text().splitlines()[:-1] == HEARD.splitlines() and (into / "mid.log").exists()
 assert (top / "crates/mid/src/lib.rt").read_text() == TOGETHER["src/lib.rt"]
-print(f"wrong: ok, {len(FAULTS)} faults, {len(PLANTS)} edits together")
+print(f"wrong: ok, {looked[1]} and {looked[2]} edits, {len(FAULTS)} faults, {len(PLANTS)} edits together")
