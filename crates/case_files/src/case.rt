@@ -140,7 +140,7 @@ impl Weather {
 }
 
 /// Which part of what a call writes a case says.
-#[derive(Clone, Copy, Debug, PartialEq, Eq)]
+#[derive(Clone, Copy, PartialEq, Eq)]
 pub enum Part {
     Whole,
     /// What follows the last line of a record. Of a run by several workers the record differs from call to call.

@@ -16,7 +16,7 @@ use std::alloc::Global;
 use values::{Items, Memory, PairId, TaskId};
 
 /// Want of memory; the plan comes back as it was.
-#[derive(Debug, Drop)]
+#[derive(Drop)]
 pub struct CleanRefused {
     pub plan: Plan,
 }
@@ -74,39 +74,6 @@ fn cleans(alloc: Global, plan: &Plan) -> Result<Vec<Task>, Memory>
     cleans_of(alloc, plan, &touching)
 }
 
-/// The plan with more tasks after its own, or as it was.
-fn with_tasks(plan: Plan, more: Vec<Task>) -> Result<Plan, CleanRefused>
-    ensures ok { IfOk result (λ p. p ≡ record plan { tasks = plan.tasks ++ more.items }) }
-    ensures err { IfErr result (λ r. r.plan ≡ plan) }
-{
-    let Plan {
-        workflow,
-        sites,
-        files,
-        jobs,
-        pairs,
-        tasks,
-        policy,
-    } = plan;
-    let mut tasks = tasks.into_vec();
-    let mut more = more;
-    let added = tasks.append(&mut more).is_ok();
-    let plan = Plan {
-        workflow,
-        sites,
-        files,
-        jobs,
-        pairs,
-        tasks: Items::new(tasks),
-        policy,
-    };
-    if added {
-        Ok(plan)
-    } else {
-        Err(CleanRefused { plan })
-    }
-}
-
 /// Adds the Cleans that a strategy asks for, in n log n of the plan's size.
 pub fn add_cleans(alloc: Global, plan: Plan, strategy: Cleanup) -> Result<Plan, CleanRefused>
     requires { IsProper plan }
@@ -117,7 +84,10 @@ pub fn add_cleans(alloc: Global, plan: Plan, strategy: Cleanup) -> Result<Plan, 
         return Ok(plan);
     }
     match cleans(alloc, &plan) {
-        Ok(cleans) => with_tasks(plan, cleans),
+        Ok(cleans) => match plan.with_tasks(cleans) {
+            Ok(plan) => Ok(plan),
+            Err(plan) => Err(CleanRefused { plan }),
+        },
         Err(Memory) => Err(CleanRefused { plan }),
     }
 }

@@ -5,7 +5,7 @@ ghost use Rattle.clustering.specs.declared.fault.ClusterFault.TheVariants as fau
 
 use values::{Items, Memory, Text};
 
-#[derive(Debug, Drop)]
+#[derive(Drop)]
 pub enum ClusterFault {
     /// The id of a job, and the key of its profile that is no number.
     BadNumber(Text, Text),

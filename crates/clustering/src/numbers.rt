@@ -9,7 +9,7 @@ use values::Text;
 use workflow_core::Job;
 
 /// Numbers of at least 1, where they are stated.
-#[derive(Clone, Copy, Debug, PartialEq, Eq)]
+#[derive(Clone, Copy, PartialEq, Eq)]
 pub struct Numbers {
     pub num: Option<u32>,
     pub size: Option<u32>,

@@ -7,7 +7,7 @@ use crate::numbers::{images_in, workers_in};
 use crate::said::Said;
 
 /// What starts no thread and waits for nobody, with what its words say.
-#[derive(Clone, Copy, Debug)]
+#[derive(Clone, Copy)]
 pub enum Quick<'a> {
     /// Reads the workflow of a request.
     Check(&'a str),
@@ -34,7 +34,7 @@ pub enum Quick<'a> {
 }
 
 /// What may start threads and wait, with what its words say, and how many workers.
-#[derive(Clone, Copy, Debug)]
+#[derive(Clone, Copy)]
 pub enum Threaded<'a> {
     /// Runs the plan of a request with so many workers.
     Run(&'a str, u32),

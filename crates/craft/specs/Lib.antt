@@ -1,2 +1,4 @@
+pub mod EntryNotes
 pub mod Faulty
 pub mod Notes
+pub mod Placed

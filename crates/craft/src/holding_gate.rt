@@ -2,10 +2,12 @@
 
 ghost use Rattle.std.specs.Prelude.{◌≡◌, []};
 
+use crate::entry_notes::EntryNotes;
 use crate::gate::Gate;
 use crate::holding::Hold;
 use crate::notes::Notes;
 use outside::TaskId;
+use run_record::Record;
 use std::sync::Arc;
 use std::sync::atomic::Ordering;
 
@@ -16,17 +18,20 @@ pub struct HoldingGate {
     hold: Arc<Hold>,
     limit: u64,
     notes: Notes,
+    entries: EntryNotes,
 }
 
 impl HoldingGate {
     /// `limit` is how often the held task looks for another one before it goes on.
     pub fn new(hold: Arc<Hold>, limit: u64) -> HoldingGate
-        ensures { ⟦<HoldingGate as Gate>⟧.asked result ≡ [] }
+        ensures asked { ⟦<HoldingGate as Gate>⟧.asked result ≡ [] }
+        ensures told { ⟦<HoldingGate as Gate>⟧.told result ≡ [] }
     {
         HoldingGate {
             hold,
             limit,
             notes: Notes::new(),
+            entries: EntryNotes::new(),
         }
     }
 
@@ -43,9 +48,12 @@ impl HoldingGate {
 }
 
 impl Gate for HoldingGate {
+    ghost use Rattle.craft.specs.EntryNotes.{entries_noted};
     ghost use Rattle.craft.specs.Notes.{noted};
 
     ghost asked = { λ g. noted g.notes };
+
+    ghost told = { λ g. entries_noted g.entries };
 
     fn before(&mut self, task: TaskId) {
         self.notes.add(task);
@@ -53,4 +61,8 @@ impl Gate for HoldingGate {
     }
 
     fn idle(&mut self) {}
+
+    fn entered(&mut self, history: &Record) {
+        self.entries.add(history);
+    }
 }

@@ -1,12 +1,15 @@
 //! A worker's tool and gate, and tools over another one for tests.
 //!
-//! A [`Gate`] is called outside the lock, before a task's bytes are moved and where a worker has nothing to do; [`OpenGate`]
-//! lets everything pass, and [`HoldingGate`] holds the first task until another one came. Contracts see the tasks for which
-//! a gate was called, in order; [`Notes`] are such a list, which has no bytes in a program. [`Faulty`] fails at stated
-//! runs, and [`Holding`] holds the first run until another one was answered.
+//! A [`Gate`] is called outside the lock, before a task's bytes are moved and where a worker has nothing to do, and told in
+//! the worker's turn each entry that it has added; [`OpenGate`] lets everything pass, and [`HoldingGate`] holds the first
+//! task until another one came. Contracts see the tasks for which a gate was called and the entries that it was told, in
+//! order; [`Notes`] and [`EntryNotes`] are such lists, which have no bytes in a program. [`Faulty`] fails at stated runs,
+//! and [`Holding`] holds the first run until another one was answered.
 #![tactic(auto)]
 
 mod crew;
+mod entry_note;
+mod entry_notes;
 mod faulty;
 mod gate;
 mod holding;
@@ -15,6 +18,8 @@ mod note;
 mod notes;
 
 pub use crew::Crew;
+pub use entry_note::EntryNote;
+pub use entry_notes::EntryNotes;
 pub use faulty::Faulty;
 pub use gate::{Gate, OpenGate};
 pub use holding::{Hold, Holding};

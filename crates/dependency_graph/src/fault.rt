@@ -5,7 +5,7 @@ ghost use Rattle.dependency_graph.specs.declared.fault.GraphFault.TheVariants.{M
 
 use values::{Items, Memory, Text};
 
-#[derive(Debug, Drop)]
+#[derive(Drop)]
 pub enum GraphFault {
     /// A file's name, and the ids of the first two jobs that make it.
     TwoProducers(Text, Text, Text),

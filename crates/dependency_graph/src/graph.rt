@@ -13,12 +13,22 @@ use std::marker::Model;
 use values::{FileId, JobId, Memory};
 
 /// The jobs before and after each job, the job that makes each file, and an order of all jobs.
-#[derive(Drop)]
 pub struct Graph {
     producers: Vec<Option<JobId>>,
     parents: Vec<Vec<JobId>>,
     children: Vec<Vec<JobId>>,
     ordered: Vec<JobId>,
+}
+
+impl Drop for Graph {
+    fn drop(self) {
+        let Graph {
+            producers,
+            parents,
+            children,
+            ordered,
+        } = self;
+    }
 }
 
 impl Model for Graph {

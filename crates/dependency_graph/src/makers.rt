@@ -12,7 +12,7 @@ use values::{FileId, JobId, Memory};
 use workflow_core::{Job, Output};
 
 /// The first two jobs that make a file.
-#[derive(Clone, Copy, Debug, PartialEq, Eq)]
+#[derive(Clone, Copy, PartialEq, Eq)]
 pub struct Makers {
     pub first: Option<JobId>,
     pub second: Option<JobId>,

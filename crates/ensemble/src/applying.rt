@@ -28,14 +28,14 @@ pub fn member_request(
         drop(request);
         return Err(Memory);
     };
-    Ok(PlanRequest {
+    let policy = policy_copied(&ensemble.policy);
+    Ok(request.with_execution(
         execute,
-        cluster: ensemble.cluster,
-        cleanup: ensemble.cleanup,
-        force: ensemble.force,
-        policy: policy_copied(&ensemble.policy),
-        ..request
-    })
+        ensemble.cluster,
+        ensemble.cleanup,
+        ensemble.force,
+        policy,
+    ))
 }
 
 /// The request that the ensemble makes by itself.

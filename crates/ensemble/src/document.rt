@@ -4,7 +4,6 @@ use plan_request::{Cleanup, ClusterMode, Execution};
 use values::{Items, Policy, Text};
 
 /// A whole ensemble: its members, and the keys that are the same for all of them.
-#[derive(Debug, Drop)]
 pub struct Ensemble {
     pub members: Items<MemberEntry>,
     pub execute: Items<Execution>,
@@ -15,8 +14,21 @@ pub struct Ensemble {
     pub policy: Policy,
 }
 
+impl Drop for Ensemble {
+    fn drop(self) {
+        let Ensemble {
+            members,
+            execute,
+            cluster,
+            cleanup,
+            force,
+            policy,
+        } = self;
+    }
+}
+
 /// A member: its name, and that of its request's document.
-#[derive(Debug, Drop)]
+#[derive(Drop)]
 pub struct MemberEntry {
     pub name: Text,
     pub request: Text,

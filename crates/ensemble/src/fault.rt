@@ -9,7 +9,7 @@ use peg_json::{ReadFault, TreeFault};
 use values::{Memory, Text};
 
 /// Why bytes are no ensemble.
-#[derive(Debug, Drop)]
+#[derive(Drop)]
 pub enum EnsembleFault {
     /// A fault of the tree, or of the execution sites.
     Read(ReadFault),

@@ -6,7 +6,7 @@ ghost use Rattle.ensemble.specs.declared.join_fault.JoinFault.TheVariants as fau
 use peg_json::Counted;
 use values::Memory;
 
-#[derive(Debug, Drop)]
+#[derive(Drop)]
 pub enum JoinFault {
     /// How many jobs or files there are, and the limit.
     TooMany(Counted, u64, u64),

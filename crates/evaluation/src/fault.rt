@@ -9,7 +9,7 @@ use run_record::RunFault;
 use std::alloc::AllocFailed;
 
 /// Why a workflow gives no values.
-#[derive(Debug, Drop)]
+#[derive(Drop)]
 pub enum EvaluationFault {
     /// A file that no job makes, of which no place is registered.
     NoReplica(Text),

@@ -14,7 +14,7 @@ use std::alloc::Global;
 use workflow_core::Workflow;
 
 /// The first place of a file that is registered, and the SHA-256 that is registered for it.
-#[derive(Debug, Drop)]
+#[derive(Drop)]
 pub struct Source {
     pub lfn: Text,
     pub pfn: Text,

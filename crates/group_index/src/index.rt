@@ -7,7 +7,7 @@ use tournament_tree::{Key, Tree};
 
 /// By position its group, and how many positions of that group stand before it; by group how many positions it has, and a
 /// tree with the key of each by that place: its number, and the position.
-#[derive(Debug, Drop)]
+#[derive(Drop)]
 pub struct GroupIndex {
     pub groups: Vec<u32>,
     pub(crate) seats: Vec<u32>,

@@ -5,7 +5,7 @@ ghost use Rattle.workflow_core.specs.WellFormed.{IsWellFormed};
 
 use crate::by_hand::workflow;
 use dependency_graph::build;
-use outside::{Items, JobId};
+use outside::{Items, JobId, Memory};
 use std::alloc::Global;
 use std::test::Fail;
 use workflow_core::{Workflow, is_well_formed};
@@ -21,19 +21,23 @@ fn is_linked(alloc: Global, workflow: &Workflow) -> bool
     }
 }
 
-fn is_as_stated(alloc: Global, workflow: &Workflow) -> Result<bool, Fail> {
+fn is_as_stated(alloc: Global, workflow: &Workflow) -> Result<bool, Memory> {
     if !is_well_formed(alloc, workflow)? || workflow.jobs.as_slice().len() != 2 {
         return Ok(false);
     }
     Ok(is_linked(alloc, workflow))
 }
 
+/// The same, and that the workflow isn't well formed without its sizes.
+fn are_told(alloc: Global) -> Result<bool, Memory> {
+    let mut workflow = workflow(alloc)?;
+    let is_stated = is_as_stated(alloc, &workflow)?;
+    workflow.sizes = Items::new(Vec::new(alloc));
+    Ok(is_stated && !is_well_formed(alloc, &workflow)?)
+}
+
 #[test]
 fn a_workflow_of_two_jobs(rt: HostRuntime) -> Result<(), Fail> {
-    let alloc = rt.alloc();
-    let mut workflow = workflow(alloc)?;
-    assert!(rt; is_as_stated(alloc, &workflow)?);
-    workflow.sizes = Items::new(Vec::new(alloc));
-    assert!(rt; !is_well_formed(alloc, &workflow)?);
+    assert!(rt; are_told(rt.alloc()).ok() == Some(true));
     Ok(())
 }

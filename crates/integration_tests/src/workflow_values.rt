@@ -20,13 +20,17 @@ fn are_given_back(alloc: Global) -> Result<bool, Memory> {
     Ok(text.into_string().as_str() == "abc" && blob.into_vec().as_slice() == b"xy".as_slice())
 }
 
+fn are_shortest(alloc: Global) -> Result<bool, Memory> {
+    let chain = Digraph::from_edges(alloc, 4, &[(0, 1), (1, 2), (3, 1), (3, 2)])?;
+    let distances = chain.distances_to(alloc, 2)?;
+    Ok(distances.as_slice() == [Some(2), Some(1), Some(0), Some(1)].as_slice())
+}
+
 #[test]
 fn values_and_distances(rt: HostRuntime) -> Result<(), Fail> {
     let alloc = rt.alloc();
     assert!(rt; are_any(alloc).ok() == Some(true));
-    assert!(rt; are_given_back(alloc)?);
-    let chain = Digraph::from_edges(alloc, 4, &[(0, 1), (1, 2), (3, 1), (3, 2)])?;
-    let distances = chain.distances_to(alloc, 2)?;
-    assert!(rt; distances.as_slice() == [Some(2), Some(1), Some(0), Some(1)].as_slice());
+    assert!(rt; are_given_back(alloc).ok() == Some(true));
+    assert!(rt; are_shortest(alloc).ok() == Some(true));
     Ok(())
 }

@@ -20,7 +20,6 @@ use storage_simulation::{Bench, Ordered};
 use values::{Memory, TaskId};
 
 /// A plan's order, the record of its run, and room for all that may still come.
-#[derive(Drop)]
 pub struct Book {
     pub(crate) plan: Plan,
     pub(crate) order: Vec<TaskId>,
@@ -33,6 +32,19 @@ pub struct Book {
         (task_numbers order.items) history state },
     ghost place: { HasPlace plan trial },
     ghost fresh: { IsFor plan bench },
+}
+
+impl Drop for Book {
+    fn drop(self) {
+        let Book {
+            plan,
+            order,
+            history,
+            state,
+            trial,
+            bench,
+        } = self;
+    }
 }
 
 fn copied(alloc: Global, tasks: &[TaskId]) -> Result<Vec<TaskId>, Memory>

@@ -19,7 +19,7 @@ use run_record::Entry;
 use values::TaskId;
 
 /// What a worker may do next.
-#[derive(Debug, Clone, Copy)]
+#[derive(Clone, Copy)]
 pub enum Next {
     Task(TaskId),
     Done,

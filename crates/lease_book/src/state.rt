@@ -24,7 +24,6 @@ use values::{Memory, TaskId};
 
 /// A state; the allocator makes empty lists, which take no memory. The tasks that are left are those of the trees, whose
 /// numbers for a fresh order are made in room of its own.
-#[derive(Drop)]
 pub struct RunState {
     pub(crate) alloc: Global,
     pub(crate) standing: Standing,
@@ -35,6 +34,22 @@ pub struct RunState {
     pub(crate) peaks: Peaks,
     pub(crate) links: Links,
     pub(crate) levels: Vec<u64>,
+}
+
+impl Drop for RunState {
+    fn drop(self) {
+        let RunState {
+            alloc,
+            standing,
+            holders,
+            agains,
+            failed,
+            failing,
+            peaks,
+            links,
+            levels,
+        } = self;
+    }
 }
 
 #[tactic(auto, using(crate::proofs::ArrayLemmas::at_set))]

@@ -19,7 +19,7 @@ use storage_simulation::{Standing, place_bound, places, usage_after};
 use values::{Memory, SiteId, TaskId};
 
 /// A standing in which the start of a task is tried.
-#[derive(Debug, Drop)]
+#[derive(Drop)]
 pub struct Trial {
     alloc: Global,
     pub(crate) standing: Standing,

@@ -5,7 +5,7 @@ ghost use Rattle.outside.specs.Counts.{IsLater, no_calls, one_done, one_fault, o
 
 /// How often a call did what it was asked, failed, or found that something was absent or too long.
 /// No number ever falls; at its type's end it stands still. Want of memory isn't counted.
-#[derive(Clone, Copy, Debug, PartialEq, Eq)]
+#[derive(Clone, Copy, PartialEq, Eq)]
 pub struct Counts {
     pub done: u64,
     pub faults: u64,

@@ -7,7 +7,7 @@ use std::marker::Model;
 use values::{Memory, Text};
 
 /// A change of a store.
-#[derive(Debug, Drop)]
+#[derive(Drop)]
 pub enum Operation {
     /// A site, a file's name and its length in bytes.
     Publish(Text, Text, u64),
@@ -32,7 +32,7 @@ impl Clone for Operation {
 }
 
 /// The changes that a store has made, in order.
-#[derive(Debug, Drop)]
+#[derive(Drop)]
 pub struct Operations {
     inner: Vec<Operation>,
 }

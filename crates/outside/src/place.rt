@@ -3,7 +3,7 @@
 use values::Text;
 
 /// A place of a store: a site and a file's name there, or the name of a delivered file.
-#[derive(Debug, Drop)]
+#[derive(Drop)]
 pub enum Place {
     Scratch(Text, Text),
     Delivery(Text),

@@ -11,7 +11,7 @@ use crate::steps::Steps;
 use std::sync::ledger::Ledger;
 
 /// What is done up to a position.
-#[derive(Clone, Copy, Debug)]
+#[derive(Clone, Copy)]
 pub enum Change {
     /// Adds this to each number up to the position.
     Add(i64),

@@ -8,7 +8,7 @@ use crate::steps::Steps;
 use std::sync::ledger::Ledger;
 
 /// How far the greatest number of each part is below that of both.
-#[derive(Clone, Copy, Debug)]
+#[derive(Clone, Copy)]
 pub struct Gaps {
     pub left: Option<u64>,
     pub right: Option<u64>,
@@ -16,7 +16,7 @@ pub struct Gaps {
 
 /// Some positions side by side. The node over it, or the tree, knows its greatest number.
 #[cycle(node)]
-#[derive(Debug, Drop)]
+#[derive(Drop)]
 pub enum Node {
     Empty,
     Position,
@@ -25,7 +25,7 @@ pub enum Node {
 
 /// Two parts, of which the left one has so many positions.
 #[cycle(node)]
-#[derive(Debug, Drop)]
+#[derive(Drop)]
 pub struct Parts {
     pub middle: usize,
     pub gaps: Gaps,

@@ -15,7 +15,7 @@ use std::sync::ledger::{Blank, Ledger};
 use values::Memory;
 
 /// A list with a live number, or none, at each position.
-#[derive(Debug, Drop)]
+#[derive(Drop)]
 pub struct PeakTree {
     greatest: Option<u64>,
     root: Node,

@@ -7,7 +7,7 @@ use std::alloc::{AllocError, AllocFailed};
 use values::{Memory, Text};
 
 /// The first fault of a tree.
-#[derive(Debug, Drop)]
+#[derive(Drop)]
 pub enum TreeFault {
     Syntax,
     MissingKey(Text),

@@ -12,7 +12,7 @@ use std::alloc::Global;
 use values::Text;
 
 /// A text that is not empty.
-#[derive(Debug, Drop)]
+#[derive(Drop)]
 pub struct Name(pub Text);
 
 impl FromTree for Name {

@@ -9,7 +9,7 @@ use std::alloc::{AllocError, AllocFailed};
 use values::{Memory, Text};
 
 /// What there are too many of.
-#[derive(Clone, Copy, Debug, PartialEq, Eq)]
+#[derive(Clone, Copy, PartialEq, Eq)]
 pub enum Counted {
     Jobs,
     Files,
@@ -18,7 +18,7 @@ pub enum Counted {
 }
 
 /// Why bytes are no document.
-#[derive(Debug, Drop)]
+#[derive(Drop)]
 pub enum ReadFault {
     Tree(TreeFault),
     /// How many there are, and the limit.

@@ -1,7 +1,7 @@
 //! A row of a table: a key, and what its value has to be.
 
 /// What a value has to be.
-#[derive(Clone, Copy, Debug, PartialEq, Eq)]
+#[derive(Clone, Copy, PartialEq, Eq)]
 pub enum Kind {
     Name,
     Text,

@@ -20,10 +20,10 @@ use Rattle.pegasus_cli.specs.Moments.{Call, Output}
 use Rattle.pegasus_cli.specs.Outcome.{IsAnswer, closing, line_of, outcome_of}
 use Rattle.pegasus_cli.proofs.OutcomeLemmas.{no_usage, outcome_done}
 
-pub ends_as : (o : Output) (text : List ℕ) (a : Outcome) → (a ≡ outcomes.Memory → ⊥) → IsAnswer a → Appends o.before.written o.after.written text → Ends o text a a
-ends_as o text outcomes.Memory m i h = absurd (m refl)
-ends_as o text outcomes.SinkFailed m i h = absurd i
-ends_as o text a m i h = (refl, h)
+pub ends_as : (o : Output) (text : List ℕ) (a : Outcome) → (a ≡ outcomes.Memory → ⊥) → IsAnswer a → o.after.faults ≡ o.before.faults → Appends o.before.written o.after.written text → Ends o text a a
+ends_as o text outcomes.Memory m i f h = absurd (m refl)
+ends_as o text outcomes.SinkFailed m i f h = absurd i
+ends_as o text a m i f h = (refl, f, h)
 
 -- what a failing sink took
 pub cut_short : (old new : Option (List ℕ)) (from to : ℕ) (piece all text : List ℕ) (a : Outcome) (f : SinkFault) → piece ≡ all → all ≡ text → WroteAll old new from to piece (Err f) → (a ≡ outcomes.Memory → ⊥)
@@ -69,11 +69,11 @@ command_answered law c k says outcome text is does ends = record {
 }
 
 -- Memory ran out as the words were read, which are a command.
-pub unread_answered : (law : Laws) (c : Call) (o : Option Command) → command_of c.asked.words ≡ o → is_some o ≡ true → c.asked.after ≡ c.asked.before → c.work.after ≡ c.work.before → c.tools.after ≡ c.tools.before → Keeps c.output.before.written c.output.after.written → IsAnswered c outcomes.Memory
-unread_answered law c None is there asked work tools kept = absurd cc
-unread_answered law c (Some k) is there asked work tools kept =
+pub unread_answered : (law : Laws) (c : Call) (o : Option Command) → command_of c.asked.words ≡ o → is_some o ≡ true → c.asked.after ≡ c.asked.before → c.work.after ≡ c.work.before → c.tools.after ≡ c.tools.before → c.output.after.faults ≡ c.output.before.faults → Keeps c.output.before.written c.output.after.written → IsAnswered c outcomes.Memory
+unread_answered law c None is there asked work tools still kept = absurd cc
+unread_answered law c (Some k) is there asked work tools still kept =
     command_answered law c k (not_for Memory) outcomes.Memory [] is
-    (inl (record { fault = Memory; comes = subst (λ (m : DocsMoment). (spec_of k).Comes c.asked.before m (Err Memory)) (sym asked) (unbegun k c.asked.before); answers = refl; untouched = work; unused = tools; no_text = refl })) kept
+    (inl (record { fault = Memory; comes = subst (λ (m : DocsMoment). (spec_of k).Comes c.asked.before m (Err Memory)) (sym asked) (unbegun k c.asked.before); answers = refl; untouched = work; unused = tools; no_text = refl })) (still, kept)
 
 pub keeps_same : (written : Option (List ℕ)) → Keeps written written
 keeps_same None = tt

@@ -31,7 +31,7 @@ use Rattle.pegasus_cli.specs.Outcome.{closing, line_of}
 use Rattle.pegasus_cli.proofs.CallLemmas.{same_command}
 use Rattle.pegasus_cli.proofs.OutcomeLemmas.{done_is}
 
-pub headline_of : (w : Work) (t : Tools) (n : ℕ) (s : Surveyed) (text : List ℕ) → HasRunPlan w t n s text done → Headline w n s text
+pub headline_of : (w : Work) (t : Tools) (n : ℕ) (s : Surveyed) (text : List ℕ) → HasRunPlan w t n s text done → Headline w t n s text
 headline_of w t n s text h = record {
   plan = h.plan;
   order = h.order;
@@ -42,6 +42,7 @@ headline_of w t n s text h = record {
   by_workers = h.ran.run.below;
   complete = (ended_tells w h.plan (task_numbers h.order) h.ran.r h.end h.answers h.ran.tells).1;
   printed = subst (IsRunText w.apply h.plan h.ran.r w.before.told) (sym h.text_is) (ended_reports w h.plan h.ran.r h.report h.end h.answers h.ran.reports).text;
+  told = h.ran.run.told;
   operations = told_so w h.plan h.ran.r (DeliversRequested w s h.plan h.ran.r) (λ old new. new.trace ≡ old.trace ++ trace_of h.plan h.ran.r) h.ran.run.shown h.delivers (λ m new agrees d. agrees.trace);
   within = λ k q l. (h.ran.run.safe k).within q l;
   output = h.ran.run.output;
@@ -66,10 +67,10 @@ run_so c n request text s goes_on written (inr h) = ∥∥₁_map h (λ (k : Has
   headline = headline_of c.work c.tools n s text k;
 })
 
-pub joint_so : (n : ℕ) (w : Work) (t : Tools) (j : Joined) (text : List ℕ) → RunsJoint (RunsMany n) w t j text done → ∥ Headline w n j.surveyed text ∥₁
+pub joint_so : (n : ℕ) (w : Work) (t : Tools) (j : Joined) (text : List ℕ) → RunsJoint (RunsMany n) w t j text done → ∥ Headline w t n j.surveyed text ∥₁
 joint_so n w t j text h = by h.runs
   where
-    by : RunsMany n w t j.surveyed text done → ∥ Headline w n j.surveyed text ∥₁
+    by : RunsMany n w t j.surveyed text done → ∥ Headline w t n j.surveyed text ∥₁
     by (inl refused) = absurd (not_refused j.surveyed w t text refused)
     by (inr ran) = ∥∥₁_map ran (λ (k : HasRunPlan w t n j.surveyed text done). headline_of w t n j.surveyed text k)
 
@@ -81,7 +82,7 @@ done_so c n request text written (inr h) = run_so c n request text h.inputs h.co
 pub holds : (c : Call) (outcome : Outcome) → IsAnswered c outcome → HoldsOf c outcome
 holds c outcome answered n request is ended = by answered.came
   where
-    ends : (outcomes.Done None ≡ answered.answer) × Appends c.output.before.written c.output.after.written answered.text
+    ends : (outcomes.Done None ≡ answered.answer) × (c.output.after.faults ≡ c.output.before.faults) × Appends c.output.before.written c.output.after.written answered.text
     ends = subst (Ends c.output answered.text answered.answer) ended answered.ends
 
     by : IsUsage c answered.text answered.answer ⊎ IsDoneBy c answered.text answered.answer → ∥ EndsSo c request n ∥₁
@@ -90,4 +91,4 @@ holds c outcome answered n request is ended = by answered.came
         let same = same_command (command_of c.asked.words) came.command (InThreads (Run request n)) came.is_command is in
         let does = subst (λ (k : Command). Does (spec_of k) (doing_of c) came.told came.says) same came.does in
         let text = came.text_is ∙ ap (λ (k : Command). came.told ++ closing (has_line k) answered.answer) same ∙ ap (λ (a : Outcome). came.told ++ line_of a) (sym ends.0) in
-        done_so c n request came.told (subst (Appends c.output.before.written c.output.after.written) text ends.1) (subst (Does (run request n) (doing_of c) came.told) (done_is came.says (ends.0 ∙ came.answers)) does)
+        done_so c n request came.told (subst (Appends c.output.before.written c.output.after.written) text ends.2) (subst (Does (run request n) (doing_of c) came.told) (done_is came.says (ends.0 ∙ came.answers)) does)

@@ -35,12 +35,14 @@ pub record IsDoneBy (c : Call) (text : List ℕ) (answer : Outcome) : Type 0 whe
   pub answers : answer ≡ outcome_of says
   pub text_is : text ≡ told ++ closing (has_line command) answer
 
--- What was written: the text; a prefix of it where the sink failed; nothing at want of memory.
+-- What was written: the text; a prefix of it where the sink failed; nothing at want of memory. No write failed but where
+-- the answer says so.
 abbrev pub Ends : Output → List ℕ → Outcome → Outcome → Type 0
-Ends o text answer outcomes.Memory = Keeps o.before.written o.after.written
+Ends o text answer outcomes.Memory = (o.after.faults ≡ o.before.faults) × Keeps o.before.written o.after.written
 Ends o text answer outcomes.SinkFailed = Rose o.before.faults o.after.faults × (answer ≡ outcomes.Memory → ⊥)
     × (n : ℕ) × Appends o.before.written o.after.written (take n text)
-Ends o text answer outcome = (outcome ≡ answer) × Appends o.before.written o.after.written text
+Ends o text answer outcome = (outcome ≡ answer) × (o.after.faults ≡ o.before.faults)
+    × Appends o.before.written o.after.written text
 
 -- no count of faults rose
 pub record NoneRose (c : Call) : Type 0 where

@@ -18,7 +18,8 @@ use Rattle.site_yard.specs.Law.{IsDeliveryOf}
 use Rattle.site_yard.specs.Leaving.{left_in}
 use Rattle.site_yard.specs.Trace.{trace_of}
 use Rattle.planner.specs.declared.surveyed.Surveyed.{Surveyed}
-use Rattle.plan_run.specs.Moments.{Work}
+use Rattle.worker_gate.specs.Telling.{placed_by}
+use Rattle.plan_run.specs.Moments.{Tools, Work, told_of}
 use Rattle.plan_run.specs.Running.{AreWithinOutput, IsRunText}
 use Rattle.pegasus_commands.specs.Commands.Plan.{task_limit}
 use Rattle.pegasus_commands.specs.PlanRun.{AreHonestIn, AreSet, ShownBy, value_in}
@@ -30,7 +31,7 @@ use Rattle.pegasus_cli.specs.declared.outcome.Outcome.{Outcome}
 use Rattle.pegasus_cli.specs.declared.outcome.Outcome.TheVariants.{Done}
 
 -- The run of the survey's plan that ended with `done`: its record, and what was delivered.
-pub record Headline (w : Work) (workers : ℕ) (s : Surveyed) (text : List ℕ) : Type 0 where
+pub record Headline (w : Work) (t : Tools) (workers : ℕ) (s : Surveyed) (text : List ℕ) : Type 0 where
   -- the plan and the order that are stated for the documents, and the run's one record
   pub plan : Plan
   pub order : List TaskId
@@ -43,6 +44,8 @@ pub record Headline (w : Work) (workers : ℕ) (s : Surveyed) (text : List ℕ) 
   pub complete : IsComplete plan (now plan (task_numbers order) history)
   -- this record is the one that is printed, with what was delivered
   pub printed : IsRunText w.apply plan history w.before.told text
+  -- and each worker's gate was told that worker's entries of it, in the worker's turns, each with its place, and nothing else
+  pub told : (k : ℕ) → k < workers → told_of t.after k ≡ told_of t.before k ++ placed_by k 0 history
   -- the host's operations are those that it names, and no others
   pub operations : ShownBy w (λ old new. new.trace ≡ old.trace ++ trace_of plan history)
   -- after every entry each place's reserved and stored bytes are within its bound
@@ -69,7 +72,7 @@ pub record EndsSo (c : Call) (request : List ℕ) (workers : ℕ) : Type 0 where
   pub read : GoesOn request c.asked.before c.asked.after surveyed
   pub text : List ℕ
   pub written : Appends c.output.before.written c.output.after.written (text ++ line_of (Done None))
-  pub headline : Headline c.work workers surveyed text
+  pub headline : Headline c.work c.tools workers surveyed text
 
 abbrev pub HoldsOf : Call → Outcome → Type 0
 HoldsOf c outcome = (workers : ℕ) (request : List ℕ)

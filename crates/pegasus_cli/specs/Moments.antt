@@ -6,7 +6,7 @@ use Rattle.outside.specs.declared.docs.Docs as docs
 use Rattle.outside.specs.declared.host.Host as host
 use Rattle.outside.specs.declared.sink.Sink as sink
 use Rattle.outside.specs.declared.tool.Tool as tool
-use Rattle.plan_run.specs.Moments.{Tools, Work, counting, crew_moment, first_count, work_moment, working}
+use Rattle.plan_run.specs.Moments.{Tools, Work, counting, crew_moment, first_shown, work_moment, working}
 use Rattle.pegasus_commands.specs.Moments.{DocsMoment, docs_moment}
 
 -- the bytes written, where they are told, and how often the sink has failed
@@ -62,7 +62,7 @@ unfoldable pub call_of : {D K H Reading Draft T G : Type 0} → docs.Ghosts D �
     → Objects D K H T G → Call
 call_of d k h t g words old new =
     call (asking words (docs_moment d old.docs) (docs_moment d new.docs))
-    (working t.apply t.known (work_moment h old.host (first_count (crew_moment t g old.crew)))
-    (work_moment h new.host (first_count (crew_moment t g new.crew))))
+    (working t.apply t.known (work_moment h old.host (first_shown (crew_moment t g old.crew)))
+    (work_moment h new.host (first_shown (crew_moment t g new.crew))))
     (counting (crew_moment t g old.crew) (crew_moment t g new.crew))
     (writing (sink_moment k old.sink) (sink_moment k new.sink))

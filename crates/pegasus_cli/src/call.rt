@@ -68,8 +68,9 @@ pub(crate) fn refuse_words<K: Sink>(alloc: Global, out: &mut K) -> Outcome
     finish(alloc, out, Vec::new(alloc), true, Outcome::Usage)
 }
 
-/// Does what words say that start no thread, and writes what came of it; it waits for nobody, and asks no gate. It
-/// works with the first member of the crew, and with each of them where it goes on from a record.
+/// Does what words say that start no thread, and writes what came of it; it waits for nobody, and asks no gate, but tells
+/// it what its worker adds to a record. It works with the first member of the crew, and with each of them where it goes
+/// on from a record.
 pub fn quick<D: Docs, K: Sink, H: Host, T: Tool, G: Gate>(
     alloc: Global,
     words: &[String],
@@ -87,8 +88,8 @@ pub fn quick<D: Docs, K: Sink, H: Host, T: Tool, G: Gate>(
     ensures crew { length result.2.items ≡ 16 }
     ensures others { let used = members_of (command (list_map string_bytes words.now)) in
         drop used result.2.items ≡ drop used crew.items }
-    ensures gates { list_map (λ (c : Crew T G). c.gate) result.2.items
-        ≡ list_map (λ (c : Crew T G). c.gate) crew.items }
+    ensures gates { list_map (λ (c : Crew T G). G.asked c.gate) result.2.items
+        ≡ list_map (λ (c : Crew T G). G.asked c.gate) crew.items }
 {
     // Laws for the proof: they do nothing.
     runs_finish();

@@ -61,5 +61,5 @@ pub fn printed_runs_are_complete()
 pub fn joints_keep_the_headline()
     ensures { (n : ℕ) (w : Work) (t : Tools) (j : Joined) (text : List ℕ)
         → RunsJoint (RunsMany n) w t j text done
-        → ∥ Headline w n j.surveyed text ∥₁ }
+        → ∥ Headline w t n j.surveyed text ∥₁ }
 {}

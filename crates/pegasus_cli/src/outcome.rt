@@ -16,7 +16,7 @@ const USAGE: &str =
     "usage: pegasus check|plan|eval|alone REQ, run REQ --workers N, audit|stat REQ RECORD, resume REQ RECORD, produce REQ, ensemble ENS [--workers N], schedule REQ, rehearse N [--workers N]";
 
 /// How a call ended.
-#[derive(Debug, Drop)]
+#[derive(Drop)]
 pub enum Outcome {
     /// All was done; a rehearsal gives its record and its store back, and every other command nothing.
     Done(Option<Rehearsal>),

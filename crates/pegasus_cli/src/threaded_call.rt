@@ -102,8 +102,8 @@ where
     ensures others { let used = members_of (command (list_map string_bytes words.now)) in
         drop used result.2.items ≡ drop used crew.items }
     ensures gates { is_threaded (list_map string_bytes words.now) ≡ false
-        → list_map (λ (c : Crew T G). c.gate) result.2.items
-        ≡ list_map (λ (c : Crew T G). c.gate) crew.items }
+        → list_map (λ (c : Crew T G). G.asked c.gate) result.2.items
+        ≡ list_map (λ (c : Crew T G). G.asked c.gate) crew.items }
 {
     if threaded(words) {
         in_threads(rt, alloc, words, docs, out, host, crew)

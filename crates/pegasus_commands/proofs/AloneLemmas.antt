@@ -28,6 +28,7 @@ pub alone_is : (w : Work) (t : Tools) (s : Surveyed) (p : Plan) (order : List Ta
 alone_is w t s p order log text ds e ready laws requests means run = inr (∥∥₁_map run (λ (h : HasRunAlone w p (task_numbers order) (reporting log text ds) e). record {
   planned = run_is w (first_tool w) 1 s p order (reporting log text ds) e ready laws requests means h.ran;
   in_order = h.in_order;
+  asked = h.asked;
 }))
 
 first_still : (w : Work) → (Rose w.before.tool w.after.tool → ⊥) → (k : ℕ) → k < 1 → Rose (count_of (first_tool w).before k) (count_of (first_tool w).after k) → ⊥

@@ -5,17 +5,17 @@ use Rattle.std.specs.Prelude.{Some, slice_set}
 use Rattle.craft.specs.declared.crew.Crew.{Crew}
 use Rattle.craft.specs.declared.gate.Gate as gate
 use Rattle.outside.specs.declared.tool.Tool as tool
-use Rattle.plan_run.specs.Moments.{MemberMoment, crew_moment, first_count, member_moment}
+use Rattle.plan_run.specs.Moments.{MemberMoment, crew_moment, first_shown, member_moment}
 use Rattle.command_words.specs.declared.commands.Quick.{Quick as QuickWords}
 use Rattle.command_words.specs.declared.commands.Quick.TheVariants as quick_words
 use Rattle.command_words.specs.Words.{quick_members, quick_of}
 
--- the count of the first member of a crew, before and after it worked
-pub first_is : {A : Type 0} (shown : A → MemberMoment) (crew : List A) (first : A) → length crew ≡ 16 → first ≡ get_or crew 0 first → first_count (map shown crew) ≡ (shown first).faults
+-- the first member of a crew, before and after it worked
+pub first_is : {A : Type 0} (shown : A → MemberMoment) (crew : List A) (first : A) → length crew ≡ 16 → first ≡ get_or crew 0 first → first_shown (map shown crew) ≡ shown first
 first_is shown [] first long is = absurd (omega (arith, long))
-first_is shown (m ∷ ms) first long is = ap (λ x. (shown x).faults) (sym is)
+first_is shown (m ∷ ms) first long is = ap shown (sym is)
 
-pub first_set : {A : Type 0} (shown : A → MemberMoment) (crew : List A) (first : A) → length crew ≡ 16 → first_count (map shown (slice_set crew 0 first)) ≡ (shown first).faults
+pub first_set : {A : Type 0} (shown : A → MemberMoment) (crew : List A) (first : A) → length crew ≡ 16 → first_shown (map shown (slice_set crew 0 first)) ≡ shown first
 first_set shown [] first long = absurd (omega (arith, long))
 first_set shown (m ∷ ms) first long = refl
 
@@ -24,9 +24,9 @@ pub all_stay : {A B : Type 0} (part : A → B) (crew : List A) (first last : A) 
 all_stay part [] first last is same = refl
 all_stay part (m ∷ ms) first last is same = ap (λ x. x ∷ map part ms) (same ∙ ap part is)
 
--- where the first member's count and gate stayed, all members show the same
-pub members_stay : {T G : Type 0} (t : tool.Ghosts T) (g : gate.Ghosts G) (crew : List (Crew T G)) (first last : Crew T G) → first ≡ get_or crew 0 first → last.gate ≡ first.gate → t.faults last.tool ≡ t.faults first.tool → crew_moment t g (slice_set crew 0 last) ≡ crew_moment t g crew
-members_stay t g crew first last is gate_same same = all_stay (member_moment t g) crew first last is (λ i. record { faults = same i; asked = Some (g.asked (gate_same i)) })
+-- where the first member's count stayed, and what its gate was asked and told, all members show the same
+pub members_stay : {T G : Type 0} (t : tool.Ghosts T) (g : gate.Ghosts G) (crew : List (Crew T G)) (first last : Crew T G) → first ≡ get_or crew 0 first → g.asked last.gate ≡ g.asked first.gate → t.faults last.tool ≡ t.faults first.tool → g.told last.gate ≡ g.told first.gate → crew_moment t g (slice_set crew 0 last) ≡ crew_moment t g crew
+members_stay t g crew first last is asked same told = all_stay (member_moment t g) crew first last is (λ i. record { faults = same i; asked = Some (asked i); told = told i })
 
 -- what stands behind the first member stays
 pub rest_stays : {A : Type 0} (crew : List A) (last : A) → drop 1 (slice_set crew 0 last) ≡ drop 1 crew

@@ -88,7 +88,7 @@ produce_is w t s p order x e text a ready laws writes fits requests means run te
     record {
       said = x.text;
       ran = end_answer e;
-      run = record { planned = planned; in_order = h.in_order };
+      run = record { planned = planned; in_order = h.in_order; asked = h.asked };
       says = tells_so s.survey p x.delivered x.text e text a tells (λ is written. catalogue_is w s p (task_numbers order) x e text writes ready.proper fits is requests h (subst (AllDelivered s p h.ran.r) (sym is) planned.complete) written);
     }))
 

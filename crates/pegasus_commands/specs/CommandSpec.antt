@@ -46,9 +46,9 @@ pub record HasWorked (k : CommandSpec) (d : Doing) (text : List ℕ) (answer : A
 abbrev pub Does : CommandSpec → Doing → List ℕ → Answer → Type 0
 Does k d text answer = IsStopped k d text answer ⊎ HasWorked k d text answer
 
--- of the tools no more may have changed than the first one
+-- of the crew no more may have changed than the first member's tool, and what its gate was told
 abbrev pub OfFirst : Work → Tools → Type 0
-OfFirst w t = w.after.tool ≡ w.before.tool → t.after ≡ t.before
+OfFirst w t = w.after.tool ≡ w.before.tool → w.after.entered ≡ w.before.entered → t.after ≡ t.before
 
 -- no count of faults rose as it worked
 pub record NoneRoseAtWork (w : Work) (t : Tools) : Type 0 where

@@ -2,7 +2,7 @@
 
 ghost use Rattle.std.specs.Prelude.{◌≡◌, [], drop, length, map};
 ghost use Rattle.craft.specs.declared.crew.Crew.{Crew};
-ghost use Rattle.plan_run.specs.Moments.{Tools, counting, crew_moment, first_count, work_moment, working};
+ghost use Rattle.plan_run.specs.Moments.{Tools, counting, crew_moment, first_shown, member_moment, work_moment, working};
 ghost use Rattle.pegasus_commands.specs.Commands.{has_line, quick_spec, threaded_spec};
 ghost use Rattle.pegasus_commands.specs.CommandSpec.{Does, OfFirst, doing};
 ghost use Rattle.pegasus_commands.specs.Fault.{not_for};
@@ -79,13 +79,13 @@ fn work_by_first<D: Docs, H: Host, T: Tool, G: Gate>(
 ) -> Worked<H>
     requires first { quick_members (quick_of command) ≡ 1 }
     requires images { HasImages (quick_of command) }
-    ensures does { let w = working T.apply T.known (work_moment H.Host host (T.faults crew.old.tool))
-        (work_moment H.Host result.host (T.faults crew.new.tool)) in
+    ensures does { let w = working T.apply T.known (work_moment H.Host host (member_moment T.Tool G.Gate crew.old))
+        (work_moment H.Host result.host (member_moment T.Tool G.Gate crew.new)) in
         (t : Tools) → OfFirst w t
         → Does (quick_spec (quick_of command.entry))
         (doing (docs_moment D.Docs docs.old) (docs_moment D.Docs docs.new) w t)
         result.told.text.items result.told.answer }
-    ensures gate { crew.new.gate ≡ crew.old.gate }
+    ensures gate { G.asked crew.new.gate ≡ G.asked crew.old.gate }
 {
     let mut host = host;
     match command {
@@ -138,14 +138,14 @@ pub fn work<D: Docs, H: Host, T: Tool, G: Gate>(
         let after = crew_moment T.Tool G.Gate crew.new.items in
         Does (quick_spec (quick_of command.entry))
         (doing (docs_moment D.Docs docs.old) (docs_moment D.Docs docs.new)
-        (working T.apply T.known (work_moment H.Host host (first_count before))
-        (work_moment H.Host result.host (first_count after)))
+        (working T.apply T.known (work_moment H.Host host (first_shown before))
+        (work_moment H.Host result.host (first_shown after)))
         (counting before after)) result.told.text.items result.told.answer }
     ensures crew { length crew.new.items ≡ 16 }
     ensures others { let used = quick_members (quick_of command.entry) in
         drop used crew.new.items ≡ drop used crew.old.items }
-    ensures gates { map (λ (c : Crew T G). c.gate) crew.new.items
-        ≡ map (λ (c : Crew T G). c.gate) crew.old.items }
+    ensures gates { map (λ (c : Crew T G). G.asked c.gate) crew.new.items
+        ≡ map (λ (c : Crew T G). G.asked c.gate) crew.old.items }
 {
     match command {
         Quick::Resume(name, history) => resume::work(alloc, name, history, docs, host, crew),
@@ -178,8 +178,8 @@ where
         let after = crew_moment T.Tool G.Gate crew.new.items in
         Does (threaded_spec (threaded_of command.entry))
         (doing (docs_moment D.Docs docs.old) (docs_moment D.Docs docs.new)
-        (working T.apply T.known (work_moment H.Host host (first_count before))
-        (work_moment H.Host result.host (first_count after)))
+        (working T.apply T.known (work_moment H.Host host (first_shown before))
+        (work_moment H.Host result.host (first_shown after)))
         (counting before after)) result.told.text.items result.told.answer }
     ensures crew { length crew.new.items ≡ 16 }
     ensures others { let used = threaded_members (threaded_of command.entry) in

@@ -15,7 +15,7 @@ use run_record::RunFault;
 use std::alloc::AllocFailed;
 
 /// Why a command isn't done.
-#[derive(Debug, Drop)]
+#[derive(Drop)]
 pub enum CallFault {
     /// No memory was left.
     Memory,

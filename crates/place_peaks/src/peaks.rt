@@ -8,7 +8,6 @@ use values::TaskId;
 /// By task: whether it is left in the order, its place, its seat among the tasks of its place, what it brings there, and
 /// how many parents haven't ended. By place: how many tasks of the line change it, what is held, and the tree of the line.
 /// No task of the line before the position `first` is left, and `ready` knows which are left and have no open parent.
-#[derive(Debug, Drop)]
 pub struct Peaks {
     pub(crate) line: Vec<TaskId>,
     pub(crate) left: Vec<bool>,
@@ -22,4 +21,23 @@ pub struct Peaks {
     pub(crate) trees: Vec<PeakTree>,
     pub(crate) first: usize,
     pub(crate) ready: Ready,
+}
+
+impl Drop for Peaks {
+    fn drop(self) {
+        let Peaks {
+            line,
+            left,
+            homes,
+            seats,
+            needs,
+            missing,
+            again,
+            widths,
+            base,
+            trees,
+            first,
+            ready,
+        } = self;
+    }
 }

@@ -21,7 +21,7 @@ use values::{Memory, TaskId};
 
 /// By task its position in the line; and by position its group, which is the place of its task, or one number more for
 /// tasks without one, and the score of the task, where that is ready: what it needs, and one more.
-#[derive(Debug, Drop)]
+#[derive(Drop)]
 pub struct Ready {
     pub(crate) positions: Vec<u32>,
     pub(crate) groups: Vec<u32>,

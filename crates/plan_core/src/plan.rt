@@ -1,16 +1,18 @@
 //! A plan: tables of sites, files, jobs and pairs, and the tasks over them.
 
+ghost use Rattle.std.specs.Prelude.{◌≡◌, ◌++◌, IfErr, IfOk};
+
 use values::{FileId, Items, JobId, PairId, Policy, SiteId, TaskId, Text};
 
 /// An execution site; the bound is in bytes.
-#[derive(Debug, Drop)]
+#[derive(Drop)]
 pub struct PlanSite {
     pub name: Text,
     pub bound: u64,
 }
 
 /// A file; the declared size is in bytes, the checksum a SHA-256.
-#[derive(Debug, Drop)]
+#[derive(Drop)]
 pub struct PlanFile {
     pub lfn: Text,
     pub declared: Option<u64>,
@@ -19,7 +21,6 @@ pub struct PlanFile {
 }
 
 /// A job; a dropped one has no site.
-#[derive(Debug, Drop)]
 pub struct PlanJob {
     pub id: Text,
     pub tool: Text,
@@ -29,29 +30,42 @@ pub struct PlanJob {
     pub site: Option<SiteId>,
 }
 
+impl Drop for PlanJob {
+    fn drop(self) {
+        let PlanJob {
+            id,
+            tool,
+            arguments,
+            inputs,
+            outputs,
+            site,
+        } = self;
+    }
+}
+
 /// A file at a site.
-#[derive(Debug, Clone, Copy)]
+#[derive(Clone, Copy)]
 pub struct Pair {
     pub site: SiteId,
     pub file: FileId,
 }
 
 /// Where a transferred file comes from.
-#[derive(Debug, Drop)]
+#[derive(Drop)]
 pub enum Source {
     Pfn(Text),
     Site(SiteId),
 }
 
 /// Where a transferred file goes.
-#[derive(Debug, Clone, Copy)]
+#[derive(Clone, Copy)]
 pub enum Target {
     Site(SiteId),
     Delivery,
 }
 
 /// What a task does.
-#[derive(Debug, Drop)]
+#[derive(Drop)]
 pub enum TaskKind {
     Transfer {
         file: FileId,
@@ -68,7 +82,6 @@ pub enum TaskKind {
 }
 
 /// A task, with the pairs that it reads and writes and the tasks that it waits for.
-#[derive(Debug, Drop)]
 pub struct Task {
     pub kind: TaskKind,
     pub reads: Items<PairId>,
@@ -76,8 +89,18 @@ pub struct Task {
     pub parents: Items<TaskId>,
 }
 
+impl Drop for Task {
+    fn drop(self) {
+        let Task {
+            kind,
+            reads,
+            writes,
+            parents,
+        } = self;
+    }
+}
+
 /// A plan. A site, file, job, pair or task has the number of its place.
-#[derive(Debug, Drop)]
 pub struct Plan {
     pub workflow: Text,
     pub sites: Items<PlanSite>,
@@ -86,4 +109,49 @@ pub struct Plan {
     pub pairs: Items<Pair>,
     pub tasks: Items<Task>,
     pub policy: Policy,
+}
+
+impl Drop for Plan {
+    fn drop(self) {
+        let Plan {
+            workflow,
+            sites,
+            files,
+            jobs,
+            pairs,
+            tasks,
+            policy,
+        } = self;
+    }
+}
+
+impl Plan {
+    /// The plan with more tasks after its own; at want of memory as it was.
+    pub fn with_tasks(self, more: Vec<Task>) -> Result<Plan, Plan>
+        ensures ok { IfOk result (λ p. p ≡ record self { tasks = self.tasks ++ more.items }) }
+        ensures err { IfErr result (λ p. p ≡ self) }
+    {
+        let Plan {
+            workflow,
+            sites,
+            files,
+            jobs,
+            pairs,
+            tasks,
+            policy,
+        } = self;
+        let mut tasks = tasks.into_vec();
+        let mut more = more;
+        let added = tasks.append(&mut more).is_ok();
+        let plan = Plan {
+            workflow,
+            sites,
+            files,
+            jobs,
+            pairs,
+            tasks: Items::new(tasks),
+            policy,
+        };
+        if added { Ok(plan) } else { Err(plan) }
+    }
 }

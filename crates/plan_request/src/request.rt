@@ -1,9 +1,10 @@
 //! What a request asks for.
 
+ghost use Rattle.std.specs.Prelude.{◌≡◌};
+
 use values::{Items, Policy, Text};
 
 /// A whole request. Sizes are in bytes.
-#[derive(Debug, Drop)]
 pub struct PlanRequest {
     /// The documents' names.
     pub workflow: Text,
@@ -27,22 +28,100 @@ pub struct PlanRequest {
     pub runtimes: Items<Runtime>,
 }
 
+impl Drop for PlanRequest {
+    fn drop(self) {
+        let PlanRequest {
+            workflow,
+            sites,
+            replicas,
+            transformations,
+            execute,
+            sizes,
+            default_size,
+            cluster,
+            cleanup,
+            force,
+            tools,
+            policy,
+            selector,
+            rate,
+            runtimes,
+        } = self;
+    }
+}
+
+impl PlanRequest {
+    /// The request with other sites, and with these keys in place of its own.
+    pub fn with_execution(
+        self,
+        execute: Items<Execution>,
+        cluster: ClusterMode,
+        cleanup: Cleanup,
+        force: bool,
+        policy: Policy,
+    ) -> PlanRequest
+        ensures { result ≡ record self {
+          execute = execute;
+          cluster = cluster;
+          cleanup = cleanup;
+          force = force;
+          policy = policy;
+        } }
+    {
+        let PlanRequest {
+            workflow,
+            sites,
+            replicas,
+            transformations,
+            execute: own_execute,
+            sizes,
+            default_size,
+            cluster: _,
+            cleanup: _,
+            force: _,
+            tools,
+            policy: own_policy,
+            selector,
+            rate,
+            runtimes,
+        } = self;
+        drop(own_execute);
+        PlanRequest {
+            workflow,
+            sites,
+            replicas,
+            transformations,
+            execute,
+            sizes,
+            default_size,
+            cluster,
+            cleanup,
+            force,
+            tools,
+            policy,
+            selector,
+            rate,
+            runtimes,
+        }
+    }
+}
+
 /// A site that runs jobs, with the bound on the bytes that it holds.
-#[derive(Debug, Drop)]
+#[derive(Drop)]
 pub struct Execution {
     pub site: Text,
     pub bound: u64,
 }
 
 /// The size of a file, whatever its uses state.
-#[derive(Debug, Drop)]
+#[derive(Drop)]
 pub struct SizeOf {
     pub lfn: Text,
     pub size: u64,
 }
 
 /// The tool that does the work of a transformation.
-#[derive(Debug, Drop)]
+#[derive(Drop)]
 pub struct ToolOf {
     pub transformation: Text,
     pub tool: Text,
@@ -50,7 +129,7 @@ pub struct ToolOf {
 
 /// How long the jobs of a transformation run at a site, in seconds, from 1 to 2^32. Of two such
 /// entries the first one holds.
-#[derive(Debug, Drop)]
+#[derive(Drop)]
 pub struct Runtime {
     pub transformation: Text,
     pub site: Text,
@@ -58,14 +137,14 @@ pub struct Runtime {
 }
 
 /// How sites are chosen: in turns, or each job's where it would be finished first.
-#[derive(Clone, Copy, Debug, PartialEq, Eq)]
+#[derive(Clone, Copy, PartialEq, Eq)]
 pub enum Selector {
     RoundRobin,
     Heft,
 }
 
 /// Which jobs are put together into one task.
-#[derive(Clone, Copy, Debug, PartialEq, Eq)]
+#[derive(Clone, Copy, PartialEq, Eq)]
 pub enum ClusterMode {
     None,
     Horizontal,
@@ -73,7 +152,7 @@ pub enum ClusterMode {
 }
 
 /// When files are removed from a site.
-#[derive(Clone, Copy, Debug, PartialEq, Eq)]
+#[derive(Clone, Copy, PartialEq, Eq)]
 pub enum Cleanup {
     None,
     Inplace,

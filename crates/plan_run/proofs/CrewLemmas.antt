@@ -1,11 +1,12 @@
 -- A run by the first members of a crew, told of the whole crew.
-use Rattle.std.proofs.Common.{◌≡◌, ℕ, ◌<◌, ◌++◌, List, length, map, take, drop, sym, ap, subst, ◌∙◌, arith}
+use Rattle.std.proofs.Common.{◌≡◌, ℕ, ◌<◌, ◌++◌, List, [], length, map, take, drop, sym, ap, subst, ◌∙◌, arith}
 use Rattle.std.proofs.Math.Logic.{∥∥₁_map}
 use Rattle.std.proofs.lemmas.List.{get_or_append_left, length-map, take-append-drop}
 use Rattle.plan_core.specs.declared.plan.Plan.{Plan}
 use Rattle.site_yard.specs.Failures.{RoseBy, tool_faults}
 use Rattle.lease_rules.specs.Owning.{entries_by}
-use Rattle.plan_run.specs.Moments.{MemberMoment, Tools, Work, asked_of, count_of, counting, first_count, gateless, shown_of}
+use Rattle.worker_gate.specs.Telling.{placed_by}
+use Rattle.plan_run.specs.Moments.{MemberMoment, Tools, Work, asked_of, count_of, counting, first_shown, gateless, shown_of}
 use Rattle.plan_run.specs.Running.{End, HasAsked, HasRun, Report}
 use Rattle.plan_run.proofs.MembersLemmas.{first_of_both, map_both}
 
@@ -26,6 +27,7 @@ with_tools w t u n p order x a before after h = record {
     counted = h.run.counted;
     tools = λ k l. subst (λ (m : MemberMoment). RoseBy (tool_faults k h.r) m.faults (count_of u.after k)) (sym (before k l)) (subst (λ (m : MemberMoment). RoseBy (tool_faults k h.r) (count_of t.before k) m.faults) (sym (after k l)) (h.run.tools k l));
     gates = λ k l. subst (λ (m : MemberMoment). HasAsked (entries_by k h.r) m.asked (asked_of u.after k)) (sym (before k l)) (subst (λ (m : MemberMoment). HasAsked (entries_by k h.r) (asked_of t.before k) m.asked) (sym (after k l)) (h.run.gates k l));
+    told = λ k l. ap (λ (m : MemberMoment). m.told) (after k l) ∙ h.run.told k l ∙ ap (λ (m : MemberMoment). m.told ++ placed_by k 0 h.r) (sym (before k l));
   };
   tells = h.tells;
   reports = h.reports;
@@ -33,20 +35,20 @@ with_tools w t u n p order x a before after h = record {
 
 -- what a crew's first members show
 shown_before : (xs ys : List MemberMoment) (n k : ℕ) → length xs ≡ n → k < n → shown_of (xs ++ ys) k ≡ shown_of xs k
-shown_before xs ys n k many l = get_or_append_left xs ys (gateless 0) k (omega (arith, many, l))
+shown_before xs ys n k many l = get_or_append_left xs ys (gateless 0 []) k (omega (arith, many, l))
 
 -- A plan was run by the first members of the crew.
 many_is : (w : Work) (n : ℕ) (xs ys zs : List MemberMoment) (p : Plan) (order : List ℕ) (x : Report) (a : End) → length xs ≡ n → length ys ≡ n → ∥ HasRun w (counting xs ys) n p order x a ∥₁ → ∥ HasRun w (counting (xs ++ zs) (ys ++ zs)) n p order x a ∥₁
 many_is w n xs ys zs p order x a before after run = ∥∥₁_map run (λ (h : HasRun w (counting xs ys) n p order x a).
     with_tools w (counting xs ys) (counting (xs ++ zs) (ys ++ zs)) n p order x a (λ k l. shown_before xs zs n k before l) (λ k l. shown_before ys zs n k after l) h)
 
--- The same of the whole crew, by a work of which the counts of the first members before and after are left open.
-pub many_of : {A : Type 0} (shown : A → MemberMoment) (crew new members back : List A) (n : ℕ) (w : ℕ → ℕ → Work) (p : Plan) (order : List ℕ) (x : Report) (a : End) → members ≡ take n crew → length members ≡ n → 0 < n → length back ≡ length members → new ≡ back ++ drop n crew
-    → ∥ HasRun (w (first_count (map shown members)) (first_count (map shown back))) (counting (map shown members) (map shown back)) (length members) p order x a ∥₁
-    → ∥ HasRun (w (first_count (map shown crew)) (first_count (map shown new))) (counting (map shown crew) (map shown new)) n p order x a ∥₁
+-- The same of the whole crew, by a work in which the first member before and after is left open.
+pub many_of : {A : Type 0} (shown : A → MemberMoment) (crew new members back : List A) (n : ℕ) (w : MemberMoment → MemberMoment → Work) (p : Plan) (order : List ℕ) (x : Report) (a : End) → members ≡ take n crew → length members ≡ n → 0 < n → length back ≡ length members → new ≡ back ++ drop n crew
+    → ∥ HasRun (w (first_shown (map shown members)) (first_shown (map shown back))) (counting (map shown members) (map shown back)) (length members) p order x a ∥₁
+    → ∥ HasRun (w (first_shown (map shown crew)) (first_shown (map shown new))) (counting (map shown crew) (map shown new)) n p order x a ∥₁
 many_of shown crew new members back n w p order x a taken many some backs news run =
     rw (before, after, first_of_both xs zs n longs some, first_of_both ys zs n longer some)
-    (many_is (w (first_count xs) (first_count ys)) n xs ys zs p order x a longs longer (rw many at run))
+    (many_is (w (first_shown xs) (first_shown ys)) n xs ys zs p order x a longs longer (rw many at run))
   where
     xs : List MemberMoment
     xs = map shown members

@@ -1,14 +1,14 @@
 -- The counts of a crew, and of the members that are taken out of it.
 use Rattle.std.proofs.Common.{◌≡◌, ℕ, zero, suc, ◌<◌, ◌≤◌, ◌++◌, List, [], ◌∷◌, length, map, take, drop, refl, ap, ◌∙◌, arith}
 use Rattle.std.proofs.lemmas.Slice.{drop-append-drop}
-use Rattle.plan_run.specs.Moments.{MemberMoment, first_count}
+use Rattle.plan_run.specs.Moments.{MemberMoment, first_shown}
 
 pub map_both : {A B : Type 0} (f : A → B) (xs ys : List A) → map f (xs ++ ys) ≡ map f xs ++ map f ys
 map_both f [] ys = refl
 map_both f (x ∷ xs) ys = ap (λ zs. f x ∷ zs) (map_both f xs ys)
 
--- the first count is a member's that was taken out
-pub first_of_both : (xs ys : List MemberMoment) (n : ℕ) → length xs ≡ n → 0 < n → first_count (xs ++ ys) ≡ first_count xs
+-- the first member is one that was taken out
+pub first_of_both : (xs ys : List MemberMoment) (n : ℕ) → length xs ≡ n → 0 < n → first_shown (xs ++ ys) ≡ first_shown xs
 first_of_both [] ys n many l = absurd (omega (arith, many, l))
 first_of_both (x ∷ xs) ys n many l = refl
 

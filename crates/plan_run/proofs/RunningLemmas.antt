@@ -1,5 +1,5 @@
 -- A run of a plan: what its yard's record, its host and its tool say of it.
-use Rattle.std.proofs.Common.{◌≡◌, ◌⊎◌, ℕ, ◌+◌, ◌≤◌, ◌<◌, zero, suc, true, List, [], ◌∷◌, length, take, refl, sym, ap, subst, ◌∙◌, inl, inr, arith}
+use Rattle.std.proofs.Common.{◌≡◌, ◌⊎◌, ℕ, ◌+◌, ◌≤◌, ◌<◌, zero, suc, true, List, [], ◌∷◌, ◌++◌, length, take, refl, sym, ap, subst, ◌∙◌, inl, inr, arith}
 use Rattle.std.specs.Prelude.{Option, Some, None, Result, Ok, Err, IfOk, IfSome, MatchOption, is_some}
 use Rattle.std.proofs.lemmas.List.{append-nil}
 use Rattle.outside.specs.Counts.{IsLater}
@@ -35,7 +35,8 @@ use Rattle.site_yard.specs.declared.opening.OpenFault.{OpenFault}
 use Rattle.worker_gate.specs.Alone.{AllBy, IsOver, NoneOpen, WorksAlone, tried}
 use Rattle.worker_gate.specs.Calls.{AddsCalls, AreAllCalls}
 use Rattle.worker_gate.specs.Inputs.{AddsOfInputs, AreOfInputs}
-use Rattle.plan_run.specs.Moments.{MemberMoment, Tools, Work, asked_of, count_of, first_tool, gateless}
+use Rattle.worker_gate.specs.Telling.{IsToldOf, placed_by}
+use Rattle.plan_run.specs.Moments.{MemberMoment, Tools, Work, asked_of, count_of, first_tool, gateless, told_of}
 use Rattle.plan_run.specs.Running.{AreDeliveries, AreWithinOutput, End, EndsAs, HasAsked, HasRun, HasRunAlone, IsEmptyReport, IsRefusal, IsReport, IsRun, IsRunText, IsShown, Report, Reports, ShowsFailures, TakesCalls, Tells, ended_by, marked_if}
 use Rattle.plan_run.specs.RunText.{run_text}
 
@@ -141,6 +142,7 @@ pub record IsYardEnd (w : Work) (t : Tools) (n : ℕ) (p : Plan) (order : List �
   pub inputs : AreOfInputs w.apply p r
   pub tools : (k : ℕ) → k < n → RoseBy (tool_faults k r) (count_of t.before k) (count_of t.after k)
   pub gates : (k : ℕ) → k < n → HasAsked (entries_by k r) (asked_of t.before k) (asked_of t.after k)
+  pub entered : (k : ℕ) → k < n → told_of t.after k ≡ told_of t.before k ++ placed_by k 0 r
 
 run_so : (w : Work) (t : Tools) (n : ℕ) (p : Plan) (order : List ℕ) (r : List Event) (told : Option Store) (marked : Store) (faults misses : ℕ) → IsYardEnd w t n p order r told marked faults misses → HasLaws p order r → Legal p order r
     → IfSome told (Agrees w.apply p r marked) → AreCounted told faults misses w.after.counts r → IsRun w t n p order r
@@ -157,6 +159,7 @@ run_so w t n p order r told marked faults misses end laws legal agrees counted =
   counted = inl (counted_so p r w.before.told told faults misses w.before.counts.faults w.before.counts.misses w.after.counts end.tells end.faults_are end.misses_are counted);
   tools = end.tools;
   gates = end.gates;
+  told = end.entered;
 }
 
 -- A run whose opening was accepted.
@@ -175,9 +178,13 @@ first_rose : (w : Work) (r added : List Event) → r ≡ added → RoseBy (tool_
 first_rose w r added is rose zero l = subst (λ (es : List Event). RoseBy (tool_faults 0 es) w.before.tool w.after.tool) (sym is) rose
 first_rose w r added is rose (suc k) l = absurd (omega (arith, l))
 
-no_gate : (r : List Event) (m n k : ℕ) → HasAsked (entries_by k r) (asked_of (gateless m ∷ []) k) (asked_of (gateless n ∷ []) k)
-no_gate r m n zero = tt
-no_gate r m n (suc k) = tt
+no_gate : (w : Work) (r : List Event) (k : ℕ) → HasAsked (entries_by k r) (asked_of (first_tool w).before k) (asked_of (first_tool w).after k)
+no_gate w r zero = tt
+no_gate w r (suc k) = tt
+
+first_told : (w : Work) (r : List Event) → IsToldOf 0 [] r w.before.entered w.after.entered → (k : ℕ) → k < 1 → told_of (first_tool w).after k ≡ told_of (first_tool w).before k ++ placed_by k 0 r
+first_told w r h zero l = h.told ∙ ap (λ (es : List Event). w.before.entered ++ placed_by 0 0 es) (sym h.is)
+first_told w r h (suc k) l = absurd (omega (arith, l))
 
 -- What a yard shows at the end of a run by one worker alone.
 pub record IsAloneEnd (w : Work) (p : Plan) (order : List ℕ) (r : List Event) (told : Option Store) (marked : Store) (faults misses : ℕ) : Type 0 where
@@ -193,6 +200,7 @@ pub record IsAloneEnd (w : Work) (p : Plan) (order : List ℕ) (r : List Event) 
   pub looked : AreMore (looks p) 0 0 w.before.counts opened
   pub later : IsLater opened w.after.counts
   pub calls : AddsCalls p [] r opened w.after.counts
+  pub entered : IsToldOf 0 [] r w.before.entered w.after.entered
 
 of_all : (w : Work) (p : Plan) (order : List ℕ) (r : List Event) (told : Option Store) (marked : Store) (faults misses : ℕ) → IsAloneEnd w p order r told marked faults misses → IsYardEnd w (first_tool w) 1 p order r told marked faults misses
 of_all w p order r told marked faults misses end = record {
@@ -207,7 +215,8 @@ of_all w p order r told marked faults misses end = record {
   none_open = end.works.none_open;
   inputs = subst (AreOfInputs w.apply p) (sym end.inputs.is) end.inputs.are;
   tools = first_rose w r end.works.added end.works.is end.works.counted;
-  gates = λ k l. no_gate r w.before.tool w.after.tool k;
+  gates = λ k l. no_gate w r k;
+  entered = first_told w r end.entered;
 }
 
 -- what the host was asked for
@@ -307,6 +316,7 @@ empty_run w t n p order laws told failures tools = record {
   counted = failures;
   tools = λ k l. tool_at_start k (count_of t.before k) (count_of t.after k) (ap (λ (c : List MemberMoment). count_of c k) (sym tools));
   gates = λ k l. subst (λ (c : List MemberMoment). HasAsked [] (asked_of t.before k) (asked_of c k)) (sym tools) (gate_at_start (asked_of t.before k));
+  told = λ k l. ap (λ (c : List MemberMoment). told_of c k) tools ∙ sym (append-nil (told_of t.before k));
 }
 
 -- A run that was not begun.
@@ -319,12 +329,12 @@ not_begun w t n p order opening x a laws told tools refuses refusal = record {
   reports = refusal_reports w p x a refusal.says;
 }
 
-pub not_begun_alone : (w : Work) (p : Plan) (order : List ℕ) (opening : OpenFault) (x : Report) (a : End) → HasLaws p order [] → w.after.told ≡ w.before.told → w.after.tool ≡ w.before.tool
+pub not_begun_alone : (w : Work) (p : Plan) (order : List ℕ) (opening : OpenFault) (x : Report) (a : End) → HasLaws p order [] → w.after.told ≡ w.before.told → w.after.tool ≡ w.before.tool → w.after.entered ≡ w.before.entered
     → Refuses p w.before.told w.before.counts w.after.counts opening → IsRefusal p opening x a → HasRunAlone w p order x a
-not_begun_alone w p order opening x a laws told tool refuses refusal = record {
+not_begun_alone w p order opening x a laws told tool entered refuses refusal = record {
   ran = record {
     r = [];
-    run = empty_run w (first_tool w) 1 p order laws told (inr (refl, record { opening = opening; refuses = refuses })) (ap (λ (n : ℕ). gateless n ∷ []) tool);
+    run = empty_run w (first_tool w) 1 p order laws told (inr (refl, record { opening = opening; refuses = refuses })) (λ i. gateless (tool i) (entered i) ∷ []);
     tells = refusal_tells w p order opening a refuses refusal.ends;
     reports = refusal_reports w p x a refusal.says;
   };

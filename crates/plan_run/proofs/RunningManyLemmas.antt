@@ -1,5 +1,5 @@
 -- A run of a plan by several workers: what its yard shows at the end.
-use Rattle.std.proofs.Common.{◌≡◌, ◌⊎◌, ℕ, zero, suc, ◌<◌, Bool, true, false, List, [], ◌∷◌, length, map, get_or, refl, sym, subst, inl, inr, arith}
+use Rattle.std.proofs.Common.{◌≡◌, ◌⊎◌, ℕ, zero, suc, ◌<◌, Bool, true, false, List, [], ◌∷◌, ◌++◌, length, map, get_or, refl, sym, ap, subst, ◌∙◌, inl, inr, arith}
 use Rattle.std.specs.Prelude.{Option, Some, IfSome, is_some}
 use Rattle.std.proofs.lemmas.List.{length-map}
 use Rattle.craft.specs.declared.crew.Crew.{Crew}
@@ -15,8 +15,9 @@ use Rattle.site_yard.specs.Opening.{AreUnused}
 use Rattle.worker_gate.specs.Alone.{IsOver}
 use Rattle.worker_gate.specs.Asking.{AreGatesAsked}
 use Rattle.worker_gate.specs.Inputs.{AreOfInputs}
+use Rattle.worker_gate.specs.Telling.{AreGatesTold, placed_by}
 use Rattle.worker_gate.specs.Many.{AreToolsCounted, WorksMany}
-use Rattle.plan_run.specs.Moments.{Tools, Work, asked_of, count_of, crew_moment}
+use Rattle.plan_run.specs.Moments.{Tools, Work, asked_of, count_of, crew_moment, told_of}
 use Rattle.plan_run.specs.Running.{HasAsked}
 use Rattle.plan_run.proofs.RunningLemmas.{IsYardEnd}
 
@@ -25,8 +26,8 @@ over_so p order r true none over = inl (none refl)
 over_so p order r false none over = inr (over refl)
 
 pub many_end : (w : Work) (t : Tools) (n : ℕ) (p : Plan) (order : List ℕ) (r : List Event) (unstarted : Bool) (told : Option Store) (marked : Store) (faults misses : ℕ) → w.after.told ≡ told → is_some told ≡ is_some w.before.told → IfSome w.before.told (λ s. marked ≡ s) → faults ≡ w.before.counts.faults → misses ≡ w.before.counts.misses
-    → AreUnused p w.before.told → WorksMany p order n unstarted r → (unstarted ≡ true → r ≡ []) → ((k : ℕ) → k < n → RoseBy (tool_faults k r) (count_of t.before k) (count_of t.after k)) → ((k : ℕ) → k < n → HasAsked (entries_by k r) (asked_of t.before k) (asked_of t.after k)) → AreOfInputs w.apply p r → IsYardEnd w t n p order r told marked faults misses
-many_end w t n p order r unstarted told marked faults misses told_is tells marked_is faults_are misses_are unused works none tools gates inputs = record {
+    → AreUnused p w.before.told → WorksMany p order n unstarted r → (unstarted ≡ true → r ≡ []) → ((k : ℕ) → k < n → RoseBy (tool_faults k r) (count_of t.before k) (count_of t.after k)) → ((k : ℕ) → k < n → HasAsked (entries_by k r) (asked_of t.before k) (asked_of t.after k)) → ((k : ℕ) → k < n → told_of t.after k ≡ told_of t.before k ++ placed_by k 0 r) → AreOfInputs w.apply p r → IsYardEnd w t n p order r told marked faults misses
+many_end w t n p order r unstarted told marked faults misses told_is tells marked_is faults_are misses_are unused works none tools gates entered inputs = record {
   told_is = told_is;
   tells = tells;
   marked_is = marked_is;
@@ -39,6 +40,7 @@ many_end w t n p order r unstarted told marked faults misses told_is tells marke
   inputs = inputs;
   tools = tools;
   gates = gates;
+  entered = entered;
 }
 
 -- what the members show of their tools and gates
@@ -52,6 +54,16 @@ module _ {T G : Type 0} where
   asked_are t g [] k l = absurd (omega (arith, l))
   asked_are t g (m ∷ ms) zero l = refl
   asked_are t g (m ∷ ms) (suc k) l = asked_are t g ms k (omega (arith, l))
+
+  tolds_are : (t : tool.Ghosts T) (g : gate.Ghosts G) (crew : List (Crew T G)) (k : ℕ) → told_of (crew_moment t g crew) k ≡ get_or (map (λ c. g.told c.gate) crew) k []
+  tolds_are t g [] k = refl
+  tolds_are t g (m ∷ ms) zero = refl
+  tolds_are t g (m ∷ ms) (suc k) = tolds_are t g ms k
+
+  pub told_shown : (t : tool.Ghosts T) (g : gate.Ghosts G) (r : List Event) (old new : List (Crew T G)) → AreGatesTold r (map (λ c. g.told c.gate) old) (map (λ c. g.told c.gate) new) → (k : ℕ) → k < length old → told_of (crew_moment t g new) k ≡ told_of (crew_moment t g old) k ++ placed_by k 0 r
+  told_shown t g r old new tells k l =
+      let many = length-map old (λ c. g.told c.gate) in
+      tolds_are t g new k ∙ tells.each k (omega (arith, l, many)) ∙ ap (λ (x : List (ℕ × Event)). x ++ placed_by k 0 r) (sym (tolds_are t g old k))
 
   pub tools_shown : (t : tool.Ghosts T) (g : gate.Ghosts G) (r : List Event) (old new : List (Crew T G)) → AreToolsCounted r (map (λ c. t.faults c.tool) old) (map (λ c. t.faults c.tool) new) → (k : ℕ) → k < length old → RoseBy (tool_faults k r) (count_of (crew_moment t g old) k) (count_of (crew_moment t g new) k)
   tools_shown t g r old new tools k l =

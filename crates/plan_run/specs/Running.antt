@@ -1,6 +1,6 @@
 -- A run of a plan by workers: what its one record says, what the host and the tools show of it, and how the end and the
 -- report are read off it.
-use Rattle.std.specs.Prelude.{◌≡◌, ◌⊎◌, ℕ, ◌+◌, ◌≤◌, ◌<◌, true, List, [], ◌∷◌, length, take, option_map, Option, Some, None, IfSome, MatchOption, Result, Ok, Err}
+use Rattle.std.specs.Prelude.{◌≡◌, ◌⊎◌, ℕ, ◌+◌, ◌≤◌, ◌<◌, true, List, [], ◌∷◌, ◌++◌, length, take, option_map, Option, Some, None, IfSome, MatchOption, Result, Ok, Err}
 use Rattle.outside.specs.declared.store.Store.{Store}
 use Rattle.values.specs.Apply.{Apply}
 use Rattle.plan_core.specs.declared.plan.Plan.{Plan}
@@ -28,7 +28,8 @@ use Rattle.worker_gate.specs.Alone.{NoneOpen, tried}
 use Rattle.worker_gate.specs.Asking.{IsAskedFor}
 use Rattle.worker_gate.specs.Calls.{AreAllCalls}
 use Rattle.worker_gate.specs.Inputs.{AreOfInputs}
-use Rattle.plan_run.specs.Moments.{Tools, Work, asked_of, count_of, first_tool}
+use Rattle.worker_gate.specs.Telling.{placed_by}
+use Rattle.plan_run.specs.Moments.{Tools, Work, asked_of, count_of, first_tool, told_of}
 use Rattle.plan_run.specs.RunText.{run_text}
 
 -- how a run ends: all was done, or this is why not; want of memory is one of the reasons
@@ -95,6 +96,8 @@ pub record IsRun (w : Work) (t : Tools) (n : ℕ) (p : Plan) (order : List ℕ) 
   pub tools : (k : ℕ) → k < n → RoseBy (tool_faults k r) (count_of t.before k) (count_of t.after k)
   -- and each worker's gate was asked for what that worker's entries say, in their order
   pub gates : (k : ℕ) → k < n → HasAsked (entries_by k r) (asked_of t.before k) (asked_of t.after k)
+  -- and was told that worker's entries, each with its place in the record, and nothing else
+  pub told : (k : ℕ) → k < n → told_of t.after k ≡ told_of t.before k ++ placed_by k 0 r
 
 -- the sites that the plan uses were empty
 abbrev pub IsOpened : Work → Plan → Type 0

@@ -5,7 +5,7 @@ ghost use Rattle.plan_core.specs.Words.{retries, task_numbers};
 ghost use Rattle.lease_book.specs.Book.{state_at};
 ghost use Rattle.lease_rules.specs.Legal.{IsComplete};
 ghost use Rattle.run_record.specs.declared.run_fault.RunFault.TheVariants as faults;
-ghost use Rattle.plan_run.specs.Moments.{work_moment, working};
+ghost use Rattle.plan_run.specs.Moments.{member_moment, work_moment, working};
 ghost use Rattle.plan_run.specs.Running.{EndsAs, HasRunAlone, IsEmptyReport, IsRefusal, IsReport, Reports, ended_by, marked_if, reporting};
 
 use crate::law::deliveries_stay_within_the_output;
@@ -167,11 +167,11 @@ pub fn run_plan<H: Host, T: Tool, G: Gate>(
     crew: &mut Crew<T, G>,
 ) -> Ran<H>
     requires { retries ordered.plan ≤ 10 }
-    ensures ran { ∥ HasRunAlone (working T.apply T.known (work_moment H.Host host (T.faults crew.old.tool))
-        (work_moment H.Host result.host (T.faults crew.new.tool)))
+    ensures ran { ∥ HasRunAlone (working T.apply T.known (work_moment H.Host host (member_moment T.Tool G.Gate crew.old))
+        (work_moment H.Host result.host (member_moment T.Tool G.Gate crew.new)))
         ordered.plan (task_numbers ordered.tasks.items)
         (reporting result.history result.text.items result.delivered.items) result.end ∥₁ }
-    ensures gate { crew.new.gate ≡ crew.old.gate }
+    ensures gate { G.asked crew.new.gate ≡ G.asked crew.old.gate }
 {
     // Laws for the proof: they do nothing.
     ordered_plans_fit();

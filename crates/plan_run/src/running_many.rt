@@ -4,7 +4,7 @@ ghost use Rattle.std.specs.Prelude.{◌≡◌, ◌<◌, ◌≤◌, ◌⊎◌, []
 ghost use Rattle.plan_core.specs.Words.{retries, task_numbers};
 ghost use Rattle.lease_book.specs.Book.{state_at};
 ghost use Rattle.lease_rules.specs.Legal.{IsComplete};
-ghost use Rattle.plan_run.specs.Moments.{counting, crew_moment, first_count, work_moment, working};
+ghost use Rattle.plan_run.specs.Moments.{counting, crew_moment, first_shown, work_moment, working};
 ghost use Rattle.plan_run.specs.Running.{EndsAs, HasRun, Reports, marked_if, reporting};
 
 use crate::law::deliveries_stay_within_the_output;
@@ -59,8 +59,8 @@ where
     requires members { (0 < length members.items) × (length members.items ≤ 16) }
     ensures ran { let before = crew_moment T.Tool G.Gate members.items in
         let after = crew_moment T.Tool G.Gate result.members.items in
-        ∥ HasRun (working T.apply T.known (work_moment H.Host host (first_count before))
-        (work_moment H.Host result.ran.host (first_count after)))
+        ∥ HasRun (working T.apply T.known (work_moment H.Host host (first_shown before))
+        (work_moment H.Host result.ran.host (first_shown after)))
         (counting before after) (length members.items) ordered.plan (task_numbers ordered.tasks.items)
         (reporting result.ran.history result.ran.text.items result.ran.delivered.items) result.ran.end ∥₁ }
     ensures members { length result.members.items ≡ length members.items }
@@ -108,8 +108,8 @@ where
     requires crew { length crew.old.items ≡ 16 }
     ensures ran { let before = crew_moment T.Tool G.Gate crew.old.items in
         let after = crew_moment T.Tool G.Gate crew.new.items in
-        ∥ HasRun (working T.apply T.known (work_moment H.Host host (first_count before))
-        (work_moment H.Host result.host (first_count after)))
+        ∥ HasRun (working T.apply T.known (work_moment H.Host host (first_shown before))
+        (work_moment H.Host result.host (first_shown after)))
         (counting before after) workers ordered.plan (task_numbers ordered.tasks.items)
         (reporting result.history result.text.items result.delivered.items) result.end ∥₁ }
     ensures crew { length crew.new.items ≡ 16 }

@@ -7,11 +7,22 @@ use transformation_catalog::TransformationCatalog;
 use workflow_core::Workflow;
 
 /// What the documents of a request say, and the graph of their workflow.
-#[derive(Drop)]
 pub struct Survey {
     pub workflow: Workflow,
     pub sites: SiteCatalog,
     pub replicas: ReplicaCatalog,
     pub transformations: TransformationCatalog,
     pub graph: Graph,
+}
+
+impl Drop for Survey {
+    fn drop(self) {
+        let Survey {
+            workflow,
+            sites,
+            replicas,
+            transformations,
+            graph,
+        } = self;
+    }
 }

@@ -11,7 +11,7 @@ use transfer_refiner::RefineFault;
 use values::{Items, Memory, TaskId, Text};
 
 /// The first fault in the course of planning.
-#[derive(Debug, Drop)]
+#[derive(Drop)]
 pub enum PlanFault {
     Tree(Document, TreeFault),
     /// How many there are, and the limit.

@@ -18,7 +18,7 @@ use storage_simulation::{cleaned_by, good_size, is_delivery, proper_plans_keep_g
 use values::{Memory, PairId, TaskId};
 
 /// The size of what is held of each pair, and the sum of these sizes at each site.
-#[derive(Debug, Drop)]
+#[derive(Drop)]
 pub struct Holdings {
     pub(crate) sizes: Vec<u64>,
     pub(crate) sums: Vec<u64>,

@@ -11,7 +11,7 @@ use values::Memory;
 /// How many entries of each kind a record has (a grant by a fresh order counts as a grant), the
 /// bytes that its Transfers moved, and of each site the most bytes that were stored and reserved
 /// there at one time.
-#[derive(Debug, Drop)]
+#[derive(Drop)]
 pub struct Statistics {
     pub grants: u64,
     pub arrives: u64,

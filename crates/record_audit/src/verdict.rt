@@ -19,7 +19,7 @@ use values::Memory;
 
 /// What an audit finds: every task has ended and none failed; no more than that each entry was
 /// allowed; or the number, from 1, of the first entry that wasn't.
-#[derive(Debug, Clone, Copy, PartialEq, Eq)]
+#[derive(Clone, Copy, PartialEq, Eq)]
 pub enum Verdict {
     Complete,
     Legal,

@@ -9,7 +9,7 @@ use sha2::{Digest, Sha256};
 use std::alloc::Global;
 
 /// The figures of a rehearsal that don't hang on who worked when.
-#[derive(Debug, Clone, Copy)]
+#[derive(Clone, Copy)]
 pub struct Figures {
     pub jobs: u64,
     pub tasks: u64,

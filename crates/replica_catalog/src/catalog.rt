@@ -7,7 +7,7 @@ use std::alloc::Global;
 use values::{Items, Text};
 
 /// A whole catalogue.
-#[derive(Debug, Drop)]
+#[derive(Drop)]
 pub struct ReplicaCatalog {
     /// Each lfn once, in order of first appearance.
     pub entries: Items<Replica>,
@@ -18,7 +18,7 @@ pub struct ReplicaCatalog {
 }
 
 /// A file, and where it is.
-#[derive(Debug, Drop)]
+#[derive(Drop)]
 pub struct Replica {
     pub lfn: Text,
     pub pfns: Items<Pfn>,
@@ -27,7 +27,7 @@ pub struct Replica {
 }
 
 /// Where a file is: the site, and the file's name there.
-#[derive(Debug, Drop)]
+#[derive(Drop)]
 pub struct Pfn {
     pub site: Text,
     pub pfn: Text,

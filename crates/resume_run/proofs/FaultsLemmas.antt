@@ -1,8 +1,6 @@
 -- How often the tools of a crew have failed, where one of them was used.
 use Rattle.std.proofs.Common.{◌≡◌, ℕ, zero, suc, ◌+◌, ◌<◌, ◌≤◌, Bool, false, cond, eqb, get_or, List, [], ◌∷◌, ◌++◌, length, map, refl, sym, ap, subst, ◌∙◌, arith}
 use Rattle.std.specs.Prelude.{slice_set}
-use Rattle.std.proofs.Math.Seq.{map-set_same}
-use Rattle.craft.specs.declared.crew.Crew.{Crew}
 use Rattle.plan_core.proofs.TestLemmas.{by_bool}
 use Rattle.run_record.specs.Events.{Event, Grant, Arrive, End, Clean, Fail, Again, Regrant}
 use Rattle.site_yard.specs.Failures.{RoseBy, tool_fault_in, tool_faults, tool_faults_of}
@@ -66,10 +64,6 @@ module _ {A : Type 0} (shown : A → MemberMoment) where
       (subst (λ a. (a ≤ count_of (map shown (slice_set crew w new)) w) × RoseBy (tool_faults_of w e) a (count_of (map shown (slice_set crew w new)) w)) (sym (count_here crew w old l is))
       (subst (λ b. ((shown old).faults ≤ b) × RoseBy (tool_faults_of w e) (shown old).faults b) (sym (count_set crew w new l)) (le, rose))))
       (λ off. stays (tool_faults_of k e) (count_of (map shown crew) k) (count_of (map shown (slice_set crew w new)) k) (other_faults w t k e done off) (count_other crew w k new off))
-
--- and all gates stay
-pub gates_stay : {T G : Type 0} (crew : List (Crew T G)) (w : ℕ) (old new : Crew T G) → old ≡ get_or crew w old → new.gate ≡ old.gate → map (λ (m : Crew T G). m.gate) (slice_set crew w new) ≡ map (λ (m : Crew T G). m.gate) crew
-gates_stay crew w old new is same = map-set_same (λ m. m.gate) crew w new old (same ∙ ap (λ m. m.gate) is)
 
 -- ---- entry by entry
 

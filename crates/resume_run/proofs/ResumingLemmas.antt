@@ -34,10 +34,11 @@ use Rattle.site_yard.specs.declared.opening.OpenFault.{OpenFault}
 use Rattle.worker_gate.specs.Alone.{IsOver}
 use Rattle.worker_gate.specs.Calls.{AddsCalls, AreAllCalls}
 use Rattle.worker_gate.specs.Inputs.{AddsOfInputs, AreOfInputs}
+use Rattle.worker_gate.specs.Telling.{placed_by}
 use Rattle.craft.specs.declared.crew.Crew.{Crew}
 use Rattle.craft.specs.declared.gate.Gate as gate
 use Rattle.outside.specs.declared.tool.Tool as tool
-use Rattle.plan_run.specs.Moments.{MemberMoment, Tools, Work, asked_of, count_of, crew_moment}
+use Rattle.plan_run.specs.Moments.{MemberMoment, Tools, Work, asked_of, count_of, crew_moment, told_of}
 use Rattle.plan_run.specs.Running.{marked_if}
 use Rattle.plan_run.specs.RunText.{run_text}
 use Rattle.plan_run.proofs.RunningLemmas.{HasLaws}
@@ -166,6 +167,7 @@ pub record IsYardEnd (w : Work) (t : Tools) (p : Plan) (order : List ℕ) (first
   pub inputs : AreOfInputs w.apply p r
   pub tools : (k : ℕ) → k < 16 → RoseBy (tool_faults k r) (count_of t.before k) (count_of t.after k)
   pub gates : (k : ℕ) → asked_of t.after k ≡ asked_of t.before k
+  pub entered : (k : ℕ) → told_of t.after k ≡ told_of t.before k ++ placed_by k (length first) r
   pub asked : TakesCalls w p (held_after p order first) r
 
 pub went_on : (w : Work) (t : Tools) (p : Plan) (order : List ℕ) (first r : List Event) (told : Option Store) (marked : Store) (faults misses : ℕ) (text : List ℕ) (a : End) → IsYardEnd w t p order first r told marked faults misses → HasLaws p order (first ++ r) → Legal p order (first ++ r)
@@ -185,6 +187,7 @@ went_on w t p order first r told marked faults misses text a end laws legal agre
     counted = inl (counted_so r w.before.told told faults misses w.before.counts.faults w.before.counts.misses w.after.counts end.tells end.faults_are end.misses_are counted);
     tools = end.tools;
     gates = end.gates;
+    told = λ k l. end.entered k;
     asked = inl end.asked;
   };
   tells = tells_so w p order first r text a end.reopened answers (reports_so w p first r told marked text a end.tells end.marked_is reports);
@@ -248,7 +251,7 @@ not_begun w t p order first text a laws legal agrees told tools refused tells =
       run = record {
         legal = legal_none p order first legal;
         below = tt;
-        in_order = record { redone = []; later = []; parts = refl; done = tt; by_zero = tt; first = tt };
+        in_order = record { redone = []; later = []; parts = refl; done = tt; stops = tt; goes_on = inl refl; by_zero = tt; first = tt };
         over = inl refl;
         safe = after.safe;
         left = after.left;
@@ -258,6 +261,7 @@ not_begun w t p order first text a laws legal agrees told tools refused tells =
         counted = inr (refl, refused);
         tools = λ k l. tool_at_start k (count_of t.before k) (count_of t.after k) (ap (λ (c : List MemberMoment). count_of c k) (sym tools));
         gates = λ k. ap (λ (c : List MemberMoment). asked_of c k) tools;
+        told = λ k l. ap (λ (c : List MemberMoment). told_of c k) tools ∙ sym (append-nil (told_of t.before k));
         asked = inr (refl, refused);
       };
       tells = tells;
@@ -328,20 +332,20 @@ over_since p order first r whole is over = subst (λ (l : List Event). IsOver p 
 pub below_by : (first r whole : List Event) → whole ≡ first ++ r → AllBelow 16 whole → AllBelow 16 r
 below_by first r whole is below = below_since first r (subst (AllBelow 16) is below)
 
--- a member's gate was asked for the same, where it is the same
-asked_in : {G : Type 0} → gate.Ghosts G → List G → ℕ → Option (List ℕ)
-asked_in g [] k = None
-asked_in g (x ∷ xs) zero = Some (g.asked x)
-asked_in g (x ∷ xs) (suc k) = asked_in g xs k
+-- a member's gate was asked for the same, where all were
+asked_in : List (List ℕ) → ℕ → Option (List ℕ)
+asked_in [] k = None
+asked_in (x ∷ xs) zero = Some x
+asked_in (x ∷ xs) (suc k) = asked_in xs k
 
-asked_by : {T G : Type 0} (t : tool.Ghosts T) (g : gate.Ghosts G) (crew : List (Crew T G)) (k : ℕ) → asked_of (crew_moment t g crew) k ≡ asked_in g (map (λ (c : Crew T G). c.gate) crew) k
+asked_by : {T G : Type 0} (t : tool.Ghosts T) (g : gate.Ghosts G) (crew : List (Crew T G)) (k : ℕ) → asked_of (crew_moment t g crew) k ≡ asked_in (map (λ (c : Crew T G). g.asked c.gate) crew) k
 unfolding asked_in
 asked_by t g [] k = refl
 asked_by t g (c ∷ cs) zero = refl
 asked_by t g (c ∷ cs) (suc k) = asked_by t g cs k
 
-pub asked_same : {T G : Type 0} (t : tool.Ghosts T) (g : gate.Ghosts G) (old new : List (Crew T G)) → map (λ (c : Crew T G). c.gate) new ≡ map (λ (c : Crew T G). c.gate) old → (k : ℕ) → asked_of (crew_moment t g new) k ≡ asked_of (crew_moment t g old) k
-asked_same t g old new same k = asked_by t g new k ∙ ap (λ gs. asked_in g gs k) same ∙ sym (asked_by t g old k)
+pub asked_same : {T G : Type 0} (t : tool.Ghosts T) (g : gate.Ghosts G) (old new : List (Crew T G)) → map (λ (c : Crew T G). g.asked c.gate) new ≡ map (λ (c : Crew T G). g.asked c.gate) old → (k : ℕ) → asked_of (crew_moment t g new) k ≡ asked_of (crew_moment t g old) k
+asked_same t g old new same k = asked_by t g new k ∙ ap (λ gs. asked_in gs k) same ∙ sym (asked_by t g old k)
 
 -- no Fail stands in a book at a record without its Fails
 pub unfailing_in : (p : Plan) (order : List ℕ) (given : List Event) (b : Book) → ((q : Plan) (o : List ℕ) (r : List Event) → first_fault q r ≡ None → (now q o r).failing ≡ false) → HasFollowed p order (without_fails given) b → (state_at b).failing ≡ false

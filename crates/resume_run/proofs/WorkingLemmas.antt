@@ -17,7 +17,7 @@ use Rattle.worker_gate.specs.Alone.{AllBy, NoneOpen, TakeFirst, WorksAlone}
 use Rattle.plan_run.specs.Moments.{MemberMoment, count_of}
 use Rattle.resume_run.specs.declared.lost.Lost.{Lost}
 use Rattle.resume_run.specs.Lost.{lost_below}
-use Rattle.resume_run.specs.Redoing.{AddsFaults, AreDone, HasRisen, Redoes}
+use Rattle.resume_run.specs.Redoing.{AddsFaults, AreDone, EndAtFail, HasRisen, Redoes}
 use Rattle.resume_run.specs.Working.{WorksOn}
 use Rattle.resume_run.proofs.FaultsLemmas.{count_here, count_other, count_set, risen_both, stays, turned}
 
@@ -61,9 +61,13 @@ redone_so : (p : Plan) (order : List ℕ) (r mid : List Event) (before m : List 
 redone_so p order r mid before m lost faults redoes is =
     subst (λ (ls : List Lost). AreDone ls faults.added) is (subst (AreDone lost) (same_added r mid redoes.added faults.added redoes.is faults.is) redoes.done)
 
+-- of which a Fail is the last
+stops_so : (r mid : List Event) (before m : List MemberMoment) (lost : List Lost) (p : Plan) (order : List ℕ) (faults : AddsFaults r mid before m) → Redoes p order r mid lost → EndAtFail faults.added
+stops_so r mid before m lost p order faults redoes = subst EndAtFail (same_added r mid redoes.added faults.added redoes.is faults.is) redoes.stops
+
 -- what was added before, and then by worker 0 alone
-pub works_then : (p : Plan) (order : List ℕ) (r mid after : List Event) (before m later : List MemberMoment) (x y : ℕ) (lost : List Lost) → AddsFaults r mid before m → Redoes p order r mid lost → lost ≡ lost_below (now p order r) (count_tasks p) → (alone : WorksAlone p order mid after x y) → ((k : ℕ) → HasRisen k (tool_faults k alone.added) m later) → WorksOn p order r after before later
-works_then p order r mid after before m later x y lost faults redoes all alone risen = record {
+pub works_then : (p : Plan) (order : List ℕ) (r mid after : List Event) (before m later : List MemberMoment) (x y : ℕ) (lost : List Lost) → AddsFaults r mid before m → Redoes p order r mid lost → lost ≡ lost_below (now p order r) (count_tasks p) → (now p order mid).failing ≡ false → (alone : WorksAlone p order mid after x y) → ((k : ℕ) → HasRisen k (tool_faults k alone.added) m later) → WorksOn p order r after before later
+works_then p order r mid after before m later x y lost faults redoes all fine alone risen = record {
   added = faults.added ++ alone.added;
   is = alone.is ∙ ap (λ l. l ++ alone.added) faults.is ∙ append_assoc r faults.added alone.added;
   in_order = record {
@@ -71,6 +75,11 @@ works_then p order r mid after before m later x y lost faults redoes all alone r
     later = alone.added;
     parts = refl;
     done = redone_so p order r mid before m lost faults redoes all;
+    stops = stops_so r mid before m lost p order faults redoes;
+    goes_on = inr (record {
+      all = ap length (same_added r mid faults.added redoes.added faults.is redoes.is) ∙ redoes.all fine ∙ ap length all;
+      unfailing = ap (λ (l : List Event). (now p order l).failing) (sym faults.is) ∙ fine;
+    });
     by_zero = alone.by_zero;
     first = subst (λ (l : List Event). TakeFirst p (now p order l) alone.added) faults.is alone.first;
   };
@@ -90,6 +99,8 @@ works_stopped p order r after before later lost faults redoes all failing = reco
     later = [];
     parts = sym (append-nil faults.added);
     done = redone_so p order r after before later lost faults redoes all;
+    stops = stops_so r after before later lost p order faults redoes;
+    goes_on = inl refl;
     by_zero = tt;
     first = tt;
   };
@@ -107,6 +118,9 @@ lost_in b p ts lost plan order all = all ∙ ap (λ (s : State). lost_below s (c
 
 pub failing_in : (b : Book) (p : Plan) (ts : List TaskId) → b.plan ≡ p → b.order.items ≡ ts → (state_at b).failing ≡ true → (now p (task_numbers ts) b.history.events).failing ≡ true
 failing_in b p ts plan order h = sym (ap (λ (s : State). s.failing) (state_is b p ts plan order)) ∙ h
+
+pub unfailing_in : (b : Book) (p : Plan) (ts : List TaskId) → b.plan ≡ p → b.order.items ≡ ts → (state_at b).failing ≡ false → (now p (task_numbers ts) b.history.events).failing ≡ false
+unfailing_in b p ts plan order h = sym (ap (λ (s : State). s.failing) (state_is b p ts plan order)) ∙ h
 
 pub none_open_in : (b : Book) (p : Plan) (ts : List TaskId) → b.plan ≡ p → b.order.items ≡ ts → (state_at b).failing ≡ false → NoneOpen (now p (task_numbers ts) b.history.events) ⊎ ((now p (task_numbers ts) b.history.events).failing ≡ true) → NoneOpen (state_at b)
 none_open_in b p ts plan order off (inl none) = subst NoneOpen (sym (state_is b p ts plan order)) none

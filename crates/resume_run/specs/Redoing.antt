@@ -7,7 +7,8 @@ use Rattle.lease_rules.specs.State.{now}
 use Rattle.site_yard.specs.Failures.{RoseBy, tool_faults, tool_faults_of}
 use Rattle.worker_gate.specs.Alone.{NoneOpen}
 use Rattle.worker_gate.specs.Tending.{IsDone}
-use Rattle.plan_run.specs.Moments.{MemberMoment, count_of}
+use Rattle.worker_gate.specs.Telling.{IsToldOf}
+use Rattle.plan_run.specs.Moments.{MemberMoment, count_of, told_of}
 use Rattle.resume_run.specs.declared.lost.Lost.{Lost}
 
 -- one entry for each of the tasks, in order, by which its own worker is done with it; fewer only at the end
@@ -40,6 +41,10 @@ pub record AddsFaults (r after : List Event) (before later : List MemberMoment) 
   pub added : List Event
   pub is : after ≡ r ++ added
   pub counted : (k : ℕ) → HasRisen k (tool_faults k added) before later
+
+-- Each member's gate was told its worker's entries of what is added after a record r, and nothing else.
+abbrev pub AreToldOf : List Event → List Event → List MemberMoment → List MemberMoment → Type 0
+AreToldOf r after before later = (k : ℕ) → IsToldOf k r after (told_of before k) (told_of later k)
 
 -- one entry more, by which its own worker is done with a task, and which the members' counts show; whether it is a Fail
 pub record RedoesOne (l : Lost) (r after : List Event) (before later : List MemberMoment)

@@ -1,6 +1,6 @@
 -- A run that is gone on with from the record of one that stopped, by one worker after the lost tasks were done by theirs:
 -- what its one record says, and what the host and the tools show of the entries that are added.
-use Rattle.std.specs.Prelude.{◌≡◌, ◌⊎◌, ℕ, ◌+◌, ◌≤◌, ◌<◌, ◌++◌, true, List, [], take, Option, Some, IfSome, MatchOption, Result, Ok, Err}
+use Rattle.std.specs.Prelude.{◌≡◌, ◌⊎◌, ℕ, ◌+◌, ◌≤◌, ◌<◌, ◌++◌, true, List, [], length, take, Option, Some, IfSome, MatchOption, Result, Ok, Err}
 use Rattle.outside.specs.declared.store.Store.{Store}
 use Rattle.values.specs.Apply.{Apply}
 use Rattle.plan_core.specs.declared.plan.Plan.{Plan}
@@ -28,7 +28,8 @@ use Rattle.site_yard.specs.declared.delivered.Delivered.{Delivered}
 use Rattle.site_yard.specs.declared.opening.OpenFault.{OpenFault}
 use Rattle.worker_gate.specs.Calls.{AreAllCalls}
 use Rattle.worker_gate.specs.Inputs.{AreOfInputs}
-use Rattle.plan_run.specs.Moments.{Tools, Work, asked_of, count_of}
+use Rattle.worker_gate.specs.Telling.{placed_by}
+use Rattle.plan_run.specs.Moments.{Tools, Work, asked_of, count_of, told_of}
 use Rattle.plan_run.specs.Running.{AreWithinOutput}
 use Rattle.plan_run.specs.RunText.{run_text}
 use Rattle.resume_run.specs.Replaying.{without_fails}
@@ -90,10 +91,12 @@ pub record IsResumption (w : Work) (t : Tools) (p : Plan) (order : List ℕ)
   -- told or not, what the added entries say of a Run's jobs and outputs is so of some bytes, one text for each of its reads
   pub inputs : AreOfInputs w.apply p r
   -- the host failed exactly as often as the added entries lay a failure on it, and each worker's tool at least as often as
-  -- that worker's do; and no gate is asked
+  -- that worker's do; no gate is asked, and each worker's gate was told that worker's added entries, each with its place in the
+  -- whole record, and nothing else
   pub counted : ShowsFailures w p (held_after p order first) r
   pub tools : (k : ℕ) → k < 16 → RoseBy (tool_faults k r) (count_of t.before k) (count_of t.after k)
   pub gates : (k : ℕ) → asked_of t.after k ≡ asked_of t.before k
+  pub told : (k : ℕ) → k < 16 → told_of t.after k ≡ told_of t.before k ++ placed_by k (length first) r
   -- the host was asked for nothing else
   pub asked : TakesCalls w p (held_after p order first) r
       ⊎ ((r ≡ []) × WasRefused w p (held_after p order first))

@@ -1,5 +1,5 @@
 -- What is added to a record that is gone on with: by the lost tasks' own workers, and then by the first worker alone.
-use Rattle.std.specs.Prelude.{◌≡◌, ℕ, ◌<◌, ◌++◌, List}
+use Rattle.std.specs.Prelude.{◌≡◌, ◌⊎◌, ℕ, ◌<◌, ◌++◌, false, List, [], length}
 use Rattle.plan_core.specs.declared.plan.Plan.{Plan}
 use Rattle.plan_core.specs.Words.{count_tasks}
 use Rattle.run_record.specs.Events.{Event}
@@ -8,15 +8,23 @@ use Rattle.site_yard.specs.Failures.{RoseBy, tool_faults}
 use Rattle.worker_gate.specs.Alone.{AllBy, IsOver, TakeFirst}
 use Rattle.plan_run.specs.Moments.{MemberMoment, count_of}
 use Rattle.resume_run.specs.Lost.{lost_below}
-use Rattle.resume_run.specs.Redoing.{AreDone}
+use Rattle.resume_run.specs.Redoing.{AreDone, EndAtFail}
 
--- What is added after a record r: first one entry for each task that it left open, by its own worker, fewer only at the end;
--- and then worker 0's, each of which begins what is left first, so that tasks begin in the order that was kept.
+-- the tasks that a record r left open were done, each by its entry, and no Fail stands
+pub record AllRedone (p : Plan) (order : List ℕ) (r redone : List Event) : Type 0 where
+  pub all : length redone ≡ length (lost_below (now p order r) (count_tasks p))
+  pub unfailing : (now p order (r ++ redone)).failing ≡ false
+
+-- What is added after a record r: first one entry for each task that it left open, by its own worker, of which a Fail is the
+-- last; and then, where all of them were done and no Fail stands, worker 0's, each of which begins what is left first, so that
+-- tasks begin in the order that was kept.
 pub record IsInOrder (p : Plan) (order : List ℕ) (r added : List Event) : Type 0 where
   pub redone : List Event
   pub later : List Event
   pub parts : added ≡ redone ++ later
   pub done : AreDone (lost_below (now p order r) (count_tasks p)) redone
+  pub stops : EndAtFail redone
+  pub goes_on : (later ≡ []) ⊎ AllRedone p order r redone
   pub by_zero : AllBy 0 later
   pub first : TakeFirst p (now p order (r ++ redone)) later
 

@@ -13,7 +13,7 @@ use values::{Memory, TaskId};
 const MOST_WORKERS: u32 = 16;
 
 /// A task that is open, and the worker for whom it is.
-#[derive(Debug, Clone, Copy, PartialEq, Eq)]
+#[derive(Clone, Copy, PartialEq, Eq)]
 pub struct Lost {
     pub worker: u32,
     pub task: TaskId,

@@ -12,7 +12,7 @@ ghost use Rattle.worker_gate.specs.Calls.{AddsCalls};
 ghost use Rattle.worker_gate.specs.Inputs.{AddsOfInputs};
 ghost use Rattle.plan_run.specs.Moments.{crew_moment};
 ghost use Rattle.resume_run.specs.Lost.{lost_below};
-ghost use Rattle.resume_run.specs.Redoing.{AddsFaults, Redoes, RedoesOne};
+ghost use Rattle.resume_run.specs.Redoing.{AddsFaults, AreToldOf, Redoes, RedoesOne};
 
 use crate::lost::Lost;
 use crate::replaying::is_fail;
@@ -47,17 +47,19 @@ fn redo_one<H: Host, T: Tool, G: Gate>(
     ensures inputs { AddsOfInputs T.apply yard.old.ordered.plan yard.old.book.history.events
         yard.new.book.history.events }
     ensures crew { length crew.new.items ≡ length crew.old.items }
-    ensures gates { map (λ (c : Crew T G). c.gate) crew.new.items
-        ≡ map (λ (c : Crew T G). c.gate) crew.old.items }
+    ensures asked { map (λ (c : Crew T G). G.asked c.gate) crew.new.items
+        ≡ map (λ (c : Crew T G). G.asked c.gate) crew.old.items }
+    ensures told { AreToldOf yard.old.book.history.events yard.new.book.history.events
+        (crew_moment T.Tool G.Gate crew.old.items) (crew_moment T.Tool G.Gate crew.new.items) }
     ensures same { IsSameYard yard.old yard.new }
 {
     let member = &mut crew[lost.worker as usize];
-    do_task(alloc, yard, &mut member.tool, lost.worker, lost.task);
+    do_task(alloc, yard, member, lost.worker, lost.task);
     ends_in_fail(yard.book().record())
 }
 
 /// Does the tasks that are open in their order, each as its own worker and with that member's tool. After a Fail it does no
-/// other. It asks no gate.
+/// other. It asks no gate, and tells the member's gate of each entry.
 pub fn redo<H: Host, T: Tool, G: Gate>(
     alloc: Global,
     yard: Yard<H, T>,
@@ -75,8 +77,10 @@ pub fn redo<H: Host, T: Tool, G: Gate>(
     ensures tools { AddsFaults yard.book.history.events result.book.history.events
         (crew_moment T.Tool G.Gate crew.old.items) (crew_moment T.Tool G.Gate crew.new.items) }
     ensures crew { length crew.new.items ≡ length crew.old.items }
-    ensures gates { map (λ (c : Crew T G). c.gate) crew.new.items
-        ≡ map (λ (c : Crew T G). c.gate) crew.old.items }
+    ensures asked { map (λ (c : Crew T G). G.asked c.gate) crew.new.items
+        ≡ map (λ (c : Crew T G). G.asked c.gate) crew.old.items }
+    ensures told { AreToldOf yard.book.history.events result.book.history.events
+        (crew_moment T.Tool G.Gate crew.old.items) (crew_moment T.Tool G.Gate crew.new.items) }
     ensures same { IsSameYard yard result }
 {
     let mut yard = yard;

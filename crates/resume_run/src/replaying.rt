@@ -22,7 +22,7 @@ use storage_simulation::Ordered;
 use values::Memory;
 
 /// Why a record isn't gone on with: the number, from 1, of its first entry that isn't allowed, or want of memory.
-#[derive(Debug, Clone, Copy, PartialEq, Eq)]
+#[derive(Clone, Copy, PartialEq, Eq)]
 pub enum ReplayFault {
     Illegal(u64),
     Memory,

@@ -5,7 +5,7 @@ ghost use Rattle.craft.specs.declared.crew.Crew.{Crew};
 ghost use Rattle.plan_core.specs.Words.{count_tasks, retries, task_numbers};
 ghost use Rattle.lease_book.specs.Book.{state_at};
 ghost use Rattle.lease_rules.specs.Legal.{IsComplete};
-ghost use Rattle.plan_run.specs.Moments.{counting, crew_moment, first_count, work_moment, working};
+ghost use Rattle.plan_run.specs.Moments.{counting, crew_moment, first_shown, work_moment, working};
 ghost use Rattle.plan_run.specs.RunText.{run_text};
 ghost use Rattle.plan_run.specs.Running.{marked_if};
 ghost use Rattle.resume_run.specs.Lost.{lost_below};
@@ -27,7 +27,7 @@ use std::alloc::Global;
 use storage_simulation::Ordered;
 
 /// Why a run wasn't gone on with, or failed.
-#[derive(Debug, Drop)]
+#[derive(Drop)]
 pub enum ResumeFault {
     /// The number, from 1, of the record's first entry that isn't allowed.
     Illegal(u64),
@@ -140,14 +140,14 @@ fn go_on<H: Host, T: Tool, G: Gate>(
     requires unfailing { (state_at replayed.book).failing ≡ false }
     requires lost { replayed.lost.items ≡ lost_below (state_at replayed.book) (count_tasks ordered.plan) }
     ensures gone_on { ∥ HasGoneOn (working T.apply T.known
-        (work_moment H.Host host (first_count (crew_moment T.Tool G.Gate crew.old.items)))
-        (work_moment H.Host result.host (first_count (crew_moment T.Tool G.Gate crew.new.items))))
+        (work_moment H.Host host (first_shown (crew_moment T.Tool G.Gate crew.old.items)))
+        (work_moment H.Host result.host (first_shown (crew_moment T.Tool G.Gate crew.new.items))))
         (counting (crew_moment T.Tool G.Gate crew.old.items) (crew_moment T.Tool G.Gate crew.new.items))
         ordered.plan (task_numbers ordered.tasks.items) replayed.book.history.events result.text.items
         result.end ∥₁ }
     ensures crew { length crew.new.items ≡ length crew.old.items }
-    ensures gates { map (λ (c : Crew T G). c.gate) crew.new.items
-        ≡ map (λ (c : Crew T G). c.gate) crew.old.items }
+    ensures asked { map (λ (c : Crew T G). G.asked c.gate) crew.new.items
+        ≡ map (λ (c : Crew T G). G.asked c.gate) crew.old.items }
 {
     // Laws for the proof: they do nothing.
     ordered_plans_fit();
@@ -171,7 +171,8 @@ fn go_on<H: Host, T: Tool, G: Gate>(
 }
 
 /// Goes on with a run from its record, without its Fails: the tasks that were open are done by their own workers, and then
-/// the first member of the crew works alone. It starts no thread, asks no gate and waits for nobody.
+/// the first member of the crew works alone. It starts no thread, asks no gate and
+/// waits for nobody; each member's gate is told the entries that are added by its worker.
 pub fn resume_plan<H: Host, T: Tool, G: Gate>(
     alloc: Global,
     ordered: Ordered,
@@ -182,13 +183,13 @@ pub fn resume_plan<H: Host, T: Tool, G: Gate>(
     requires retries { retries ordered.plan ≤ 10 }
     requires members { 16 ≤ length crew.old.items }
     ensures resumes { ∥ Resumes (working T.apply T.known
-        (work_moment H.Host host (first_count (crew_moment T.Tool G.Gate crew.old.items)))
-        (work_moment H.Host result.host (first_count (crew_moment T.Tool G.Gate crew.new.items))))
+        (work_moment H.Host host (first_shown (crew_moment T.Tool G.Gate crew.old.items)))
+        (work_moment H.Host result.host (first_shown (crew_moment T.Tool G.Gate crew.new.items))))
         (counting (crew_moment T.Tool G.Gate crew.old.items) (crew_moment T.Tool G.Gate crew.new.items))
         ordered.plan (task_numbers ordered.tasks.items) history.now.events result.text.items result.end ∥₁ }
     ensures crew { length crew.new.items ≡ length crew.old.items }
-    ensures gates { map (λ (c : Crew T G). c.gate) crew.new.items
-        ≡ map (λ (c : Crew T G). c.gate) crew.old.items }
+    ensures asked { map (λ (c : Crew T G). G.asked c.gate) crew.new.items
+        ≡ map (λ (c : Crew T G). G.asked c.gate) crew.old.items }
 {
     // A law for the proof: it does nothing.
     fails_show_in_the_state();

@@ -9,6 +9,7 @@ ghost use Rattle.worker_gate.specs.Calls.{AddsCalls};
 ghost use Rattle.worker_gate.specs.Inputs.{AddsOfInputs};
 ghost use Rattle.plan_run.specs.Moments.{crew_moment};
 ghost use Rattle.resume_run.specs.Lost.{lost_below};
+ghost use Rattle.resume_run.specs.Redoing.{AreToldOf};
 ghost use Rattle.resume_run.specs.Working.{WorksOn};
 
 use crate::lost::Lost;
@@ -36,8 +37,10 @@ pub(crate) fn work_on<H: Host, T: Tool, G: Gate>(
     ensures inputs { AddsOfInputs T.apply yard.ordered.plan yard.book.history.events
         result.book.history.events }
     ensures crew { length crew.new.items ≡ length crew.old.items }
-    ensures gates { map (λ (c : Crew T G). c.gate) crew.new.items
-        ≡ map (λ (c : Crew T G). c.gate) crew.old.items }
+    ensures asked { map (λ (c : Crew T G). G.asked c.gate) crew.new.items
+        ≡ map (λ (c : Crew T G). G.asked c.gate) crew.old.items }
+    ensures told { AreToldOf yard.book.history.events result.book.history.events
+        (crew_moment T.Tool G.Gate crew.old.items) (crew_moment T.Tool G.Gate crew.new.items) }
     ensures same { IsSameYard yard result }
 {
     let yard = redo(alloc, yard, lost, crew);

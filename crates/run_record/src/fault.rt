@@ -7,7 +7,7 @@ use values::Memory;
 
 /// Why a text isn't read: the number, from 1, of the first line that isn't one of a record at its
 /// place, or want of memory.
-#[derive(Debug, Drop)]
+#[derive(Drop)]
 pub enum RecordFault {
     Malformed(u64),
     Memory,

@@ -3,7 +3,7 @@
 use values::{TaskId, Text};
 
 /// Why a run failed, with the names of its plan. Sizes are in bytes.
-#[derive(Debug, Drop)]
+#[derive(Drop)]
 pub enum RunFault {
     /// A file's name, and its pfn, where it isn't.
     ReplicaAbsent(Text, Text),

@@ -107,7 +107,7 @@ fn is_right(alloc: Global, case: &Case) -> Result<bool, Memory> {
 #[test]
 fn orders_are_the_stated_ones(rt: HostRuntime) -> Result<(), Fail> {
     for case in CASES.iter() {
-        if !is_right(rt.alloc(), case)? {
+        if is_right(rt.alloc(), case).ok() != Some(true) {
             return Err(Fail::new(case.0));
         }
     }

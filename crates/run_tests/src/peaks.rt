@@ -43,7 +43,9 @@ fn small_peak_tree<L: Ledger>(
     alloc: Global,
     steps: &mut Steps<L>,
 ) -> Result<(), Fail> {
-    let mut tree = PeakTree::of(alloc, &[3, 5, 2])?;
+    let Ok(mut tree) = PeakTree::of(alloc, &[3, 5, 2]) else {
+        return Err(Fail::new("no memory"));
+    };
     assert_eq!(rt; tree.greatest_front(3, steps), Some(5));
     assert!(rt; all_stay(&tree, 1, 4));
     tree.add_front(1, 4, steps);
@@ -60,7 +62,9 @@ fn refilled_tree<L: Ledger>(
     alloc: Global,
     steps: &mut Steps<L>,
 ) -> Result<(), Fail> {
-    let mut tree = PeakTree::of(alloc, &[3, 5, 2])?;
+    let Ok(mut tree) = PeakTree::of(alloc, &[3, 5, 2]) else {
+        return Err(Fail::new("no memory"));
+    };
     tree.refill(&[1], steps);
     assert_eq!(rt; tree.greatest_front(3, steps), Some(1));
     assert_eq!(rt; tree.value(0), Some(1));

@@ -174,12 +174,19 @@ fn has_entries(history: &Record) -> bool {
     end && clean
 }
 
+fn has_its_entries(alloc: Global) -> bool {
+    match parse(alloc, DIAMOND.as_bytes()) {
+        Ok(history) => has_entries(&history),
+        Err(_) => false,
+    }
+}
+
 #[test]
 fn bad_records(rt: HostRuntime) -> Result<(), Fail> {
     let alloc = rt.alloc();
-    assert!(rt; are_read_back(alloc)?);
-    assert!(rt; are_no_entries(alloc)?);
+    assert!(rt; are_read_back(alloc).ok() == Some(true));
+    assert!(rt; are_no_entries(alloc).ok() == Some(true));
     assert!(rt; are_malformed(alloc));
-    assert!(rt; has_entries(&parse(alloc, DIAMOND.as_bytes())?));
+    assert!(rt; has_its_entries(alloc));
     Ok(())
 }

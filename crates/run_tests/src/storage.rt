@@ -241,7 +241,7 @@ const CASES: [Case; 2] = [
 #[test]
 fn usages_and_fits_are_right(rt: HostRuntime) -> Result<(), Fail> {
     for case in &CASES {
-        if !is_right(rt.alloc(), case)? {
+        if is_right(rt.alloc(), case).ok() != Some(true) {
             return Err(Fail::new(case.name));
         }
     }

@@ -3,7 +3,7 @@
 use values::{Items, Text};
 
 /// A whole catalogue.
-#[derive(Debug, Drop)]
+#[derive(Drop)]
 pub struct SiteCatalog {
     pub sites: Items<SiteEntry>,
     /// The paths of the document's keys that are not acted on, in byte order.
@@ -11,14 +11,14 @@ pub struct SiteCatalog {
 }
 
 /// A site.
-#[derive(Debug, Drop)]
+#[derive(Drop)]
 pub struct SiteEntry {
     pub name: Text,
     pub directories: Items<Directory>,
 }
 
 /// A directory of a site. Its kind and its path are kept as they stand in the document.
-#[derive(Debug, Drop)]
+#[derive(Drop)]
 pub struct Directory {
     pub kind: Text,
     pub path: Option<Text>,
@@ -26,7 +26,7 @@ pub struct Directory {
 }
 
 /// Where a directory is reached, and for what. Both are kept as they stand in the document.
-#[derive(Debug, Drop)]
+#[derive(Drop)]
 pub struct FileServer {
     pub operation: Text,
     pub url: Text,

@@ -9,7 +9,7 @@ use plan_core::{Plan, Target, TaskKind};
 use storage_simulation::is_delivery;
 
 /// A file that was delivered, its length in bytes and its SHA-256.
-#[derive(Debug, Clone, Copy)]
+#[derive(Clone, Copy)]
 pub struct Delivered {
     pub file: FileId,
     pub length: u64,

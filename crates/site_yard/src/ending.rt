@@ -17,7 +17,7 @@ use run_record::{Cause, Entry, Record, RunFault};
 use std::alloc::Global;
 
 /// A failed task, and its cause.
-#[derive(Debug, Clone, Copy)]
+#[derive(Clone, Copy)]
 pub struct Failed {
     pub task: TaskId,
     pub cause: Cause,

@@ -7,7 +7,7 @@ use outside::TaskId;
 use run_record::{Entry, Record};
 
 /// What a lease answers: a task granted, or a Clean that was swept, has failed, or is to be tried again.
-#[derive(Debug, Clone, Copy)]
+#[derive(Clone, Copy)]
 pub enum Leased {
     Granted(TaskId),
     Swept(TaskId),

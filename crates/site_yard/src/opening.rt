@@ -14,7 +14,7 @@ use std::alloc::Global;
 use storage_simulation::Ordered;
 
 /// Why nothing was opened.
-#[derive(Debug, Clone, Copy)]
+#[derive(Clone, Copy)]
 pub enum OpenFault {
     ScratchInUse(SiteId),
     HostFailed,

@@ -11,7 +11,7 @@ use std::alloc::Global;
 use std::collections::VecDeque;
 
 /// How many drafts were published, and what refused the next one.
-#[derive(Debug, Clone, Copy)]
+#[derive(Clone, Copy)]
 pub(crate) struct Publication {
     pub count: usize,
     pub refused: Option<HostFault>,

@@ -15,7 +15,7 @@ use plan_core::Plan;
 use values::{SiteId, TaskId};
 
 /// What comes next: a task, the end, or no task that fits.
-#[derive(Debug, Clone, Copy)]
+#[derive(Clone, Copy)]
 pub enum Next {
     Place(TaskId),
     Done,

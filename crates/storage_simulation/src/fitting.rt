@@ -22,7 +22,7 @@ use values::{SiteId, TaskId};
 
 /// The first task of an order after which a site holds more than its bound, in bytes. The output has the number that
 /// follows the last site's.
-#[derive(Debug, Clone, Copy)]
+#[derive(Clone, Copy)]
 pub struct Exceeds {
     pub site: SiteId,
     pub task: TaskId,
@@ -31,7 +31,7 @@ pub struct Exceeds {
 }
 
 /// A position in an order after whose task a place holds more than its bound.
-#[derive(Debug, Clone, Copy)]
+#[derive(Clone, Copy)]
 struct Past {
     position: usize,
     place: u32,

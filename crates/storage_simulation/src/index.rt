@@ -20,7 +20,6 @@ pub type Spot = (u32, u64, u32);
 /// then the bests of their homes and of its place. Each task becomes ready once, and has one last parent left once; a
 /// change is a walk up a tree, and a best two searches and a question of a tree. So an order of n tasks and m edges
 /// takes some `(n + m) + n log n` steps, and no list of tasks or places is scanned in a step.
-#[derive(Drop)]
 pub struct Index {
     pub(crate) spots: Vec<Spot>,
     pub(crate) slots: Vec<u32>,
@@ -28,6 +27,19 @@ pub struct Index {
     pub(crate) best: Tree,
     pub(crate) comes: Vec<u64>,
     pub(crate) goes: Vec<u64>,
+}
+
+impl Drop for Index {
+    fn drop(self) {
+        let Index {
+            spots,
+            slots,
+            keys,
+            best,
+            comes,
+            goes,
+        } = self;
+    }
 }
 
 impl Index {

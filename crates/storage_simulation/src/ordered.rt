@@ -21,7 +21,6 @@ use std::alloc::Global;
 use values::{Memory, SiteId, TaskId};
 
 /// A proper plan within the limits, with the order of all its tasks from the start, and the peak of each place.
-#[derive(Debug, Drop)]
 pub struct Ordered {
     plan: Plan,
     tasks: Vec<TaskId>,
@@ -34,15 +33,21 @@ pub struct Ordered {
         → IsPeak plan at_start (task_numbers tasks.items) s (get_or peaks.items s 0)) ∥₁ },
 }
 
+impl Drop for Ordered {
+    fn drop(self) {
+        let Ordered { plan, tasks, peaks } = self;
+    }
+}
+
 /// Why there is no order.
-#[derive(Debug, Clone, Copy)]
+#[derive(Clone, Copy)]
 pub enum OrderFault {
     Exceeds(Exceeds),
     Memory,
 }
 
 /// Why there is no order, with the plan that was given.
-#[derive(Debug, Drop)]
+#[derive(Drop)]
 pub struct OrderRefused {
     pub fault: OrderFault,
     pub plan: Plan,

@@ -14,7 +14,7 @@ use plan_core::Plan;
 use values::TaskId;
 
 /// What a place holds once a task is placed.
-#[derive(Debug, Clone, Copy)]
+#[derive(Clone, Copy)]
 struct Change {
     place: u32,
     used: u64,

@@ -10,7 +10,7 @@ use std::alloc::Global;
 use values::{Items, Memory, TaskId};
 
 /// What is held of a good, in bytes.
-#[derive(Debug, Clone, Copy)]
+#[derive(Clone, Copy)]
 pub enum Held {
     Nothing,
     Stored(u64),
@@ -18,7 +18,7 @@ pub enum Held {
 }
 
 /// How far a task is.
-#[derive(Debug, Clone, Copy)]
+#[derive(Clone, Copy)]
 pub enum Phase {
     Waits,
     Runs,
@@ -26,11 +26,20 @@ pub enum Phase {
 }
 
 /// What is held of each pair, how far each task is, and what is held of each task's delivery, by number.
-#[derive(Debug, Drop)]
 pub struct Standing {
     pub held: Items<Held>,
     pub tasks: Items<Phase>,
     pub deliveries: Items<Held>,
+}
+
+impl Drop for Standing {
+    fn drop(self) {
+        let Standing {
+            held,
+            tasks,
+            deliveries,
+        } = self;
+    }
 }
 
 fn held_nothing(alloc: Global, count: usize) -> Result<Items<Held>, Memory>

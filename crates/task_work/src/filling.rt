@@ -17,7 +17,7 @@ use run_record::Cause;
 use std::alloc::Global;
 
 /// What drafts hold: of a Transfer the length, and of a delivery the digest; of a Run the length of each.
-#[derive(Debug, Drop)]
+#[derive(Drop)]
 pub enum Filled {
     Moved(u64, Option<[u8; 32]>),
     Made(Vec<u64>),

@@ -15,7 +15,7 @@ use outside::{Blob, FileId, JobId, PairId, TaskId};
 use plan_core::{Plan, PlanJob, TaskKind, files_are_listed_by_pair};
 
 /// An output that is longer than its file's declared size, in bytes.
-#[derive(Debug, Clone, Copy)]
+#[derive(Clone, Copy)]
 pub(crate) struct Past {
     pub pair: PairId,
     pub length: u64,
@@ -94,7 +94,7 @@ fn maker(plan: &Plan, task: TaskId, file: FileId) -> JobId
 }
 
 /// A Run's output that is longer than declared, in bytes, with a job that makes it.
-#[derive(Debug, Clone, Copy)]
+#[derive(Clone, Copy)]
 pub(crate) struct Overlong {
     pub job: JobId,
     pub file: FileId,

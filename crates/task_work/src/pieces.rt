@@ -14,7 +14,7 @@ const PIECE: usize = 65536;
 const SHORT: usize = 4096;
 
 /// What was moved: how many bytes, and their SHA-256.
-#[derive(Debug, Clone, Copy)]
+#[derive(Clone, Copy)]
 pub struct Moved {
     pub length: u64,
     pub digest: [u8; 32],

@@ -13,7 +13,7 @@ use outside::{Blob, Memory, Text, Tool, ToolFault};
 use std::alloc::Global;
 
 /// The tool of the shipped transformations. It never fails.
-#[derive(Clone, Copy, Debug, Default)]
+#[derive(Clone, Copy, Default)]
 pub struct Shipped;
 
 impl Shipped {

@@ -17,7 +17,7 @@ pub(crate) mod text;
 pub(crate) mod total;
 
 /// A shipped transformation.
-#[derive(Clone, Copy, Debug, PartialEq, Eq)]
+#[derive(Clone, Copy, PartialEq, Eq)]
 pub enum Transformation {
     /// The arguments as a line; it reads no input.
     Text,

@@ -8,7 +8,7 @@ use std::alloc::Global;
 use values::Memory;
 
 /// What is least first: the score, then the number.
-#[derive(Debug, Clone, Copy)]
+#[derive(Clone, Copy)]
 pub struct Key {
     pub score: u64,
     pub number: u32,
@@ -121,7 +121,7 @@ fn bare(alloc: Global, width: usize) -> Result<Vec<Option<Key>>, Memory>
 }
 
 /// Rows of keys, each but the lowest made of the one below.
-#[derive(Debug, Drop)]
+#[derive(Drop)]
 pub struct Tree {
     pub rows: Vec<Vec<Option<Key>>>,
 }

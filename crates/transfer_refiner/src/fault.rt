@@ -5,7 +5,7 @@ ghost use Rattle.transfer_refiner.specs.declared.fault.RefineFault.TheVariants.{
 
 use values::{Memory, Text};
 
-#[derive(Debug, Drop)]
+#[derive(Drop)]
 pub enum RefineFault {
     /// The file that a kept job reads, that no kept job makes, and that has no pfn.
     NoReplica(Text),

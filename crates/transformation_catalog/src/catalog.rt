@@ -12,7 +12,6 @@ pub struct TransformationCatalog {
 }
 
 /// A transformation and the sites that have it. The two profiles are kept as texts.
-#[derive(Debug, Drop)]
 pub struct TransformationEntry {
     pub transformation: Transformation,
     pub sites: Items<TransformationSite>,
@@ -20,8 +19,19 @@ pub struct TransformationEntry {
     pub cluster_num: Option<Text>,
 }
 
+impl Drop for TransformationEntry {
+    fn drop(self) {
+        let TransformationEntry {
+            transformation,
+            sites,
+            cluster_size,
+            cluster_num,
+        } = self;
+    }
+}
+
 /// A site that has a transformation: installed there, or else to be staged from there.
-#[derive(Debug, Drop)]
+#[derive(Drop)]
 pub struct TransformationSite {
     pub name: Text,
     pub installed: bool,

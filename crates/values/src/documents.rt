@@ -3,7 +3,7 @@
 use crate::blob::Blob;
 
 /// The bytes of a workflow's document and of the catalogues that are named beside it.
-#[derive(Debug, Drop)]
+#[derive(Drop)]
 pub struct Documents {
     pub workflow: Blob,
     pub sites: Option<Blob>,

@@ -4,7 +4,7 @@ ghost use Rattle.std.specs.Prelude.{◌≡◌};
 ghost use Rattle.values.specs.Policy.{plain};
 
 /// A run's policy.
-#[derive(Debug, Drop)]
+#[derive(Drop)]
 pub struct Policy {
     /// How often a task that failed may be tried again.
     pub retries: u32,

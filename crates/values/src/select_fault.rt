@@ -8,7 +8,7 @@ use crate::numbers::JobId;
 use crate::text::Text;
 
 /// Why a job that has to run has no site.
-#[derive(Debug, Drop)]
+#[derive(Drop)]
 pub enum SelectFault {
     /// A job that is pinned, and the name, which is no execution site's.
     NoSite(JobId, Text),

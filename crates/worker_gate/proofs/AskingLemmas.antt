@@ -166,8 +166,3 @@ lend_asks Takes w t r next o before now_ None same adds = inr (adds.entry, adds.
 
 pub end_asks : (w t n : ℕ) (r next : List Event) → EndsTask w t n r next → AddsAsking r next (t ∷ [])
 end_asks w t n r next ends = inr (ends.entry, ends.is, done_asked w t ends.entry ends.done)
-
--- a task that has a loan: the gate is asked between its turns
-pub asks_between : (m0 m1 m2 : List Event) (t : ℕ) (xs ys zs : List ℕ) → m1 ≡ m0 → ys ≡ xs ++ t ∷ [] → zs ≡ ys → AsksOwn m1 m2 xs (xs ++ t ∷ []) → AsksOwn m0 m2 xs zs
-asks_between m0 m1 m2 t xs ys zs same is still asks =
-    subst (AsksOwn m0 m2 xs) (sym (still ∙ is)) (subst (λ (l : List Event). AsksOwn l m2 xs (xs ++ t ∷ [])) same asks)

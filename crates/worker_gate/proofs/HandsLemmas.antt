@@ -1,19 +1,24 @@
 -- Lists of hands, hand by hand.
-use Rattle.std.proofs.Common.{◌≡◌, ℕ, zero, suc, ◌+◌, ◌<◌, List, [], ◌∷◌, ◌++◌, length, map, get_or, drop, sym, ap, subst, ◌∙◌, arith, append_assoc}
+use Rattle.std.proofs.Common.{◌≡◌, ℕ, zero, suc, ◌+◌, ◌≤◌, ◌<◌, List, [], ◌∷◌, ◌++◌, length, map, get_or, drop, refl, sym, ap, subst, ◌∙◌, arith, append_assoc}
 use Rattle.std.specs.Prelude.{Option}
-use Rattle.std.proofs.lemmas.List.{length-map, map-append}
+use Rattle.std.proofs.lemmas.List.{append-nil, length-map, map-append}
 use mathlib.Core.List.{IsPrefix}
 use Rattle.ruled_lock.specs.declared.pass.Pass.{Pass}
 use Rattle.ruled_lock.specs.declared.lock.RuledLock.{RuledLock}
 use Rattle.ruled_lock.specs.Lock.{IsOf}
 use Rattle.ruled_lock.specs.Pass.{IsIdle, IsNewPass, charter_of, count_of, joined_of, lists_of, mine_of, seen_of, worker_of}
 use Rattle.worker_gate.specs.declared.hands.Hand.{Hand}
-use Rattle.worker_gate.specs.Hands.{AreDealt, AreOthers, AreReady, AreReadyToJoin, IsDealt, IsGathered, IsReady, member_of, own_list}
+use Rattle.ruled_lock.proofs.ListLemmas.{prefix_trans}
+use Rattle.worker_gate.specs.Hands.{AreDealt, AreOthers, AreReady, AreReadyToJoin, AreSeenBy, IsDealt, IsGathered, IsReady, member_of, own_list}
 
 -- the first element and the rest
 pub first_and_rest : {X : Type 0} (xs ys : List X) (x : X) → 0 < length xs → x ≡ get_or xs 0 x → ys ≡ drop 1 xs → xs ≡ x ∷ ys
 first_and_rest [] ys x some at rest = absurd (omega (arith, some))
 first_and_rest (z ∷ zs) ys x some at rest = λ i. (sym at i) ∷ (sym rest i)
+
+pub none_left : {X : Type 0} (xs : List X) → length xs ≤ 0 → xs ≡ []
+none_left [] l = refl
+none_left (x ∷ xs) l = absurd (omega (arith, l))
 
 -- a fact on each element, by its place
 pub each_pushed : {X : Type 0} (P : ℕ → X → Type 0) (xs : List X) (y : X) → ((k : ℕ) (d : X) → k < length xs → P k (get_or xs k d)) → P (length xs) y → (k : ℕ) (d : X) → k < length (xs ++ y ∷ []) → P k (get_or (xs ++ y ∷ []) k d)
@@ -84,12 +89,33 @@ module _ {C M G I : Type 0} {g : _} where
       ∙ ap (λ (l : List (Hand C M G I g)). before ++ map member_of l) (sym is)
       ∙ total
 
-  pub gathered : (h : Hand C M G I g) (hs rest : List (Hand C M G I g)) (p : Pass C G I g) (lock : RuledLock C G I) → hs ≡ h ∷ rest → IsReady lock (length hs) h.pass → worker_of p ≡ worker_of h.pass → mine_of p ≡ mine_of h.pass → charter_of p ≡ charter_of h.pass → IsPrefix (seen_of h.pass) (seen_of p) → count_of p ≡ count_of h.pass → joined_of p ≡ joined_of h.pass ++ map own_list rest → IsGathered hs p
-  gathered h hs rest p lock is ready number mine charter seen count joins = record {
+  -- those in front of the hands that are left have been joined
+  abbrev pub HaveSome : List (Hand C M G I g) → List (Hand C M G I g) → Pass C G I g → Type 0
+  HaveSome hs left p = (front : List (Hand C M G I g)) × (front ++ left ≡ hs) × AreSeenBy front p
+
+  pub some_first : (hs : List (Hand C M G I g)) (p : Pass C G I g) → HaveSome hs hs p
+  some_first hs p = ([], refl, λ k d l. absurd (omega (arith, l)))
+
+  pub some_more : (h : Hand C M G I g) (hs left rest : List (Hand C M G I g)) (p q : Pass C G I g) → left ≡ h ∷ rest → IsPrefix (seen_of p) (seen_of q) → IsPrefix (seen_of h.pass) (seen_of q) → HaveSome hs left p → HaveSome hs rest q
+  some_more h hs left rest p q is before other some = (
+    some.0 ++ h ∷ [],
+    append_assoc some.0 (h ∷ []) rest ∙ ap (λ (l : List (Hand C M G I g)). some.0 ++ l) (sym is) ∙ some.1,
+    each_pushed (λ (k : ℕ) (x : Hand C M G I g). IsPrefix (seen_of x.pass) (seen_of q)) some.0 h (λ k d l. prefix_trans (seen_of (get_or some.0 k d).pass) (seen_of p) (seen_of q) (some.2 k d l) before) other,
+  )
+
+  pub some_all : (hs left : List (Hand C M G I g)) (p : Pass C G I g) → left ≡ [] → HaveSome hs left p → AreSeenBy hs p
+  some_all hs left p none some = subst (λ (l : List (Hand C M G I g)). AreSeenBy l p) (sym (append-nil some.0) ∙ ap (λ (l : List (Hand C M G I g)). some.0 ++ l) (sym none) ∙ some.1) some.2
+
+  seen_all : (h : Hand C M G I g) (rest : List (Hand C M G I g)) (p : Pass C G I g) → IsPrefix (seen_of h.pass) (seen_of p) → AreSeenBy rest p → AreSeenBy (h ∷ rest) p
+  seen_all h rest p first others zero d l = first
+  seen_all h rest p first others (suc k) d l = others k d (omega (arith, l))
+
+  pub gathered : (h : Hand C M G I g) (hs rest : List (Hand C M G I g)) (p : Pass C G I g) (lock : RuledLock C G I) → hs ≡ h ∷ rest → IsReady lock (length hs) h.pass → worker_of p ≡ worker_of h.pass → mine_of p ≡ mine_of h.pass → charter_of p ≡ charter_of h.pass → IsPrefix (seen_of h.pass) (seen_of p) → AreSeenBy rest p → count_of p ≡ count_of h.pass → joined_of p ≡ joined_of h.pass ++ map own_list rest → IsGathered hs p
+  gathered h hs rest p lock is ready number mine charter seen others count joins = record {
     lists = (λ i. (number i, mine i) ∷ lists i) ∙ ap (map own_list) (sym is);
     whole = let a = ap length lists in let b = length-map rest own_list in let c = ap length is in let e = ready.count_is in omega (arith, a, b, c, e, count);
     charter = λ d. charter ∙ ap (λ (l : List (Hand C M G I g)). charter_of (get_or l 0 d).pass) (sym is);
-    seen = λ d. subst (λ (l : List (Hand C M G I g)). IsPrefix (seen_of (get_or l 0 d).pass) (seen_of p)) (sym is) seen;
+    seen = subst (λ (l : List (Hand C M G I g)). AreSeenBy l p) (sym is) (seen_all h rest p seen others);
   }
     where
       lists : joined_of p ≡ map own_list rest

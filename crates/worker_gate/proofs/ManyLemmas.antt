@@ -3,7 +3,7 @@ use Rattle.std.proofs.Common.{◌≡◌, ◌⊎◌, ℕ, zero, suc, ◌+◌, ◌
 use Rattle.std.specs.Prelude.{IfSome, Option, Some}
 use Rattle.std.specs.Coded.{le_prop}
 use Rattle.std.proofs.Math.Logic.{∥∥₁_elim}
-use Rattle.std.proofs.lemmas.List.{get_or-map, length-map}
+use Rattle.std.proofs.lemmas.List.{append-nil, get_or-map, length-map}
 use mathlib.Core.Bool.{Bool-set}
 use mathlib.Core.List.{IsPrefix}
 use Rattle.values.specs.Apply.{Apply}
@@ -31,12 +31,14 @@ use Rattle.worker_gate.specs.Asking.{AreAskedBy, AreGatesAsked, AsksOwn, IsAsked
 use Rattle.worker_gate.specs.Hands.{AreDealt, AreReady, IsDealt, IsGathered, count_at, member_of, own_list}
 use Rattle.worker_gate.specs.Inputs.{AddsOfInputs, AreOfInputs}
 use Rattle.worker_gate.specs.Many.{AreToolsCounted, CanAllWork, HasWorked, HaveAllAsked, HaveAllWorked, WorksMany}
+use Rattle.worker_gate.specs.Telling.{AreGatesTold, HaveAllTold, IsToldOf, placed_by}
 use Rattle.worker_gate.specs.Turning.{NoneOpenBy, NoneOpenFor, plan_of, state_of}
 use Rattle.worker_gate.specs.Working.{Works}
 use Rattle.worker_gate.specs.declared.hands.Hand.{Hand}
 use Rattle.worker_gate.proofs.AskingLemmas.{no_more}
 use Rattle.worker_gate.proofs.RunLemmas.{no_faults}
 use Rattle.worker_gate.proofs.StateLemmas.{same_number}
+use Rattle.worker_gate.proofs.TellingLemmas.{told_whole}
 use Rattle.worker_gate.proofs.TurningLemmas.{OpenLaw, OwnLaw}
 
 -- numbers and lists
@@ -214,7 +216,7 @@ module _ {C M : Type 0} {h : _} where
       many_at own tells ends fails b g n (seen_of (get_or news 0 d).pass) plan order
       (λ k l t. let there : k < length hs = omega (arith, l, members) in ap (is_open_after t false) (own_at_end apply lock g n faults hs news p b.history.events same dealt worked gathered items k d there) ∙ (at k d there).none_open_by t)
       (λ k l. others k (let a = ap length gathered.lists in let e = length-map news own_list in let w = gathered.whole in omega (arith, a, e, w, same, members, l)))
-      (prefix_trans (seen_of (get_or news 0 d).pass) (seen_of p) b.history.events (gathered.seen d) front)
+      (prefix_trans (seen_of (get_or news 0 d).pass) (seen_of p) b.history.events (gathered.seen 0 d (omega (arith, some, same))) front)
       (at 0 d some).over
     where
       at : (k : ℕ) (d : Hand C M Charter Event h) → k < length hs → Works g k [] (mine_of (get_or news k d).pass) (seen_of (get_or news k d).pass) (faults (get_or hs k d).member) (faults (get_or news k d).member)
@@ -298,7 +300,35 @@ module _ {C M : Type 0} {h : _} where
           (own_at_end apply lock g n faults hs news p r same dealt worked gathered items k d there ∙ own.is)
           (here before hs (sym was) k d there) (here after news is k d (omega (arith, there, same))) own.asked
 
+-- what gates were told
+module _ {C M : Type 0} {h : _} where
+  pub many_told : (apply : Apply) (lock : RuledLock C Charter Event) (g : Charter) (n : ℕ) (faults : M → ℕ) (told : M → List (ℕ × Event)) (hs news : List (Hand C M Charter Event h)) (p : Pass C Charter Event h) (r : List Event) (before after : List M) → map member_of hs ≡ before → after ≡ map member_of news → length news ≡ length hs → AreDealt lock (Some g) [] n hs → HaveAllWorked apply lock faults hs news → HaveAllTold told hs news → ((k : ℕ) (d : Hand C M Charter Event h) → k < length news → entries_by (worker_of (get_or news k d).pass) (seen_of (get_or news k d).pass) ≡ mine_of (get_or news k d).pass) → IsGathered news p → IsPrefix (seen_of p) r → ((k : ℕ) → items_of worker k r ≡ list_of k (lists_of p)) → AreGatesTold r (map told before) (map told after)
+  many_told apply lock g n faults told hs news p r before after was is same dealt worked tells own gathered front items = record { each = each }
+    where
+      here : (ms : List M) (xs : List (Hand C M Charter Event h)) → ms ≡ map member_of xs → (k : ℕ) (d : Hand C M Charter Event h) → k < length xs → get_or (map told ms) k [] ≡ told (get_or xs k d).member
+      here ms xs e k d l =
+          ap (λ (m : List M). get_or (map told m) k []) e
+          ∙ get_or-map told (map member_of xs) k d.member [] (let m = length-map xs member_of in omega (arith, l, m))
+          ∙ ap told (get_or-map member_of xs k d d.member l)
+
+      each : (k : ℕ) → k < length (map told before) → get_or (map told after) k [] ≡ get_or (map told before) k [] ++ placed_by k 0 r
+      each k l =
+          let there : k < length hs = (let a = length-map before told in let e = ap length was in let f = length-map hs member_of in omega (arith, l, a, e, f)) in
+          let d = some_element hs (omega (arith, there)) in
+          let x = dealt k d there in
+          let q = (get_or news k d).pass in
+          let number = (worked k d there).same.worker ∙ x.new.number in
+          let from = subst (λ (s : List Event). IsToldOf k s (seen_of q) (told (get_or hs k d).member) (told (get_or news k d).member)) x.new.seen_is (subst (λ (w : ℕ). IsToldOf w (seen_of (get_or hs k d).pass) (seen_of q) (told (get_or hs k d).member) (told (get_or news k d).member)) x.new.number (tells k d there)) in
+          let whole = told_whole k (seen_of q) r (mine_of q) (told (get_or hs k d).member) (told (get_or news k d).member)
+          (prefix_trans (seen_of q) (seen_of p) r (gathered.seen k d (omega (arith, there, same))) front)
+          (subst (λ (w : ℕ). entries_by w (seen_of q) ≡ mine_of q) number (own k d (omega (arith, there, same))))
+          (own_at_end apply lock g n faults hs news p r same dealt worked gathered items k d there) from in
+          here after news is k d (omega (arith, there, same)) ∙ whole ∙ ap (λ (l : List (ℕ × Event)). l ++ placed_by k 0 r) (sym (here before hs (sym was) k d there))
+
 -- a run that was not begun
+pub none_told : (r : List Event) (lists : List (List (ℕ × Event))) → r ≡ [] → AreGatesTold r lists lists
+none_told r lists none = record { each = λ k l. sym (ap (λ (q : List Event). get_or lists k [] ++ placed_by k 0 q) none ∙ append-nil (get_or lists k [])) }
+
 pub none_asked : (r : List Event) (lists : List (List ℕ)) → r ≡ [] → AreGatesAsked r lists lists
 none_asked r lists none = record {
   each = λ k l. record { asked = []; is = sym (no_more (get_or lists k [])); are = subst (λ (q : List Event). AreAskedBy (entries_by k q) []) (sym none) refl };

@@ -50,9 +50,14 @@ module _ {C M G I : Type 0} {g : _} where
   abbrev pub AreReadyToJoin : RuledLock C G I → List (Hand C M G I g) → Type 0
   AreReadyToJoin lock hs = (k : ℕ) (d : Hand C M G I g) → k < length hs → IsReady lock 0 (get_or hs k d).pass
 
+  -- what each hand's pass has seen is a beginning of what this one has
+  abbrev pub AreSeenBy : List (Hand C M G I g) → Pass C G I g → Type 0
+  AreSeenBy hs p = (k : ℕ) (d : Hand C M G I g) → k < length hs
+      → IsPrefix (seen_of (get_or hs k d).pass) (seen_of p)
+
   -- the pass into which those of all hands were joined; it was the first one's
   pub record IsGathered (hs : List (Hand C M G I g)) (p : Pass C G I g) : Type 0 where
     pub lists : lists_of p ≡ map own_list hs
     pub whole : IsWhole p
     pub charter : (d : Hand C M G I g) → charter_of p ≡ charter_of (get_or hs 0 d).pass
-    pub seen : (d : Hand C M G I g) → IsPrefix (seen_of (get_or hs 0 d).pass) (seen_of p)
+    pub seen : AreSeenBy hs p

@@ -7,6 +7,7 @@ pub mod Many
 pub mod Inputs
 pub mod Calls
 pub mod Asking
+pub mod Telling
 -- What the laws stand on.
 pub mod Law
 -- What its parts answer.

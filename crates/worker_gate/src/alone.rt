@@ -7,6 +7,7 @@ ghost use Rattle.site_yard.specs.Yard.{IsSameYard};
 ghost use Rattle.worker_gate.specs.Alone.{NoneOpen, WorksAlone};
 ghost use Rattle.worker_gate.specs.Calls.{AddsCalls};
 ghost use Rattle.worker_gate.specs.Inputs.{AddsOfInputs};
+ghost use Rattle.worker_gate.specs.Telling.{IsToldOf};
 
 use crate::law::lease_laws;
 use crate::stepping::step;
@@ -15,7 +16,7 @@ use outside::{Host, Tool};
 use site_yard::Yard;
 use std::alloc::Global;
 
-/// Works as worker 0 until all is done or something failed. It waits for nobody, and asks no gate.
+/// Works as worker 0 until all is done or something failed. It waits for nobody; its gate is told each entry, and not asked.
 pub fn run_alone<H: Host, T: Tool, G: Gate>(
     alloc: Global,
     yard: Yard<H, T>,
@@ -30,12 +31,14 @@ pub fn run_alone<H: Host, T: Tool, G: Gate>(
     ensures inputs { AddsOfInputs T.apply yard.ordered.plan yard.book.history.events
         result.book.history.events }
     ensures tool { T.faults crew.old.tool ≤ T.faults crew.new.tool }
-    ensures gate { crew.new.gate ≡ crew.old.gate }
+    ensures asked { G.asked crew.new.gate ≡ G.asked crew.old.gate }
+    ensures told { IsToldOf 0 yard.book.history.events result.book.history.events
+        (G.told crew.old.gate) (G.told crew.new.gate) }
     ensures same { IsSameYard yard result }
 {
     // A law for the proof: it does nothing.
     lease_laws();
     let mut yard = yard;
-    while step(alloc, &mut yard, &mut crew.tool) {}
+    while step(alloc, &mut yard, crew) {}
     yard
 }

@@ -4,7 +4,7 @@ ghost use Rattle.std.specs.Prelude.{◌≡◌, ℕ, ◌+◌, ◌++◌, ◌<◌, 
 ghost use mathlib.Core.List.{IsPrefix};
 ghost use Rattle.ruled_lock.specs.Lock.{IsOf, workers_of};
 ghost use Rattle.ruled_lock.specs.Pass.{IsIdle, IsNewPass, charter_of, count_of, joined_of, mine_of, seen_of, worker_of};
-ghost use Rattle.worker_gate.specs.Hands.{AreDealt, AreOthers, AreReady, AreReadyToJoin, IsDealt, IsGathered, member_of, own_list};
+ghost use Rattle.worker_gate.specs.Hands.{AreDealt, AreOthers, AreReady, AreReadyToJoin, AreSeenBy, IsDealt, IsGathered, member_of, own_list};
 
 use ruled_lock::{Chronicle, Pass, RuledLock};
 use std::alloc::Global;
@@ -89,6 +89,7 @@ fn gather_others<C: Chronicle, M>(
     ensures seen { IsPrefix (seen_of first.old) (seen_of first.new) }
     ensures count { count_of first.new ≡ count_of first.old }
     ensures joined { joined_of first.new ≡ joined_of first.old ++ map own_list hands.items }
+    ensures others_seen { AreSeenBy hands.items first.new }
     ensures members { crew.new.items ≡ crew.old.items ++ map member_of hands.items }
 {
     let mut hands = hands;

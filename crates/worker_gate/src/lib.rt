@@ -6,7 +6,8 @@
 //! (`specs/Alone.antt`), and [`do_task`] does one task that is open (`specs/Stepping.antt`). A task's bytes move between
 //! two turns: the first makes a loan of readings and drafts, `task_work` fills the drafts, and the second settles the
 //! loan or abandons it (`specs/Tending.antt`). What an entry says of the bytes that were read, told or not, is in
-//! `specs/Inputs.antt`.
+//! `specs/Inputs.antt`. A worker's gate is told each entry that the worker has added, with its place in the record, before
+//! the turn ends (`specs/Telling.antt`).
 #![tactic(auto)]
 
 mod alone;
@@ -14,6 +15,7 @@ mod hands;
 mod law;
 mod many;
 mod stepping;
+mod telling;
 mod tending;
 mod turning;
 mod working;

@@ -1,11 +1,12 @@
 //! All workers over one yard.
 
 ghost use Rattle.std.specs.Prelude.{◌≡◌, ◌≤◌, ◌<◌, [], is_some, length, map, take, true};
-ghost use Rattle.ruled_lock.specs.Pass.{mine_of};
+ghost use Rattle.ruled_lock.specs.Pass.{mine_of, seen_of, worker_of};
 ghost use Rattle.plan_core.specs.Words.{task_numbers};
 ghost use Rattle.worker_gate.specs.Asking.{AreGatesAsked, AsksOwn};
 ghost use Rattle.worker_gate.specs.Inputs.{AreOfInputs};
 ghost use Rattle.worker_gate.specs.Many.{AreToolsCounted, CanAllWork, CanWork, HasWorked, HaveAllAsked, HaveAllWorked, WorksMany};
+ghost use Rattle.worker_gate.specs.Telling.{AreGatesTold, HaveAllTold, IsToldOf};
 
 use crate::hands::{Hand, deal, gather};
 use crate::working::work;
@@ -38,6 +39,8 @@ fn work_hand<R: Wait, H: Host, T: Tool, G: Gate>(
         (T.faults hand.new.member.tool) }
     ensures asked { AsksOwn (mine_of hand.old.pass) (mine_of hand.new.pass) (G.asked hand.old.member.gate)
         (G.asked hand.new.member.gate) }
+    ensures told { IsToldOf (worker_of hand.old.pass) (seen_of hand.old.pass) (seen_of hand.new.pass)
+        (G.told hand.old.member.gate) (G.told hand.new.member.gate) }
 {
     work(rt, alloc, lock, &mut hand.pass, &mut hand.member);
 }
@@ -56,6 +59,7 @@ where
     ensures length { length hands.new ≡ length hands.old }
     ensures worked { HaveAllWorked T.apply lock.now (λ c. T.faults c.tool) hands.old hands.new }
     ensures asked { HaveAllAsked (λ c. G.asked c.gate) hands.old hands.new }
+    ensures told { HaveAllTold (λ c. G.told c.gate) hands.old hands.new }
 {
     for_each_mut(rt, hands, 16, &|_, hand| work_hand(rt, alloc, lock, hand));
 }
@@ -89,6 +93,9 @@ where
     ensures gates { AreGatesAsked result.yard.book.history.events
         (map (λ (c : Crew T G). G.asked c.gate) crew.items)
         (map (λ (c : Crew T G). G.asked c.gate) result.crew.items) }
+    ensures told { AreGatesTold result.yard.book.history.events
+        (map (λ (c : Crew T G). G.told c.gate) crew.items)
+        (map (λ (c : Crew T G). G.told c.gate) result.crew.items) }
     ensures inputs { AreOfInputs T.apply yard.ordered.plan result.yard.book.history.events }
     ensures unstarted { result.unstarted ≡ true
         → (result.yard.book.history.events ≡ []) × (result.crew.items ≡ crew.items) }

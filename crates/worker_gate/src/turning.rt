@@ -2,15 +2,18 @@
 //! most.
 
 ghost use Rattle.std.specs.Prelude.{◌≡◌, ◌<◌, ◌++◌, ◌∷◌, [], ℕ, IfNone, IfOk, IfSome, List, false, map, true};
+ghost use Rattle.run_record.specs.Events.{Event};
 ghost use Rattle.lease_rules.specs.Owning.{is_open_after};
 ghost use Rattle.ruled_lock.specs.Lock.{IsOf};
 ghost use Rattle.ruled_lock.specs.Pass.{IsIdle, charter_of, mine_of, seen_of, worker_of};
 ghost use Rattle.worker_gate.specs.Asking.{AsksOwn};
 ghost use Rattle.worker_gate.specs.Inputs.{AddsOfInputs, IsFilledOf};
+ghost use Rattle.worker_gate.specs.Telling.{IsToldOf};
 ghost use Rattle.worker_gate.specs.Tending.{CanFinish, Finishes, failures_in};
 ghost use Rattle.worker_gate.specs.Turning.{IsHeldFor, IsPlanOf, KeepsTurn, LeasesOwn, NoneOpenBy, NoneOpenFor, plan_of, told_of};
 
-use crate::tending::finish_at;
+use crate::telling::{finish_told, lease_told, lend_told};
+use craft::Gate;
 use lease_rules::own_entries_tell_open_tasks;
 use outside::{Host, Memory, TaskId, Tool};
 use plan_core::Plan;
@@ -36,6 +39,7 @@ pub(crate) fn copy_plan<R: Wait, H: Host, T: Tool>(
     ensures mine { mine_of pass.new ≡ mine_of pass.old }
     ensures none_open { NoneOpenBy (mine_of pass.old) }
     ensures plan { IsPlanOf (charter_of pass.old) result }
+    ensures told { (xs : List (ℕ × Event)) → IsToldOf (worker_of pass.old) (seen_of pass.old) (seen_of pass.new) xs xs }
 {
     // A law for the proof: it does nothing.
     own_entries_tell_open_tasks();
@@ -46,11 +50,12 @@ pub(crate) fn copy_plan<R: Wait, H: Host, T: Tool>(
 }
 
 /// Leases.
-pub(crate) fn lease<R: Wait, H: Host, T: Tool>(
+pub(crate) fn lease<R: Wait, H: Host, T: Tool, G: Gate>(
     rt: &R,
     alloc: Global,
     lock: &RuledLock<Yard<H, T>>,
     pass: &mut Pass<Yard<H, T>>,
+    gate: &mut G,
 ) -> Leased
     requires of { IsOf lock.now pass.old }
     requires idle { IsIdle pass.old }
@@ -61,22 +66,25 @@ pub(crate) fn lease<R: Wait, H: Host, T: Tool>(
         (mine_of pass.new) (seen_of pass.new) result }
     ensures inputs { IfSome (charter_of pass.old)
         (λ g. AddsOfInputs T.apply (plan_of g) (mine_of pass.old) (mine_of pass.new)) }
-    ensures asked { (ts : List ℕ) → AsksOwn (mine_of pass.old) (mine_of pass.new) ts ts }
+    ensures asked { AsksOwn (mine_of pass.old) (mine_of pass.new) (G.asked gate.old) (G.asked gate.new) }
+    ensures told { IsToldOf (worker_of pass.old) (seen_of pass.old) (seen_of pass.new) (G.told gate.old)
+        (G.told gate.new) }
 {
     own_entries_tell_open_tasks();
     let mut yard = lock.take(rt, pass);
-    let leased = yard.lease(alloc, pass.worker());
+    let leased = lease_told(alloc, &mut yard, pass.worker(), gate);
     lock.give(pass, yard);
     leased
 }
 
 /// Makes the loan of a task that is open, or adds why there is none.
-pub(crate) fn begin<R: Wait, H: Host, T: Tool>(
+pub(crate) fn begin<R: Wait, H: Host, T: Tool, G: Gate>(
     rt: &R,
     alloc: Global,
     lock: &RuledLock<Yard<H, T>>,
     pass: &mut Pass<Yard<H, T>>,
     task: TaskId,
+    gate: &mut G,
 ) -> Option<Loan<H>>
     requires of { IsOf lock.now pass.old }
     requires idle { IsIdle pass.old }
@@ -85,22 +93,25 @@ pub(crate) fn begin<R: Wait, H: Host, T: Tool>(
     ensures held { IfSome result (λ l. IsHeldFor T.apply (charter_of pass.old) task.0
         (map H.Reading.state l.readings.items) (map H.Draft.state l.drafts.items)) }
     ensures mine { IfSome result (λ l. mine_of pass.new ≡ mine_of pass.old) }
+    ensures gate { G.asked gate.new ≡ G.asked gate.old }
     ensures none { IfNone result (Finishes (worker_of pass.old) task.0 0 (mine_of pass.old)
         (mine_of pass.new)) }
     ensures inputs { IfSome (charter_of pass.old)
         (λ g. AddsOfInputs T.apply (plan_of g) (mine_of pass.old) (mine_of pass.new)) }
-    ensures asked { (ts : List ℕ) → AsksOwn (mine_of pass.old) (mine_of pass.new) ts ts }
+    ensures asked { AsksOwn (mine_of pass.old) (mine_of pass.new) (G.asked gate.old) (G.asked gate.new) }
+    ensures told { IsToldOf (worker_of pass.old) (seen_of pass.old) (seen_of pass.new) (G.told gate.old)
+        (G.told gate.new) }
 {
     // Laws for the proof: they do nothing.
     own_entries_tell_open_tasks();
     let mut yard = lock.take(rt, pass);
-    let lent = yard.lend(alloc, pass.worker(), task);
+    let lent = lend_told(alloc, &mut yard, pass.worker(), task, gate);
     lock.give(pass, yard);
     lent
 }
 
 /// Settles the loan of a task that is open, or abandons it.
-pub(crate) fn finish<R: Wait, H: Host, T: Tool>(
+pub(crate) fn finish<R: Wait, H: Host, T: Tool, G: Gate>(
     rt: &R,
     alloc: Global,
     lock: &RuledLock<Yard<H, T>>,
@@ -108,6 +119,7 @@ pub(crate) fn finish<R: Wait, H: Host, T: Tool>(
     task: TaskId,
     loan: Loan<H>,
     filled: Result<Filled, Cause>,
+    gate: &mut G,
 )
     requires of { IsOf lock.now pass.old }
     requires idle { IsIdle pass.old }
@@ -121,10 +133,13 @@ pub(crate) fn finish<R: Wait, H: Host, T: Tool>(
         (mine_of pass.new) }
     ensures inputs { IfSome (charter_of pass.old)
         (λ g. AddsOfInputs T.apply (plan_of g) (mine_of pass.old) (mine_of pass.new)) }
-    ensures asked { (ts : List ℕ) → AsksOwn (mine_of pass.old) (mine_of pass.new) ts (ts ++ task.0 ∷ []) }
+    ensures asked { (ts : List ℕ) → G.asked gate.old ≡ ts ++ task.0 ∷ []
+        → AsksOwn (mine_of pass.old) (mine_of pass.new) ts (G.asked gate.new) }
+    ensures told { IsToldOf (worker_of pass.old) (seen_of pass.old) (seen_of pass.new) (G.told gate.old)
+        (G.told gate.new) }
 {
     own_entries_tell_open_tasks();
     let mut yard = lock.take(rt, pass);
-    finish_at(alloc, &mut yard, pass.worker(), task, loan, filled);
+    finish_told(alloc, &mut yard, pass.worker(), task, loan, filled, gate);
     lock.give(pass, yard);
 }

@@ -8,6 +8,7 @@ ghost use Rattle.ruled_lock.specs.Lock.{IsOf};
 ghost use Rattle.ruled_lock.specs.Pass.{IsIdle, charter_of, mine_of, seen_of, worker_of};
 ghost use Rattle.worker_gate.specs.Asking.{AsksOwn};
 ghost use Rattle.worker_gate.specs.Inputs.{AddsOfInputs};
+ghost use Rattle.worker_gate.specs.Telling.{IsToldOf};
 ghost use Rattle.worker_gate.specs.Turning.{IsPlanOf, KeepsTurn, NoneOpenFor, plan_of};
 ghost use Rattle.task_work.specs.Filling.{AreParts};
 ghost use Rattle.task_work.specs.Making.{AreBegun, AreEmpty};
@@ -70,16 +71,18 @@ fn do_task<R: Wait, H: Host, T: Tool, G: Gate>(
     ensures tool { T.faults crew.old.tool ≤ T.faults crew.new.tool }
     ensures asked { AsksOwn (mine_of pass.old) (mine_of pass.new) (G.asked crew.old.gate)
         (G.asked crew.new.gate) }
+    ensures told { IsToldOf (worker_of pass.old) (seen_of pass.old) (seen_of pass.new)
+        (G.told crew.old.gate) (G.told crew.new.gate) }
 {
     // Laws for the proof: they do nothing.
     plan_laws();
     runs_carry_what_they_compute();
-    let Some(mut loan) = begin(rt, alloc, lock, pass, task) else {
+    let Some(mut loan) = begin(rt, alloc, lock, pass, task, &mut crew.gate) else {
         return;
     };
     crew.gate.before(task);
     let filled = fill_with(alloc, plan, task, &mut loan, &mut crew.tool);
-    finish(rt, alloc, lock, pass, task, loan, filled);
+    finish(rt, alloc, lock, pass, task, loan, filled, &mut crew.gate);
 }
 
 /// Leases and works until all is done or something failed, its own failure included. Between two of its turns others may
@@ -105,10 +108,12 @@ pub fn work<R: Wait, H: Host, T: Tool, G: Gate>(
     ensures tool { T.faults crew.old.tool ≤ T.faults crew.new.tool }
     ensures asked { AsksOwn (mine_of pass.old) (mine_of pass.new) (G.asked crew.old.gate)
         (G.asked crew.new.gate) }
+    ensures told { IsToldOf (worker_of pass.old) (seen_of pass.old) (seen_of pass.new)
+        (G.told crew.old.gate) (G.told crew.new.gate) }
 {
     let plan = copy_plan(rt, alloc, lock, pass);
     for _ in rt.forever() {
-        match lease(rt, alloc, lock, pass) {
+        match lease(rt, alloc, lock, pass, &mut crew.gate) {
             Leased::Granted(task) => do_task(rt, alloc, lock, pass, crew, &plan, task),
             Leased::Swept(_) => {}
             Leased::Failed(_) => {}

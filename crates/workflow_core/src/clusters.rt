@@ -3,7 +3,7 @@
 use values::{Items, JobId};
 
 /// The clusters of kept jobs, each in the order in which its jobs run.
-#[derive(Debug, Drop)]
+#[derive(Drop)]
 pub struct Clusters {
     pub parts: Items<Items<JobId>>,
 }

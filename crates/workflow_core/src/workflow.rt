@@ -5,7 +5,6 @@ use values::{FileId, Items, JobId, Text};
 
 /// A list of jobs, the pairs of a job and one that comes after it, and the files in order of first
 /// appearance with the first size that a use gives each, in bytes.
-#[derive(Drop)]
 pub struct Workflow {
     pub name: Text,
     pub jobs: Items<Job>,
@@ -17,8 +16,21 @@ pub struct Workflow {
     pub ignored: Items<Text>,
 }
 
+impl Drop for Workflow {
+    fn drop(self) {
+        let Workflow {
+            name,
+            jobs,
+            pairs,
+            files,
+            sizes,
+            inlined,
+            ignored,
+        } = self;
+    }
+}
+
 /// One use of a transformation. The profiles are kept as texts.
-#[derive(Debug, Drop)]
 pub struct Job {
     pub id: Text,
     pub transformation: Transformation,
@@ -31,8 +43,24 @@ pub struct Job {
     pub pinned: Option<Text>,
 }
 
+impl Drop for Job {
+    fn drop(self) {
+        let Job {
+            id,
+            transformation,
+            arguments,
+            inputs,
+            outputs,
+            label,
+            cluster_size,
+            cluster_num,
+            pinned,
+        } = self;
+    }
+}
+
 /// A file that a job makes. It is delivered where `stage_out` is set, and registered where `register` is.
-#[derive(Clone, Copy, Debug, PartialEq, Eq)]
+#[derive(Clone, Copy, PartialEq, Eq)]
 pub struct Output {
     pub file: FileId,
     pub stage_out: bool,
@@ -40,17 +68,35 @@ pub struct Output {
 }
 
 /// What a job runs. An absent and an empty namespace or version are different.
-#[derive(Debug, Drop)]
 pub struct Transformation {
     pub namespace: Option<Text>,
     pub name: Text,
     pub version: Option<Text>,
 }
 
+impl Drop for Transformation {
+    fn drop(self) {
+        let Transformation {
+            namespace,
+            name,
+            version,
+        } = self;
+    }
+}
+
 /// The catalogues that stand in the workflow's own document, as trees.
-#[derive(Drop)]
 pub struct Inlined {
     pub sites: Option<Value>,
     pub replicas: Option<Value>,
     pub transformations: Option<Value>,
+}
+
+impl Drop for Inlined {
+    fn drop(self) {
+        let Inlined {
+            sites,
+            replicas,
+            transformations,
+        } = self;
+    }
 }

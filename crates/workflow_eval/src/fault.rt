@@ -5,7 +5,7 @@ ghost use Rattle.workflow_eval.specs.declared.fault.EvalFault.TheVariants.{Memor
 
 use outside::{JobId, Memory};
 
-#[derive(Clone, Copy, Debug, PartialEq, Eq)]
+#[derive(Clone, Copy, PartialEq, Eq)]
 pub enum EvalFault {
     /// Of the values of the job's inputs its tool makes nothing.
     Declined(JobId),

@@ -6,7 +6,7 @@ ghost use Rattle.workload_maker.specs.Names.{four_digits, name_text, numbered_te
 use values::Memory;
 
 /// A file's name: of some that are numbered, or of a single one.
-#[derive(Debug, Clone, Copy)]
+#[derive(Clone, Copy)]
 pub enum FileName {
     Raw(u32),
     Proj(u32),
@@ -18,7 +18,7 @@ pub enum FileName {
 }
 
 /// A file with its declared size in bytes.
-#[derive(Debug, Clone, Copy)]
+#[derive(Clone, Copy)]
 pub struct File {
     pub name: FileName,
     pub size: u64,

@@ -60,6 +60,8 @@ pub record IsInside (n : ℕ) (outer inner : Work) : Type 0 where
   pub counts : inner.before.counts ≡ no_calls
   pub tool_before : inner.before.tool ≡ outer.before.tool
   pub tool_after : inner.after.tool ≡ outer.after.tool
+  pub entered_before : inner.before.entered ≡ outer.before.entered
+  pub entered_after : inner.after.entered ≡ outer.after.entered
 
 -- The workload's plan was run inside by some workers.
 pub record RunsInside (n workers : ℕ) (outer : Work) (t : Tools) (s : Surveyed)

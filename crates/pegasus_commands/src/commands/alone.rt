@@ -1,7 +1,7 @@
 //! `alone`.
 
 ghost use Rattle.std.specs.Prelude.{◌≡◌};
-ghost use Rattle.plan_run.specs.Moments.{Tools, work_moment, working};
+ghost use Rattle.plan_run.specs.Moments.{Tools, member_moment, work_moment, working};
 ghost use Rattle.pegasus_commands.specs.Commands.Alone.{RunsAlone, alone};
 ghost use Rattle.pegasus_commands.specs.CommandSpec.{Does, OfFirst, doing};
 ghost use Rattle.pegasus_commands.specs.Moments.{docs_moment};
@@ -25,10 +25,10 @@ pub(crate) fn run_survey<H: Host, T: Tool, G: Gate>(
     crew: &mut Crew<T, G>,
 ) -> Worked<H>
     ensures works { (t : Tools)
-        → RunsAlone (working T.apply T.known (work_moment H.Host host (T.faults crew.old.tool))
-        (work_moment H.Host result.host (T.faults crew.new.tool)))
+        → RunsAlone (working T.apply T.known (work_moment H.Host host (member_moment T.Tool G.Gate crew.old))
+        (work_moment H.Host result.host (member_moment T.Tool G.Gate crew.new)))
         t surveyed.now result.told.text.items result.told.answer }
-    ensures gate { crew.new.gate ≡ crew.old.gate }
+    ensures gate { G.asked crew.new.gate ≡ G.asked crew.old.gate }
 {
     // Laws for the proof: they do nothing.
     ordered_plans_fit();
@@ -47,12 +47,12 @@ pub(crate) fn work<D: Docs, H: Host, T: Tool, G: Gate>(
     host: H,
     crew: &mut Crew<T, G>,
 ) -> Worked<H>
-    ensures does { let w = working T.apply T.known (work_moment H.Host host (T.faults crew.old.tool))
-        (work_moment H.Host result.host (T.faults crew.new.tool)) in
+    ensures does { let w = working T.apply T.known (work_moment H.Host host (member_moment T.Tool G.Gate crew.old))
+        (work_moment H.Host result.host (member_moment T.Tool G.Gate crew.new)) in
         (t : Tools) → OfFirst w t
         → Does (alone name.now) (doing (docs_moment D.Docs docs.old) (docs_moment D.Docs docs.new) w t)
         result.told.text.items result.told.answer }
-    ensures gate { crew.new.gate ≡ crew.old.gate }
+    ensures gate { G.asked crew.new.gate ≡ G.asked crew.old.gate }
 {
     match read_survey(alloc, docs, name) {
         Ok(surveyed) => {

@@ -1,7 +1,7 @@
 //! `ensemble`.
 
 ghost use Rattle.std.specs.Prelude.{◌≡◌, drop, length};
-ghost use Rattle.plan_run.specs.Moments.{Tools, counting, crew_moment, first_count, work_moment, working};
+ghost use Rattle.plan_run.specs.Moments.{Tools, counting, crew_moment, first_shown, member_moment, work_moment, working};
 ghost use Rattle.pegasus_commands.specs.Commands.EnsembleRun.{ensemble, ensemble_by};
 ghost use Rattle.pegasus_commands.specs.CommandSpec.{Does, OfFirst, doing};
 ghost use Rattle.pegasus_commands.specs.Moments.{docs_moment};
@@ -24,12 +24,12 @@ pub(crate) fn work<D: Docs, H: Host, T: Tool, G: Gate>(
     host: H,
     crew: &mut Crew<T, G>,
 ) -> Worked<H>
-    ensures does { let w = working T.apply T.known (work_moment H.Host host (T.faults crew.old.tool))
-        (work_moment H.Host result.host (T.faults crew.new.tool)) in
+    ensures does { let w = working T.apply T.known (work_moment H.Host host (member_moment T.Tool G.Gate crew.old))
+        (work_moment H.Host result.host (member_moment T.Tool G.Gate crew.new)) in
         (t : Tools) → OfFirst w t
         → Does (ensemble name.now) (doing (docs_moment D.Docs docs.old) (docs_moment D.Docs docs.new) w t)
         result.told.text.items result.told.answer }
-    ensures gate { crew.new.gate ≡ crew.old.gate }
+    ensures gate { G.asked crew.new.gate ≡ G.asked crew.old.gate }
 {
     match read_joint(alloc, docs, name) {
         Ok(surveyed) => {
@@ -65,8 +65,8 @@ where
     ensures does { let before = crew_moment T.Tool G.Gate crew.old.items in
         let after = crew_moment T.Tool G.Gate crew.new.items in
         Does (ensemble_by name.now workers) (doing (docs_moment D.Docs docs.old) (docs_moment D.Docs docs.new)
-        (working T.apply T.known (work_moment H.Host host (first_count before))
-        (work_moment H.Host result.host (first_count after)))
+        (working T.apply T.known (work_moment H.Host host (first_shown before))
+        (work_moment H.Host result.host (first_shown after)))
         (counting before after)) result.told.text.items result.told.answer }
     ensures crew { length crew.new.items ≡ 16 }
     ensures others { drop workers crew.new.items ≡ drop workers crew.old.items }

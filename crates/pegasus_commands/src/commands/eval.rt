@@ -1,7 +1,8 @@
 //! `eval`.
 
-ghost use Rattle.std.specs.Prelude.{◌≡◌};
-ghost use Rattle.plan_run.specs.Moments.{Tools, work_moment, working};
+ghost use Rattle.std.specs.Prelude.{◌≡◌, ℕ, List};
+ghost use Rattle.plan_run.specs.Moments.{Tools, gateless, work_moment, working};
+ghost use Rattle.run_record.specs.Events.{Event};
 ghost use Rattle.pegasus_commands.specs.Commands.Eval.{Evaluates, eval};
 ghost use Rattle.pegasus_commands.specs.CommandSpec.{Does, OfFirst, doing};
 ghost use Rattle.pegasus_commands.specs.Moments.{docs_moment};
@@ -21,9 +22,9 @@ fn values_text<H: Host, T: Tool>(
     host: &mut H,
     tool: &mut T,
 ) -> Told
-    ensures { (t : Tools) → Evaluates (working T.apply T.known
-        (work_moment H.Host host.old (T.faults tool.old))
-        (work_moment H.Host host.new (T.faults tool.new)))
+    ensures { (told : List (ℕ × Event)) (t : Tools) → Evaluates (working T.apply T.known
+        (work_moment H.Host host.old (gateless (T.faults tool.old) told))
+        (work_moment H.Host host.new (gateless (T.faults tool.new) told)))
         t surveyed.now result.text.items result.answer }
 {
     let survey = &surveyed.survey;
@@ -56,9 +57,10 @@ pub(crate) fn work<D: Docs, H: Host, T: Tool>(
     host: &mut H,
     tool: &mut T,
 ) -> Told
-    ensures { let w = working T.apply T.known (work_moment H.Host host.old (T.faults tool.old))
-        (work_moment H.Host host.new (T.faults tool.new)) in
-        (t : Tools) → OfFirst w t
+    ensures { (told : List (ℕ × Event)) (t : Tools)
+        → let w = working T.apply T.known (work_moment H.Host host.old (gateless (T.faults tool.old) told))
+        (work_moment H.Host host.new (gateless (T.faults tool.new) told)) in
+        OfFirst w t
         → Does (eval name.now) (doing (docs_moment D.Docs docs.old) (docs_moment D.Docs docs.new) w t)
         result.text.items result.answer }
 {

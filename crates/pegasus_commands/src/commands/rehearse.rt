@@ -4,10 +4,10 @@ ghost use Rattle.std.specs.Prelude.{◌≡◌, ◌≤◌, IfSome, drop, length, 
 ghost use Rattle.outside.specs.MemoryHost.{host_counts};
 ghost use Rattle.plan_core.specs.Words.{task_numbers};
 ghost use Rattle.rehearsal.specs.Preparing.{IsPrepared};
-ghost use Rattle.plan_run.specs.Moments.{Tools, WorkMoment, counting, crew_moment, first_count, first_tool, working};
+ghost use Rattle.plan_run.specs.Moments.{Tools, WorkMoment, counting, crew_moment, first_shown, first_tool, member_moment, working};
 ghost use Rattle.pegasus_commands.specs.Commands.Rehearse.{AreFigures, ClosesOrMemory, IsOfTools, Rehearses, TellsEnd, prepared, rehearse, rehearse_by};
-ghost use Rattle.pegasus_commands.specs.CommandSpec.{Does, doing};
-ghost use Rattle.pegasus_commands.specs.Moments.{DocsMoment, with_tool};
+ghost use Rattle.pegasus_commands.specs.CommandSpec.{Does, OfFirst, doing};
+ghost use Rattle.pegasus_commands.specs.Moments.{DocsMoment, with_first};
 ghost use Rattle.command_words.specs.Words.{AreFew, AreImages};
 
 use crate::commands::{Told, at_once};
@@ -123,10 +123,10 @@ fn run_workload<T: Tool, G: Gate>(
     crew: &mut Crew<T, G>,
 ) -> Told
     requires { IsPrepared images (prepared surveyed.now host) }
-    ensures works { (m : WorkMoment) → let w = working T.apply T.known (with_tool m (T.faults crew.old.tool))
-        (with_tool m (T.faults crew.new.tool)) in
+    ensures works { (m : WorkMoment) → let w = working T.apply T.known (with_first m (member_moment T.Tool G.Gate crew.old))
+        (with_first m (member_moment T.Tool G.Gate crew.new)) in
         Rehearses images 1 w (first_tool w) surveyed.now result.text.items result.answer }
-    ensures gate { crew.new.gate ≡ crew.old.gate }
+    ensures gate { G.asked crew.new.gate ≡ G.asked crew.old.gate }
 {
     // Laws for the proof: they do nothing.
     ordered_plans_fit();
@@ -163,8 +163,8 @@ fn run_workload_by<R: Threads + Wait + Sync, T: Tool + Send, G: Gate + Send>(
     requires crew { length crew.old.items ≡ 16 }
     ensures works { (m : WorkMoment) → let before = crew_moment T.Tool G.Gate crew.old.items in
         let after = crew_moment T.Tool G.Gate crew.new.items in
-        Rehearses images workers (working T.apply T.known (with_tool m (first_count before))
-        (with_tool m (first_count after)))
+        Rehearses images workers (working T.apply T.known (with_first m (first_shown before))
+        (with_first m (first_shown after)))
         (counting before after) surveyed.now result.text.items result.answer }
     ensures crew { length crew.new.items ≡ 16 }
     ensures others { drop workers crew.new.items ≡ drop workers crew.old.items }
@@ -193,11 +193,11 @@ fn run_workload_by<R: Threads + Wait + Sync, T: Tool + Send, G: Gate + Send>(
 pub(crate) fn work<T: Tool, G: Gate>(alloc: Global, images: u32, crew: &mut Crew<T, G>) -> Told
     requires { AreImages images }
     ensures does { (d : DocsMoment) (m : WorkMoment) (t : Tools)
-        → let w = working T.apply T.known (with_tool m (T.faults crew.old.tool))
-        (with_tool m (T.faults crew.new.tool)) in
-        (w.after.tool ≡ w.before.tool → t.after ≡ t.before) → Does (rehearse images) (doing d d w t)
+        → let w = working T.apply T.known (with_first m (member_moment T.Tool G.Gate crew.old))
+        (with_first m (member_moment T.Tool G.Gate crew.new)) in
+        OfFirst w t → Does (rehearse images) (doing d d w t)
         result.text.items result.answer }
-    ensures gate { crew.new.gate ≡ crew.old.gate }
+    ensures gate { G.asked crew.new.gate ≡ G.asked crew.old.gate }
 {
     match prepare(alloc, images) {
         Ok(Prepared { surveyed, host }) => {
@@ -224,8 +224,8 @@ pub(crate) fn work_by<R: Threads + Wait + Sync, T: Tool + Send, G: Gate + Send>(
         → let before = crew_moment T.Tool G.Gate crew.old.items in
         let after = crew_moment T.Tool G.Gate crew.new.items in
         Does (rehearse_by images workers) (doing d d
-        (working T.apply T.known (with_tool m (first_count before))
-        (with_tool m (first_count after))) (counting before after)) result.text.items result.answer }
+        (working T.apply T.known (with_first m (first_shown before))
+        (with_first m (first_shown after))) (counting before after)) result.text.items result.answer }
     ensures crew { length crew.new.items ≡ 16 }
     ensures others { drop workers crew.new.items ≡ drop workers crew.old.items }
 {

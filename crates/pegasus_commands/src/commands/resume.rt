@@ -2,7 +2,7 @@
 
 ghost use Rattle.std.specs.Prelude.{◌≡◌, length, map};
 ghost use Rattle.craft.specs.declared.crew.Crew.{Crew};
-ghost use Rattle.plan_run.specs.Moments.{counting, crew_moment, first_count, work_moment, working};
+ghost use Rattle.plan_run.specs.Moments.{counting, crew_moment, first_shown, work_moment, working};
 ghost use Rattle.pegasus_commands.specs.Commands.Resume.{ResumesPlan, resume};
 ghost use Rattle.pegasus_commands.specs.CommandSpec.{Does, doing};
 ghost use Rattle.pegasus_commands.specs.Fault.{resumed_answer};
@@ -48,12 +48,12 @@ fn resume_recorded<H: Host, T: Tool, G: Gate>(
     requires crew { length crew.old.items ≡ 16 }
     ensures works { let before = crew_moment T.Tool G.Gate crew.old.items in
         let after = crew_moment T.Tool G.Gate crew.new.items in
-        ResumesPlan (working T.apply T.known (work_moment H.Host host (first_count before))
-        (work_moment H.Host result.host (first_count after)))
+        ResumesPlan (working T.apply T.known (work_moment H.Host host (first_shown before))
+        (work_moment H.Host result.host (first_shown after)))
         (counting before after) recorded.now result.told.text.items result.told.answer }
     ensures crew { length crew.new.items ≡ 16 }
-    ensures gates { map (λ (c : Crew T G). c.gate) crew.new.items
-        ≡ map (λ (c : Crew T G). c.gate) crew.old.items }
+    ensures gates { map (λ (c : Crew T G). G.asked c.gate) crew.new.items
+        ≡ map (λ (c : Crew T G). G.asked c.gate) crew.old.items }
 {
     // Laws for the proof: they do nothing.
     ordered_plans_fit();
@@ -88,12 +88,12 @@ pub(crate) fn work<D: Docs, H: Host, T: Tool, G: Gate>(
     ensures does { let before = crew_moment T.Tool G.Gate crew.old.items in
         let after = crew_moment T.Tool G.Gate crew.new.items in
         Does (resume name.now history.now) (doing (docs_moment D.Docs docs.old) (docs_moment D.Docs docs.new)
-        (working T.apply T.known (work_moment H.Host host (first_count before))
-        (work_moment H.Host result.host (first_count after)))
+        (working T.apply T.known (work_moment H.Host host (first_shown before))
+        (work_moment H.Host result.host (first_shown after)))
         (counting before after)) result.told.text.items result.told.answer }
     ensures crew { length crew.new.items ≡ 16 }
-    ensures gates { map (λ (c : Crew T G). c.gate) crew.new.items
-        ≡ map (λ (c : Crew T G). c.gate) crew.old.items }
+    ensures gates { map (λ (c : Crew T G). G.asked c.gate) crew.new.items
+        ≡ map (λ (c : Crew T G). G.asked c.gate) crew.old.items }
 {
     match read_recorded(alloc, docs, name, history) {
         Ok(recorded) => {

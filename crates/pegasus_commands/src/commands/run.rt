@@ -1,7 +1,7 @@
 //! `run`.
 
 ghost use Rattle.std.specs.Prelude.{◌≡◌, drop, length};
-ghost use Rattle.plan_run.specs.Moments.{counting, crew_moment, first_count, work_moment, working};
+ghost use Rattle.plan_run.specs.Moments.{counting, crew_moment, first_shown, work_moment, working};
 ghost use Rattle.pegasus_commands.specs.Commands.Run.{RunsMany, run};
 ghost use Rattle.pegasus_commands.specs.CommandSpec.{Does, doing};
 ghost use Rattle.pegasus_commands.specs.Moments.{docs_moment};
@@ -36,8 +36,8 @@ where
     requires crew { length crew.old.items ≡ 16 }
     ensures works { let before = crew_moment T.Tool G.Gate crew.old.items in
         let after = crew_moment T.Tool G.Gate crew.new.items in
-        RunsMany workers (working T.apply T.known (work_moment H.Host host (first_count before))
-        (work_moment H.Host result.host (first_count after)))
+        RunsMany workers (working T.apply T.known (work_moment H.Host host (first_shown before))
+        (work_moment H.Host result.host (first_shown after)))
         (counting before after) surveyed.now result.told.text.items result.told.answer }
     ensures crew { length crew.new.items ≡ 16 }
     ensures others { drop workers crew.new.items ≡ drop workers crew.old.items }
@@ -75,8 +75,8 @@ where
     ensures does { let before = crew_moment T.Tool G.Gate crew.old.items in
         let after = crew_moment T.Tool G.Gate crew.new.items in
         Does (run name.now workers) (doing (docs_moment D.Docs docs.old) (docs_moment D.Docs docs.new)
-        (working T.apply T.known (work_moment H.Host host (first_count before))
-        (work_moment H.Host result.host (first_count after)))
+        (working T.apply T.known (work_moment H.Host host (first_shown before))
+        (work_moment H.Host result.host (first_shown after)))
         (counting before after)) result.told.text.items result.told.answer }
     ensures crew { length crew.new.items ≡ 16 }
     ensures others { drop workers crew.new.items ≡ drop workers crew.old.items }

@@ -33,4 +33,4 @@ unfolding call_of
 returns-in-Err-clause-answered g c =
     let words = map string_bytes c.args.words.now in
     unread_answered (record { runs = c.runs_finish.ensures; evaluations = c.evaluations_finish.ensures; records = c.malformed_line_is_one.ensures.none; one_record = c.text_is_of_one_record.ensures; resumed = c.resumes_finish.ensures })
-    _ (option_map InThreads (threaded_command words)) (is_in_threads words c.requires.words) (some_mapped InThreads (threaded_command words) c.in-Err.ensures.memory) refl refl refl (keeps_same _)
+    _ (option_map InThreads (threaded_command words)) (is_in_threads words c.requires.words) (some_mapped InThreads (threaded_command words) c.in-Err.ensures.memory) refl refl refl refl (keeps_same _)

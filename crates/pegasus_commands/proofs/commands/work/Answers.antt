@@ -17,7 +17,7 @@ returns-in_default-clause-does g c =
     let last = c.work_by_first.new.crew in
     let before = first_is shown old first c.requires.crew c.index_mut.ensures.value in
     let after = first_set shown old last c.requires.crew in
-    rw (before, after) (c.work_by_first.ensures.does _ (λ e. members_stay g.T.Tool g.G.Gate old first last c.index_mut.ensures.value c.work_by_first.ensures.gate e))
+    rw (before, after) (c.work_by_first.ensures.does _ (λ e f. members_stay g.T.Tool g.G.Gate old first last c.index_mut.ensures.value c.work_by_first.ensures.gate e f))
 
 pub returns-in_default-clause-others : goal.returns-in_default-clause-others
 returns-in_default-clause-others g c =
@@ -25,7 +25,7 @@ returns-in_default-clause-others g c =
 
 pub returns-in_default-clause-gates : goal.returns-in_default-clause-gates
 returns-in_default-clause-gates g c =
-    all_stay (λ (m : Crew g.row.T.Denot g.row.G.Denot). m.gate) c.args.crew.now.items c.index_mut.result.now c.work_by_first.new.crew c.index_mut.ensures.value c.work_by_first.ensures.gate
+    all_stay (λ (m : Crew g.row.T.Denot g.row.G.Denot). g.G.Gate.asked m.gate) c.args.crew.now.items c.index_mut.result.now c.work_by_first.new.crew c.index_mut.ensures.value c.work_by_first.ensures.gate
 
 pub work_by_first-requires-clause-first : goal.work_by_first-requires-clause-first
 work_by_first-requires-clause-first g c = first_alone c.args.command (λ request history e. c.in_default.not-Resume request history e)

@@ -2,7 +2,7 @@ use Rattle.std.proofs.Common.{[], ◌∙◌, ap, refl, take}
 use Rattle.std.proofs.Math.Logic.{∥∥₁_elim, ∥∥₁_map, ∥∥₁_prop}
 use Rattle.std.specs.Prelude.{is_some}
 use Rattle.plan_core.specs.Words.{task_numbers}
-use Rattle.plan_run.specs.Moments.{work_moment, working}
+use Rattle.plan_run.specs.Moments.{member_moment, work_moment, working}
 use Rattle.plan_run.specs.Running.{reporting}
 use Rattle.plan_run.proofs.RunningLemmas.{marked_so, not_begun_alone, ran_alone}
 use Rattle.plan_run.proofs.running.run_plan.Goals as goal
@@ -24,9 +24,10 @@ returns-in-Ok-clause-ran g c =
     let works = rw (c.in-Ok.ensures.ordered, c.in-Ok.ensures.history) at c.run_alone-yard.ensures.works in
     let inputs = rw (c.in-Ok.ensures.ordered, c.in-Ok.ensures.history) at c.run_alone-yard.ensures.inputs in
     let calls = rw (c.in-Ok.ensures.ordered, c.in-Ok.ensures.history) at c.run_alone-yard.ensures.calls in
+    let entered = rw c.in-Ok.ensures.history at c.run_alone-yard.ensures.told in
     let fits = c.ordered_plans_fit.ensures c.args.ordered in
-    let before = work_moment g.H.Host c.args.host (g.T.Tool.faults c.args.crew.now.tool) in
-    let after = work_moment g.H.Host y.host (g.T.Tool.faults c.run_alone-yard.new.crew.tool) in
+    let before = work_moment g.H.Host c.args.host (member_moment g.T.Tool g.G.Gate c.args.crew.now) in
+    let after = work_moment g.H.Host y.host (member_moment g.T.Tool g.G.Gate c.run_alone-yard.new.crew) in
     let w = working g.T.Tool.apply g.T.Tool.known before after in
     rw c.end_run.ensures.host (∥∥₁_elim legal ∥∥₁_prop (λ l. ∥∥₁_elim shows ∥∥₁_prop (λ s. ∥∥₁_map (c.agrees.ensures.counts_all fresh) (λ k.
     ran_alone w p order r (g.H.Host.told y.host) (g.H.Host.marked y.host) y.faults y.misses x end_
@@ -43,6 +44,7 @@ returns-in-Ok-clause-ran g c =
       looked = c.in-Ok.ensures.asked;
       later = c.run_alone-yard.ensures.same.later;
       calls = calls;
+      entered = entered;
     })
     (record {
       safe = λ n. c.legal_records_are_safe.ensures.always p order r c.args.ordered.proper fits l n;
@@ -57,9 +59,9 @@ returns-in-Err-clause-ran g c =
     let order = task_numbers c.args.ordered.tasks.items in
     let fits = c.ordered_plans_fit.ensures c.args.ordered in
     let refusal = rw c.in-Err.ensures.back.0 at c.refuse_run.ensures.refusal in
-    let faults = g.T.Tool.faults c.args.crew.now.tool in
-    let before = work_moment g.H.Host c.args.host faults in
-    let after = work_moment g.H.Host c.in-Err.refused.host faults in
+    let first = member_moment g.T.Tool g.G.Gate c.args.crew.now in
+    let before = work_moment g.H.Host c.args.host first in
+    let after = work_moment g.H.Host c.in-Err.refused.host first in
     let w = working g.T.Tool.apply g.T.Tool.known before after in
     rw c.refuse_run.ensures.host (∣ not_begun_alone w p order c.in-Err.refused.fault (reporting c.refuse_run.result.history c.refuse_run.result.text.items c.refuse_run.result.delivered.items) c.refuse_run.result.end
     (record {
@@ -67,7 +69,7 @@ returns-in-Err-clause-ran g c =
       output = c.deliveries_stay_within_the_output.ensures p order [] c.args.ordered.proper fits tt;
       left = λ n site. c.what_is_left_is_held.ensures p order [] c.args.ordered.proper fits tt n site;
     })
-    c.in-Err.ensures.back.1 refl c.in-Err.ensures.refused refusal ∣₁)
+    c.in-Err.ensures.back.1 refl refl c.in-Err.ensures.refused refusal ∣₁)
 
 pub end_run-requires-clause-fresh : goal.end_run-requires-clause-fresh
 end_run-requires-clause-fresh g c = ap (λ n. take n c.run_alone-yard.result.book.history.events) (c.run_alone-yard.ensures.same.opened ∙ c.in-Ok.ensures.opened)

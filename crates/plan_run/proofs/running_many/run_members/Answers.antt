@@ -5,10 +5,10 @@ use Rattle.plan_core.specs.Words.{task_numbers}
 use Rattle.storage_simulation.specs.declared.ordered.Ordered.{Ordered}
 use Rattle.lease_rules.specs.State.{now}
 use Rattle.worker_gate.specs.Alone.{IsOver}
-use Rattle.plan_run.specs.Moments.{counting, crew_moment, first_count, work_moment, working}
+use Rattle.plan_run.specs.Moments.{counting, crew_moment, first_shown, work_moment, working}
 use Rattle.plan_run.specs.Running.{reporting}
 use Rattle.plan_run.proofs.RunningLemmas.{marked_so, not_begun, over_in, ran}
-use Rattle.plan_run.proofs.RunningManyLemmas.{gates_shown, many_end, tools_shown}
+use Rattle.plan_run.proofs.RunningManyLemmas.{gates_shown, many_end, told_shown, tools_shown}
 use Rattle.plan_run.proofs.running_many.run_members.Goals as goal
 
 pub returns-in-Ok-clause-ran : goal.returns-in-Ok-clause-ran
@@ -32,8 +32,8 @@ returns-in-Ok-clause-ran g c =
     let works = rw c.in-Ok.ensures.ordered at c.run_many-end.ensures.works in
     let inputs = rw c.in-Ok.ensures.ordered at c.run_many-end.ensures.inputs in
     let fits = c.ordered_plans_fit.ensures c.args.ordered in
-    let before = work_moment g.H.Host c.args.host (first_count old) in
-    let after = work_moment g.H.Host y.host (first_count new) in
+    let before = work_moment g.H.Host c.args.host (first_shown old) in
+    let after = work_moment g.H.Host y.host (first_shown new) in
     let w = working g.T.Tool.apply g.T.Tool.known before after in
     let t = counting old new in
     let end = many_end w t n p order r many.unstarted (g.H.Host.told y.host) (g.H.Host.marked y.host) y.faults y.misses refl
@@ -43,7 +43,8 @@ returns-in-Ok-clause-ran g c =
     (c.run_many-end.ensures.misses ∙ c.in-Ok.ensures.misses)
     c.in-Ok.ensures.unused works (λ u. (c.run_many-end.ensures.unstarted u).0)
     (tools_shown g.T.Tool g.G.Gate r c.args.members.items many.crew.items c.run_many-end.ensures.tools)
-    (gates_shown g.T.Tool g.G.Gate r c.args.members.items many.crew.items c.run_many-end.ensures.members c.run_many-end.ensures.gates) inputs in
+    (gates_shown g.T.Tool g.G.Gate r c.args.members.items many.crew.items c.run_many-end.ensures.members c.run_many-end.ensures.gates)
+    (told_shown g.T.Tool g.G.Gate r c.args.members.items many.crew.items c.run_many-end.ensures.told) inputs in
     rw c.end_many-ran.ensures.host (∥∥₁_elim legal ∥∥₁_prop (λ l. ∥∥₁_elim shows ∥∥₁_prop (λ s. ∥∥₁_map (c.agrees.ensures.counts_all fresh) (λ k.
     ran w t n p order r (g.H.Host.told y.host) (g.H.Host.marked y.host) y.faults y.misses x end_ end
     (record {
@@ -60,8 +61,8 @@ returns-in-Err-clause-ran g c =
     let fits = c.ordered_plans_fit.ensures c.args.ordered in
     let refusal = rw c.in-Err.ensures.back.0 at c.refuse_run.ensures.refusal in
     let old = crew_moment g.T.Tool g.G.Gate c.args.members.items in
-    let before = work_moment g.H.Host c.args.host (first_count old) in
-    let after = work_moment g.H.Host c.in-Err.refused.host (first_count old) in
+    let before = work_moment g.H.Host c.args.host (first_shown old) in
+    let after = work_moment g.H.Host c.in-Err.refused.host (first_shown old) in
     let w = working g.T.Tool.apply g.T.Tool.known before after in
     rw c.refuse_run.ensures.host (∣ not_begun w (counting old old) (length c.args.members.items) p order c.in-Err.refused.fault (reporting c.refuse_run.result.history c.refuse_run.result.text.items c.refuse_run.result.delivered.items) c.refuse_run.result.end
     (record {

@@ -1,7 +1,7 @@
 use Rattle.std.proofs.Common.{ℕ, [], List, ◌++◌, ◌∙◌, ap, refl}
 use Rattle.craft.specs.declared.crew.Crew.{Crew}
 use Rattle.plan_core.specs.Words.{task_numbers}
-use Rattle.plan_run.specs.Moments.{counting, crew_moment, first_count, member_moment, work_moment, working}
+use Rattle.plan_run.specs.Moments.{MemberMoment, counting, crew_moment, first_shown, member_moment, work_moment, working}
 use Rattle.plan_run.specs.Running.{reporting}
 use Rattle.plan_run.proofs.CrewLemmas.{many_of}
 use Rattle.plan_run.proofs.MembersLemmas.{others_stay, taken_many}
@@ -18,7 +18,7 @@ returns-in-Ok-clause-ran g c =
     let back = c.run_members-ran.result.members.items in
     let ran = c.run_members-ran.result.ran in
     many_of (member_moment g.T.Tool g.G.Gate) crew c.put_back.new.crew.items members back n
-    (λ (x y : ℕ). working g.T.Tool.apply g.T.Tool.known (work_moment g.H.Host c.args.host x) (work_moment g.H.Host ran.host y))
+    (λ (x y : MemberMoment). working g.T.Tool.apply g.T.Tool.known (work_moment g.H.Host c.args.host x) (work_moment g.H.Host ran.host y))
     o.plan (task_numbers o.tasks.items) (reporting ran.history ran.text.items ran.delivered.items) ran.end taken.0 (taken_many crew members n taken.0 c.requires.crew c.requires.workers.1) c.requires.workers.0 c.run_members-ran.ensures.members
     (c.put_back.ensures ∙ ap (λ (rest : List (Crew g.row.T.Denot g.row.G.Denot)). back ++ rest) taken.1)
     c.run_members-ran.ensures.ran
@@ -39,7 +39,7 @@ returns-in-Err-clause-ran g c =
     let order = task_numbers o.tasks.items in
     let fits = c.ordered_plans_fit.ensures o in
     let old = crew_moment g.T.Tool g.G.Gate c.args.crew.now.items in
-    let moment = work_moment g.H.Host c.args.host (first_count old) in
+    let moment = work_moment g.H.Host c.args.host (first_shown old) in
     let w = working g.T.Tool.apply g.T.Tool.known moment moment in
     rw (c.out_of_memory.ensures.host, c.out_of_memory.ensures.end, c.in-Err.ensures.refused)
     (∣ no_room w (counting old old) c.args.workers o.plan order (reporting c.out_of_memory.result.history c.out_of_memory.result.text.items c.out_of_memory.result.delivered.items)

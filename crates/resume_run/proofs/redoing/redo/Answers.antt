@@ -9,6 +9,7 @@ use Rattle.worker_gate.proofs.InputsLemmas.{adds_both, adds_none}
 use Rattle.plan_run.specs.Moments.{crew_moment}
 use Rattle.resume_run.specs.Lost.{lost_below}
 use Rattle.resume_run.proofs.RedoingLemmas.{faults_fails, next_open, nobody, redone_all, redone_fails, redone_more, redone_none, state_of, worker_low}
+use Rattle.resume_run.proofs.TellingLemmas.{none_told, told_more}
 use Rattle.resume_run.proofs.redoing.redo.Goals as goal
 
 pub loop-one-init : goal.loop-one-init
@@ -21,7 +22,8 @@ loop-one-init g c =
       calls = calls_none p y.book.history.events n n refl;
       inputs = adds_none g.T.Tool.apply p y.book.history.events;
       crew = refl;
-      gates = refl;
+      asked = refl;
+      told = none_told y.book.history.events (crew_moment g.T.Tool g.G.Gate c.args.crew.now.items);
       same = still_yard y;
     }
 
@@ -93,7 +95,8 @@ loop-one-preserved g c =
       calls = calls_both a.ordered.plan a.book.history.events b.book.history.events d.book.history.events (g.H.Host.counts a.host) (g.H.Host.counts b.host) (g.H.Host.counts d.host) i.calls (subst (λ p. AddsCalls p b.book.history.events d.book.history.events (g.H.Host.counts b.host) (g.H.Host.counts d.host)) (ap (λ o. o.plan) i.same.ordered) e.calls) e.same.later;
       inputs = adds_both g.T.Tool.apply a.ordered.plan a.book.history.events b.book.history.events d.book.history.events i.inputs (subst (λ p. AddsOfInputs g.T.Tool.apply p b.book.history.events d.book.history.events) (ap (λ o. o.plan) i.same.ordered) e.inputs);
       crew = e.crew ∙ i.crew;
-      gates = e.gates ∙ i.gates;
+      asked = e.asked ∙ i.asked;
+      told = told_more a.book.history.events b.book.history.events d.book.history.events (crew_moment g.T.Tool g.G.Gate c.args.crew.now.items) (crew_moment g.T.Tool g.G.Gate c.loop-one.crew.items) (crew_moment g.T.Tool g.G.Gate c.redo_one.new.crew.items) i.told e.told;
       same = same_yard a b d i.same e.same;
     }
 
@@ -103,3 +106,6 @@ returns-clause-redoes g c =
     let b = c.loop-one.yard in
     let i = c.loop-one.invariant in
     redone_all b.book a.ordered a.book.history.events c.args.lost.now c.loop-one.one-index (crew_moment g.T.Tool g.G.Gate c.args.crew.now.items) (crew_moment g.T.Tool g.G.Gate c.loop-one.crew.items) (b.same_plan ∙ ap (λ o. o.plan) i.same.ordered) (b.same_order ∙ ap (λ o. o.tasks.items) i.same.ordered) c.loop-one-test.false i.redone
+
+pub returns-then-redo_one-clause-told : goal.returns-then-redo_one-clause-told
+returns-then-redo_one-clause-told g c = told_more c.args.yard.book.history.events c.loop-one.yard.book.history.events c.redo_one.new.yard.book.history.events (crew_moment g.T.Tool g.G.Gate c.args.crew.now.items) (crew_moment g.T.Tool g.G.Gate c.loop-one.crew.items) (crew_moment g.T.Tool g.G.Gate c.redo_one.new.crew.items) c.loop-one.invariant.told c.redo_one.ensures.told

@@ -4,9 +4,10 @@ use Rattle.std.proofs.Math.Logic.{∥∥₁_elim, ∥∥₁_map, ∥∥₁_prop}
 use Rattle.plan_core.specs.Words.{task_numbers}
 use Rattle.site_yard.specs.Failures.{AreMore}
 use Rattle.site_yard.specs.Reopening.{AreRecorded, RefusesAgain, measures}
-use Rattle.plan_run.specs.Moments.{counting, crew_moment, first_count, work_moment, working}
+use Rattle.plan_run.specs.Moments.{counting, crew_moment, first_shown, work_moment, working}
 use Rattle.resume_run.specs.Resuming.{held_after}
 use Rattle.resume_run.proofs.ResumingLemmas.{asked_same, below_by, held_in, inputs_added, marked_so, over_since, takes_calls, was_refused, went_on_from}
+use Rattle.resume_run.proofs.TellingLemmas.{told_since}
 use Rattle.resume_run.proofs.resuming.go_on.Goals as goal
 
 pub returns-in-Ok-clause-gone_on : goal.returns-in-Ok-clause-gone_on
@@ -23,14 +24,15 @@ returns-in-Ok-clause-gone_on g c =
     let f = c.work_on-yard.ensures in
     let old = crew_moment g.T.Tool g.G.Gate c.args.crew.now.items in
     let new = crew_moment g.T.Tool g.G.Gate c.work_on-yard.new.crew.items in
-    let before = work_moment g.H.Host c.args.host (first_count old) in
-    let after = work_moment g.H.Host y.host (first_count new) in
+    let before = work_moment g.H.Host c.args.host (first_shown old) in
+    let after = work_moment g.H.Host y.host (first_shown new) in
     let w = working g.T.Tool.apply g.T.Tool.known before after in
     let same = f.same.ordered ∙ e.ordered in
     let all = f.same.opened ∙ e.opened in
     let works = rw (e.ordered, e.book) at f.works in
     let inputs = rw (e.ordered, e.book) at f.inputs in
     let calls = rw (e.ordered, e.book) at f.calls in
+    let told = rw e.book at f.told in
     let legal = rw same at c.agrees.ensures.legal in
     let shows = rw same at c.agrees.ensures.shows in
     let ends = rw same at c.end_resumed.ensures.ends in
@@ -53,7 +55,8 @@ returns-in-Ok-clause-gone_on g c =
       over = over_since p order first works.added whole works.is works.over;
       inputs = inputs_added g.T.Tool.apply p first works.added whole works.is inputs;
       tools = works.tools;
-      gates = asked_same g.T.Tool g.G.Gate c.args.crew.now.items c.work_on-yard.new.crew.items f.gates;
+      gates = asked_same g.T.Tool g.G.Gate c.args.crew.now.items c.work_on-yard.new.crew.items f.asked;
+      entered = told_since first works.added whole old new works.is told;
       asked = takes_calls w p (held_after p order first) first works.added whole (g.H.Host.counts x.host) (g.H.Host.counts y.host) works.is f.same.later.done looked calls refl;
     })
     (record {
@@ -73,8 +76,8 @@ returns-clause-gone_on g c =
     let e = c.in-Err.ensures in
     let fits = c.ordered_plans_fit.ensures c.args.ordered in
     let moments = crew_moment g.T.Tool g.G.Gate c.args.crew.now.items in
-    let before = work_moment g.H.Host c.args.host (first_count moments) in
-    let w = working g.T.Tool.apply g.T.Tool.known before (work_moment g.H.Host c.in-Err.refused.host (first_count moments)) in
+    let before = work_moment g.H.Host c.args.host (first_shown moments) in
+    let w = working g.T.Tool.apply g.T.Tool.known before (work_moment g.H.Host c.in-Err.refused.host (first_shown moments)) in
     let legal = rw (c.record.ensures.value, c.requires.plan, c.requires.order) at c.record.ensures.legal in
     let held = held_in b p ts c.requires.plan c.requires.order in
     let refuses = subst (λ h. RefusesAgain p h (g.H.Host.told c.args.host) (g.H.Host.counts c.args.host) (g.H.Host.counts c.in-Err.refused.host) c.in-Err.refused.fault) held e.refused in

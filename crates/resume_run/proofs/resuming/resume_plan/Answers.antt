@@ -1,7 +1,7 @@
 use Rattle.std.proofs.Common.{ap, inr, subst}
 use Rattle.std.proofs.Math.Logic.{∥∥₁_map}
 use Rattle.plan_core.specs.Words.{task_numbers}
-use Rattle.plan_run.specs.Moments.{counting, crew_moment, first_count, work_moment, working}
+use Rattle.plan_run.specs.Moments.{counting, crew_moment, first_shown, work_moment, working}
 use Rattle.resume_run.specs.Resuming.{HasGoneOn}
 use Rattle.resume_run.proofs.ResumingLemmas.{numbers_one, unfailing_in}
 use Rattle.resume_run.proofs.resuming.resume_plan.Goals as goal
@@ -18,7 +18,7 @@ returns-in-Ok-clause-resumes g c =
     let order = task_numbers c.args.ordered.tasks.items in
     let old = crew_moment g.T.Tool g.G.Gate c.args.crew.now.items in
     let new = crew_moment g.T.Tool g.G.Gate c.go_on.new.crew.items in
-    let w = working g.T.Tool.apply g.T.Tool.known (work_moment g.H.Host c.args.host (first_count old)) (work_moment g.H.Host c.go_on.result.host (first_count new)) in
+    let w = working g.T.Tool.apply g.T.Tool.known (work_moment g.H.Host c.args.host (first_shown old)) (work_moment g.H.Host c.go_on.result.host (first_shown new)) in
     ∥∥₁_map c.go_on.ensures.gone_on (λ gone. inr (record {
       legal = c.in-Ok.ensures.0;
       gone_on = subst (λ r. HasGoneOn w (counting old new) p order r c.go_on.result.text.items c.go_on.result.end) c.in-Ok.ensures.1.followed.history gone;

@@ -1,10 +1,12 @@
 use Rattle.std.proofs.Common.{◌∙◌, sym, ap, arith}
+use Rattle.craft.specs.declared.crew.Crew.{Crew}
 use Rattle.plan_core.specs.Words.{task_numbers}
 use Rattle.lease_book.specs.Book.{state_at}
 use Rattle.worker_gate.proofs.CallsLemmas.{calls_both}
 use Rattle.worker_gate.proofs.InputsLemmas.{adds_both}
 use Rattle.plan_run.specs.Moments.{member_moment}
-use Rattle.resume_run.proofs.WorkingLemmas.{failing_in, first_counts, lost_in, none_open_in, works_stopped, works_then}
+use Rattle.resume_run.proofs.TellingLemmas.{part_stays, told_more, used_told}
+use Rattle.resume_run.proofs.WorkingLemmas.{failing_in, first_counts, lost_in, none_open_in, unfailing_in, works_stopped, works_then}
 use Rattle.resume_run.proofs.working.work_on.Goals as goal
 
 pub returns-then-is_failing-clause-works : goal.returns-then-is_failing-clause-works
@@ -32,7 +34,9 @@ returns-clause-works g c =
     let e = c.redo-yard.ensures in
     let alone = rw e.same.ordered at c.run_alone.ensures.works in
     let many = e.crew in
-    works_then a.ordered.plan (task_numbers a.ordered.tasks.items) a.book.history.events y.book.history.events z.book.history.events _ _ _ _ _ c.args.lost.now e.tools e.redoes (lost_in a.book a.ordered.plan a.ordered.tasks.items c.args.lost.now a.same_plan a.same_order c.requires.lost) alone
+    let off = sym (ap (λ b. (state_at b).failing) c.book.ensures) ∙ sym c.is_failing.ensures ∙ c.if-is_failing.false in
+    works_then a.ordered.plan (task_numbers a.ordered.tasks.items) a.book.history.events y.book.history.events z.book.history.events _ _ _ _ _ c.args.lost.now e.tools e.redoes (lost_in a.book a.ordered.plan a.ordered.tasks.items c.args.lost.now a.same_plan a.same_order c.requires.lost)
+    (unfailing_in y.book a.ordered.plan a.ordered.tasks.items (y.same_plan ∙ ap (λ o. o.plan) e.same.ordered) (y.same_order ∙ ap (λ o. o.tasks.items) e.same.ordered) off) alone
     (first_counts (member_moment g.T.Tool g.G.Gate) c.redo-yard.new.crew.items c.index_mut.result.now c.run_alone.new.crew alone.added (omega (arith, many, c.requires.members)) c.index_mut.ensures.value alone.by_zero c.run_alone.ensures.tool alone.counted)
 
 pub returns-clause-calls : goal.returns-clause-calls
@@ -48,3 +52,20 @@ returns-clause-inputs g c =
     let y = c.redo-yard.result in
     let e = c.redo-yard.ensures in
     adds_both g.T.Tool.apply a.ordered.plan a.book.history.events y.book.history.events c.run_alone.result.book.history.events e.inputs (rw e.same.ordered at c.run_alone.ensures.inputs)
+
+pub returns-clause-asked : goal.returns-clause-asked
+returns-clause-asked g c =
+    part_stays (λ (m : Crew g.row.T.Denot g.row.G.Denot). g.G.Gate.asked m.gate) c.redo-yard.new.crew.items 0 c.index_mut.result.now c.run_alone.new.crew c.index_mut.ensures.value c.run_alone.ensures.asked
+    ∙ c.redo-yard.ensures.asked
+
+pub returns-clause-told : goal.returns-clause-told
+returns-clause-told g c =
+    let a = c.args.yard in
+    let y = c.redo-yard.result in
+    let z = c.run_alone.result in
+    let e = c.redo-yard.ensures in
+    let works = c.run_alone.ensures.works in
+    let many = e.crew in
+    let crew = c.redo-yard.new.crew.items in
+    told_more a.book.history.events y.book.history.events z.book.history.events _ _ _ e.told
+    (used_told (member_moment g.T.Tool g.G.Gate) crew 0 c.index_mut.result.now c.run_alone.new.crew y.book.history.events z.book.history.events works.added (omega (arith, many, c.requires.members)) c.index_mut.ensures.value works.is works.by_zero c.run_alone.ensures.told)

@@ -5,6 +5,7 @@ use Rattle.site_yard.specs.Yard.{IsSameYard}
 use Rattle.worker_gate.specs.Calls.{AddsCalls}
 use Rattle.worker_gate.specs.Inputs.{AddsOfInputs}
 use Rattle.worker_gate.specs.Stepping.{WorksOn}
+use Rattle.worker_gate.specs.Telling.{IsToldOf}
 use Rattle.worker_gate.proofs.alone.run_alone.Given as goal
 
 abbrev pub invariant-loop-alloc : goal.invariant-loop-alloc
@@ -13,8 +14,9 @@ invariant-loop-alloc g l =
     × (g.T.Tool.faults l.initial.crew.tool ≤ g.T.Tool.faults l.crew.tool)
     × IsSameYard l.fn.yard l.yard
     × AddsOfInputs g.T.Tool.apply l.fn.yard.ordered.plan l.fn.yard.book.history.events l.yard.book.history.events
-    × (l.crew.gate ≡ l.initial.crew.gate)
+    × (g.G.Gate.asked l.crew.gate ≡ g.G.Gate.asked l.initial.crew.gate)
     × AddsCalls l.fn.yard.ordered.plan l.fn.yard.book.history.events l.yard.book.history.events (g.H.Host.counts l.fn.yard.host) (g.H.Host.counts l.yard.host)
+    × IsToldOf 0 l.fn.yard.book.history.events l.yard.book.history.events (g.G.Gate.told l.initial.crew.gate) (g.G.Gate.told l.crew.gate)
 
 abbrev pub decreases-loop-alloc : goal.decreases-loop-alloc
 decreases-loop-alloc g l = entries_room l.yard.book.plan (state_at l.yard.book)

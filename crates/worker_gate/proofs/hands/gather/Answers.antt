@@ -14,4 +14,4 @@ returns-clause-gathered g c =
     let e = c.remove-first.ensures in
     let is = first_and_rest c.args.hands.items rest hand c.requires.members e.value e.by_index.2 in
     let j = c.gather_others.ensures in
-    gathered hand c.args.hands.items rest c.gather_others.new.first c.args.lock.now is (others_of c.args.lock.now hand c.args.hands.items rest is c.requires.hands).0 j.worker j.mine j.charter j.seen j.count j.joined
+    gathered hand c.args.hands.items rest c.gather_others.new.first c.args.lock.now is (others_of c.args.lock.now hand c.args.hands.items rest is c.requires.hands).0 j.worker j.mine j.charter j.seen j.others_seen j.count j.joined

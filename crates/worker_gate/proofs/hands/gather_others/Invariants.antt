@@ -3,6 +3,7 @@ use mathlib.Core.List.{IsPrefix}
 use Rattle.ruled_lock.specs.Lock.{IsOf}
 use Rattle.ruled_lock.specs.Pass.{IsIdle, charter_of, count_of, joined_of, mine_of, seen_of, worker_of}
 use Rattle.worker_gate.specs.Hands.{AreReadyToJoin, member_of, own_list}
+use Rattle.worker_gate.proofs.HandsLemmas.{HaveSome}
 use Rattle.worker_gate.proofs.hands.gather_others.Given as goal
 
 abbrev pub invariant-loop-hands : goal.invariant-loop-hands
@@ -18,6 +19,7 @@ invariant-loop-hands g l =
     × (joined_of l.first ++ map own_list l.hands.items ≡ joined_of l.fn.first ++ map own_list l.fn.hands.items)
     × (l.crew.items ++ map member_of l.hands.items ≡ l.fn.crew.items ++ map member_of l.fn.hands.items)
     × (length l.crew.items + length l.hands.items ≤ vec_capacity l.crew)
+    × HaveSome l.fn.hands.items l.hands.items l.first
 
 abbrev pub decreases-loop-hands : goal.decreases-loop-hands
 decreases-loop-hands g l = length l.hands.items

@@ -1,8 +1,9 @@
-use Rattle.std.proofs.Common.{◌≡◌, ◌++◌, ◌∙◌, length, map, take, drop, sym, ap, subst, arith}
+use Rattle.std.proofs.Common.{◌≡◌, ◌++◌, ◌∙◌, length, map, get_or, take, drop, sym, ap, subst, arith}
 use Rattle.std.specs.Prelude.{is_some}
 use Rattle.worker_gate.specs.Hands.{AreReady, member_of}
 use Rattle.worker_gate.specs.Many.{CanAllWork, HaveAllAsked, HaveAllWorked}
-use Rattle.worker_gate.proofs.ManyLemmas.{all_ready, can_all, charter_back, charter_with, dealt_as, dealt_many, many_asked, many_counted, many_done, many_inputs, no_inputs, none_asked, none_counted}
+use Rattle.worker_gate.specs.Telling.{HaveAllTold}
+use Rattle.worker_gate.proofs.ManyLemmas.{all_ready, can_all, charter_back, charter_with, dealt_as, dealt_many, many_asked, many_counted, many_done, many_inputs, many_told, no_inputs, none_asked, none_counted, none_told}
 use Rattle.worker_gate.proofs.SmallLemmas.{lent}
 use Rattle.worker_gate.proofs.many.run_many.Given as given
 use Rattle.worker_gate.proofs.many.run_many.Goals as goal
@@ -190,3 +191,29 @@ returns-in-Ok-new-clause-gates g c =
     (subst (HaveAllWorked g.T.Tool.apply lock (λ m. g.T.Tool.faults m.tool) hs) whole (subst (λ l. HaveAllWorked g.T.Tool.apply lock (λ m. g.T.Tool.faults m.tool) l news) c.as_mut_slice.ensures.value c.work_all.ensures.worked))
     (subst (HaveAllAsked (λ m. g.G.Gate.asked m.gate) hs) whole (subst (λ l. HaveAllAsked (λ m. g.G.Gate.asked m.gate) l news) c.as_mut_slice.ensures.value c.work_all.ensures.asked))
     c.gather-pass.ensures.gathered c.close.ensures.items
+
+pub returns-in_default-clause-told : goal.returns-in_default-clause-told
+returns-in_default-clause-told g c = none_told c.args.yard.book.history.events (map (λ m. g.G.Gate.told m.gate) c.args.crew.items) c.requires.empty
+
+pub returns-in-Err-clause-told : goal.returns-in-Err-clause-told
+returns-in-Err-clause-told g c = none_told c.in-Err.field-0.value.book.history.events (map (λ m. g.G.Gate.told m.gate) c.args.crew.items) (ap (λ y. y.book.history.events) c.in-Err.ensures.refused ∙ c.requires.empty)
+
+pub returns-in-Ok-new-clause-told : goal.returns-in-Ok-new-clause-told
+returns-in-Ok-new-clause-told g c =
+    let y = c.args.yard in
+    let z = c.close.result in
+    let there = charter_with y.ordered (take y.opened y.book.history.events) (g.H.Host.marked y.host) (is_some (g.H.Host.told y.host)) y.faults y.misses in
+    let first = c.in-Ok-new.first in
+    let lock = c.in-Ok-new.lock in
+    let p = c.in-Ok-new.ensures.pass in
+    let hs = c.deal.new.hands.items in
+    let news = c.work_all.new.hands in
+    let all = take c.deal.new.hands.len (news ++ drop (length news) hs) in
+    let n = length c.args.crew.items in
+    let whole = lent c.deal.new.hands.len news hs (c.work_all.ensures.length ∙ c.as_mut_slice.ensures.len) in
+    let same = sym (ap length whole) ∙ c.work_all.ensures.length ∙ ap length c.as_mut_slice.ensures.value in
+    many_told g.T.Tool.apply lock there n (λ m. g.T.Tool.faults m.tool) (λ m. g.G.Gate.told m.gate) hs all c.gather-pass.result z.book.history.events c.args.crew.items c.gather-pass.new.crew.items c.deal.ensures.members c.gather-pass.ensures.members same
+    (dealt_as lock there n first hs p.charter_is p.seen_is c.deal.ensures.dealt)
+    (subst (HaveAllWorked g.T.Tool.apply lock (λ m. g.T.Tool.faults m.tool) hs) whole (subst (λ l. HaveAllWorked g.T.Tool.apply lock (λ m. g.T.Tool.faults m.tool) l news) c.as_mut_slice.ensures.value c.work_all.ensures.worked))
+    (subst (HaveAllTold (λ m. g.G.Gate.told m.gate) hs) whole (subst (λ l. HaveAllTold (λ m. g.G.Gate.told m.gate) l news) c.as_mut_slice.ensures.value c.work_all.ensures.told))
+    (λ k d l. (get_or all k d).pass.own) c.gather-pass.ensures.gathered c.close.ensures.seen c.close.ensures.items

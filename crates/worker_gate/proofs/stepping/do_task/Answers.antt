@@ -11,6 +11,7 @@ use Rattle.worker_gate.proofs.CallsLemmas.{lent_then}
 use Rattle.worker_gate.proofs.FillingLemmas.{fills_finish, fills_of, finish_then}
 use Rattle.worker_gate.proofs.LoanLemmas.{held_begun, held_empty, lent_held, parts_are}
 use Rattle.worker_gate.proofs.StateLemmas.{open_loan}
+use Rattle.worker_gate.proofs.TellingLemmas.{told_both}
 use Rattle.worker_gate.proofs.WorkLemmas.{consistent_at}
 use Rattle.worker_gate.proofs.stepping.do_task.Goals as goal
 
@@ -25,7 +26,7 @@ fill_loan-filled-requires-clause-parts g c =
     let rs = map g.H.Reading.ReadPart.state c.in-Some.loan.readings.items in
     let ds = map g.H.Draft.WritePart.state c.in-Some.loan.drafts.items in
     let proper = subst IsProper y.same_plan y.book.proper in
-    subst (λ (q : Plan). AreParts q t (kind q t) rs ds) (sym (c.plan.ensures ∙ ap (λ z. z.plan) c.lend.ensures.same.ordered))
+    subst (λ (q : Plan). AreParts q t (kind q t) rs ds) (sym (c.plan.ensures ∙ ap (λ z. z.plan) c.lend_told.ensures.same.ordered))
     (parts_are g.T.Tool.apply p proper (c.plan_laws.ensures p proper) first m o t rs ds (open_loan y.book.plan p (state_at y.book) t y.same_plan (consistent_at y.book).sound c.requires.runs) (lent_held g.T.Tool.apply p first m o t rs ds c.in-Some.ensures.lent))
 
 pub fill_loan-filled-requires-clause-start : goal.fill_loan-filled-requires-clause-start
@@ -52,10 +53,10 @@ fill_loan-filled-requires-clause-empty g c =
     let ds = map g.H.Draft.WritePart.state c.in-Some.loan.drafts.items in
     held_empty g.T.Tool.apply p first m o t rs ds (lent_held g.T.Tool.apply p first m o t rs ds c.in-Some.ensures.lent)
 
-pub finish_at-requires-clause-can : goal.finish_at-requires-clause-can
-finish_at-requires-clause-can g c =
+pub finish_told-requires-clause-can : goal.finish_told-requires-clause-can
+finish_told-requires-clause-can g c =
     let y = c.args.yard.now in
-    let z = c.lend.new.self in
+    let z = c.lend_told.new.yard in
     let e = c.in-Some.ensures in
     let p = y.ordered.plan in
     let first = take y.opened y.book.history.events in
@@ -67,16 +68,16 @@ finish_at-requires-clause-can g c =
     let filled = c.fill_loan-filled in
     let rs1 = map g.H.Reading.ReadPart.state filled.new.loan.readings.items in
     let ds1 = map g.H.Draft.WritePart.state filled.new.loan.drafts.items in
-    let a = g.T.Tool.faults c.args.tool.now in
+    let a = g.T.Tool.faults c.args.crew.now.tool in
     let b = g.T.Tool.faults filled.new.tool in
     let proper = subst IsProper y.same_plan y.book.proper in
-    let fills = subst (λ (q : Plan). Fills g.T.Tool.apply q t rs rs1 ds ds1 a b filled.result) (c.plan.ensures ∙ ap (λ x. x.plan) c.lend.ensures.same.ordered) filled.ensures.fills in
+    let fills = subst (λ (q : Plan). Fills g.T.Tool.apply q t rs rs1 ds ds1 a b filled.result) (c.plan.ensures ∙ ap (λ x. x.plan) c.lend_told.ensures.same.ordered) filled.ensures.fills in
     finish_then g.T.Tool.apply p z.ordered.plan first (take z.opened z.book.history.events) m (g.H.Host.marked z.host) o (g.H.Host.told z.host) t rs1 ds1 filled.result
-    (ap (λ x. x.plan) c.lend.ensures.same.ordered) (λ i. take (c.lend.ensures.same.opened i) (e.history i)) c.lend.ensures.same.marked c.lend.ensures.told
+    (ap (λ x. x.plan) c.lend_told.ensures.same.ordered) (λ i. take (c.lend_told.ensures.same.opened i) (e.history i)) c.lend_told.ensures.same.marked c.lend_told.ensures.told
     (fills_finish g.T.Tool.apply p proper (c.plan_laws.ensures p proper) (c.runs_carry_what_they_compute.ensures g.T.Tool.apply) first m t rs rs1 ds ds1 o a b filled.result (lent_held g.T.Tool.apply p first m o t rs ds e.lent) fills)
 
-pub finish_at-requires-clause-inputs : goal.finish_at-requires-clause-inputs
-finish_at-requires-clause-inputs g c =
+pub finish_told-requires-clause-inputs : goal.finish_told-requires-clause-inputs
+finish_told-requires-clause-inputs g c =
     let y = c.args.yard.now in
     let e = c.in-Some.ensures in
     let p = y.ordered.plan in
@@ -89,17 +90,23 @@ finish_at-requires-clause-inputs g c =
     let filled = c.fill_loan-filled in
     let rs1 = map g.H.Reading.ReadPart.state filled.new.loan.readings.items in
     let ds1 = map g.H.Draft.WritePart.state filled.new.loan.drafts.items in
-    let a = g.T.Tool.faults c.args.tool.now in
+    let a = g.T.Tool.faults c.args.crew.now.tool in
     let b = g.T.Tool.faults filled.new.tool in
     let proper = subst IsProper y.same_plan y.book.proper in
-    let fills = subst (λ (q : Plan). Fills g.T.Tool.apply q t rs rs1 ds ds1 a b filled.result) (c.plan.ensures ∙ ap (λ x. x.plan) c.lend.ensures.same.ordered) filled.ensures.fills in
-    subst (λ (q : Plan). IsFilledOf g.T.Tool.apply q t filled.result) (sym (ap (λ x. x.plan) c.lend.ensures.same.ordered))
+    let fills = subst (λ (q : Plan). Fills g.T.Tool.apply q t rs rs1 ds ds1 a b filled.result) (c.plan.ensures ∙ ap (λ x. x.plan) c.lend_told.ensures.same.ordered) filled.ensures.fills in
+    subst (λ (q : Plan). IsFilledOf g.T.Tool.apply q t filled.result) (sym (ap (λ x. x.plan) c.lend_told.ensures.same.ordered))
     (fills_of g.T.Tool.apply p proper (c.plan_laws.ensures p proper) (c.runs_carry_what_they_compute.ensures g.T.Tool.apply) first m t rs rs1 ds ds1 o a b filled.result (lent_held g.T.Tool.apply p first m o t rs ds e.lent) fills)
 
 pub returns-in-Some-clause-calls : goal.returns-in-Some-clause-calls
 returns-in-Some-clause-calls g c =
     let y = c.args.yard.now in
-    let z = c.lend.new.self in
+    let z = c.lend_told.new.yard in
     let e = c.in-Some.ensures in
     lent_then y.ordered.plan c.args.task.0 y.book.history.events z.book.history.events _ (g.H.Host.counts y.host) (g.H.Host.counts z.host) _ e.history e.asked
-    (subst (λ (q : Plan). EndsCalls q c.args.task.0 z.book.history.events c.finish_at.new.yard.book.history.events (g.H.Host.counts z.host) (g.H.Host.counts c.finish_at.new.yard.host)) (ap (λ x. x.plan) c.lend.ensures.same.ordered) c.finish_at.ensures.calls) c.finish_at.ensures.same.later
+    (subst (λ (q : Plan). EndsCalls q c.args.task.0 z.book.history.events c.finish_told.new.yard.book.history.events (g.H.Host.counts z.host) (g.H.Host.counts c.finish_told.new.yard.host)) (ap (λ x. x.plan) c.lend_told.ensures.same.ordered) c.finish_told.ensures.calls) c.finish_told.ensures.same.later
+
+pub returns-in-Some-clause-asked : goal.returns-in-Some-clause-asked
+returns-in-Some-clause-asked g c = c.finish_told.ensures.asked ∙ c.lend_told.ensures.gate
+
+pub returns-in-Some-clause-told : goal.returns-in-Some-clause-told
+returns-in-Some-clause-told g c = told_both c.args.worker c.args.yard.now.book.history.events c.lend_told.new.yard.book.history.events c.finish_told.new.yard.book.history.events (g.G.Gate.told c.args.crew.now.gate) (g.G.Gate.told c.lend_told.new.gate) (g.G.Gate.told c.finish_told.new.gate) c.lend_told.ensures.entered c.finish_told.ensures.told

@@ -3,6 +3,7 @@ use Rattle.std.specs.Prelude.{IfSome, Option, is_some}
 use Rattle.ruled_lock.specs.Pass.{charter_of, mine_of, seen_of, worker_of}
 use Rattle.site_yard.specs.declared.chronicle.Charter.{Charter}
 use Rattle.worker_gate.specs.Turning.{NoneOpenFor}
+use Rattle.worker_gate.proofs.TellingLemmas.{told_still}
 use Rattle.worker_gate.proofs.TurningLemmas.{none_by_seen, plan_copied}
 use Rattle.worker_gate.proofs.turning.copy_plan.Goals as goal
 
@@ -18,3 +19,9 @@ pub returns-clause-plan : goal.returns-clause-plan
 returns-clause-plan g c =
     let y = c.take-yard.result in
     plan_copied (charter_of c.args.pass.now) (record { ordered = y.ordered; opened = take y.opened y.book.history.events; marked = g.H.Host.marked y.host; tells = is_some (g.H.Host.told y.host); faults = y.faults; misses = y.misses }) c.plan.result.now c.copy-plan.result c.take-yard.ensures.charter c.copy-plan.ensures c.plan.ensures
+
+pub returns-clause-told : goal.returns-clause-told
+returns-clause-told g c =
+    let y = c.take-yard.result in
+    let old = c.args.pass.now in
+    λ xs. told_still (worker_of old) (seen_of old) y.book.history.events (seen_of c.give.new.pass) (mine_of old) xs c.take-yard.ensures.seen old.own c.take-yard.ensures.mine c.give.ensures.seen

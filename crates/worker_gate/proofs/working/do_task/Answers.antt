@@ -1,7 +1,11 @@
-use Rattle.std.proofs.Common.{map, refl}
-use Rattle.ruled_lock.specs.Pass.{charter_of, mine_of}
-use Rattle.worker_gate.proofs.AskingLemmas.{asks_between}
-use Rattle.worker_gate.proofs.WorkingLemmas.{begun_for, empty_for, finish_of, inputs_of, plan_parts}
+use Rattle.std.proofs.Common.{◌∙◌, ℕ, List, [], ◌∷◌, ◌++◌, ap, map, subst}
+use Rattle.ruled_lock.specs.Pass.{charter_of, mine_of, seen_of, worker_of}
+use Rattle.run_record.specs.Events.{Event}
+use Rattle.worker_gate.specs.Asking.{AsksOwn}
+use Rattle.worker_gate.specs.Telling.{IsToldOf}
+use Rattle.worker_gate.proofs.TellingLemmas.{told_then}
+use Rattle.worker_gate.specs.Tending.{failures_in}
+use Rattle.worker_gate.proofs.WorkingLemmas.{begun_for, does_made_by, empty_for, filled_rose, finish_of, inputs_of, plan_parts}
 use Rattle.worker_gate.proofs.working.do_task.Goals as goal
 
 pub fill_with-filled-requires-clause-parts : goal.fill_with-filled-requires-clause-parts
@@ -53,5 +57,29 @@ finish-requires-clause-inputs g c =
 pub returns-clause-asked : goal.returns-clause-asked
 returns-clause-asked g c =
     let xs = g.G.Gate.asked c.args.crew.now.gate in
-    let ys = g.G.Gate.asked c.before-2.new.self in
-    asks_between (mine_of c.args.pass.now) (mine_of c.begin.new.pass) (mine_of c.finish.new.pass) c.args.task.0 xs ys ys c.in-Some.ensures.mine c.before-2.ensures refl (c.finish.ensures.asked xs)
+    subst (λ (l : List Event). AsksOwn l (mine_of c.finish.new.pass) xs (g.G.Gate.asked c.finish.new.gate)) c.in-Some.ensures.mine
+    (c.finish.ensures.asked xs (c.before-2.ensures.asked ∙ ap (λ (l : List ℕ). l ++ c.args.task.0 ∷ []) c.begin.ensures.gate))
+
+pub returns-clause-told : goal.returns-clause-told
+returns-clause-told g c =
+    let old = c.args.pass.now in
+    let mid = c.begin.new.pass in
+    let new = c.finish.new.pass in
+    let here = g.G.Gate.told c.begin.new.gate in
+    let later = g.G.Gate.told c.finish.new.gate in
+    told_then (worker_of old) (worker_of mid) (seen_of old) (seen_of mid) (seen_of new) (g.G.Gate.told c.args.crew.now.gate) here later c.begin.ensures.keeps.same.worker c.begin.ensures.told
+    (subst (λ (l : List (ℕ × Event)). IsToldOf (worker_of mid) (seen_of mid) (seen_of new) l later) c.before-2.ensures.told c.finish.ensures.told)
+
+pub returns-clause-does : goal.returns-clause-does
+returns-clause-does g c =
+    let old = c.args.pass.now in
+    let mid = c.begin.new.pass in
+    let t = c.args.task.0 in
+    let rs = map g.H.Reading.ReadPart.state c.in-Some.loan.readings.items in
+    let ds = map g.H.Draft.WritePart.state c.in-Some.loan.drafts.items in
+    let filled = c.fill_with-filled in
+    let rs1 = map g.H.Reading.ReadPart.state filled.new.loan.readings.items in
+    let ds1 = map g.H.Draft.WritePart.state filled.new.loan.drafts.items in
+    let x = g.T.Tool.faults c.args.crew.now.tool in
+    let y = g.T.Tool.faults filled.new.tool in
+    does_made_by (worker_of old) (worker_of mid) t (failures_in filled.result) (mine_of old) (mine_of mid) (mine_of c.finish.new.pass) x y c.begin.ensures.keeps.same.worker c.in-Some.ensures.mine c.finish.ensures.finishes (filled_rose g.T.Tool.apply c.args.plan.now t rs rs1 ds ds1 x y filled.result filled.ensures.fills)

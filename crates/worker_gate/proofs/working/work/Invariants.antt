@@ -1,8 +1,9 @@
 use Rattle.std.proofs.Common.{◌≤◌}
 use Rattle.std.specs.Prelude.{IfSome}
-use Rattle.ruled_lock.specs.Pass.{charter_of, mine_of, worker_of}
+use Rattle.ruled_lock.specs.Pass.{charter_of, mine_of, seen_of, worker_of}
 use Rattle.worker_gate.specs.Asking.{AsksOwn}
 use Rattle.worker_gate.specs.Inputs.{AddsOfInputs}
+use Rattle.worker_gate.specs.Telling.{IsToldOf}
 use Rattle.worker_gate.specs.Turning.{IsPlanOf, KeepsTurn, plan_of}
 use Rattle.worker_gate.specs.Working.{WorksOwn}
 use Rattle.worker_gate.proofs.working.work.Given as goal
@@ -15,3 +16,4 @@ invariant-loop g l =
     × IsPlanOf (charter_of l.fn.pass) l.plan
     × IfSome (charter_of l.fn.pass) (λ c. AddsOfInputs g.T.Tool.apply (plan_of c) (mine_of l.fn.pass) (mine_of l.pass))
     × AsksOwn (mine_of l.fn.pass) (mine_of l.pass) (g.G.Gate.asked l.fn.crew.gate) (g.G.Gate.asked l.crew.gate)
+    × IsToldOf (worker_of l.fn.pass) (seen_of l.fn.pass) (seen_of l.pass) (g.G.Gate.told l.fn.crew.gate) (g.G.Gate.told l.crew.gate)

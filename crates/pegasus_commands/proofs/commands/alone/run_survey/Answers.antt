@@ -1,6 +1,6 @@
 use Rattle.std.proofs.Common.{inl, refl, arith}
 use Rattle.plan_core.specs.Words.{task_numbers}
-use Rattle.plan_run.specs.Moments.{first_tool, work_moment, working}
+use Rattle.plan_run.specs.Moments.{first_tool, member_moment, work_moment, working}
 use Rattle.pegasus_commands.specs.Commands.Plan.{task_limit}
 use Rattle.pegasus_commands.proofs.AloneLemmas.{alone_is}
 use Rattle.pegasus_commands.proofs.PlanRunLemmas.{unrun_is}
@@ -15,8 +15,8 @@ returns-in-Ok-clause-works g c =
     let ready = c.in-Ok.ensures.readies in
     let fits = c.ordered_plans_fit.ensures o in
     let ran = c.run_plan.result in
-    let before = work_moment g.H.Host c.args.host (g.T.Tool.faults c.args.crew.now.tool) in
-    let after = work_moment g.H.Host ran.host (g.T.Tool.faults c.run_plan.new.crew.tool) in
+    let before = work_moment g.H.Host c.args.host (member_moment g.T.Tool g.G.Gate c.args.crew.now) in
+    let after = work_moment g.H.Host ran.host (member_moment g.T.Tool g.G.Gate c.run_plan.new.crew) in
     let w = working g.T.Tool.apply g.T.Tool.known before after in
     λ t. rw (c.ended.ensures.answer, c.ended.ensures.text, c.ended.ensures.host) (alone_is w t s p o.tasks.items ran.history ran.text.items ran.delivered.items ran.end ready
     (record {
@@ -29,7 +29,7 @@ returns-in-Ok-clause-works g c =
 
 pub returns-in-Err-clause-works : goal.returns-in-Err-clause-works
 returns-in-Err-clause-works g c =
-    let faults = g.T.Tool.faults c.args.crew.now.tool in
-    let moment = work_moment g.H.Host c.args.host faults in
+    let first = member_moment g.T.Tool g.G.Gate c.args.crew.now in
+    let moment = work_moment g.H.Host c.args.host first in
     let w = working g.T.Tool.apply g.T.Tool.known moment moment in
     λ t. rw c.unrun.ensures.host (inl (unrun_is w (first_tool w) c.args.surveyed.now _ _ c.in-Err.fault c.in-Err.ensures.readies c.unrun.ensures.answer refl refl c.unrun.ensures.text))

@@ -1,5 +1,6 @@
 use Rattle.std.proofs.Common.{arith}
 use Rattle.plan_core.specs.Words.{task_numbers}
+use Rattle.plan_run.specs.Moments.{member_moment}
 use Rattle.pegasus_commands.specs.Commands.Plan.{task_limit}
 use Rattle.pegasus_commands.proofs.PlanRunLemmas.{HasDeliveryLaws}
 use Rattle.pegasus_commands.proofs.RehearseLemmas.{alone_is}
@@ -18,5 +19,5 @@ returns-clause-works g c = λ m.
     } in
     let requests = c.plans_deliver_requests.ensures s.request s.survey task_limit o.plan ready.planned in
     let means = s.means task_limit o.plan (omega arith) ready.planned in
-    alone_is c.args.images m g.T.Tool.apply g.T.Tool.known (g.T.Tool.faults c.args.crew.now.tool) (g.T.Tool.faults c.run_plan-ran.new.crew.tool) s c.args.host ran.host o.plan o.tasks.items ran.history ran.text.items ran.delivered.items c.in-Some.figures
+    alone_is c.args.images m g.T.Tool.apply g.T.Tool.known (member_moment g.T.Tool g.G.Gate c.args.crew.now) (member_moment g.T.Tool g.G.Gate c.run_plan-ran.new.crew) s c.args.host ran.host o.plan o.tasks.items ran.history ran.text.items ran.delivered.items c.in-Some.figures
     c.tell_end.result.text.items c.tell_end.result.answer ran.end c.requires ready laws requests means c.run_plan-ran.ensures.ran c.in-Some.ensures c.tell_end.ensures

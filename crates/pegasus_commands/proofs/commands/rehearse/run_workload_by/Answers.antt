@@ -1,6 +1,6 @@
 use Rattle.std.proofs.Common.{arith}
 use Rattle.plan_core.specs.Words.{task_numbers}
-use Rattle.plan_run.specs.Moments.{counting, crew_moment, first_count}
+use Rattle.plan_run.specs.Moments.{counting, crew_moment, first_shown}
 use Rattle.pegasus_commands.specs.Commands.Plan.{task_limit}
 use Rattle.pegasus_commands.proofs.PlanRunLemmas.{HasDeliveryLaws}
 use Rattle.pegasus_commands.proofs.RehearseLemmas.{many_is}
@@ -21,5 +21,5 @@ returns-clause-works g c = λ m.
     } in
     let requests = c.plans_deliver_requests.ensures s.request s.survey task_limit o.plan ready.planned in
     let means = s.means task_limit o.plan (omega arith) ready.planned in
-    many_is c.args.images c.args.workers m (counting before after) g.T.Tool.apply g.T.Tool.known (first_count before) (first_count after) s c.args.host ran.host o.plan o.tasks.items ran.history ran.text.items ran.delivered.items c.in-Some.figures
+    many_is c.args.images c.args.workers m (counting before after) g.T.Tool.apply g.T.Tool.known (first_shown before) (first_shown after) s c.args.host ran.host o.plan o.tasks.items ran.history ran.text.items ran.delivered.items c.in-Some.figures
     c.tell_end.result.text.items c.tell_end.result.answer ran.end c.requires.prepared ready laws requests means c.run_plan_by-ran.ensures.ran c.in-Some.ensures c.tell_end.ensures

@@ -1,6 +1,6 @@
 use Rattle.std.proofs.Common.{refl, arith}
 use Rattle.plan_core.specs.Words.{task_numbers}
-use Rattle.plan_run.specs.Moments.{counting, crew_moment, first_count, work_moment, working}
+use Rattle.plan_run.specs.Moments.{counting, crew_moment, first_shown, work_moment, working}
 use Rattle.pegasus_commands.specs.Commands.Plan.{task_limit}
 use Rattle.pegasus_commands.proofs.ResumeLemmas.{resumes_so, unread_with, unready_with, unresumed}
 use Rattle.pegasus_commands.proofs.commands.resume.resume_recorded.Goals as goal
@@ -18,8 +18,8 @@ returns-in-Ok-record_in-clause-works g c =
     let resumed = c.resume_plan-resumed.result in
     let old = crew_moment g.T.Tool g.G.Gate c.args.crew.now.items in
     let new = crew_moment g.T.Tool g.G.Gate c.resume_plan-resumed.new.crew.items in
-    let before = work_moment g.H.Host c.args.host (first_count old) in
-    let after = work_moment g.H.Host resumed.host (first_count new) in
+    let before = work_moment g.H.Host c.args.host (first_shown old) in
+    let after = work_moment g.H.Host resumed.host (first_shown new) in
     let w = working g.T.Tool.apply g.T.Tool.known before after in
     rw (c.ended.ensures.answer, c.ended.ensures.text, c.ended.ensures.host) (resumes_so w (counting old new) i p o.tasks.items given resumed.text.items resumed.end
     (record { ready = ready; is_record = c.in-Ok-record_in.ensures.is })
@@ -34,7 +34,7 @@ returns-in-Ok-record_in-clause-works g c =
 pub returns-in-Err-clause-works : goal.returns-in-Err-clause-works
 returns-in-Err-clause-works g c =
     let old = crew_moment g.T.Tool g.G.Gate c.args.crew.now.items in
-    let moment = work_moment g.H.Host c.args.host (first_count old) in
+    let moment = work_moment g.H.Host c.args.host (first_shown old) in
     let w = working g.T.Tool.apply g.T.Tool.known moment moment in
     let i = c.args.recorded.now in
     rw c.unrun.ensures.host (unresumed w (counting old old) i _ _ c.in-Err.fault (unready_with w.known i c.in-Err.fault c.in-Err.ensures.readies) c.unrun.ensures.answer refl refl c.unrun.ensures.text)
@@ -42,7 +42,7 @@ returns-in-Err-clause-works g c =
 pub returns-in-Err-record_in-clause-works : goal.returns-in-Err-record_in-clause-works
 returns-in-Err-record_in-clause-works g c =
     let old = crew_moment g.T.Tool g.G.Gate c.args.crew.now.items in
-    let moment = work_moment g.H.Host c.args.host (first_count old) in
+    let moment = work_moment g.H.Host c.args.host (first_shown old) in
     let w = working g.T.Tool.apply g.T.Tool.known moment moment in
     let i = c.args.recorded.now in
     let o = c.in-Ok.ordered in

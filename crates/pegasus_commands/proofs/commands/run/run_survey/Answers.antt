@@ -1,6 +1,6 @@
 use Rattle.std.proofs.Common.{inl, refl, arith}
 use Rattle.plan_core.specs.Words.{task_numbers}
-use Rattle.plan_run.specs.Moments.{counting, crew_moment, first_count, work_moment, working}
+use Rattle.plan_run.specs.Moments.{counting, crew_moment, first_shown, work_moment, working}
 use Rattle.pegasus_commands.specs.Commands.Plan.{task_limit}
 use Rattle.pegasus_commands.proofs.PlanRunLemmas.{unrun_is}
 use Rattle.pegasus_commands.proofs.RunLemmas.{many_is}
@@ -17,8 +17,8 @@ returns-in-Ok-clause-works g c =
     let ran = c.run_plan_by.result in
     let old = crew_moment g.T.Tool g.G.Gate c.args.crew.now.items in
     let new = crew_moment g.T.Tool g.G.Gate c.run_plan_by.new.crew.items in
-    let before = work_moment g.H.Host c.args.host (first_count old) in
-    let after = work_moment g.H.Host ran.host (first_count new) in
+    let before = work_moment g.H.Host c.args.host (first_shown old) in
+    let after = work_moment g.H.Host ran.host (first_shown new) in
     let w = working g.T.Tool.apply g.T.Tool.known before after in
     rw (c.ended.ensures.answer, c.ended.ensures.text, c.ended.ensures.host) (many_is w (counting old new) c.args.workers s p o.tasks.items ran.history ran.text.items ran.delivered.items ran.end ready
     (record {
@@ -32,6 +32,6 @@ returns-in-Ok-clause-works g c =
 pub returns-in-Err-clause-works : goal.returns-in-Err-clause-works
 returns-in-Err-clause-works g c =
     let old = crew_moment g.T.Tool g.G.Gate c.args.crew.now.items in
-    let moment = work_moment g.H.Host c.args.host (first_count old) in
+    let moment = work_moment g.H.Host c.args.host (first_shown old) in
     let w = working g.T.Tool.apply g.T.Tool.known moment moment in
     rw c.unrun.ensures.host (inl (unrun_is w (counting old old) c.args.surveyed.now _ _ c.in-Err.fault c.in-Err.ensures.readies c.unrun.ensures.answer refl refl c.unrun.ensures.text))
