@@ -1,5 +1,6 @@
 """Runs a program over files of which some calls fail, or take their time: a small library, made here with the C compiler,
-stands before the system's open, read, write, rename and unlink. Documents and standard output are let be."""
+stands before the system's open, read, write, rename and unlink. Documents, standard output and the record that is kept while
+a run goes on are let be."""
 import os
 import pathlib
 import shutil
@@ -86,11 +87,11 @@ static int fails(const char *kind, const char *path) {
 
 static int is_at_site(const char *path) { return strncmp(path, "sites/", 6) == 0; }
 
-/* What is done to a file by opening it: nothing that concerns a run for a document, and for the working folder, which is
-   opened for its lock alone. */
+/* What is done to a file by opening it: nothing that concerns a run for a document, for the working folder, which is opened
+   for its lock alone, and for the record that is kept, without which a run goes on. */
 static const char *opening_of(const char *path, int flags) {
     size_t length = strlen(path);
-    if (path[0] == '/' || strcmp(path, ".") == 0 || (length > 5 && strcmp(path + length - 5, ".json") == 0)) return NULL;
+    if (path[0] == '/' || strcmp(path, ".") == 0 || strcmp(path, ".pegasus.record") == 0 || (length > 5 && strcmp(path + length - 5, ".json") == 0)) return NULL;
     return flags & O_CREAT ? "draft" : is_at_site(path) ? "site" : "replica";
 }
 

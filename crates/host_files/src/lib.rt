@@ -7,6 +7,9 @@
 //!
 //! A host's files are read and written in pieces by a [`FolderReading`] and a [`FolderDraft`].
 //!
+//! [`RecordKeeper`] meets `craft::Gate`: it writes each entry that it is told into a file of the working folder, which
+//! [`KeptRecord`] stands for, so that the record of a run that is killed isn't lost.
+//!
 //! [`Progress`] is a line on a terminal: [`ShownTool`] counts a tool's runs in it, and [`WipingSink`] takes it away before
 //! a text is written.
 #![tactic(auto)]
@@ -17,11 +20,13 @@ mod folder_docs;
 mod folder_draft;
 mod folder_host;
 mod folder_reading;
+mod kept_record;
 mod law;
 mod opening;
 mod pfn;
 mod progress;
 mod reading;
+mod record_keeper;
 mod shown_tool;
 mod standing;
 mod stream_sink;
@@ -35,8 +40,10 @@ pub use folder_docs::FolderDocs;
 pub use folder_draft::FolderDraft;
 pub use folder_host::FolderHost;
 pub use folder_reading::FolderReading;
+pub use kept_record::KeptRecord;
 pub use law::escaped_names_stay_apart;
 pub use progress::Progress;
+pub use record_keeper::RecordKeeper;
 pub use shown_tool::ShownTool;
 pub use stream_sink::StreamSink;
 pub use wiping_sink::WipingSink;
