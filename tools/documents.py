@@ -1,8 +1,10 @@
 """The documents that the program reads, for the tools that write them: which keys it acts on, and what it refuses."""
 import argparse
+import itertools
 import json
 import os
 import re
+import sys
 
 MOST_SIZE, MOST_BOUND = 2**40, 2**60
 MOST_ALIKE = 3
@@ -88,10 +90,37 @@ def members(value, key):
     return [(place, it) for place, it in enumerate(found) if isinstance(it, dict)] if isinstance(found, list) else []
 
 
+def names_beside(path):
+    """A path, and those that are taken one after the other where something stands there."""
+    root, end = os.path.splitext(path)
+    yield path
+    yield f"{root}.new{end}"
+    yield from (f"{root}.new-{number}{end}" for number in itertools.count(2))
+
+
+def holds(path, content):
+    try:
+        with open(path, "rb") as file:
+            return file.read() == content
+    except OSError:
+        return False
+
+
+def put(path, content, to=None):
+    """Writes a file where there is none. Where another one stands that stays, and this one is written beside it and told, on
+    standard output or there. It gives the path at which the content stands now."""
+    chosen = next(it for it in names_beside(path) if not os.path.lexists(it) or holds(it, content))
+    if not os.path.lexists(chosen):
+        with open(chosen, "xb") as file:
+            file.write(content)
+    if chosen != path:
+        print(f"kept {path}, which holds something else; {chosen} is what would stand there", file=to or sys.stdout)
+    return chosen
+
+
 def write(folder, name, value):
-    with open(os.path.join(folder, f"{name}.json"), "w", encoding="utf-8") as file:
-        json.dump(value, file, ensure_ascii=False, indent=1)
-        file.write("\n")
+    text = json.dumps(value, ensure_ascii=False, indent=1) + "\n"
+    return put(os.path.join(folder, f"{name}.json"), text.encode("utf-8"))
 
 
 def parser(text):

@@ -99,11 +99,11 @@ def subject_of(place, name="request.json"):
         return Subject(place, None, fault_of(refused))
 
 
-def joint_of(place):
-    """The subject of the ensemble in a folder: the joint of its members."""
+def joint_of(place, name="ensemble.json"):
+    """The subject of an ensemble in a folder: the joint of its members."""
     fetch = reader.folder_of(place)
     try:
-        ensemble, _ = reader.surveys_of_members("ensemble.json", fetch)
+        ensemble, _ = reader.surveys_of_members(name, fetch)
     except planner.Refused as refused:
         return Subject(place, None, fault_of(refused))
     made = join.documents_of(ensemble, "joint", lambda name: reader.parsed("request", fetch(name)))

@@ -36,6 +36,9 @@ class Place:
 
     advice: str = ""
 
+    def key(self):
+        return self.kind, self.document, documents.pattern(self.path)
+
     def told(self):
         dropped = f"; --drop {self.kind} takes it out" if self.kind in DROPPED else ""
         return f"{self.document} {self.path or '%'} {self.what}: {KINDS[self.kind]}{self.advice}{dropped}"
@@ -182,6 +185,25 @@ def unregistered(found):
             yield f"registered nowhere workflow /jobs/{place}/uses/{at} {use.get('lfn')}: add it to a catalogue of replicas"
 
 
+def grouped(keys, lines):
+    """Lines as they are told: of more than three with one key the first three, and how many more there are."""
+    pairs, counts, told = list(zip(keys, lines)), {}, {}
+    for key, _ in pairs:
+        counts[key] = counts.get(key, 0) + 1
+    for key, line in pairs:
+        place = told[key] = told.get(key, 0) + 1
+        if place <= documents.MOST_ALIKE:
+            yield line
+        elif place == counts[key]:
+            yield f"and {place - documents.MOST_ALIKE} more such places"
+
+
+def told_together(places):
+    """What is told of places, those of one kind and one path but for its numbers together."""
+    places = list(places)
+    return grouped([it.key() for it in places], [it.told() for it in places])
+
+
 # How it is taken out
 
 
@@ -240,5 +262,6 @@ def drop(found):
     for it in reversed(dropped):
         inside, key = parent_of(found[it.document], it.path)
         del inside[key]
-    yield from (f"dropped {it.document} {it.path} {it.what}" for it in dropped)
-    yield from drop_jobs(found["workflow"], gone)
+    yield from grouped([it.key() for it in dropped], [f"dropped {it.document} {it.path} {it.what}" for it in dropped])
+    lines = list(drop_jobs(found["workflow"], gone))
+    yield from grouped([""] * len(lines), lines)

@@ -48,12 +48,15 @@ def python(words, text=""):
 
 
 def draw(kind, *texts):
-    """The picture of texts, of which the last one is handed in."""
+    """The picture of texts, of which the last one is handed in. Before the kind there may be --names with a request."""
+    first = [kind]
+    if kind == "--names":
+        first, texts = [kind, *texts[:2]], texts[2:]
     with tempfile.TemporaryDirectory() as work:
         names = [str(pathlib.Path(work, str(place))) for place, _ in enumerate(texts[:-1])]
         for name, text in zip(names, texts):
             pathlib.Path(name).write_text(text, encoding="utf-8")
-        return python(["tools/draw", kind, *names], texts[-1])
+        return python(["tools/draw", *first, *names], texts[-1])
 
 
 def picture(kind, *texts):
@@ -92,7 +95,7 @@ members = picture("members", shared)
 assert marks(members, "member0") == marks(members, "member1") == 3 and {"a", "b"} <= set(words(members)), words(members)
 assert "near: at most 15 bytes, bound 30" in words(members), words(members)
 refused = draw("members", PLAN)
-assert refused.returncode == 1 and not refused.stdout and refused.stderr.startswith("draw: the file raw%20data "), refused
+assert refused.returncode == 1 and not refused.stdout and refused.stderr.startswith("draw: the file raw data "), refused
 
 record = picture("record", PLAN, RECORD)
 assert "worker 0" in words(record) and "worker 1" in words(record)
@@ -128,4 +131,30 @@ for bad in ("", SCHEDULE.replace("done\n", ""), SCHEDULE.replace("site 0 0", "si
     refused = draw("schedule", bad)
     assert refused.returncode == 1 and refused.stdout == "" and refused.stderr.startswith("draw: "), bad
 assert draw("colours", PLAN).returncode == 64 and python(["tools/draw", "record"]).returncode == 64
+
+# With their request jobs have their transformations, and sites their names; names that one can see are read again.
+named = picture("--names", DIAMOND, "plan", run[0])
+assert {"0 preprocess", "ID0000001", "1 findrange"} <= set(words(named)), words(named)
+titles = [part.text for part in named.iter(SVG + "title")]
+assert "task 0: run preprocess ID0000001" in titles and "task 4: transfer f.a" in titles, titles
+HEFT = "examples/two_sites/heft.json"
+schedule = picture("--names", HEFT, "schedule", SCHEDULE)
+assert {"near", "far"} <= set(words(schedule)) and "site 0" not in words(schedule), words(schedule)
+assert "job 1 findrange ID0000002, far, from 12 to 32" in [part.text for part in schedule.iter(SVG + "title")]
+shown = words(picture("plan", PLAN.replace("site 0 near", "site 0 %CE%A9").replace("table", "x%0Ay%25")))
+assert "\u03a9" in shown and "2 x%0Ay%25" in shown and "1 raw data" in shown, shown
+for bad in ("examples/diamond/diamond.json", "nowhere.json"):
+    refused = draw("--names", bad, "plan", PLAN)
+    assert refused.returncode == 1 and refused.stderr.startswith("draw: "), refused
+
+# A bound that is more than ten times what is held is told and not drawn, so that what is held can be seen.
+for bound, is_drawn in ((150, True), (151, False)):
+    wide = picture("storage", PLAN.replace("near 30", f"near {bound}"))
+    assert marks(wide, "bound") == 2 + is_drawn, bound
+    assert f"near: at most 15 bytes, bound {bound}{'' if is_drawn else ', which is further up'}" in words(wide), words(wide)
+large = words(picture("storage", PLAN.replace("near 30", "near 1099511627776")))
+assert any(it == "near: at most 15 bytes, bound 1\u202f099\u202f511\u202f627\u202f776, which is further up" for it in large), large
+# Each picture has the colours of dark paper too.
+for made in (plan, storage, members, record, schedule):
+    assert "prefers-color-scheme: dark" in "".join(it.text for it in made.iter(SVG + "style"))
 print("draw: ok")

@@ -2,6 +2,7 @@
 with its place or taken out."""
 import json
 import pathlib
+import shutil
 import subprocess
 import sys
 
@@ -41,8 +42,11 @@ plain.write_text(
     "   uses: [{lfn: 1.50, type: output, stageOut: no, size: 12, color/x: red}]}\n",
     encoding="utf-8",
 )
+TOOLS = ("the tools are text, join, take, drop, deal, sorted, distinct, count, holds, column, total, digest; "
+         "--tools made-up chooses some")
 assert turn(str(plain), str(work / "plain")).stdout.splitlines() == [
-    "no tool yes:4.0: name one with --tool yes:4.0=TOOL, or in the request's tools",
+    "no tool yes:4.0: name one with --tool yes:4.0=TOOL, or in the request's tools", TOOLS,
+    "nothing is requested: no output has stageOut true, so no job will run, other than in Pegasus",
     "not acted on workflow /jobs/0/uses/0/color~1x", f"written {work / 'plain' / 'request.json'}"]
 job = read(work / "plain", "workflow")["jobs"][0]
 assert (job["id"], job["name"], job["version"], job["arguments"]) == ("1", "yes", "4.0", ["010", "on", "2026-01-02"])
@@ -164,7 +168,7 @@ for count, told in ((3, [f"not acted on workflow /jobs/{at}/metadata" for at in 
         "pegasus: 5.0\nname: many\nsiteCatalog: {sites: [{name: local}]}\njobs:\n" + "".join(
             f"- {{type: job, id: j{at}, name: text, metadata: {{a: b}}, uses: [{{lfn: f{at}, type: output}}]}}\n" for at in range(count))
         + "transformationCatalog: {transformations: [{name: text, sites: [{name: local, pfn: text, type: installed}]}]}\n", encoding="utf-8")
-    assert turn(str(work / "many.yml"), str(work / "many")).stdout.splitlines()[:-1] == told, count
+    assert turn(str(work / "many.yml"), str(work / f"many{count}")).stdout.splitlines()[:-1] == told, count
 
 # A job that no site can run, or that is pinned elsewhere, is told, and `local` runs jobs where none of the others can.
 PLACES = """
@@ -181,6 +185,7 @@ jobs:
 def placed(at="pool", kind="installed", name="cat", pin="pool"):
     text = PLACES.replace("AT", at).replace("TYPE", kind).replace("NAME", name).replace("PIN", pin)
     (work / "places.yml").write_text(text, encoding="utf-8")
+    shutil.rmtree(work / "places", ignore_errors=True)
     return turn(str(work / "places.yml"), str(work / "places"))
 
 
@@ -194,10 +199,99 @@ for how, told in (
 for how, sites in (({}, ["pool"]), ({"kind": "stageable", "pin": "local"}, ["local", "pool"]), ({"at": "moon", "kind": "stageable"}, ["pool"]),
                    ({"at": "local", "pin": "local"}, ["local", "pool"])):
     done = placed(**how)
-    assert done.returncode == 0 and done.stdout.splitlines()[:2] == [
+    assert done.returncode == 0 and done.stdout.splitlines()[:3] == [
         "registered nowhere workflow /jobs/0/uses/0 f.a: add it to a catalogue of replicas",
-        "no tool cat: name one with --tool cat=TOOL, or in the request's tools"], (how, done)
+        "no tool cat: name one with --tool cat=TOOL, or in the request's tools", TOOLS], (how, done)
     assert [it["site"] for it in read(work / "places", "request")["execute"]] == sites, how
+
+# Of a workflow as Pegasus writes one, with its catalogues beside it, tools and files are made up, so that it can be seen to run.
+MINE = """
+pegasus: 5.0
+name: mine
+jobs:
+- {type: job, id: one, name: cut, arguments: [-l], profiles: {pegasus: {runtime: 90.5}},
+   uses: [{lfn: far.fits, type: input, size: 70}, {lfn: a, type: output, stageOut: false, size: 9}, {lfn: b, type: output, stageOut: false, size: 9}]}
+- {type: job, id: two, name: cut, profiles: {pegasus: {runtime: '20'}}, uses: [{lfn: here, type: input}, {lfn: c, type: output, stageOut: false}]}
+- {type: job, id: three, name: mAdd, arguments: [-x], uses: [{lfn: a, type: input}, {lfn: b, type: input}, {lfn: c, type: input},
+   {lfn: nowhere, type: input}, {lfn: d, type: output, stageOut: WANTED}]}
+jobDependencies: [{id: one, children: [three]}]
+"""
+mine = work / "mine"
+mine.mkdir()
+(mine / "workflow.yml").write_text(MINE.replace("WANTED", "true"), encoding="utf-8")
+(mine / "sites.yml").write_text("pegasus: 5.0\nsites: [{name: local}, {name: pool}, {name: desk}]\n", encoding="utf-8")
+(mine / "here.txt").write_text("my own lines\n", encoding="utf-8")
+(mine / "replicas.yml").write_text(
+    "pegasus: 5.0\nreplicas:\n- {lfn: far.fits, pfns: [{site: ipac, pfn: 'http://ipac/far.fits'}], checksum: {sha256: SHA}}\n"
+    f"- {{lfn: nowhere, pfns: [{{site: local, pfn: {mine / 'moved'}}}]}}\n"
+    f"- {{lfn: here, pfns: [{{site: local, pfn: 'file://{mine / 'here.txt'}'}}]}}\n".replace("SHA", "0" * 64), encoding="utf-8")
+(mine / "transformations.yml").write_text(
+    "pegasus: 5.0\ntransformations:\n- {name: cut, sites: [{name: pool, pfn: /bin/cut, type: stageable}]}\n"
+    "- {name: mAdd, sites: [{name: pool, pfn: /bin/mAdd, type: installed}], profiles: {pegasus: {runtime: 7}}}\n", encoding="utf-8")
+plain = turn("--size", "100", str(mine / "workflow.yml"), str(mine / "plain"))
+lines = plain.stdout.splitlines()
+assert plain.returncode == 0 and lines[:3] == [f"taken {mine / it}.yml" for it in ("sites", "replicas", "transformations")], plain
+assert [it for it in lines if it.startswith("no tool ")][0].startswith("no tool cut: ") and TOOLS in lines, lines
+request = read(mine / "plain", "request")
+# (far.fits has 70 bytes, a and b have 9, and four files have 100)
+assert request["execute"] == [{"site": it, "bound": 488} for it in ("pool", "desk")] and "tools" not in request, request
+assert request["runtimes"] == [{"transformation": name, "site": site, "seconds": seconds}
+                               for site in ("pool", "desk") for name, seconds in (("cut", 56), ("mAdd", 7))], request
+made = turn("--size", "100", "--tools", "made-up", str(mine / "workflow.yml"), str(mine / "made"))
+lines = made.stdout.splitlines()
+assert made.returncode == 0 and "tool cut deal: made up" in lines and "tool mAdd digest: made up" in lines, made
+assert f"made up 2 files in {mine / 'made' / 'files'}: far.fits and nowhere" in lines, lines
+assert not any("registered nowhere" in it for it in lines), lines
+request, replicas = read(mine / "made", "request"), read(mine / "made", "replicas")["replicas"]
+assert request["tools"] == {"cut": "deal", "mAdd": "digest"}
+# (what is made up for far.fits is a line of 21 letters, which is dealt to a)
+assert request["sizes"] == {"a": 21} and "enlarged a from 9 to 21 bytes, for what is made up" in lines, (request, lines)
+assert {it["lfn"]: it["pfns"][0]["pfn"] for it in replicas}["here"] == f"file://{mine / 'here.txt'}"
+assert not any("checksum" in it for it in replicas) and len(replicas) == 3, replicas
+ran = subprocess.run([sys.executable, "tools/run-model", str(mine / "made" / "request.json")], capture_output=True, text=True, check=False)
+assert ran.stdout.splitlines()[-1] == "done" and "delivered d 65 " in ran.stdout, ran.stdout
+# A tool that is named stays; the files that were made up stay too where their texts are others.
+(mine / "made" / "files" / "00000.txt").write_text("others\n", encoding="utf-8")
+again = turn("--size", "100", "--tools", "made-up", "--tool", "mAdd=join", str(mine / "workflow.yml"), str(mine / "made"))
+assert again.returncode == 0 and f"written {mine / 'made' / 'request.new.json'}" in again.stdout, again.stdout
+assert json.loads((mine / "made" / "request.new.json").read_text())["tools"] == {"mAdd": "join", "cut": "deal"}
+assert (mine / "made" / "files" / "00000.txt").read_text() == "others\n"
+# Where nothing is requested that is told.
+told = "nothing is requested: no output has stageOut true, so no job will run, other than in Pegasus"
+(mine / "unwanted.yml").write_text(MINE.replace("WANTED", "false"), encoding="utf-8")
+assert told in turn(str(mine / "unwanted.yml"), str(mine / "unwanted")).stdout.splitlines() and told not in plain.stdout
+
+# More than three places of one kind are told together.
+(work / "checked.yml").write_text(
+    "pegasus: 5.0\nname: checked\nsiteCatalog: {sites: [{name: local}]}\njobs:\n" + "".join(
+        f"- {{type: job, id: j{at}, name: text, uses: [{{lfn: f{at}, type: output}}, {{lfn: c{at}, type: checkpoint}}, {{lfn: n{at}, type: input}}]}}\n" for at in range(9))
+    + "transformationCatalog: {transformations: [{name: text, sites: [{name: local, pfn: text, type: installed}]}]}\n", encoding="utf-8")
+refused = turn(str(work / "checked.yml"), str(work / "checked"))
+told = refused.stderr.splitlines()
+assert refused.returncode == 4 and len(told) == 5 and told[2].startswith("from-pegasus: unsupported workflow /jobs/2/uses/1 "), told
+assert told[3:] == ["from-pegasus: and 6 more such places", "from-pegasus: nothing was written; all is taken out by --drop checkpoints"], told
+lines = turn("--drop", "checkpoints", str(work / "checked.yml"), str(work / "checked")).stdout.splitlines()
+assert lines[2:4] == ["dropped workflow /jobs/2/uses/1 a use of type checkpoint", "and 6 more such places"] and lines[6:8] == [
+    "registered nowhere workflow /jobs/2/uses/1 n2: add it to a catalogue of replicas", "and 6 more such places"], lines
+
+# The quick reader of YAML, where there is one, reads the same as the slow one.
+import yaml  # noqa: E402
+sys.dont_write_bytecode = True
+sys.path.insert(0, "tools")
+import beside  # noqa: E402
+tool = beside.load("from-pegasus")
+assert issubclass(tool.Plain, getattr(yaml, "CSafeLoader", yaml.SafeLoader))
+
+
+class Slow(yaml.SafeLoader):
+    """The reader that is always there, with the same texts as they are."""
+
+
+Slow.yaml_implicit_resolvers = tool.Plain.yaml_implicit_resolvers
+for path in (*work.glob("*.yml"), *mine.glob("*.yml"), *pathlib.Path("examples/pegasus").glob("*.yml")):
+    if path.name not in ("torn.yml", "list.yml"):
+        text = path.read_text(encoding="utf-8")
+        assert yaml.load(text, Loader=tool.Plain) == yaml.load(text, Loader=Slow), path
 
 for words in (["--tool", "nobody=join"], ["--tool", "diamond::make:5.0=join"]):
     assert turn(*drops, *words, str(work / "full.yml"), str(work / "nothing")).returncode == 1, words

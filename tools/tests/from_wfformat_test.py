@@ -117,8 +117,48 @@ def changed(change):
     return found
 
 
+# The same instance as the earlier versions have it: files and runtimes in the tasks, which name each other by names or ids.
+KEYS = {"1.4": ("tasks", "name", "sizeInBytes", "runtimeInSeconds"), "1.3": ("tasks", "name", "size", "runtime"),
+        "1.2": ("jobs", "id", "size", "runtime")}
+
+
+def earlier(version, found):
+    key, naming, length, seconds = KEYS[version]
+    specification, runs = found["workflow"]["specification"], {it["id"]: it for it in found["workflow"]["execution"]["tasks"]}
+    sizes = {it["id"]: it["sizeInBytes"] for it in specification["files"]}
+    short = {it["id"]: f"ID{place}" for place, it in enumerate(specification["tasks"])}
+    tasks = []
+    for it in specification["tasks"]:
+        files = [{"link": link, naming: file, length: sizes[file]} for link in ("input", "output") for file in it[f"{link}Files"]]
+        around = {side: [short[other] if version == "1.4" else other for other in it[side]] for side in ("parents", "children")}
+        run = runs[it["id"]]
+        tasks.append({"name": it["id"], "id": short[it["id"]], **({"category": it["name"]} if version == "1.4" else {}), "files": files, **around,
+                      seconds: run["runtimeInSeconds"], "command": run.get("command", {})})
+    return {"name": found["name"], "schemaVersion": version, "workflow": {key: tasks}}
+
+
+def documents(folder):
+    """What was written, under the folder's name."""
+    return {it.name: it.read_text(encoding="utf-8").replace(str(folder), "FOLDER") for it in folder.iterdir() if it.is_file()}
+
+
+whole = json.loads(pathlib.Path(EXAMPLE).read_text(encoding="utf-8"))
+for version in KEYS:
+    done = turn(written(f"earlier {version}", earlier(version, whole)), str(work / version))
+    assert done.returncode == 0 and documents(work / version) == documents(out), (version, done)
+for name, change, told in (
+        ("link", lambda task: task["files"][0].update(link="both"), "/workflow/tasks/1/files/0/link: both, and input or output is wanted"),
+        ("nameless", lambda task: task.pop("name"), "/workflow/tasks/1/name: is missing"),
+        ("stranger", lambda task: task.update(parents=["nobody"]), "/workflow/tasks/1: no task nobody"),
+        ("half", lambda task: task["files"][0].update(sizeInBytes=1.5), "/workflow/tasks/1/files/0/sizeInBytes: a whole number up to 1099511627776 is wanted"),
+        ("list", lambda task: task.update(files={}), "/workflow/tasks/1/files: another kind of value is wanted")):
+    torn = earlier("1.4", whole)
+    change(torn["workflow"]["tasks"][1])
+    refused = turn(written(name, torn), str(work / "nothing"))
+    assert (refused.returncode, refused.stderr) == (1, f"from-wfformat: {told}\n"), (name, refused)
+
 BAD = {
-    "version": lambda found, tasks, files: found.update(schemaVersion="1.4"),
+    "version": lambda found, tasks, files: found.update(schemaVersion="1.1"),
     "none": lambda found, tasks, files: found.pop("workflow"),
     "no_size": lambda found, tasks, files: files[0].pop("sizeInBytes"),
     "fraction": lambda found, tasks, files: files[0].update(sizeInBytes=1.5),

@@ -54,11 +54,23 @@ assert sorted(it for it in told if "can't be handed over" in it) == [f"preview: 
 (mine / "torn.json").write_text("{")
 assert handed(call(mine, "torn.json", "plan")[1]) == (["torn.json"], ["plan", "torn.json"])
 assert handed(call(mine, "torn.json", "stat", "data/a")[1]) == (["torn.json", "data/a"], ["stat", "torn.json", "data/a"])
-assert handed(call(mine, "nowhere.json")[1]) == ([], ["alone", "nowhere.json"])
+# The program's own order of words is taken too.
+for words in (("run", "r.json", "--workers", "4"), ("run", "--workers", "4", "r.json")):
+    assert handed(call(mine, *words)[1])[1] == ["run", "r.json", "--workers", "4"], words
+assert handed(call(mine, "run", "--workers=4", "r.json")[1]) == (["r.json", "w.json", "data/a", "data/b"], ["run", "r.json", "--workers=4"])
+assert handed(call(mine, "stat", "torn.json", "data/a")[1]) == (["torn.json", "data/a"], ["stat", "torn.json", "data/a"])
+assert handed(call(mine, "alone", "r.json")[1])[1] == ["alone", "r.json"]
 # What is wrong at first sight is told before two minutes are spent.
-for name, words in (("nowhere.json", "preview: nowhere.json: No such file or directory"), ("torn.json", "preview: torn.json is no JSON text: ")):
-    told = call(mine, name)[2]
-    assert told[1].startswith(words) and "compiled first" in told[2], (name, told)
+told = call(mine, "torn.json")[2]
+assert told[1].startswith("preview: torn.json is no JSON text: ") and "compiled first" in told[2], told
+# Words that are no call, and a document that isn't there, are answered at once.
+usage = next(line.strip() for line in (TOP / "docs/COMMANDS.md").read_text(encoding="utf-8").splitlines() if line.startswith("    usage: "))
+for words in (("r.json", "chek"), ("r.json", "run"), ("r.json", "run", "--workers", "99"), ("r.json", "audit"), ("1", "rehearse"), ("rehearse", "1"),
+              ("alone",), ("alone", "r.json", "r.json"), ("run", "r.json"), ("r.json", "alone", "r.json")):
+    assert call(mine, *words) == (2, [usage], []), (words, call(mine, *words))
+for words in (("nowhere.json",), ("alone", "nowhere.json"), ("torn.json", "audit", "nowhere.json"), ("run", "--workers", "4", "nowhere.json")):
+    assert call(mine, *words) == (3, ["no document nowhere.json"], []), (words, call(mine, *words))
+assert call(mine, "data", "plan") == (3, ["document failed data"], [])
 told = call(mine, "r.json")[2]
 assert [it for it in told if "none.json" in it] == ["preview: none.json: No such file or directory"] and not any("r.json" in it for it in told), told
 assert len(call(TOP, "examples/diamond/request.json")[2]) == len(call(mine, "20", "rehearse")[2]), told
@@ -74,7 +86,8 @@ assert set(handed(joint)[0]) == {"examples/ensemble/ensemble.json", *documents, 
 assert handed(joint)[1] == ["ensemble", "examples/ensemble/ensemble.json", "--workers", "4"], joint
 (mine / "joint.json").write_text('{"members": [{"request": "r.json"}, {"name": "b"}, 7, {"request": 8}]}')
 assert handed(call(mine, "joint.json", "ensemble")[1])[0] == ["joint.json", "r.json", "w.json", "data/a", "data/b"]
-assert handed(call(mine, "20", "rehearse")[1]) == ([], ["rehearse", "20"])
+for words in (("20", "rehearse"), ("rehearse", "20")):
+    assert handed(call(mine, *words)[1]) == ([], ["rehearse", "20"])
 
 status, _, told = call(mine, "r.json", ends="echo 'error: a fault' >&2; echo 'run=none proved=no' >&2; exit 4\n")
 assert status == 70 and told[-2:] == ["error: a fault", "run=none proved=no"], (status, told)
