@@ -27,8 +27,15 @@ def fronts(text):
         yield "".join(lines[:count]) + "closed\n"
 
 
+def verdicts(plan):
+    """On how many fronts of a run of this plan there are two verdicts: a transfer and a run have two entries, a removal one.
+    Besides them a text has four lines, and of fronts with the line `closed` the first one has no entry."""
+    entries = sum(1 if " clean site " in line else 2 for line in plan.splitlines() if line.startswith("task "))
+    return 2 * ((entries + 4 + 1) + (entries + 1))
+
+
 def compare(work, request):
-    """Compares the two on each front, and returns how many there are."""
+    """Compares the two on each front, and returns how many verdicts there are."""
     plan, record = work / "plan.txt", work / "run.txt"
     plan.write_text(run(sys.executable, "tools/plan-model", request)[1])
     folder = work / request.replace("/", "_")
@@ -44,6 +51,7 @@ def compare(work, request):
             assert told == wanted, (request, command, front, told, wanted)
             assert status == (8 if told.startswith("bad record") else 0), (request, command, front, status)
             count += 1
+    assert count == verdicts(plan.read_text()) > 80, (request, count)
     return count
 
 

@@ -1,4 +1,4 @@
-"""Files of cases, read for the tests of the models. docs/ADDING.md says how a case is written."""
+"""Files of cases, read for the tests of the models. docs/DEVELOPING.md says how a case is written."""
 import pathlib
 import re
 from dataclasses import dataclass, field

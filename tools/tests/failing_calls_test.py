@@ -3,12 +3,13 @@ gate built runs under a small library, made here with the C compiler, that answe
 device.
 
 What has to come each time: the name of the document that could not be read; or the task whose Fail stands in the record,
-which tools/record-model calls legal, while what was delivered is whole; or a front of the text, where a write of it failed; or
-just what comes where none fails. `resume` is handed a whole record. So it is by one worker and by several, whose calls come in another order each time."""
+which tools/record-model calls legal, while what was delivered is whole; or a front of the text, where a write of it failed, whose
+entries tools/record-model calls legal where there are several workers; or just what comes where none fails. `resume` is handed a whole record. So it is by one worker and by several, whose calls come in another order each time."""
 import collections
 import concurrent.futures
 import os
 import pathlib
+import re
 import shutil
 import subprocess
 import sys
@@ -25,7 +26,9 @@ REQUEST = "examples/diamond/request.json"
 DOCUMENTS = [REQUEST] + [f"examples/diamond/{it}.json" for it in ("diamond", "sites", "replicas", "transformations")]
 RECORD = "examples/record.txt"
 DELIVERED = b"c\nd\na\nb\n"
-judge = beside.load("record-model").judge
+# What a line of a whole run's record begins with.
+KINDS = ("grant", "arrive", "end", "clean", "closed")
+judges = beside.load("record-model")
 
 
 def made(*words):
@@ -59,6 +62,14 @@ class Calls:
         return found, int(pathlib.Path(self.counted).read_text())
 
 
+def judge(plan, record, workers):
+    """The verdict of tools/record-model; nothing where it is no record."""
+    try:
+        return judges.judge(plan, record, workers)
+    except judges.Malformed:
+        return None
+
+
 def after_record(text):
     return text.split("closed\n", 1)[-1]
 
@@ -76,6 +87,18 @@ def is_failed_run(plan, text, workers):
     return is_first and judge(plan, record + "closed\n", workers) == "legal"
 
 
+def is_front(plan, text, rest, workers):
+    """Whether it is a front of what a whole run by so many workers prints: of its record, or of that and what comes after it."""
+    record, closed, after = text.partition("closed\n")
+    if closed:
+        return judge(plan, record + closed, workers) == "complete" and rest.startswith(after)
+    whole, _, cut = record.rpartition("\n")
+    if not whole:
+        return "record 1\n".startswith(cut)
+    is_line = any(re.fullmatch(r"[a-z]*|[a-z]+( \d+)* ?", cut) and kind.startswith(cut.split(" ")[0]) for kind in KINDS)
+    return is_line and "\nfail " not in whole and judge(plan, whole + "\nclosed\n", workers) in ("legal", "complete")
+
+
 def kind_of(calls, words, wanted, found):
     """In a word, how a call ended of which one call of the system failed; nothing where it ended as it may not."""
     status, text, files, drafts = found
@@ -88,9 +111,19 @@ def kind_of(calls, words, wanted, found):
         return "document failed"
     if status == 6 and (text == "failed host -\n" if words[0] == "eval" else is_failed_run(calls.plan, text, workers)):
         return "failed host"
-    if status == 7 and (wanted[1].startswith(text) or workers > 1) and files == wanted[2]:
+    is_begun = is_front(calls.plan, text, after_record(wanted[1]), workers) if workers > 1 else wanted[1].startswith(text)
+    if status == 7 and is_begun and files == wanted[2]:
         return "front of the text"
     return None
+
+
+def fronts_are_told_apart(calls):
+    """Each front of a run's text is one, and a text that isn't the front of any isn't."""
+    rest = after_record(calls.record)
+    assert all(is_front(calls.plan, calls.record[:end], rest, 2) for end in range(len(calls.record) + 1))
+    lines = calls.record.splitlines(keepends=True)
+    for wrong in ("done\n", "record 1\nrubbish", "record 1\n" + lines[2], "record 1\ngrant 2 4\n", lines[0] + "closed\n" + rest, calls.record + "x"):
+        assert not is_front(calls.plan, wrong, rest, 2), wrong
 
 
 def each_call(calls, pool, words):
@@ -131,12 +164,13 @@ def main():
         print("failing-calls: skipped, no program that is built, or no C compiler")
         return
     one = [[command, REQUEST] for command in ("check", "plan", "eval", "alone", "produce", "schedule")]
-    judges = [[command, REQUEST, RECORD] for command in ("audit", "stat", "resume")]
+    verdicts = [[command, REQUEST, RECORD] for command in ("audit", "stat", "resume")]
     several = [["run", REQUEST, "--workers", str(workers)] for workers in (2, 16)]
     with tempfile.TemporaryDirectory() as work, concurrent.futures.ThreadPoolExecutor(os.cpu_count()) as pool:
         calls = Calls(work)
-        failed = sum(each_call(calls, pool, words) for words in one + judges + several)
-        cut = sum(each_write(calls, pool, words) for words in one + judges)
+        fronts_are_told_apart(calls)
+        failed = sum(each_call(calls, pool, words) for words in one + verdicts + several)
+        cut = sum(each_write(calls, pool, words) for words in one + verdicts)
     print(f"failing-calls: ok, {failed} calls of the system and {cut} writes failed in turn")
 
 

@@ -395,9 +395,10 @@ def second_run_before_files(place):
     the folder until it has ended. What writes nothing is done meanwhile."""
     line = hole(place / "zeros")
     tried = 0
-    delivered = ([delivery("a")], "failed host 0", [line, "done"])
-    brought = ([job("total", [], ["a"], ["x"])], "failed scratch pool", None)
-    for jobs, refused, lines in (delivered, brought):
+    delivered = ([delivery("a")], "failed host 0", (0, [line, "done"]))
+    # (zeros are no numbers to add)
+    brought = ([job("total", [], ["a"], ["x"])], "failed scratch pool", (6, ["failed declined j0"]))
+    for jobs, refused, wanted in (delivered, brought):
         write(place, jobs, [replica("a", "zeros")])
         for first in CALLS:
             with stopped(place, first, lambda: parts(place)) as running:
@@ -407,8 +408,8 @@ def second_run_before_files(place):
                     tried += 1
                 assert call(place, CHECK)[0] == 0 and call(place, ("plan", "request.json"))[0] == 0
                 running.send_signal(signal.SIGCONT)
-                status, last = end(running)
-                assert status == (0 if lines else status) and lines in (None, last), (first, last)
+                found = end(running)
+                assert found == wanted, (first, found)
             for top in ("sites", "output"):
                 shutil.rmtree(place / top, ignore_errors=True)
     return tried

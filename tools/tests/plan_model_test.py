@@ -3,6 +3,7 @@ import contextlib
 import io
 import pathlib
 import re
+import subprocess
 import sys
 
 import case_files
@@ -65,9 +66,14 @@ def compare(path, least, is_one=is_told, *option):
 
 
 printed = list(pages.texts("plan"))
-assert ("examples/diamond/request.json", "") in [(request, pattern) for request, pattern, _ in printed]
+assert len(printed) >= 4 and ("examples/diamond/request.json", "") in [(request, pattern) for request, pattern, _ in printed]
 for request, pattern, lines in printed:
     assert [line for line in model(request)[1].splitlines() if re.search(pattern, line)] == lines, request
+for tool in ("plan-model", "run-model"):
+    for name, status, told in (("README.md", 4, "refused request syntax"), ("docs", 3, "document failed docs"), ("absent", 3, "no document absent"),
+                               ("examples/ensemble/ensemble.json", 4, "refused request missing /workflow")):
+        done = subprocess.run([sys.executable, f"tools/{tool}", name], capture_output=True, text=True)
+        assert (done.returncode, done.stdout, done.stderr) == (status, f"{told}\n", ""), (tool, name, done)
 least = {"plan": 20, "clusters": 30, "graph": 10, "heft": 8, "retries": 2, "fresh": 9}
 counts = [compare(f"crates/cases/data/{name}.cases", count) for name, count in least.items()]
 counts += [compare(f"crates/cases/data/{name}.cases", count, is_of_policy) for name, count in (("retries", 5), ("fresh", 7))]

@@ -3,6 +3,7 @@ tools/random-cases over the program of cases. Their seeds are printed, so that w
 text is wrong at a place has to be found out."""
 import pathlib
 import random
+import re
 import shutil
 import subprocess
 import sys
@@ -16,8 +17,8 @@ import random_jobs
 
 PROGRAM = pathlib.Path("crates/pegasus/out/pegasus").absolute()
 CASES = pathlib.Path("crates/cases/out/cases").absolute()
-# How long workflows are begun, and of how many there are cases.
-SECONDS, CASED = 30, 80
+# How long workflows are begun, how many are tried at least meanwhile, and of how many there are cases.
+SECONDS, LEAST, CASED = 30, 3, 80
 cases = beside.load("random-cases")
 # Stands in the program's place and tells other digests than it does; all else is as it should be.
 WRONG = """#!/usr/bin/env bash
@@ -42,8 +43,16 @@ def call(*words):
 def are_the_same(seed):
     """The program over workflows of this seed; those that differ are kept, and the text says where."""
     status, text = call("tools/random-workflows", "--seed", seed, "--count", 10**6, "--seconds", SECONDS)
-    assert status == 0, text
-    return text.splitlines()[-1]
+    last = text.splitlines()[-1]
+    tried = re.fullmatch(r"random-workflows: ok, (\d+) workflows of seed \d+, .*", last)
+    assert status == 0 and tried and int(tried[1]) >= LEAST, text
+    return last
+
+
+def none_is_no_trial():
+    """Where no workflow was begun, that isn't well."""
+    status, text = call("tools/random-workflows", "--seed", 1, "--seconds", 0)
+    assert status == 1 and "none was tried, 0 workflows" in text, (status, text)
 
 
 def is_found_out(work):
@@ -79,10 +88,13 @@ def main():
     if not PROGRAM.exists():
         print("random: skipped, no program is built")
         return
+    none_is_no_trial()
     with tempfile.TemporaryDirectory() as work:
         is_found_out(pathlib.Path(work))
         if CASES.exists():
             print(cases_end_alike(seed, pathlib.Path(work)))
+        else:
+            print("random: skipped, random cases: no program of cases is built")
     print(are_the_same(seed))
 
 

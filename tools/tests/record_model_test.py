@@ -20,6 +20,8 @@ planner, model, resume = beside.load("plan-model"), beside.load("record-model"),
 PLAN = subprocess.run([sys.executable, "tools/plan-model", "examples/diamond/request.json"], capture_output=True, text=True, check=True).stdout
 PRINTED = re.search(r"    record 1\n(.*?)    closed\n", pathlib.Path("docs/COMMANDS.md").read_text(encoding="utf-8"), re.DOTALL)
 RUN = [line.strip() for line in PRINTED[1].splitlines()]
+READ = re.findall(r"`((?:grant|arrive|end|clean) [\d ]+)`", pathlib.Path("docs/GUIDE.md").read_text(encoding="utf-8").split("| Lines |")[1].split("\n\n")[0])
+assert READ == RUN, f"the guide reads another record line by line: {READ}"
 
 # Task 1 runs and task 2 is ready. At 36 a first job that made less leaves room for it.
 WAITS = ["grant 0 4", "arrive 0 4 10", "grant 0 0", "end 0 0 10 10", "clean 0 6", "grant 0 1"]
@@ -190,7 +192,7 @@ case $1 in
 esac
 """
 JUDGES = re.compile(r"\./pegasus (audit|stat) ")
-MAKES = re.compile(r" > \w+\.txt$|^sed .* > \w+\.json$|^tools/join |^\./pegasus ensemble examples/|^diff -s ")
+MAKES = re.compile(r" > \w+\.txt$|^sed .* > \w+\.json$|\|\| tail -n 1 \w+\.txt$|^mv |^tools/join |^\./pegasus ensemble examples/|^diff -s ")
 
 
 def folder(place):

@@ -14,6 +14,7 @@ if not os.path.exists(bench.PROGRAM) or shutil.which("cc") is None:
     print("refused-memory: skipped, no program that is built, or no C compiler")
     sys.exit()
 whole, found = bench.ends_of(["run", "examples/diamond/request.json", "--workers", "4"])
+assert len(found) > 1000, f"{len(found)} requests for memory were counted"
 assert whole[0] == 0 and whole[1].endswith(b"\ndone\n"), whole
 for number, (end, _) in enumerate(found, 1):
     assert end in (bench.WANT, bench.SAME), (number, end)

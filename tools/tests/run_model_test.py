@@ -81,6 +81,31 @@ def compare_page(request, pattern, lines):
     assert [line for line in page_run(request, scratch) if re.search(pattern, line)] == lines, request
 
 
+# What each tool makes of its arguments and inputs, with so many outputs, by the page alone; nothing where it makes nothing. Numbers
+# have one to eighteen digits.
+THREE = [b"c\na\n", b"b"]
+BY_HAND = [
+    ("text", ["a", "", "b"], [], 1, [b"a  b\n"]), ("text", ["a"], [b"a\n"], 1, None), ("join", [], THREE, 1, [b"c\na\nb"]),
+    ("join", [], THREE, 2, None), ("take", ["2"], THREE, 1, [b"c\na\n"]), ("take", [], THREE, 1, None), ("take", ["x"], THREE, 1, None),
+    ("drop", ["2"], THREE, 1, [b"b\n"]), ("drop", ["9"], THREE, 1, [b""]), ("deal", [], THREE, 2, [b"c\nb\n", b"a\n"]),
+    ("deal", [], THREE, 0, None), ("sorted", [], [b"b\n\xc3\na\nb\n"], 1, [b"a\nb\nb\n\xc3\n"]),
+    ("distinct", [], [b"b\na\nb\nc\na\n"], 1, [b"b\na\nc\n"]), ("count", [], THREE, 1, [b"3 5\n"]),
+    ("holds", ["a"], [b"ab\nb\ncab\n"], 1, [b"ab\ncab\n"]), ("holds", [""], THREE, 1, None), ("holds", [], THREE, 1, None),
+    ("column", ["2"], [b"a\tb\nc\n\td\te\n"], 1, [b"b\n\nd\n"]), ("column", ["0"], THREE, 1, None),
+    ("digest", [], [b"a", b"bc"], 1, [b"ba7816bf8f01cfea414140de5dae2223b00361a396177a9cb410ff61f20015ad\n"]),
+    ("total", [], [b"1\n20\n"], 1, [b"21\n"]), *(("total", [], [it + b"\n"], 1, [it + b"\n"]) for it in (b"0", b"9" * 18)),
+    *(("total", [], [it + b"\n"], 1, None) for it in (b"9" * 19, b"", b"-1", b"1 ", "\u0661".encode(), b"x")),
+]
+
+
+def applied(*words):
+    """What a tool of the model makes, or nothing."""
+    try:
+        return model.apply(*words)
+    except model.Declined:
+        return None
+
+
 count = 0
 for file in sorted(pathlib.Path("crates/cases/data").glob("*.cases")):
     if not file.name.startswith("unreadable"):
@@ -92,9 +117,14 @@ assert count >= 140, count
 runs = list(pages.texts("alone"))
 for found in runs:
     compare_page(*found)
-for request, _, lines in pages.texts("eval"):
+values = list(pages.texts("eval"))
+assert len(values) >= 3, values
+for request, _, lines in values:
     worth = [line.replace("delivered", "value", 1) for line in page_run(request, {})]
     assert lines == [line for line in worth if line.startswith(("value ", "done"))], request
+for tool, arguments, read, outs, wanted in BY_HAND:
+    assert applied(tool, arguments, read, outs) == wanted, (tool, arguments, read)
+assert {it[0] for it in BY_HAND} == model.TOOLS
 first = "".join(f"    {line}\n" for line in page_run("examples/diamond/request.json", {}))
 assert len(runs) >= 12 and first in pathlib.Path("docs/COMMANDS.md").read_text(encoding="utf-8"), len(runs)
 print(f"run-model: ok, {len(runs)} runs and {count} cases")

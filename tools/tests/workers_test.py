@@ -257,7 +257,7 @@ def seeds(work, count):
 def failures():
     """Runs of the mosaic whose store fails now and then, where there is a compiler to make it fail."""
     if not calls_failing_by_chance.can_be_made():
-        print("workers: no calls fail, without a C compiler")
+        print("workers: skipped, runs in which calls fail, for want of a C compiler")
         return 0
     with tempfile.TemporaryDirectory() as work:
         return large_mosaic(pathlib.Path(work)) + seeds(pathlib.Path(work), 100)
