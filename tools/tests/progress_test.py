@@ -11,6 +11,8 @@ import tempfile
 import time
 import tty
 
+import terminals
+
 PROGRAM = pathlib.Path("crates/pegasus/out/pegasus").absolute()
 EXAMPLES = pathlib.Path("examples").absolute()
 MAKE = EXAMPLES / "montage" / "make"
@@ -32,18 +34,6 @@ def plainly(words):
     return done.returncode, done.stdout, done.stderr
 
 
-def read_all(terminal):
-    came = b""
-    while True:
-        try:
-            piece = os.read(terminal, 65536)
-        except OSError:
-            return came
-        if not piece:
-            return came
-        came += piece
-
-
 def on_terminal(words, is_all):
     """Status and output of a call whose standard error is a terminal, what came to that, and how long it took. With `is_all`
     the output goes to the terminal too."""
@@ -54,7 +44,7 @@ def on_terminal(words, is_all):
         begun = time.monotonic()
         call = subprocess.Popen([PROGRAM, *words], cwd=place, stdin=subprocess.DEVNULL, stdout=where, stderr=end)
         os.close(end)
-        came = read_all(terminal)
+        came = terminals.read_all(terminal)
         status = call.wait(timeout=60)
         took = time.monotonic() - begun
         text.seek(0)

@@ -14,6 +14,8 @@ import sys
 import time
 import tty
 
+import terminals
+
 STANDS_IN = f"""#!{sys.executable} -S
 import os, signal, sys, time
 kind = sys.argv[2]
@@ -54,18 +56,6 @@ def made_top(work):
     return top / "pegasus"
 
 
-def read_all(terminal):
-    came = b""
-    while True:
-        try:
-            piece = os.read(terminal, 65536)
-        except OSError:
-            return came
-        if not piece:
-            return came
-        came += piece
-
-
 def take_signals():
     """Of these none is ignored, as they are where the tests run behind `nohup` or `&`."""
     for number in (signal.SIGINT, signal.SIGTERM, signal.SIGHUP):
@@ -93,7 +83,7 @@ def called(script, place, words, sent=None, is_terminal=True):
             time.sleep(0.01)
         number, is_whole_group = sent
         (os.killpg if is_whole_group else os.kill)(call.pid, number)
-    came = read_all(terminal) if is_terminal else call.stderr.read()
+    came = terminals.read_all(terminal) if is_terminal else call.stderr.read()
     os.close(terminal)
     text = call.stdout.read().decode()
     return call.wait(timeout=30), text, came.decode()
