@@ -14,7 +14,7 @@ use Rattle.ruled_lock.specs.declared.view.View.{View}
 use Rattle.ruled_lock.specs.declared.view.Stage.TheVariants.{Idle}
 use Rattle.ruled_lock.specs.Chronicle.{shorter, items_of}
 use Rattle.ruled_lock.specs.Rule.{Agrees, IsKept}
-use Rattle.ruled_lock.specs.Steps.{after, both_of, spent}
+use Rattle.ruled_lock.specs.Steps.{both_of, spent}
 use Rattle.ruled_lock.specs.View.{is_live, is_resting, lists, names, ticket, tickets, waiting}
 use Rattle.ruled_lock.proofs.ChronicleLemmas.{items_squeezed, not_true}
 use Rattle.ruled_lock.proofs.ListLemmas.{prefix_shorter, set_all, set_at}

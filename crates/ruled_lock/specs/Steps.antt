@@ -72,9 +72,11 @@ module _ {G I : Type 0} where
   abbrev pub spent : View G I
   spent = record { worker = 0; charter = None; seen = []; mine = []; count = 0; joined = []; stage = Spent }
 
-  -- the pass has the ticket that was found
+  -- the pass has the ticket that was found, where it is the expected one, and else nothing changed
   abbrev pub drew : {S : Type 0} → Step S → Me S (View G I) → ℕ → Me S (View G I) → Type 0
-  drew st m found m' = (t : ℕ) × (found ≡ t % 2 ^ 64) × (m' ≡ (staged m.0 (Waits t), m.1))
+  drew st m found m' =
+      (found ≡ st.first → (t : ℕ) × (found ≡ t % 2 ^ 64) × (m' ≡ (staged m.0 (Waits t), m.1)))
+      × (found ≢ st.first → m' ≡ m)
 
   -- what the rule says of a pass without a ticket; it is idle from now on
   pub record IsTold (author : I → ℕ) (v : View G I) : Type 0 where

@@ -1,12 +1,14 @@
-//! Which turns wake a worker that waits for a change.
+//! Those who wait for a change.
 
+use crate::queue::low_half;
+use std::sync::Wait;
 use std::sync::atomic::{AtomicU64, Ordering};
 
-/// Counts the turns that bring news: all but those that only look again after a wait and add nothing. Without
-/// this exception two workers with nothing to do would wake each other for ever.
+/// Counts the turns that added an item, and who sleeps until there is another one. Where nobody sleeps, a call costs nothing.
 #[derive(Drop)]
 pub(crate) struct News {
     turns: AtomicU64,
+    asleep: AtomicU64,
 }
 
 /// How far a pass has followed the news.
@@ -14,7 +16,6 @@ pub(crate) struct News {
 pub(crate) struct Heard {
     turns: u64,
     entries: u64,
-    waited: bool,
 }
 
 impl Heard {
@@ -23,7 +24,6 @@ impl Heard {
         Heard {
             turns: 0,
             entries: 0,
-            waited: false,
         }
     }
 
@@ -31,31 +31,46 @@ impl Heard {
     pub(crate) fn begin_turn(&mut self, entries: u64) {
         self.entries = entries;
     }
-
-    /// A wait has ended.
-    pub(crate) fn end_wait(&mut self) {
-        self.waited = true;
-    }
 }
 
 impl News {
     pub(crate) fn new() -> News {
         News {
             turns: AtomicU64::new(0),
+            asleep: AtomicU64::new(0),
         }
-    }
-
-    /// Whether there was a turn with news that the pass hasn't heard of.
-    pub(crate) fn is_more_than(&self, heard: &Heard) -> bool {
-        self.turns.load(Ordering::SeqCst) != heard.turns
     }
 
     /// A turn ends, at this length of the journal. Only the pass with the turn may call it.
     pub(crate) fn end_turn(&self, heard: &mut Heard, entries: u64) {
-        if entries != heard.entries || !heard.waited {
+        if entries != heard.entries {
             self.turns.fetch_add(1, Ordering::SeqCst);
         }
         heard.turns = self.turns.load(Ordering::SeqCst);
-        heard.waited = false;
+    }
+
+    /// Sleeps until one is woken and there was a turn with an item that the pass hasn't heard of.
+    pub(crate) fn wait<R: Wait>(&self, rt: &R, heard: &Heard) {
+        self.asleep.fetch_add(1, Ordering::SeqCst);
+        for _ in rt.forever() {
+            if self.turns.load(Ordering::SeqCst) != heard.turns {
+                self.asleep.fetch_sub(1, Ordering::SeqCst);
+                return;
+            }
+            self.turns.park(rt, low_half(heard.turns));
+        }
+        unreachable!()
+    }
+
+    pub(crate) fn wake_one(&self) {
+        if self.asleep.load(Ordering::SeqCst) > 0 {
+            self.turns.wake_one();
+        }
+    }
+
+    pub(crate) fn wake_all(&self) {
+        if self.asleep.load(Ordering::SeqCst) > 0 {
+            self.turns.wake_all();
+        }
     }
 }

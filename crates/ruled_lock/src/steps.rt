@@ -5,7 +5,7 @@ use crate::view::View;
 use atomic_table::{Join, Play, Split};
 use std::marker::PhantomData;
 
-/// Draws a ticket.
+/// Draws the ticket that was expected.
 pub(crate) struct DrawTicket;
 
 impl<S, G, I> Play<S, View<G, I>> for DrawTicket {

@@ -31,6 +31,7 @@ fn go_round<R: Wait>(rt: &R, lock: &RuledLock<Notes>, pass: &mut Pass<Notes>, to
         if entries < total && entries % 16 == u64::from(pass.worker()) {
             notes.add(pass.worker(), entries);
             lock.give(pass, notes);
+            lock.wake_all();
         } else {
             lock.give(pass, notes);
             if entries >= total {

@@ -1,12 +1,13 @@
 -- What all workers leave of a yard, from what each of their passes knows.
 use Rattle.std.proofs.Common.{◌≡◌, ◌⊎◌, ℕ, zero, suc, ◌+◌, ◌≤◌, ◌<◌, Bool, true, false, cond, eqb, eqb-true, eq-eqb, inl, inr, List, [], ◌∷◌, ◌++◌, length, map, get_or, refl, sym, ap, subst, ◌∙◌, arith}
-use Rattle.std.specs.Prelude.{IfSome, Option, Some}
+use Rattle.std.specs.Prelude.{IfSome, Option, Some, Result}
 use Rattle.std.specs.Coded.{le_prop}
 use Rattle.std.proofs.Math.Logic.{∥∥₁_elim}
 use Rattle.std.proofs.lemmas.List.{append-nil, get_or-map, length-map}
 use mathlib.Core.Bool.{Bool-set}
 use mathlib.Core.List.{IsPrefix}
 use Rattle.values.specs.Apply.{Apply}
+use Rattle.values.specs.declared.memory.Memory.{Memory}
 use Rattle.outside.specs.declared.store.Store.{Store}
 use Rattle.storage_simulation.specs.declared.ordered.Ordered.{Ordered}
 use Rattle.plan_core.specs.declared.plan.Plan.{Plan}
@@ -32,7 +33,7 @@ use Rattle.worker_gate.specs.Hands.{AreDealt, AreReady, IsDealt, IsGathered, cou
 use Rattle.worker_gate.specs.Inputs.{AddsOfInputs, AreOfInputs}
 use Rattle.worker_gate.specs.Many.{AreToolsCounted, CanAllWork, HasWorked, HaveAllAsked, HaveAllWorked, WorksMany}
 use Rattle.worker_gate.specs.Telling.{AreGatesTold, HaveAllTold, IsToldOf, placed_by}
-use Rattle.worker_gate.specs.Turning.{NoneOpenBy, NoneOpenFor, plan_of, state_of}
+use Rattle.worker_gate.specs.Turning.{IsPlanOf, NoneOpenBy, plan_of, state_of}
 use Rattle.worker_gate.specs.Working.{Works}
 use Rattle.worker_gate.specs.declared.hands.Hand.{Hand}
 use Rattle.worker_gate.proofs.AskingLemmas.{no_more}
@@ -162,13 +163,14 @@ module _ {C M : Type 0} {h : _} where
   pub dealt_as : (lock : RuledLock C Charter Event) (g : Charter) (n : ℕ) (first : Pass C Charter Event h) (hs : List (Hand C M Charter Event h)) → charter_of first ≡ Some g → seen_of first ≡ [] → AreDealt lock (charter_of first) (seen_of first) n hs → AreDealt lock (Some g) [] n hs
   dealt_as lock g n first hs charter seen dealt = subst (λ (c : Option Charter). AreDealt lock c [] n hs) charter (subst (λ (s : List Event). AreDealt lock (charter_of first) s n hs) seen dealt)
 
-  pub can_all : (lock : RuledLock C Charter Event) (g : Charter) (n : ℕ) (hs : List (Hand C M Charter Event h)) → length hs ≤ 16 → AreDealt lock (Some g) [] n hs → CanAllWork lock hs
-  can_all lock g n hs few dealt k d l =
+  pub can_all : (lock : RuledLock C Charter Event) (plan : Result Plan Memory) (g : Charter) (n : ℕ) (hs : List (Hand C M Charter Event h)) → length hs ≤ 16 → IsPlanOf (Some g) plan → AreDealt lock (Some g) [] n hs → CanAllWork lock plan hs
+  can_all lock plan g n hs few is dealt k d l =
       let x = dealt k d l in record {
         of = x.of;
         idle = x.new.idle;
         worker = let e = x.new.number in omega (arith, e, l, few);
-        none_open = subst (λ (c : Option Charter). IfSome c (λ y. NoneOpenFor y (worker_of (get_or hs k d).pass) (seen_of (get_or hs k d).pass))) (sym x.new.charter_is) (subst (NoneOpenFor g (worker_of (get_or hs k d).pass)) (sym x.new.seen_is) (λ t o. absurd (let r = o.runs in cc)));
+        none_open = subst NoneOpenBy (sym x.new.mine) (λ t. refl);
+        plan_is = subst (λ (c : Option Charter). IsPlanOf c plan) (sym x.new.charter_is) is;
       }
 
   pub all_ready : (apply : Apply) (lock : RuledLock C Charter Event) (g : Charter) (n : ℕ) (faults : M → ℕ) (hs news : List (Hand C M Charter Event h)) → n ≡ length hs → length news ≡ length hs → AreDealt lock (Some g) [] n hs → HaveAllWorked apply lock faults hs news → AreReady lock news

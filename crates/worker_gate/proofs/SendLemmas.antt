@@ -138,6 +138,6 @@ yard_send H T R D h r w t s = declared_send (Yard.the_type H T R D h r w t) (
   ),
 )
 
--- what a closure that borrows three values shares
-pub three_sync : (name : Sym) (A B C : RattleType) → IsSync A → IsSync B → IsSync C → IsSync (TupleAt name (A ∷ B ∷ C ∷ []))
-three_sync name A B C a b c = declared_sync (type_at name (A ∷ B ∷ C ∷ [])) (as_row_sync (row_field A) a, (as_row_sync (row_field B) b, (as_row_sync (row_field C) c, tt)))
+-- what a closure that borrows four values shares
+pub four_sync : (name : Sym) (A B C D : RattleType) → IsSync A → IsSync B → IsSync C → IsSync D → IsSync (TupleAt name (A ∷ B ∷ C ∷ D ∷ []))
+four_sync name A B C D a b c d = declared_sync (type_at name (A ∷ B ∷ C ∷ D ∷ [])) (as_row_sync (row_field A) a, (as_row_sync (row_field B) b, (as_row_sync (row_field C) c, (as_row_sync (row_field D) d, tt))))

@@ -116,6 +116,13 @@ same_as a b c x y = record { worker = y.worker ∙ x.worker; charter = y.charter
 pub keeps_on : {C G I : Type 0} {k : _} (lock : RuledLock C G I) (a b c : Pass C G I k) → KeepsTurn lock a b → KeepsTurn lock b c → KeepsTurn lock a c
 keeps_on lock a b c x y = record { of = y.of; idle = y.idle; same = same_as a b c x.same y.same }
 
+-- what was worked from there on, where no entry of its own came before
+pub works_from : (v w : ℕ) (g h : Option Charter) (mine mid after seen : List Event) (x y : ℕ) → v ≡ w → h ≡ g → mid ≡ mine → IfSome h (λ c. Works c v mid after seen x y) → IfSome g (λ c. Works c w mine after seen x y)
+works_from v w g h mine mid after seen x y number charter same s =
+    subst (λ (k : Option Charter). IfSome k (λ c. Works c w mine after seen x y)) charter
+    (subst (λ (m : List Event). IfSome h (λ c. Works c w m after seen x y)) same
+    (subst (λ (n : ℕ). IfSome h (λ c. Works c n mid after seen x y)) number s))
+
 -- from lease to lease
 pub own_first : (w : ℕ) (mine after : List Event) (x : ℕ) → after ≡ mine → NoneOpenBy mine → WorksOwn w mine after x x
 own_first w mine after x same none = record {

@@ -1,6 +1,7 @@
 -- What several workers leave of a yard.
-use Rattle.std.specs.Prelude.{◌≡◌, ℕ, ◌≤◌, ◌<◌, Bool, false, List, length, get_or, IfSome}
+use Rattle.std.specs.Prelude.{◌≡◌, ℕ, ◌≤◌, ◌<◌, Bool, false, List, length, get_or, IfSome, Result}
 use Rattle.values.specs.Apply.{Apply}
+use Rattle.values.specs.declared.memory.Memory.{Memory}
 use Rattle.plan_core.specs.declared.plan.Plan.{Plan}
 use Rattle.run_record.specs.Events.{Event}
 use Rattle.lease_rules.specs.State.{now}
@@ -15,7 +16,7 @@ use Rattle.worker_gate.specs.declared.hands.Hand.{Hand}
 use Rattle.worker_gate.specs.Alone.{IsOver, NoneOpen}
 use Rattle.worker_gate.specs.Asking.{AsksOwn}
 use Rattle.worker_gate.specs.Inputs.{AddsOfInputs}
-use Rattle.worker_gate.specs.Turning.{NoneOpenFor, plan_of}
+use Rattle.worker_gate.specs.Turning.{IsPlanOf, NoneOpenBy, plan_of}
 use Rattle.worker_gate.specs.Working.{Works}
 
 -- The record of n workers: every entry is by a worker below n, and no task is open. Unless it was not begun, all tasks
@@ -31,13 +32,15 @@ pub record AreToolsCounted (r : List Event) (before after : List ℕ) : Type 0 w
       → (get_or before k 0 ≤ get_or after k 0)
       × RoseBy (tool_faults k r) (get_or before k 0) (get_or after k 0)
 
--- a pass with which a worker may begin
+-- a pass with which a worker may begin, by a copy of the plan
 module _ {C : Type 0} {g : _} where
-  pub record CanWork (lock : RuledLock C Charter Event) (p : Pass C Charter Event g) : Type 0 where
+  pub record CanWork (lock : RuledLock C Charter Event) (plan : Result Plan Memory)
+      (p : Pass C Charter Event g) : Type 0 where
     pub of : IsOf lock p
     pub idle : IsIdle p
     pub worker : worker_of p < 16
-    pub none_open : IfSome (charter_of p) (λ c. NoneOpenFor c (worker_of p) (seen_of p))
+    pub none_open : NoneOpenBy (mine_of p)
+    pub plan_is : IsPlanOf (charter_of p) plan
 
   -- the pass p is q after the work, and the tool's count, which was `before`, shows it
   pub record HasWorked (apply : Apply) (lock : RuledLock C Charter Event) (p q : Pass C Charter Event g)
@@ -52,9 +55,9 @@ module _ {C : Type 0} {g : _} where
 
 -- the same of each hand
 module _ {C M : Type 0} {g : _} where
-  abbrev pub CanAllWork : RuledLock C Charter Event → List (Hand C M Charter Event g) → Type 0
-  CanAllWork lock hs = (k : ℕ) (d : Hand C M Charter Event g) → k < length hs
-      → CanWork lock (get_or hs k d).pass
+  abbrev pub CanAllWork : RuledLock C Charter Event → Result Plan Memory → List (Hand C M Charter Event g) → Type 0
+  CanAllWork lock plan hs = (k : ℕ) (d : Hand C M Charter Event g) → k < length hs
+      → CanWork lock plan (get_or hs k d).pass
 
   abbrev pub HaveAllWorked : Apply → RuledLock C Charter Event → (M → ℕ) → List (Hand C M Charter Event g)
       → List (Hand C M Charter Event g) → Type 0

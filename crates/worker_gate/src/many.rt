@@ -9,10 +9,11 @@ ghost use Rattle.worker_gate.specs.Many.{AreToolsCounted, CanAllWork, CanWork, H
 ghost use Rattle.worker_gate.specs.Telling.{AreGatesTold, HaveAllTold, IsToldOf};
 
 use crate::hands::{Hand, deal, gather};
-use crate::working::work;
+use crate::working::work_by;
 use craft::{Crew, Gate};
 use lease_rules::{over_records_end, own_entries_tell_open_tasks};
-use outside::{Host, Tool};
+use outside::{Host, Memory, Tool};
+use plan_core::Plan;
 use ruled_lock::{LockRefused, RuledLock};
 use site_yard::Yard;
 use std::alloc::Global;
@@ -32,9 +33,10 @@ fn work_hand<R: Wait, H: Host, T: Tool, G: Gate>(
     rt: &R,
     alloc: Global,
     lock: &RuledLock<Yard<H, T>>,
+    plan: &Result<Plan, Memory>,
     hand: &mut Hand<Yard<H, T>, Crew<T, G>>,
 )
-    requires { CanWork lock.now hand.old.pass }
+    requires { CanWork lock.now plan.now hand.old.pass }
     ensures worked { HasWorked T.apply lock.now hand.old.pass hand.new.pass (T.faults hand.old.member.tool)
         (T.faults hand.new.member.tool) }
     ensures asked { AsksOwn (mine_of hand.old.pass) (mine_of hand.new.pass) (G.asked hand.old.member.gate)
@@ -42,7 +44,7 @@ fn work_hand<R: Wait, H: Host, T: Tool, G: Gate>(
     ensures told { IsToldOf (worker_of hand.old.pass) (seen_of hand.old.pass) (seen_of hand.new.pass)
         (G.told hand.old.member.gate) (G.told hand.new.member.gate) }
 {
-    work(rt, alloc, lock, &mut hand.pass, &mut hand.member);
+    work_by(rt, alloc, lock, plan, &mut hand.pass, &mut hand.member);
 }
 
 /// Works with all hands, each in a thread of its own.
@@ -50,18 +52,24 @@ fn work_all<R: Threads + Wait + Sync, H: Host + Send, T: Tool + Send, G: Gate + 
     rt: &R,
     alloc: Global,
     lock: &RuledLock<Yard<H, T>>,
+    plan: &Result<Plan, Memory>,
     hands: &mut [Hand<Yard<H, T>, Crew<T, G>>],
 )
 where
     H::Reading: Send,
     H::Draft: Send,
-    requires { CanAllWork lock.now hands.old }
+    requires { CanAllWork lock.now plan.now hands.old }
     ensures length { length hands.new ≡ length hands.old }
     ensures worked { HaveAllWorked T.apply lock.now (λ c. T.faults c.tool) hands.old hands.new }
     ensures asked { HaveAllAsked (λ c. G.asked c.gate) hands.old hands.new }
     ensures told { HaveAllTold (λ c. G.told c.gate) hands.old hands.new }
 {
-    for_each_mut(rt, hands, 16, &|_, hand| work_hand(rt, alloc, lock, hand));
+    for_each_mut(
+        rt,
+        hands,
+        16,
+        &|_, hand| work_hand(rt, alloc, lock, plan, hand),
+    );
 }
 
 /// Works with all members over one yard, member k as worker k, each in a thread of its own, until all is done or something
@@ -111,10 +119,13 @@ where
             unstarted: true,
         };
     };
+    // All workers read one copy: the yard's own plan is behind the lock.
+    let plan = yard.plan().copy(alloc);
     match RuledLock::new(alloc, yard, crew.len() as u32) {
         Ok((lock, first)) => {
             deal(alloc, &lock, first, &mut crew, &mut hands);
-            work_all(rt, alloc, &lock, hands.as_mut_slice());
+            work_all(rt, alloc, &lock, &plan, hands.as_mut_slice());
+            drop(plan);
             let pass = gather(&lock, hands, &mut crew);
             ManyEnd {
                 yard: lock.close(pass),
@@ -123,6 +134,7 @@ where
             }
         }
         Err(LockRefused { value }) => {
+            drop(plan);
             hands.destroy_empty();
             ManyEnd {
                 yard: value,

@@ -9,7 +9,7 @@ ghost use Rattle.ruled_lock.specs.Pass.{IsIdle, charter_of, mine_of, seen_of, wo
 ghost use Rattle.worker_gate.specs.Asking.{AsksOwn};
 ghost use Rattle.worker_gate.specs.Inputs.{AddsOfInputs};
 ghost use Rattle.worker_gate.specs.Telling.{IsToldOf};
-ghost use Rattle.worker_gate.specs.Turning.{IsPlanOf, KeepsTurn, NoneOpenFor, plan_of};
+ghost use Rattle.worker_gate.specs.Turning.{IsPlanOf, KeepsTurn, NoneOpenBy, NoneOpenFor, plan_of};
 ghost use Rattle.task_work.specs.Filling.{AreParts};
 ghost use Rattle.task_work.specs.Making.{AreBegun, AreEmpty};
 ghost use Rattle.worker_gate.specs.Working.{DoesOwn, FillsWith, Works};
@@ -85,8 +85,56 @@ fn do_task<R: Wait, H: Host, T: Tool, G: Gate>(
     finish(rt, alloc, lock, pass, task, loan, filled, &mut crew.gate);
 }
 
-/// Leases and works until all is done or something failed, its own failure included. Between two of its turns others may
-/// work; where nothing can begin it passes its gate's `idle` and waits for their news. It doesn't promise to end.
+/// Leases and works until all is done or something failed, its own failure included, by a copy of the plan. Between two of its
+/// turns others may work; where nothing can begin it passes its gate's `idle` and waits for their news. Where it has begun a
+/// task it wakes one who waits, since more may begin, and at the end all. It doesn't promise to end.
+pub(crate) fn work_by<R: Wait, H: Host, T: Tool, G: Gate>(
+    rt: &R,
+    alloc: Global,
+    lock: &RuledLock<Yard<H, T>>,
+    plan: &Result<Plan, Memory>,
+    pass: &mut Pass<Yard<H, T>>,
+    crew: &mut Crew<T, G>,
+)
+    requires of { IsOf lock.now pass.old }
+    requires idle { IsIdle pass.old }
+    requires worker { worker_of pass.old < 16 }
+    requires none_open { NoneOpenBy (mine_of pass.old) }
+    requires plan { IsPlanOf (charter_of pass.old) plan.now }
+    ensures keeps { KeepsTurn lock.now pass.old pass.new }
+    ensures works { IfSome (charter_of pass.old)
+        (λ g. Works g (worker_of pass.old) (mine_of pass.old) (mine_of pass.new) (seen_of pass.new)
+        (T.faults crew.old.tool) (T.faults crew.new.tool)) }
+    ensures inputs { IfSome (charter_of pass.old)
+        (λ g. AddsOfInputs T.apply (plan_of g) (mine_of pass.old) (mine_of pass.new)) }
+    ensures tool { T.faults crew.old.tool ≤ T.faults crew.new.tool }
+    ensures asked { AsksOwn (mine_of pass.old) (mine_of pass.new) (G.asked crew.old.gate)
+        (G.asked crew.new.gate) }
+    ensures told { IsToldOf (worker_of pass.old) (seen_of pass.old) (seen_of pass.new)
+        (G.told crew.old.gate) (G.told crew.new.gate) }
+{
+    for _ in rt.forever() {
+        match lease(rt, alloc, lock, pass, &mut crew.gate) {
+            Leased::Granted(task) => {
+                lock.wake_one();
+                do_task(rt, alloc, lock, pass, crew, plan, task);
+            }
+            Leased::Swept(_) => {}
+            Leased::Failed(_) => {}
+            Leased::Again(_) => {}
+            Leased::NotYet => {
+                crew.gate.idle();
+                lock.changed(rt, pass);
+            }
+            Leased::Done => return lock.wake_all(),
+            Leased::Stopped => return lock.wake_all(),
+        }
+    }
+    unreachable!()
+}
+
+/// Leases and works until all is done or something failed, by a copy of the plan that its first turn makes. It doesn't promise
+/// to end.
 pub fn work<R: Wait, H: Host, T: Tool, G: Gate>(
     rt: &R,
     alloc: Global,
@@ -112,19 +160,5 @@ pub fn work<R: Wait, H: Host, T: Tool, G: Gate>(
         (G.told crew.old.gate) (G.told crew.new.gate) }
 {
     let plan = copy_plan(rt, alloc, lock, pass);
-    for _ in rt.forever() {
-        match lease(rt, alloc, lock, pass, &mut crew.gate) {
-            Leased::Granted(task) => do_task(rt, alloc, lock, pass, crew, &plan, task),
-            Leased::Swept(_) => {}
-            Leased::Failed(_) => {}
-            Leased::Again(_) => {}
-            Leased::NotYet => {
-                crew.gate.idle();
-                lock.changed(rt, pass);
-            }
-            Leased::Done => return,
-            Leased::Stopped => return,
-        }
-    }
-    unreachable!()
+    work_by(rt, alloc, lock, &plan, pass, crew);
 }

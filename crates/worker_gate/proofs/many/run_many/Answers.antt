@@ -1,10 +1,11 @@
-use Rattle.std.proofs.Common.{◌≡◌, ◌++◌, ◌∙◌, length, map, get_or, take, drop, sym, ap, subst, arith}
-use Rattle.std.specs.Prelude.{is_some}
+use Rattle.std.proofs.Common.{◌≡◌, ◌++◌, ◌∙◌, length, map, get_or, take, drop, refl, sym, ap, subst, arith}
+use Rattle.std.specs.Prelude.{Some, is_some}
 use Rattle.worker_gate.specs.Hands.{AreReady, member_of}
 use Rattle.worker_gate.specs.Many.{CanAllWork, HaveAllAsked, HaveAllWorked}
 use Rattle.worker_gate.specs.Telling.{HaveAllTold}
 use Rattle.worker_gate.proofs.ManyLemmas.{all_ready, can_all, charter_back, charter_with, dealt_as, dealt_many, many_asked, many_counted, many_done, many_inputs, many_told, no_inputs, none_asked, none_counted, none_told}
 use Rattle.worker_gate.proofs.SmallLemmas.{lent}
+use Rattle.worker_gate.proofs.TurningLemmas.{plan_copied}
 use Rattle.worker_gate.proofs.many.run_many.Given as given
 use Rattle.worker_gate.proofs.many.run_many.Goals as goal
 
@@ -23,8 +24,9 @@ work_all-requires-after_bounds g c κs within =
     let hs = c.deal.new.hands.items in
     let n = length c.args.crew.items in
     let many = dealt_many member_of hs c.args.crew.items c.deal.ensures.members in
-    subst (CanAllWork c.in-Ok-new.lock) (sym c.as_mut_slice.ensures.value)
-    (can_all c.in-Ok-new.lock there n hs (omega (arith, many, c.requires.members.1)) (dealt_as c.in-Ok-new.lock there n first hs p.charter_is p.seen_is c.deal.ensures.dealt))
+    let plan = plan_copied (Some there) there c.plan.result.now c.copy-plan.result refl c.copy-plan.ensures c.plan.ensures in
+    subst (CanAllWork c.in-Ok-new.lock c.copy-plan.result) (sym c.as_mut_slice.ensures.value)
+    (can_all c.in-Ok-new.lock c.copy-plan.result there n hs (omega (arith, many, c.requires.members.1)) plan (dealt_as c.in-Ok-new.lock there n first hs p.charter_is p.seen_is c.deal.ensures.dealt))
 
 pub gather-pass-requires-clause-hands : goal.gather-pass-requires-clause-hands
 gather-pass-requires-clause-hands g c =

@@ -1,18 +1,22 @@
 use denote.Exit.{no, yes}
 use denote.Param.{param}
-use denote.Param.Send.{IsSend, IsSync, arg_send, arg_sync, param_send, param_sync, shr_sync}
+use denote.Param.Send.{IsSend, IsSync, arg_send, arg_sync, param_send, param_sync, sendable, shr_sync}
 use Rattle.std.proofs.Crossing as Heap
+use Rattle.std.proofs.Crossing.{crosses}
+use Rattle.std.specs.contracts.result.Result as result
+use Rattle.values.proofs.memory.Memory.TheSendSync as Memory
+use Rattle.values.specs.contracts.memory.Memory as memory
+use Rattle.plan_core.proofs.plan.Plan.TheSendSync as Plan
+use Rattle.plan_core.specs.contracts.plan.Plan as plan
 use Rattle.craft.proofs.crew.Crew.TheSendSync as Crew
 use Rattle.craft.specs.contracts.crew.Crew as crew
 use Rattle.ruled_lock.proofs.lock.RuledLock.TheSendSync as RuledLock
-use Rattle.ruled_lock.specs.contracts.lock.RuledLock as lock
 use Rattle.site_yard.specs.contracts.chronicle.Charter as Charter
 use Rattle.site_yard.specs.contracts.chronicle.JournalEntry as JournalEntry
 use Rattle.site_yard.specs.contracts.chronicle.YardChronicle.TheImpl.{ghosts, no_dict}
 use Rattle.site_yard.specs.contracts.yard.Yard as Yard
 use Rattle.worker_gate.proofs.hands.Hand.TheSendSync as Hand
-use Rattle.worker_gate.specs.contracts.hands.Hand as hand
-use Rattle.worker_gate.proofs.SendLemmas.{three_sync, yard_send}
+use Rattle.worker_gate.proofs.SendLemmas.{four_sync, yard_send}
 use Rattle.worker_gate.proofs.many.work_all.Goals as goal
 
 pub for_each_mut-requires-send-T : goal.for_each_mut-requires-send-T
@@ -34,6 +38,8 @@ for_each_mut-requires-sync-F g c κs within =
     let R = param 4 g.row.H-Reading in
     let D = param 5 g.row.H-Draft in
     let yard : IsSend (Yard.the_row H T R D g.H.Host g.H.Reading.ReadPart g.H.Draft.WritePart g.T.Tool) = yard_send H T R D g.H.Host g.H.Reading.ReadPart g.H.Draft.WritePart g.T.Tool c.type_bounds.send-H in
-    param_sync 2 _ (arg_sync _ yes _ (three_sync _ _ _ _ (shr_sync _ _ (param 0 g.row.R) c.type_bounds.sync-R) (shr_sync _ _ _ Heap.sync)
+    let copy : IsSync (result.the_row plan.the_row memory.the_row) = search (sendable, crosses, Plan.the_sync, Memory.the_sync) depth 30 in
+    param_sync 2 _ (arg_sync _ yes _ (four_sync _ _ _ _ _ (shr_sync _ _ (param 0 g.row.R) c.type_bounds.sync-R) (shr_sync _ _ _ Heap.sync)
     (shr_sync _ _ _ (RuledLock.the_sync (Yard.the_row H T R D g.H.Host g.H.Reading.ReadPart g.H.Draft.WritePart g.T.Tool) Charter.the_row JournalEntry.the_row
-    (ghosts H T R D g.H.Host no_dict g.H.Reading.ReadPart no_dict g.H.Draft.WritePart no_dict g.T.Tool no_dict no_dict no_dict) yard))))
+    (ghosts H T R D g.H.Host no_dict g.H.Reading.ReadPart no_dict g.H.Draft.WritePart no_dict g.T.Tool no_dict no_dict no_dict) yard))
+    (shr_sync _ _ _ copy)))

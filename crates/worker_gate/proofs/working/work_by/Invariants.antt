@@ -6,7 +6,7 @@ use Rattle.worker_gate.specs.Inputs.{AddsOfInputs}
 use Rattle.worker_gate.specs.Telling.{IsToldOf}
 use Rattle.worker_gate.specs.Turning.{IsPlanOf, KeepsTurn, plan_of}
 use Rattle.worker_gate.specs.Working.{WorksOwn}
-use Rattle.worker_gate.proofs.working.work.Given as goal
+use Rattle.worker_gate.proofs.working.work_by.Given as goal
 
 abbrev pub invariant-loop : goal.invariant-loop
 invariant-loop g l =
