@@ -8,13 +8,42 @@ use std::io::{ErrorKind, Write};
 use std::rt::Files;
 use std::sync::atomic::{AtomicBool, Ordering};
 use std::{fs, io};
-use values::Memory;
 
 /// The name of the file.
 const KEPT: &str = ".pegasus.record";
 
 /// A line that no entry has: behind it entries are missing.
 const BROKEN: &[u8] = b"\nbroken\n";
+
+/// What a gate writes its entries with: the file, once it is open, and room for a line, which is kept from entry to entry.
+#[derive(Drop)]
+pub(crate) struct EntryWriter<R: Files> {
+    file: Option<R::File>,
+    line: Vec<u8>,
+}
+
+impl<R: Files> EntryWriter<R> {
+    pub(crate) fn new(alloc: Global) -> EntryWriter<R> {
+        EntryWriter {
+            file: None,
+            line: Vec::new(alloc),
+        }
+    }
+
+    /// Writes the line of the last entry of a record, in one piece, and returns whether it could.
+    fn write_last(&mut self, alloc: Global, history: &Record) -> bool {
+        let count = history.len();
+        let Some(file) = self.file.as_mut() else {
+            return false;
+        };
+        if count == 0 {
+            return true;
+        }
+        self.line.clear();
+        push_entry(alloc, &mut self.line, &history.entry(count - 1)).is_ok()
+            && file.write_all(&self.line).is_ok()
+    }
+}
 
 /// What the gates of a call share that keep its record: the runtime, what the file begins with, and how far they came.
 #[derive(Drop)]
@@ -79,29 +108,15 @@ impl<R: Files> KeptRecord<R> {
     }
 
     /// Writes the line of the last entry of a record, in one piece. Where it can't be written, none is from then on.
-    pub(crate) fn keep(&self, alloc: Global, file: &mut Option<R::File>, history: &Record) {
+    pub(crate) fn keep(&self, alloc: Global, to: &mut EntryWriter<R>, history: &Record) {
         if !self.keeps || self.failed.load(Ordering::SeqCst) {
             return;
         }
-        if file.is_none() {
-            *file = self.open().ok();
+        if to.file.is_none() {
+            to.file = self.open().ok();
         }
-        let written = match (line_of(alloc, history), file.as_mut()) {
-            (Ok(line), Some(file)) => file.write_all(&line).is_ok(),
-            _ => false,
-        };
-        if !written {
-            self.break_off(file);
+        if !to.write_last(alloc, history) {
+            self.break_off(&mut to.file);
         }
     }
-}
-
-/// The line of the last entry of a record; of one without entries no byte.
-fn line_of(alloc: Global, history: &Record) -> Result<Vec<u8>, Memory> {
-    let mut line = Vec::new(alloc);
-    let count = history.len();
-    if count > 0 {
-        push_entry(alloc, &mut line, &history.entry(count - 1))?;
-    }
-    Ok(line)
 }

@@ -2,7 +2,7 @@
 
 ghost use Rattle.std.specs.Prelude.{◌≡◌, []};
 
-use crate::kept_record::KeptRecord;
+use crate::kept_record::{EntryWriter, KeptRecord};
 use craft::{EntryNotes, Gate, Notes};
 use outside::TaskId;
 use run_record::Record;
@@ -16,7 +16,7 @@ use std::sync::Arc;
 pub struct RecordKeeper<R: Files> {
     alloc: Global,
     shared: Arc<KeptRecord<R>>,
-    file: Option<R::File>,
+    writer: EntryWriter<R>,
     notes: Notes,
     entries: EntryNotes,
 }
@@ -30,7 +30,7 @@ impl<R: Files + Drop> RecordKeeper<R> {
         RecordKeeper {
             alloc,
             shared,
-            file: None,
+            writer: EntryWriter::new(alloc),
             notes: Notes::new(),
             entries: EntryNotes::new(),
         }
@@ -53,6 +53,6 @@ impl<R: Files + Drop> Gate for RecordKeeper<R> {
 
     fn entered(&mut self, history: &Record) {
         self.entries.add(history);
-        self.shared.keep(self.alloc, &mut self.file, history);
+        self.shared.keep(self.alloc, &mut self.writer, history);
     }
 }
