@@ -1,8 +1,16 @@
 """Files of cases, read for the tests of the models. docs/DEVELOPING.md says how a case is written."""
 import pathlib
-import re
+import tomllib
 from dataclasses import dataclass, field
-from urllib.parse import unquote_to_bytes
+from urllib.parse import quote_from_bytes, unquote_to_bytes
+
+# What a name is printed with as it is.
+PLAIN = "!\"#$&'()*+,-./:;<=>?@[\\]^_`{|}~"
+FAILING = ("fetch", "write", "host", "run", "part")
+OF_FILE = {"calls", "documents", "replicas", "scratch"}
+OF_CASE = OF_FILE | {f"failing_{kind}" for kind in FAILING} | {
+    "write_takes", "room", "first_run_held", "first_gate_held", "each_front", "status", "text", "after_record",
+    "has_lines", "delivered", "not_delivered", "stored", "not_stored", "trace"}
 
 
 @dataclass
@@ -38,77 +46,70 @@ class Case:
 
 
 def name_of(word):
+    """The name that a word of a call stands for."""
     return "" if word == "%" else unquote_to_bytes(word).decode()
 
 
-def piece_of(form, text):
-    if form == ["escaped"]:
-        return unquote_to_bytes(text)
-    if form[:1] == ["times"]:
-        return "".join(text.replace("<n>", str(number)) for number in range(int(form[1]))).encode()
-    assert not form, form
-    return text.encode()
+def word_of(name):
+    """A name as the program prints it."""
+    return quote_from_bytes(name.encode(), safe=PLAIN) or "%"
 
 
-def add_section(case, head, text):
-    if head.endswith(" cut"):
-        head, text = head[:-len(" cut")], text[:-1]
-    match head.split(" "):
-        case ["status", status]:
-            case.status, case.text = int(status), text
-        case ["status", status, "after", "the", "record"]:
-            case.status, case.text, case.is_after_record = int(status), text, True
-        case ["delivered", name]:
-            case.delivered[name_of(name)] = text.encode()
-        case ["not", "delivered", name]:
-            case.delivered[name_of(name)] = None
-        case ["stored", site, name]:
-            case.stored[name_of(site), name_of(name)] = text.encode()
-        case ["not", "stored", site, name]:
-            case.stored[name_of(site), name_of(name)] = None
-        case ["trace"]:
-            case.trace = text
-        case ["scratch", site, name, *form]:
-            place = name_of(site), name_of(name)
-            case.scratch[place] = case.scratch.get(place, b"") + piece_of(form, text)
-        case ["replica", name, *form]:
-            case.replicas[name_of(name)] = case.replicas.get(name_of(name), b"") + piece_of(form, text)
-        case [name, *form]:
-            case.documents[name_of(name)] = case.documents.get(name_of(name), b"") + piece_of(form, text)
+def piece_of(piece):
+    if isinstance(piece, str):
+        return piece.encode()
+    if isinstance(piece, list):
+        return bytes(piece)
+    assert piece.keys() == {"times", "text"}, piece
+    return "".join(piece["text"].replace("<n>", str(number)) for number in range(piece["times"])).encode()
 
 
-def parse(case, lines):
-    """A case's lines, or those before a file's first case."""
-    head, body = None, []
-    for line in lines:
-        section = re.fullmatch("-- (.*) --", line)
-        if section:
-            if head is not None:
-                add_section(case, head, "".join(it + "\n" for it in body))
-            head, body = section[1], []
-        elif head is not None:
-            body.append(line)
-        elif line == "words" or line.startswith("words "):
-            case.words.append(line)
-        elif line and not line.startswith("#"):
-            case.settings.append(line)
-    if head is not None:
-        last = body[:-1] if body[-1:] == [""] else body
-        add_section(case, head, "".join(it + "\n" for it in last))
-    return case
+def content_of(content):
+    return content.encode() if isinstance(content, str) else b"".join(map(piece_of, content))
+
+
+def contents_of(files):
+    return {name: content_of(content) for name, content in files.items()}
+
+
+def sites_of(sites, reading):
+    return {(site, name): content for site, files in sites.items() for name, content in reading(files).items()}
+
+
+def settings_of(table):
+    """The settings as lines of words."""
+    for kind in FAILING:
+        for number in table.get(f"failing_{kind}", []):
+            yield f"failing {kind} {number}" if kind != "part" else "failing part {} {}".format(*number)
+    for key in ("write_takes", "room"):
+        if key in table:
+            yield f"{key.replace('_', ' ')} {table[key]}"
+    yield from (key.replace("_", " ") for key in ("first_run_held", "first_gate_held") if table.get(key))
+    if "each_front" in table:
+        yield f"each front {word_of(table['each_front'])}"
+
+
+def case_of(name, table):
+    """A case, or what stands for all cases of a file."""
+    delivered, stored = table.get("delivered", {}), table.get("stored", {})
+    nothing = dict.fromkeys
+    return Case(
+        name, [" ".join(["words", *map(word_of, call)]) for call in table.get("calls", [])], list(settings_of(table)),
+        contents_of(table.get("documents", {})), contents_of(table.get("replicas", {})),
+        sites_of(table.get("scratch", {}), contents_of), table.get("status"), table.get("text", ""),
+        table.get("after_record", False), contents_of(delivered) | nothing(table.get("not_delivered", [])),
+        sites_of(stored, contents_of) | sites_of(table.get("not_stored", {}), nothing), table.get("trace"))
 
 
 def read(path):
-    """The cases of a file, each with the words, documents and files that hold for it."""
-    lines, parts = pathlib.Path(path).read_text(encoding="utf-8").removesuffix("\n").split("\n"), [("", [])]
-    for line in lines:
-        if line.startswith("case "):
-            parts.append((line[len("case "):], []))
-        else:
-            parts[-1][1].append(line)
-    common = parse(Case(""), parts[0][1])
-    for name, body in parts[1:]:
-        found = parse(Case(name), body)
+    """The cases of a file, each with the calls, documents and files that hold for it."""
+    file = tomllib.loads(pathlib.Path(path).read_text(encoding="utf-8"))
+    cases = file.pop("case")
+    assert OF_FILE.issuperset(file), (path, file.keys() - OF_FILE)
+    common = case_of("", file)
+    for name, table in cases.items():
+        assert OF_CASE.issuperset(table) and {"status", "text"} <= table.keys(), (path, name, table.keys() - OF_CASE)
+        found = case_of(name, table)
         found.words = found.words or common.words
         found.documents = {**common.documents, **found.documents}
         found.replicas = {**common.replicas, **found.replicas}

@@ -2,15 +2,17 @@
 
 ghost use Rattle.std.specs.Prelude.{◌≡◌, length};
 
-use case_calls::{Difference, Ended, Found, Prepared, is_met, prepare};
-use case_files::{Case, CommandLine, Setup};
+use crate::case::{Complaint, items_at, length_of, text_at, words_of};
+use crate::ended::{Ended, Wanted, left_by};
+use crate::preparing::{Prepared, prepare};
 use craft::{Crew, Gate};
-use outside::{Docs, Host, Memory, Sink, Tool};
+use outside::{Docs, Host, Sink, Tool};
 use pegasus_cli::{Outcome, pegasus};
 use std::alloc::Global;
 use std::sync::Wait;
 use std::sync::atomic::Ordering;
 use std::thread::Threads;
+use toml::Table;
 
 /// The status for how a call ended.
 fn code_of(outcome: Outcome) -> u8 {
@@ -50,105 +52,95 @@ where
 fn call<R: Threads + Wait + Sync>(
     rt: &R,
     alloc: Global,
+    case: &Table,
     words: &[String],
-    prepared: Prepared,
-) -> Result<Ended, Memory> {
-    let mut docs = prepared.docs;
-    let mut sink = prepared.sink;
+    given: Prepared,
+) -> Result<Ended, Complaint> {
+    let mut docs = given.docs;
+    let mut sink = given.sink;
     let (status, host) = status_of(
-        rt,
-        alloc,
-        words,
-        &mut docs,
-        &mut sink,
-        prepared.host,
-        prepared.crew,
+        rt, alloc, words, &mut docs, &mut sink, given.host, given.crew,
     );
-    let run_held_out = match &prepared.runs {
-        Some(hold) => hold.spent.load(Ordering::SeqCst) != 0,
-        None => false,
-    };
-    let held_out = run_held_out || prepared.gates.spent.load(Ordering::SeqCst) != 0;
-    Ended::new(alloc, status, host, sink, held_out)
-}
-
-/// Makes one of the calls, over each shorter front where the case says so, up to the first that
-/// ends otherwise.
-fn try_call<'a, R: Threads + Wait + Sync>(
-    rt: &R,
-    alloc: Global,
-    case: &Case,
-    found: &Found<'_>,
-    line: &'a CommandLine,
-) -> Result<Option<Difference<'a>>, Memory> {
-    let Some(name) = &case.cut else {
-        return try_once(rt, alloc, case, found, line, None);
-    };
-    let name = name.as_str();
-    for end in 0..found.length_of(name) {
-        let difference = try_once(rt, alloc, case, found, line, Some((name, end)))?;
-        if difference.is_some() {
-            return Ok(difference);
+    let held_out = given.is_run_held && given.runs.spent.load(Ordering::SeqCst) != 0
+        || given.gates.spent.load(Ordering::SeqCst) != 0;
+    let left = left_by(alloc, &host, sink.bytes(), case);
+    drop(host);
+    match left {
+        Ok((others, trace)) => Ok(Ended {
+            status,
+            sink,
+            held_out,
+            others,
+            trace,
+        }),
+        Err(complaint) => {
+            drop(sink);
+            Err(complaint)
         }
-        drop(difference);
     }
-    Ok(None)
 }
 
-fn try_once<'a, R: Threads + Wait + Sync>(
+/// Whether a call of these words ends as the case says; adds what came of it where it doesn't.
+fn is_met<R: Threads + Wait + Sync>(
     rt: &R,
     alloc: Global,
-    case: &Case,
-    found: &Found<'_>,
-    line: &'a CommandLine,
+    (file, case): (&Table, &Table),
+    words: &[String],
     cut: Option<(&str, usize)>,
-) -> Result<Option<Difference<'a>>, Memory> {
-    let prepared = prepare(alloc, &case.weather, found, cut)?;
-    let ended = call(rt, alloc, &line.words, prepared)?;
-    if is_met(case, &ended) {
-        drop(ended);
-        return Ok(None);
-    }
+    text: &mut Vec<u8>,
+) -> Result<bool, Complaint> {
+    let wanted = Wanted::of(case)?;
+    let prepared = prepare(alloc, file, case, cut)?;
+    let ended = call(rt, alloc, case, words, prepared)?;
     let front = cut.map(|(_, end)| end);
-    Ok(Some(Difference {
-        call: line,
-        front,
-        ended,
-    }))
+    let is_met = ended.push_unless_met(alloc, text, wanted, words, front);
+    drop(ended);
+    Ok(is_met?)
 }
 
-/// The first of these calls that ends otherwise than the case says.
-fn first_of<'a, R: Threads + Wait + Sync>(
+/// Whether a call ends so over each shorter front, where the case says so, up to the first that doesn't.
+fn is_met_throughout<R: Threads + Wait + Sync>(
     rt: &R,
     alloc: Global,
-    case: &Case,
-    found: &Found<'_>,
-    calls: &'a [CommandLine],
-) -> Result<Option<Difference<'a>>, Memory> {
-    for line in calls {
-        let difference = try_call(rt, alloc, case, found, line)?;
-        if difference.is_some() {
-            return Ok(difference);
-        }
-        drop(difference);
-    }
-    Ok(None)
-}
-
-/// The first of a case's calls that ends otherwise than the case says.
-pub fn first_difference<'a, R: Threads + Wait + Sync>(
-    rt: &R,
-    alloc: Global,
-    common: &'a Setup,
-    case: &'a Case,
-) -> Result<Option<Difference<'a>>, Memory> {
-    let found = Found::new(alloc, common, &case.setup)?;
-    let calls = if case.setup.calls.is_empty() {
-        &common.calls
-    } else {
-        &case.setup.calls
+    (file, case): (&Table, &Table),
+    words: &[String],
+    text: &mut Vec<u8>,
+) -> Result<bool, Complaint> {
+    let Some(front) = text_at(case, "each_front")? else {
+        return is_met(rt, alloc, (file, case), words, None, text);
     };
-    let difference = first_of(rt, alloc, case, &found, calls);
-    drop(found);
-    difference
+    let length = length_of(alloc, file, case, front)?;
+    if length == 0 {
+        return Err(Complaint::Idle("no document has the fronts"));
+    }
+    for end in 0..length {
+        if !is_met(rt, alloc, (file, case), words, Some((front, end)), text)? {
+            return Ok(false);
+        }
+    }
+    Ok(true)
+}
+
+/// What came of the first of a case's calls that ends otherwise than the case says; nothing where each ends so.
+pub fn difference_of<R: Threads + Wait + Sync>(
+    rt: &R,
+    alloc: Global,
+    file: &Table,
+    case: &Table,
+) -> Result<Vec<u8>, Complaint> {
+    let calls = match items_at(case, "calls")? {
+        [] => items_at(file, "calls")?,
+        own => own,
+    };
+    if calls.is_empty() {
+        return Err(Complaint::Idle("there are no calls"));
+    }
+    let mut text = Vec::new(alloc);
+    for call in calls {
+        let words = words_of(alloc, call)?;
+        if !is_met_throughout(rt, alloc, (file, case), &words, &mut text)? {
+            return Ok(text);
+        }
+    }
+    Ok(text)
 }

@@ -1,16 +1,21 @@
-//! The cases of the product: calls of `pegasus_cli::pegasus` that stand as text files in `data/`.
+//! The cases of the product: calls of `pegasus_cli::pegasus` that stand as TOML files in `data/`.
 //!
 //! Each word names a file of cases. A case's call is made over objects in memory and the shipped
 //! transformations, and has to end with the status, the text, the files and the trace that the case
-//! says. A line tells each case, `ok NAME` or `differs NAME` with what came instead, and a last line
-//! how many there are. The status is 1 where a case differs or a file can't be read.
+//! says. A line tells each case, `ok NAME` or `differs NAME` with what came instead, `unread FILE` what
+//! can't be read, and a last line how many cases there are. The status is 1 where a case differs or
+//! something can't be read.
 #![tactic(auto)]
 
 mod calling;
+mod case;
+mod ended;
+mod preparing;
 mod report;
+mod trace;
 
 use host_files::StreamSink;
-use outside::{Memory, SinkFault, write_all};
+use outside::{SinkFault, write_all};
 use pegasus_cli::{Outcome, user_words};
 use report::Report;
 use std::process::ExitCode;
@@ -23,18 +28,21 @@ fn main(rt: HostRuntime) -> ExitCode {
     };
     let mut report = Report::new(alloc);
     for file in &files {
-        let text = fs::read_to_string(&rt, file.as_str());
-        match report.add_file(&rt, alloc, file.as_str(), text.ok()) {
-            Ok(()) => {}
-            Err(Memory) => return ExitCode::from(Outcome::Memory.code()),
+        let name = file.as_str();
+        let told = match fs::read_to_string(&rt, name) {
+            Ok(text) => report.add_file(&rt, alloc, name, text.as_str()),
+            Err(_) => report.add_unread(alloc, name, "the file is absent, or no text"),
+        };
+        if told.is_err() {
+            return ExitCode::from(Outcome::Memory.code());
         }
     }
     let mut out = StreamSink::new(io::writer(&rt));
-    match report.finish(alloc) {
-        Ok(text) => match write_all(&mut out, &text) {
-            Ok(()) => ExitCode::from(report.status()),
-            Err(SinkFault::Failed) => ExitCode::from(Outcome::SinkFailed.code()),
-        },
-        Err(Memory) => ExitCode::from(Outcome::Memory.code()),
+    let Ok(text) = report.finish(alloc) else {
+        return ExitCode::from(Outcome::Memory.code());
+    };
+    match write_all(&mut out, &text) {
+        Ok(()) => ExitCode::from(report.status()),
+        Err(SinkFault::Failed) => ExitCode::from(Outcome::SinkFailed.code()),
     }
 }

@@ -2,7 +2,7 @@
 //!
 //! The tests stand apart from the crates that they call: a crate with tests is proved twice, once with
 //! them, and here only they are proved, over the contracts of what they call. What they call is made by
-//! hand (`by_hand`), since a reader's contract makes a test long to prove.
+//! hand (`by_hand`, `sketches`), since a reader's contract makes a test long to prove.
 #![tactic(auto)]
 
 #[cfg(test)]
@@ -12,4 +12,14 @@ mod files;
 #[cfg(test)]
 mod graphs;
 #[cfg(test)]
-mod workflow_values;
+mod leases;
+#[cfg(test)]
+mod orders;
+#[cfg(test)]
+mod peaks;
+#[cfg(test)]
+mod records;
+#[cfg(test)]
+mod sketches;
+#[cfg(test)]
+mod storage;

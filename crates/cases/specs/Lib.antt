@@ -1,0 +1,2 @@
+-- What a case says of its calls.
+pub mod Trace
