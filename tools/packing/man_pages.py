@@ -9,10 +9,7 @@ import re
 import forms
 
 SECTION = re.compile(r"## (.+)")
-COMMAND = re.compile(r"[a-z]+")
 ABOUT = "plans and runs scientific workflows"
-# Where a sentence ends, or the first part of a long one; not within a number or a name of a file.
-END = re.compile(r"(?<=[^.])[.:;](?= |$)")
 
 
 def sections(page):
@@ -120,15 +117,6 @@ def body(lines):
         yield from (kind or prose)(held)
 
 
-def summary(name, lines, rows):
-    """What a command does, in the first words that its section has after the call itself; else those of a table's row of it."""
-    call = re.compile(rf"`(?:\./)?(?:pegasus )?{name}\b[^`]*`(?:,? (?:and|or) `[^`]*`)*(?: \([^)]*\))?(?:, with .*?,(?= ))? +")
-    told = [line for line in lines if line and kind_of(line) is None]
-    listed = (row[1] for row in rows if len(row) > 1 and row[0].startswith(f"`{name} "))
-    first = next(filter(call.match, told), None) or next(listed, told[0])
-    return inline(END.split(call.sub("", first, count=1))[0])
-
-
 def page(name, title, about, usage, version, date):
     """How a page begins."""
     yield f'.TH {name.upper()} 1 "{date}" "{version}" "pegasus"'
@@ -137,9 +125,8 @@ def page(name, title, about, usage, version, date):
     yield from (".fi", f".SH {title}")
 
 
-def of_command(name, lines, rows, usage, version, date):
-    own = [form for form in usage if form.command == name]
-    yield from page(f"pegasus-{name}", "DESCRIPTION", summary(name, lines, rows), own, version, date)
+def of_command(form, lines, version, date):
+    yield from page(f"pegasus-{form.command}", "DESCRIPTION", inline(form.about), [form], version, date)
     yield from body(lines)
     yield from (".SH SEE ALSO", "\\fBpegasus\\fP(1)")
 
@@ -155,12 +142,10 @@ def of_all(found, commands, usage, version, date):
     yield ",\n".join(f"\\fBpegasus\\-{name}\\fP(1)" for name in commands)
 
 
-def made_of(text, others, version, date):
-    """The pages by their names, made of the page of commands; in the rows of others it may stand what a command does."""
-    rows = [cells(line) for line in (text + others).splitlines() if line.startswith("|")]
-    found, usage = sections(text), forms.read(text)
-    known = {form.command for form in usage}
-    commands = [title for title, _ in found if COMMAND.fullmatch(title) and title in known]
-    texts = {f"pegasus-{title}.1": of_command(title, lines, rows, usage, version, date) for title, lines in found if title in commands}
-    texts["pegasus.1"] = of_all(found, commands, usage, version, date)
+def made_of(text, version, date):
+    """The pages by their names, made of the page of commands and of the table of their forms."""
+    found, usage = sections(text), {form.command: form for form in forms.read()}
+    commands = [title for title, _ in found if title in usage]
+    texts = {f"pegasus-{title}.1": of_command(usage[title], lines, version, date) for title, lines in found if title in usage}
+    texts["pegasus.1"] = of_all(found, commands, usage.values(), version, date)
     return {name: "\n".join(lines) + "\n" for name, lines in texts.items()}

@@ -37,7 +37,7 @@ for folder in ("bin", "tmp", "mine/data", "mine/inner"):
 (work / "bin/rt").chmod(0o755)
 
 status, lines, told = call(TOP, "examples/diamond/request.json")
-assert status == 5 and "not proved" in told[0] and "nothing is left behind" in told[0], (status, told)
+assert status == 5 and "not proved, and slower" in told[0] and "nothing is left behind" in told[0], (status, told)
 documents = [f"examples/diamond/{it}" for it in ("request.json", "diamond.json", "sites.json", "replicas.json", "transformations.json", "f.a")]
 assert handed(lines) == (documents, ["alone", "examples/diamond/request.json"]), lines
 

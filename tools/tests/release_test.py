@@ -134,24 +134,11 @@ def pages_of_man(place):
         assert f".SH {words}" in pages["pegasus.1"], words
 
 
-def completed(place, *words):
-    """What bash completes of words, the last of which is begun."""
-    asked = f". {place}/share/bash-completion/completions/pegasus; COMP_WORDS=(pegasus {' '.join(words)}); COMP_CWORD={len(words)}; " \
-            'compopt() { :; }; _pegasus; printf "%s\\n" "${COMPREPLY[@]}"'
-    return right(place / "examples/diamond", "bash", "-c", asked).split()
-
-
 def completions(place):
-    assert completed(place, "re") == ["resume", "rehearse"]
-    assert completed(place, "check", "re") == ["request.json", "replicas.json"]
-    assert completed(place, "audit", "request.json", "f") == ["f.a"] and completed(place, "check", "f") == []
-    assert completed(place, "run", "request.json", "--") == ["--workers"] and completed(place, "plan", "request.json", "--") == []
-    assert completed(place, "run", "--workers", "1") == ["1", *(str(it) for it in range(10, 17))]
-    assert completed(place, "run", "--workers", "4", "d") == ["diamond.json"] and completed(place, "check", "request.json", "f") == []
-    zsh = (place / "share/zsh/site-functions/_pegasus").read_text()
-    assert zsh.startswith("#compdef pegasus\n") and zsh.count("_arguments") == 12, zsh
-    if shutil.which("zsh"):
-        right(place, "zsh", "-n", "share/zsh/site-functions/_pegasus")
+    """They are what tools/completion prints, there too."""
+    for shell, file in (("bash", "bash-completion/completions/pegasus"), ("zsh", "zsh/site-functions/_pegasus")):
+        text = (place / "share" / file).read_text()
+        assert text and text == right(place, sys.executable, "-B", "tools/completion", shell), shell
 
 
 def tools_begin(place):
@@ -180,12 +167,21 @@ def installs(place):
     right(user, place / "install.sh", prefix)
     assert call(user, place / "install.sh", prefix)[0] == 1
     program = prefix / "bin/pegasus"
-    assert right(user, program, "--version") == f"pegasus {pathlib.Path('VERSION').read_text()}"
+    commit = re.search(r"^commit (\w{8})", (place / "PROVED.txt").read_text(), re.MULTILINE)[1]
+    for word in ("--version", "-V"):
+        assert right(user, program, word) == f"pegasus {pathlib.Path('VERSION').read_text().strip()} (commit {commit}, a-kit)\n"
     assert call(user, program, "check", "a b")[:2] == (3, "no document a%20b\n")
-    wanted = right(".", sys.executable, "tools/run-model", EXAMPLE)
+    wanted = right(".", sys.executable, "tools/model", "alone", EXAMPLE)
     assert right(user, program, "alone", EXAMPLE) == wanted
     status, usage, told = call(user, program, "--help")
     assert status == 2 and usage.startswith("usage: ") and f"{prefix}/lib/pegasus/docs/GUIDE.md" in told, (status, usage, told)
+    assert told.count("\npegasus: ") > 12 and "run REQ --workers N " in told, told
+    for words in (("run", "--help"), ("help", "run")):
+        status, other, told = call(user, program, *words)
+        assert (status, other) == (2, usage), (words, status, other)
+        assert told.startswith("pegasus: run REQ --workers N ") and "alone REQ" not in told, told
+    status, other, told = call(user, program, "run", EXAMPLE)
+    assert (status, other) == (2, usage) and "the form is run REQ --workers N; pegasus run --help says more" in told, told
     picture = right(user, prefix / "bin/pegasus-draw", "plan", input=right(user, program, "plan", EXAMPLE))
     assert picture.startswith("<svg ") and "<html" in right(user, prefix / "bin/pegasus-report", EXAMPLE)
     for link in ("share/man/man1/pegasus-run.1", "share/zsh/site-functions/_pegasus", "share/bash-completion/completions/pegasus"):

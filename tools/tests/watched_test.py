@@ -48,6 +48,8 @@ def made_top(work):
     (top / "tools").mkdir()
     (top / "crates.txt").write_text("pegasus: kit\n")
     shutil.copy("pegasus", top / "pegasus")
+    for name in ("commands.sh", "commands.txt"):
+        shutil.copy(f"tools/{name}", top / "tools" / name)
     program = top / "crates/pegasus/out/pegasus"
     program.write_text(STANDS_IN)
     program.chmod(0o755)
@@ -98,8 +100,8 @@ def signals(script, place):
         for is_whole_group in (True, False):
             if number == signal.SIGINT and not is_whole_group:
                 continue  # (a terminal sends it to all)
-            for command in ("alone", "run", "produce", "resume", "ensemble"):
-                status, text, told = called(script, place, [command, "waits"], (number, is_whole_group))
+            for command, *more in (["alone"], ["run", "--workers", "4"], ["produce"], ["resume", "waits"], ["ensemble"]):
+                status, text, told = called(script, place, [command, "waits", *more], (number, is_whole_group))
                 assert (status, text) == (-number, ""), (command, number, status, text, told)
                 assert told.startswith("\rjobs begun: 12" + WIPED) and "tools/salvage" in told, (command, number, told)
     status, text, told = called(script, place, ["alone", "empty"], (signal.SIGTERM, False))
