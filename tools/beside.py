@@ -1,4 +1,4 @@
-"""Loads a tool of this folder as a module, by its name: the tools have none that ends in `.py`; and what two of them say alike."""
+"""Loads a tool of this folder as a module, by its name: the tools have none that ends in `.py`."""
 import importlib.machinery
 import importlib.util
 import pathlib
@@ -15,12 +15,3 @@ def load(name):
         sys.modules[module_name] = module
         loader.exec_module(module)
     return sys.modules[module_name]
-
-
-def refused(name, folder):
-    """The status with which the program refuses a request's documents, which is told; 0 where it takes them."""
-    reader = load("check-model")
-    status, told = reader.answer(name, reader.folder_of(folder))
-    if status != 0:
-        print("\n".join(told))
-    return status

@@ -1,4 +1,5 @@
-"""The documents that the program reads, for the tools that write them: which keys it acts on, and what it refuses."""
+"""What tools that read and write documents have in common: which keys aren't acted on, files that are never written over, and
+the words of a call."""
 import argparse
 import itertools
 import json
@@ -6,42 +7,9 @@ import os
 import re
 import sys
 
-MOST_SIZE, MOST_BOUND = 2**40, 2**60
+from model.reading import escaped
+
 MOST_ALIKE = 3
-TOOLS = ("text", "join", "take", "drop", "deal", "sorted", "distinct", "count", "holds", "column", "total", "digest")
-INLINED = {"sites": "siteCatalog", "replicas": "replicaCatalog", "transformations": "transformationCatalog"}
-
-# The tables of docs/FORMATS.md: a list has the table of its elements.
-PROFILES = {"pegasus": {"label": {}, "clusters.size": {}, "clusters.num": {}}, "selector": {"execution.site": {}}}
-JOB = {
-    "type": {}, "id": {}, "name": {}, "namespace": {}, "version": {}, "arguments": {},
-    "uses": [{"lfn": {}, "type": {}, "stageOut": {}, "registerReplica": {}, "size": {}}],
-    "profiles": PROFILES,
-}
-SITES = {
-    "pegasus": {},
-    "sites": [{"name": {}, "directories": [{"type": {}, "path": {}, "fileServers": [{"operation": {}, "url": {}}]}]}],
-}
-REPLICAS = {
-    "pegasus": {},
-    "replicas": [{"lfn": {}, "pfns": [{"site": {}, "pfn": {}}], "checksum": {"sha256": {}}, "regex": {}}],
-}
-TRANSFORMATIONS = {
-    "pegasus": {}, "containers": {},
-    "transformations": [{
-        "namespace": {}, "name": {}, "version": {}, "requires": {}, "profiles": PROFILES,
-        "sites": [{"name": {}, "pfn": {}, "type": {}, "container": {}}],
-    }],
-}
-WORKFLOW = {
-    "pegasus": {}, "name": {}, "jobs": [JOB], "jobDependencies": [{"id": {}, "children": {}}],
-    "siteCatalog": SITES, "replicaCatalog": REPLICAS, "transformationCatalog": TRANSFORMATIONS,
-}
-TABLES = {"workflow": WORKFLOW, "sites": SITES, "replicas": REPLICAS, "transformations": TRANSFORMATIONS}
-
-
-def escaped(key):
-    return key.replace("~", "~0").replace("/", "~1")
 
 
 def ignored(value, table, path=""):

@@ -5,14 +5,12 @@ from __future__ import annotations
 import json
 import os
 
-import beside
 import documents
 import endings
 import names
 import near_keys
 from findings import in_the_way, note
-
-reader = beside.load("check-model")
+from model.tables import INLINED, KINDS
 
 
 def tree_of(name):
@@ -69,7 +67,7 @@ def place_of_syntax(path):
 def hints_of_refusal(request, words):
     """What may be meant, where a key isn't known or one is missing."""
     kind, what, *more = words
-    path = path_of(request, kind) if kind in (*reader.KINDS, "request") else None
+    path = path_of(request, kind) if kind in (*KINDS, "request") else None
     if path is None or what not in ("syntax", "missing", "unsupported"):
         return
     if what == "syntax":
@@ -91,7 +89,7 @@ def hints_of_refusal(request, words):
 
 def refused(request, fault):
     """The refusal of the documents, as the program tells it."""
-    line = fault.line.format(fault)
+    line = fault.told()
     words = line.split(" ")
     if words[:2] == ["no", "document"]:
         hints = hints_of_absent(request, names.shown(words[2]))
@@ -105,8 +103,8 @@ def refused(request, fault):
 
 def meant_of(survey, kind, path):
     """The key that may be meant by one that isn't acted on."""
-    inlined = path.startswith(f"/{documents.INLINED.get(kind)}/")
-    outer = {documents.INLINED[kind]: survey.documents[kind]} if inlined else survey.documents[kind]
+    inlined = path.startswith(f"/{INLINED.get(kind)}/")
+    outer = {INLINED[kind]: survey.documents[kind]} if inlined else survey.documents[kind]
     return near_keys.meant("workflow" if inlined else kind, outer, path)
 
 

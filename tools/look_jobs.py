@@ -1,12 +1,11 @@
 """Which jobs are run and which are dropped, and why, for tools/why and tools/report."""
 from __future__ import annotations
 
-import beside
 import names
 from findings import in_the_way, note
+from model.transformations import TOOLS, unknown_tools
+from model.words import printed
 
-engine = beside.load("run-model")
-planner = engine.planner
 plain = names.plain
 
 
@@ -56,13 +55,13 @@ def of_jobs(workflow, kept, places):
 def of_tools(workflow, kept, tools):
     """The transformations of jobs that are run whose tool is none of the twelve, each with its jobs."""
     found = {}
-    for place in engine.unknown_tools(kept, tools):
+    for place in unknown_tools(tools, kept):
         found.setdefault((workflow.jobs[place].transformation[1], tools[place]), []).append(workflow.jobs[place])
-    all_of_them = f"the request's tools name one for it: {', '.join(sorted(engine.TOOLS))}"
+    all_of_them = f"the request's tools name one for it: {', '.join(sorted(TOOLS))}"
     for place, ((name, tool), jobs) in enumerate(found.items()):
         said = f"the tool {plain(tool)} of {plain(name)}" if tool != name else plain(name)
-        near = names.near(tool, sorted(engine.TOOLS))
+        near = names.near(tool, sorted(TOOLS))
         yield in_the_way("tool", f"{said} is none of the twelve tools: {names.listed(plain(job.id) for job in jobs)}",
                          f"{near}?" if near else "", "" if place else all_of_them,
-                         line=f"refused tool {planner.printed(jobs[0].id)} {planner.printed(tool)}",
+                         line=f"refused tool {printed(jobs[0].id)} {printed(tool)}",
                          transformation=name, tool=tool, jobs=[job.id for job in jobs])

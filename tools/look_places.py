@@ -8,13 +8,12 @@ import hashlib
 import os
 import stat
 
-import beside
 import endings
 import names
 from findings import in_the_way
+from model.store import file_name, path_of
+from model.words import printed
 
-engine = beside.load("run-model")
-planner = engine.planner
 plain = names.plain
 SITES, OUTPUT = "sites", "output"
 PIECE = 2**20
@@ -64,21 +63,21 @@ def fault_of_file(path, declared, wanted):
     return None
 
 
-def fault_of_replica(plan, sums, task):
+def fault_of_replica(plan, task):
     file = task.moved[0]
-    path = engine.path_of(task.pfn)
+    path = path_of(task.pfn)
     if path is None:
         return ["absent"], f"{plain(task.pfn)}: a place with another scheme than file:// is never there"
-    return fault_of_file(path, plan.sizes[file], sums.get(plan.workflow.files[file]))
+    return fault_of_file(path, plan.sizes[file], plan.sums.get(file))
 
 
 def line_of(plan, number, words):
     """The line with which a call ends for a replica."""
     task = plan.tasks[number]
-    name, (kind, *more) = planner.printed(plan.workflow.files[task.moved[0]]), words
+    name, (kind, *more) = printed(plan.files[task.moved[0]]), words
     if kind == "host":
         return f"failed host {number}"
-    return " ".join(["failed", kind, name, *([planner.printed(task.pfn)] if kind == "absent" else more)])
+    return " ".join(["failed", kind, name, *([printed(task.pfn)] if kind == "absent" else more)])
 
 
 def users_of(plan, number):
@@ -91,17 +90,17 @@ def users_of(plan, number):
     return "for " + names.listed(f"{plain(plan.workflow.jobs[job].id)} ({plain(plan.workflow.jobs[job].transformation[1])})" for job in readers)
 
 
-def of_replicas(plan, sums, numbers=None):
+def of_replicas(plan, numbers=None):
     """Each replica that isn't there, is too long, can't be read or has other bytes; those of some tasks, or of all."""
     found = {}
     for number, task in enumerate(plan.tasks):
         if task.pfn is not None and (numbers is None or number in numbers):
             found.setdefault((task.moved[0], task.pfn), []).append(number)
     for (file, pfn), tasks in found.items():
-        fault = fault_of_replica(plan, sums, plan.tasks[tasks[0]])
+        fault = fault_of_replica(plan, plan.tasks[tasks[0]])
         if fault:
             words, said = fault
-            line, name = line_of(plan, tasks[0], words), plan.workflow.files[file]
+            line, name = line_of(plan, tasks[0], words), plan.files[file]
             yield in_the_way("replica", f"replica {plain(name)}: {said}", f"task {tasks[0]} brings it, {users_of(plan, tasks[0])}",
                              endings.advice(line), line=line, file=name, pfn=pfn, tasks=tasks)
 
@@ -133,12 +132,12 @@ def of_folder(path):
 
 
 def site_folder(name):
-    return f"{SITES}/{engine.file_name(name)}"
+    return f"{SITES}/{file_name(name)}"
 
 
 def used_sites(plan):
     used = {site for task in plan.tasks for site, _ in task.reads + task.writes}
-    return [plan.sites[site]["site"] for site in sorted(used)]
+    return [plan.sites[site] for site in sorted(used)]
 
 
 def folders(plan):
@@ -169,7 +168,7 @@ def of_folders(plan):
             yield in_the_way("folder", f"{path} is a folder, where a file is to be written before it gets its name", path=path)
     for task in plan.tasks:
         if task.is_delivery():
-            path = f"{OUTPUT}/{engine.file_name(plan.workflow.files[task.moved[0]])}"
+            path = f"{OUTPUT}/{file_name(plan.files[task.moved[0]])}"
             if os.path.isdir(path) and not os.path.islink(path):
                 yield in_the_way("folder", f"{path} is a folder, where a file is to be delivered", path=path)
 
@@ -183,7 +182,7 @@ def of_sites(plan):
         except (OSError, ValueError):
             left = []
         if left:
-            line = f"failed scratch {planner.printed(name)}"
+            line = f"failed scratch {printed(name)}"
             yield in_the_way("site", f"{path} isn't empty: {names.listed(left)}", endings.advice(line), line=line, site=name, files=left)
 
 
@@ -219,9 +218,9 @@ def names_too_long(called):
 def of_names(plan):
     """The names of sites and files that no file of the system can have."""
     files = sorted({file for task in plan.tasks for file in task.moved})
-    for what, listed in (("site", used_sites(plan)), ("file", [plan.workflow.files[file] for file in files])):
+    for what, listed in (("site", used_sites(plan)), ("file", [plan.files[file] for file in files])):
         for name in listed:
-            called = engine.file_name(name)
+            called = file_name(name)
             if names_too_long([called]):
                 why = "no name has a NUL" if "\0" in name else f"{len(called.encode())} bytes, and {most_letters()} are the most"
                 yield in_the_way("name", f"no {what if what == 'file' else 'folder of a site'} can be called {plain(name)}: {why}", name=name)

@@ -7,16 +7,21 @@ import os
 import shlex
 from dataclasses import dataclass, field
 
-import beside
 import endings
 import look_jobs
 import look_order
 import look_places
 import names
 from findings import in_the_way, note
+from model.book import State
+from model.judge import judged
+from model.plan import make_plan, unordered
+from model.record import Malformed, read_record
+from model.store import file_name, path_of
+from model.tasks import OUT
+from model.transformations import Declined, apply, joined, lines_of
+from model.words import printed, some
 
-engine, resume = beside.load("run-model"), beside.load("resume-model")
-planner, judge = engine.planner, resume.judge
 plain = names.plain
 MOST_LETTERS = 60
 # The failures after which the sizes of the request have to be greater, so that the record's lines of them are wrong then.
@@ -49,8 +54,8 @@ def read(name):
         data = file.read()
     lines = data.decode("utf-8", "replace").splitlines()
     try:
-        entries = judge.read_record(data)
-    except judge.Malformed as fault:
+        entries = read_record(data)
+    except Malformed as fault:
         number = int(str(fault))
         raise NoRecord(number, lines[number - 1] if number <= len(lines) else "") from None
     rest = lines[lines.index("closed") + 1:]
@@ -68,13 +73,13 @@ def first_line(data):
 
 def path_at(plan, site, file):
     """Where a file stands: at a site, or in the output."""
-    name = engine.file_name(plan.workflow.files[file])
-    return f"{look_places.OUTPUT}/{name}" if site is None else f"{look_places.site_folder(plan.sites[site]['site'])}/{name}"
+    name = file_name(plan.files[file])
+    return f"{look_places.OUTPUT}/{name}" if site is None else f"{look_places.site_folder(plan.sites[site])}/{name}"
 
 
 def told_file(plan, file, path):
     """A file with its path, its length and its first line, or why it can't be read."""
-    name = plain(plan.workflow.files[file])
+    name = plain(plan.files[file])
     try:
         with open(path, "rb") as found:
             data = found.read(4 * MOST_LETTERS)
@@ -94,7 +99,7 @@ def content(path):
 def inputs_of(plan, task):
     """The paths of what a task reads, by file."""
     if task.pfn is not None:
-        path = engine.path_of(task.pfn)
+        path = path_of(task.pfn)
         return {task.moved[0]: task.pfn if path is None else path}
     return {file: path_at(plan, site, file) for site, file in task.reads}
 
@@ -111,16 +116,16 @@ def outputs_of(plan, task):
 
 def declined_line(tool, data):
     """The first line of a text of which a tool makes nothing by itself, with its number."""
-    for number, line in enumerate(engine.lines_of(data), 1):
-        if is_declined(tool, [], [engine.joined([line])], 1):
+    for number, line in enumerate(lines_of(data), 1):
+        if is_declined(tool, [], [joined([line])], 1):
             return f"line {number}: {first_line(line.encode('latin-1'))}"
     return None
 
 
 def is_declined(tool, words, inputs, outs):
     try:
-        engine.apply(tool, words, inputs, outs)
-    except engine.Declined:
+        apply(tool, words, inputs, outs)
+    except Declined:
         return True
     return False
 
@@ -149,8 +154,8 @@ def held_before(plan, task, tools, job):
     for place in task.jobs[:task.jobs.index(job)]:
         before = plan.workflow.jobs[place]
         try:
-            made = engine.apply(tools[place], before.arguments, [held[file] for file in before.inputs], len(before.outputs))
-        except engine.Declined:
+            made = apply(tools[place], before.arguments, [held[file] for file in before.inputs], len(before.outputs))
+        except Declined:
             return None
         held.update(zip(before.outputs, made))
     return [held[file] for file in plan.workflow.jobs[job].inputs]
@@ -164,7 +169,7 @@ def without_failures(entries):
 
 
 def verdict(plan, entries):
-    return judge.judged(plan, entries, 16)[0]
+    return judged(plan, entries)[0]
 
 
 class Failure:
@@ -213,7 +218,7 @@ class Failure:
 def size_said(subject, file):
     """Where the declared size of a file stands."""
     name, request = subject.workflow.files[file], subject.survey.request
-    if name in planner.some(request.get("sizes"), {}):
+    if name in some(request.get("sizes"), {}):
         return "by sizes of the request"
     return "by a use of it in the workflow" if file in subject.workflow.stated_sizes else "by default_size of the request"
 
@@ -228,15 +233,14 @@ def of_oversize(subject, ended, failure):
 
 def with_bounds(request, bounds):
     """The request with the bounds that are enough."""
-    found = dict(bounds)
-    output = {"output_bound": found[planner.OUTPUT]} if planner.OUTPUT in found else {}
-    return {**request, **output, "execute": [{**it, "bound": found.get(it["site"], it["bound"])} for it in request["execute"]]}
+    output = {"output_bound": bounds[OUT]} if OUT in bounds else {}
+    return {**request, **output, "execute": [{**it, "bound": bounds.get(at, it["bound"])} for at, it in enumerate(request["execute"])]}
 
 
 def greater_sizes(subject, file, length):
     """The ways in which a request may say a greater size of a file, each with the words of it."""
     name, request = subject.workflow.files[file], subject.survey.request
-    sizes = planner.some(request.get("sizes"), {})
+    sizes = some(request.get("sizes"), {})
     yield f'"sizes": {json.dumps({name: length}, ensure_ascii=False)}', {**request, "sizes": {**sizes, name: length}}
     if name not in sizes and file not in subject.workflow.stated_sizes:
         yield f'"default_size": {length}', {**request, "default_size": length}
@@ -245,15 +249,15 @@ def greater_sizes(subject, file, length):
 def told_greater(subject, ended, said, request):
     """What a request with a greater size comes to: the bounds that are enough, and whether the record is allowed by its plan, so
     that it can be gone on with."""
-    plan, documents = planner.unordered(request, subject.survey.documents), subject.survey.documents
+    plan, documents = unordered(request, subject.survey.documents), subject.survey.documents
     told = [f"a size that is enough: {said} in the request"]
     if look_order.exceeded(plan, plan.bounds) is not None:
         found = look_order.found_bounds(plan)
-        told.append(f"its plan doesn't keep the bounds as they are: {look_order.told_bounds(found)}")
+        told.append(f"its plan doesn't keep the bounds as they are: {look_order.told_bounds(plan, found)}")
         if found is None:
             return told, False
         request = with_bounds(request, found[0])
-    made = resume.plan_to_judge(planner.make_plan(request, documents), subject.sums)
+    made = make_plan(request, documents)
     is_allowed = not verdict(made, without_failures(ended.entries)).startswith("illegal")
     return [*told, "by that plan the record is allowed, without its lines of failures" if is_allowed
             else "by that plan the record isn't allowed: begin anew, without sites/"], is_allowed
@@ -298,7 +302,7 @@ def of_host(failure):
         fault = system_says(path, what != "writes")
         is_there = is_there or bool(fault)
         if what == "writes":
-            said.append(f"{what} {plain(plan.workflow.files[file])}: {fault or f'{path}: nothing is wrong with it now'}")
+            said.append(f"{what} {plain(plan.files[file])}: {fault or f'{path}: nothing is wrong with it now'}")
     free, wanted = os.statvfs("."), sum(plan.sizes[file] for file in task.moved)
     if free.f_bavail * free.f_frsize < wanted:
         said.append(f"the disk of this folder has {free.f_bavail * free.f_frsize} bytes free, and this task may write {wanted}")
@@ -307,7 +311,7 @@ def of_host(failure):
 
 def of_replica(subject, ended, failure):
     """Whether the replica is still as the record says; where it is too long, what a greater size asks for."""
-    found = list(look_places.of_replicas(subject.plan, subject.sums, {failure.number}))
+    found = list(look_places.of_replicas(subject.plan, {failure.number}))
     if not found:
         return ["the replica is as it should be now"], False
     more = with_size(subject, ended, failure.task.moved[0], int(failure.more[0])) if failure.cause == "toolong" else []
@@ -347,7 +351,7 @@ def of_illegal(subject, ended, said):
     place = int(said.split(" ")[1])
     rest = without_failures(ended.entries)
     line = f"illegal record {place}"
-    is_of_sizes = len(rest) < len(ended.entries) and not verdict(subject.to_judge(), rest).startswith("illegal")
+    is_of_sizes = len(rest) < len(ended.entries) and not verdict(subject.plan, rest).startswith("illegal")
     about = ("the documents have changed since it failed; without its lines of failures it is allowed" if is_of_sizes
              else "most likely it is the record of another request, or the documents have changed")
     make = note if is_of_sizes else in_the_way
@@ -357,13 +361,12 @@ def of_illegal(subject, ended, said):
 
 def of_stored(subject, ended):
     """The files that by the record are at the sites and aren't, or have another length."""
-    state = judge.State(subject.to_judge(), rest=list(subject.plan.made.order))
+    state = State(subject.plan)
     for words in without_failures(ended.entries):
         state.enter(words)
-    writers = {pair: number for number, task in enumerate(state.plan.tasks) for pair in task.writes}
-    for site, file in sorted(pair for pair in state.held if pair[0] != judge.OUT and writers[pair] in state.ended):
-        path, length = path_at(subject.plan, site, file), state.held[site, file]
-        words = f"{planner.printed(subject.plan.sites[site]['site'])} {planner.printed(subject.workflow.files[file])}"
+    for (site, file), length in state.stored().items():
+        path = path_at(subject.plan, site, file)
+        words = f"{printed(subject.plan.sites[site])} {printed(subject.plan.files[file])}"
         found = os.path.getsize(path) if os.path.isfile(path) and not os.path.islink(path) else None
         if found != length:
             line = f"failed pair {words}" if found is None else f"failed length {words} {length} {found}"
@@ -381,7 +384,7 @@ def of_rest(subject, ended):
     """What is in the way of the tasks that are left, but for those that failed, which are told already."""
     failed = {int(words[2]) for _, words in ended.failures()}
     rest = set(left_to_do(subject, ended)) - failed
-    yield from look_places.of_replicas(subject.plan, subject.sums, rest)
+    yield from look_places.of_replicas(subject.plan, rest)
     yield from look_places.of_folders(subject.plan)
     yield from look_places.of_others()
 
@@ -418,7 +421,7 @@ def nothing_done(subject, ended):
 
 def happened(subject, ended):
     """What came of a run whose plan can be made now, and what is in the way of going on."""
-    said = verdict(subject.to_judge(), ended.entries)
+    said = verdict(subject.plan, ended.entries)
     count = len(subject.plan.tasks) - len(left_to_do(subject, ended))
     yield note("run", f"{count} of {names.counted(len(subject.plan.tasks), 'task')} ended, and {names.counted(len(ended.delivered), 'file')} "
                       f"{'was' if len(ended.delivered) == 1 else 'were'} delivered; the record is {said}", verdict=said)

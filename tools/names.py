@@ -1,18 +1,14 @@
 """Names as they are shown to people: as they are wherever each letter can be seen, else as the program prints them."""
 import difflib
-from urllib.parse import unquote_to_bytes
 
-import beside
-
-planner = beside.load("plan-model")
-
+from model.words import printed, unquoted
 
 MOST_LETTERS = 60
 
 
 def plain(name):
     """A name of a document; of a very long one the beginning."""
-    shown = name if name and name.isprintable() else planner.printed(name)
+    shown = name if name and name.isprintable() else printed(name)
     return shown if len(shown) <= MOST_LETTERS else shown[:MOST_LETTERS - 2] + ".."
 
 
@@ -20,7 +16,7 @@ def shown(word):
     """A name that the program has printed."""
     if word == "%":
         return word
-    name = unquote_to_bytes(word).decode("utf-8", "surrogateescape")
+    name = unquoted(word)
     return name if name.isprintable() else word
 
 

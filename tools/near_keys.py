@@ -1,19 +1,8 @@
 """Which key may be meant by one that isn't known: the nearest of those that are known in its place."""
 from __future__ import annotations
 
-import beside
-import documents
 import names
-
-reader = beside.load("check-model")
-
-
-def keys_of(rows):
-    return {row.key: {} for row in rows}
-
-
-# The keys of a request as the tables of documents.py have those of the other documents.
-REQUEST = {**keys_of(reader.REQUEST), "execute": [keys_of(reader.EXECUTION_SITE)], "runtimes": [keys_of(reader.RUNTIME)]}
+from model.tables import KEYS
 
 
 def parts(path):
@@ -38,7 +27,7 @@ def object_at(value, keys):
 
 def table_at(name, keys):
     """The known keys of the object at a path of a document."""
-    table = REQUEST if name == "request" else documents.TABLES.get(name)
+    table = KEYS.get(name)
     for key in keys:
         table = table[0] if isinstance(table, list) else (table or {}).get(key)
     return table if isinstance(table, dict) else {}

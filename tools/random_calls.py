@@ -3,16 +3,17 @@ beforehand.
 """
 from __future__ import annotations
 
-import hashlib
 import os
 import pathlib
 import shutil
 import subprocess
 from dataclasses import dataclass, field
 
-from random_subjects import engine, judge, resume
+from model.record import read_record
+from model.store import file_name, files_of, sites_of
+from model.transformations import digest_of
+from model.words import printed
 
-printed = engine.printed
 # A call that hasn't ended after so many seconds isn't waited for.
 LONGEST = 600
 
@@ -83,7 +84,7 @@ class Folder:
         self.calls += 1
         stated = [f"{key}={value}" for key, value in environment.items() if os.environ.get(key) != value]
         drafts = sorted(it.name for it in self.place.glob(".pegasus.part.*"))
-        left = resume.files_of(self.place / "output"), resume.sites_of(self.place / "sites")
+        left = files_of(self.place / "output"), sites_of(self.place / "sites")
         return Told(stated + words, done.returncode, done.stdout.decode("utf-8", "surrogateescape"), *left, drafts)
 
     def clear(self):
@@ -99,16 +100,14 @@ class Folder:
 
     def put(self, folder, name, content):
         """A file as the program would have written it."""
-        words = [it.replace("%", "%25").replace("/", "%2F") for it in (*folder, name)]
-        words = ["%2E" + it[1:] if it.startswith(".") else it for it in words]
-        path = self.place.joinpath("sites" if folder else "output", *words)
+        path = self.place.joinpath("sites" if folder else "output", *map(file_name, (*folder, name)))
         path.parent.mkdir(parents=True, exist_ok=True)
         path.write_bytes(content)
 
 
 def want(told, what, found, wanted):
     if found != wanted:
-        raise Differs(f"{' '.join(told.words)}: {what} {found!r}, and by the models {wanted!r}")
+        raise Differs(f"{' '.join(told.words)}: {what} {found!r}, and by the model {wanted!r}")
 
 
 def want_answer(told, wanted, delivered=None, sites=None):
@@ -130,10 +129,10 @@ class Entries:
         self.delivered, self.sites, self.by_chance = {}, {}, 0
 
     def site(self, number):
-        return self.plan.sites[number]["site"]
+        return self.plan.sites[number]
 
     def name(self, file):
-        return self.plan.workflow.files[file]
+        return self.plan.files[file]
 
     def bring(self, task, brought):
         if task.is_delivery():
@@ -185,7 +184,7 @@ class Entries:
     def rest(self, entries):
         """The lines after the record."""
         for file, data in sorted(self.delivered.items()):
-            yield f"delivered {printed(self.name(file))} {len(data)} {hashlib.sha256(data).hexdigest()}"
+            yield f"delivered {printed(self.name(file))} {len(data)} {digest_of(data)}"
         yield self.last_line(entries)
 
 
@@ -199,7 +198,7 @@ def want_run(told, subject, workers, may_fail=False):
     if told.parts() is None:
         want(told, "status and text", (told.status, told.text), "those of a run")
     record, rest = told.parts()
-    entries, found = judge.read_record(record.encode()), Entries(told, subject)
+    entries, found = read_record(record.encode()), Entries(told, subject)
     for words in entries:
         found.enter(words, may_fail)
     want(told, "lines after the record", rest, list(found.rest(entries)))

@@ -6,15 +6,13 @@ Each is made from the number generator that it is given and from nothing else, s
 from __future__ import annotations
 
 import hashlib
-import json
 from dataclasses import dataclass, field
 
-import beside
-import documents
+from model import joint, plan, survey
+from model.faults import Refused
+from model.tables import INLINED, KEYS, MOST_SIZE
 from random_jobs import ODD, grown
 from random_spelling import spoil_documents, strewn, text_of
-
-planner = beside.load("plan-model")
 
 SITES = ("pool", "local", "cluster", "desk", "far", "near")
 WIDE = 2**40
@@ -135,7 +133,7 @@ def declare(work, written, request):
         file.size = len(file.data if file.data is not None else b"1234567890") + (chance.randint(0, slack) if slack else 0)
         file.stated = chance.choice(("sizes", "use", "use", "default"))
     if work.files and chance.is_so(0.02):
-        chance.choice(work.files).size = documents.MOST_SIZE
+        chance.choice(work.files).size = MOST_SIZE
     if work.files and chance.is_so(0.04):
         wrong = chance.choice(work.files)
         wrong.size, wrong.stated = max(0, wrong.size - slack - 1), "sizes"
@@ -296,8 +294,8 @@ def asked(work, sites, mode):
 def found_by_model(request, found):
     """The plan without bounds, if there is one."""
     try:
-        return planner.make_plan(request, found)
-    except planner.Refused:
+        return plan.make_plan(request, found)
+    except Refused:
         return None
 
 
@@ -306,13 +304,13 @@ def bound(chance, peak, kind):
     return max(0, peak + more)
 
 
-def set_bounds(chance, request, plan, is_crowded=False):
+def set_bounds(chance, request, made, is_crowded=False):
     """Bounds around what the plan needs, where there is one."""
     kind = "tight" if is_crowded else chance.choices(("wide", "tight", "roomy", "under"), (3, 4, 6, 1))[0]
-    for site, peak in zip(request["execute"], plan.made.peak if plan else []):
-        site["bound"] = bound(chance, peak, kind)
-    if plan and chance.is_so(0.2):
-        whole = sum(plan.sizes[file] for file in plan.workflow.requested)
+    for place, site in enumerate(request["execute"] if made else []):
+        site["bound"] = bound(chance, made.peak.get(place, 0), kind)
+    if made and chance.is_so(0.2):
+        whole = sum(made.sizes[file] for file in made.workflow.requested)
         request["output_bound"] = bound(chance, whole, chance.choice(("tight", "roomy", "roomy", "wide", "under")))
 
 
@@ -322,8 +320,8 @@ def set_bounds(chance, request, plan, is_crowded=False):
 def put_documents(chance, made, prefix, request, found):
     """Writes each catalogue into a document of its own or into the workflow, or into both, where the first one counts."""
     share = chance.choice((0, 0, 0.03))
-    found = {kind: strewn(chance, it, documents.TABLES[kind], share) for kind, it in found.items()}
-    for kind, key in documents.INLINED.items():
+    found = {kind: strewn(chance, it, KEYS[kind], share) for kind, it in found.items()}
+    for kind, key in INLINED.items():
         way = chance.choice(("document", "document", "inlined", "inlined", "both"))
         if way != "document":
             found["workflow"][key] = found[kind] if way == "inlined" else {kind: []}
@@ -401,12 +399,11 @@ def ensemble(chance):
 
 
 def joint_plan(made, stated):
-    join = beside.load("join")
-    joint = join.documents_of(stated, "joint", lambda name: json.loads(made.documents[name]))
     try:
-        return found_by_model(joint["request"], joint)
-    except (KeyError, TypeError):
+        found = joint.documents_of(stated, survey.surveys_of(stated, survey.in_memory(made.documents)), "joint")
+    except Refused:
         return None
+    return found_by_model(found["request"], found)
 
 
 def made_of(chance):

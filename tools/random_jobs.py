@@ -5,10 +5,7 @@ from __future__ import annotations
 import random
 from dataclasses import dataclass
 
-import beside
-import documents
-
-engine = beside.load("run-model")
+from model.transformations import TOOLS, Declined, apply
 
 ODD = ("a b", "x/y", ".hidden", "50%", "\u00e9", "..", 'a"b', "tab\there", "%41", "-", "x.", "sites", "\u4e16/..", "~", "a\\b",
        "line\nfeed", "\U0001f600", "\u007f")
@@ -118,13 +115,13 @@ class Workflow:
 
     def drawn(self):
         """A tool with its arguments, inputs, the number of its outputs and what they hold, if that is anything."""
-        tool = self.chance.choice(documents.TOOLS)
+        tool = self.chance.choice(TOOLS)
         arguments, inputs, count = self.arguments(tool), self.inputs(tool), self.outputs(tool)
         if any(file.data is None for file in inputs):
             return tool, arguments, inputs, [None] * count
         try:
-            made = engine.apply(tool, [str(it) for it in arguments], [file.data for file in inputs], count)
-        except engine.Declined:
+            made = apply(tool, [str(it) for it in arguments], [file.data for file in inputs], count)
+        except Declined:
             made = None
         return tool, arguments, inputs, made if made is not None else [None] * count
 

@@ -3,10 +3,9 @@ grants under fresh orders, each entry one that the rules allow after those befor
 """
 from __future__ import annotations
 
-import beside
-
-judge = beside.load("record-model")
-WORKERS = tuple(str(number) for number in range(16))
+from model.book import State
+from model.judge import WORKERS
+from model.record import TRIED_AGAIN, written
 
 
 class Play:
@@ -14,8 +13,8 @@ class Play:
 
     def __init__(self, chance, plan):
         self.chance, self.plan = chance, plan
-        self.state, self.entries = judge.State(plan, rest=list(plan.order)), []
-        self.workers = chance.some(WORKERS, 1, chance.choice((1, 2, 4, 16)))
+        self.state, self.entries = State(plan), []
+        self.workers = chance.some(map(str, range(WORKERS)), 1, chance.choice((1, 2, 4, 16)))
         self.failing = chance.choice((0, 0, 0.05, 0.2))
 
     def enter(self, *words):
@@ -43,13 +42,13 @@ class Play:
             job = self.chance.choice(task.jobs)
             yield from (["toolfailed", job], ["declined", job])
             yield ["hostfailed", *(self.size(good) for good in task.writes[:self.chance.randint(0, len(task.writes))])]
-        if task.from_pfn:
-            yield from (["absent"], ["toolong", self.plan.sizes[task.moved] + 1])
+        if task.pfn is not None:
+            yield from (["absent"], ["toolong", self.plan.sizes[task.moved[0]] + 1])
 
     def fail(self, number, worker):
         cause = self.chance.choice(list(self.causes(self.plan.tasks[number])))
-        may_pass = cause[0] in judge.TRIED_AGAIN and not self.state.has_failed
-        is_again = may_pass and self.state.tried.get(number, 0) < self.plan.retries
+        may_pass = cause[0] in TRIED_AGAIN and not self.state.has_failed
+        is_again = may_pass and self.state.tried.get(number, 0) < self.plan.policy.retries
         self.enter("again" if is_again else "fail", worker, number, *cause)
 
     def end(self):
@@ -93,8 +92,7 @@ class Play:
         return True
 
     def text(self):
-        is_second = any(entry.startswith(("again ", "regrant ")) for entry in self.entries)
-        return "\n".join([f"record {1 + is_second}", *self.entries, "closed", ""])
+        return "".join(f"{line}\n" for line in written(self.entries))
 
 
 def played(chance, plan):
@@ -104,9 +102,3 @@ def played(chance, plan):
     while most > 0 and play.step():
         most -= 1
     return play
-
-
-def stored(play):
-    """The length of each file that is at a site by the record, by site and file."""
-    writers = {pair: number for number, task in enumerate(play.plan.tasks) for pair in task.writes}
-    return {pair: size for pair, size in play.state.held.items() if pair[0] != judge.OUT and writers[pair] in play.state.ended}

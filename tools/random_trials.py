@@ -1,28 +1,24 @@
-"""What tools/random-workflows compares: each command of the program over one random workflow, with what the models say of it,
+"""What tools/random-workflows compares: each command of the program over one random workflow, with what the model says of it,
 and what each leaves in its folder.
 """
 from __future__ import annotations
 
 import json
-import pathlib
 import shutil
-import subprocess
-import sys
 
-import beside
 import random_documents
 import random_jobs
 import random_plays
 import random_records
 import random_spelling
+from model import commands, evaluation
+from model.store import Folder, files_of, sites_of
+from model.words import printed, text_of
 from random_calls import want, want_answer, want_run
-from random_subjects import engine, fault_of, joint_of, planner, reader, resume, subject_of, text_of
+from random_subjects import answer_of, joint_of, subject_of
 
-evaluation = beside.load("eval-model")
-printed = engine.printed
 RECORD = "record.json"
 WORKERS = (1, 2, 4, 16)
-MAKE = pathlib.Path(__file__).resolve().parent.parent / "examples" / "montage" / "make"
 # What is done with a workflow, and how often.
 STEPS = (("rehearses", 0.01), ("spoils", 0.5), ("reads", 1), ("alone", 1), ("many", 1), ("judges", 0.6), ("plays", 0.4),
          ("produces", 0.4), ("fails", 0.4), ("fails_once", 0.25), ("reads_failing", 0.15), ("goes_on_from_its_own", 1))
@@ -42,6 +38,11 @@ class Trial:
         self.subject = (joint_of if made.is_ensemble else subject_of)(folder.place)
         self.kinds, self.texts = [], []
 
+    def said(self, *words, scratch=()):
+        """What the model answers to a call in the folder, and the store with what it did."""
+        world = commands.world_of(self.folder.place, scratch)
+        return answer_of(commands.answer(words, world)), world.store
+
     def runs(self, workers=None):
         """The words of a run by one worker without threads, or by several."""
         words = ["ensemble", "ensemble.json"] if self.made.is_ensemble else ["alone" if workers is None else "run", "request.json"]
@@ -52,20 +53,11 @@ class Trial:
 
     def reads(self):
         """What only reads documents, and replicas for the values."""
-        want_answer(self.folder.fresh("check", "request.json"), self.checked())
-        want_answer(self.folder.call("plan", "request.json"), self.planned())
-        if self.chance.is_so(0.5):
-            want_answer(self.folder.call("schedule", "request.json"), self.scheduled())
+        self.folder.clear()
+        for command in ("check", "plan", *["schedule"] * self.chance.is_so(0.5)):
+            want_answer(self.folder.call(command, "request.json"), self.said(command, "request.json")[0])
         if self.chance.is_so(0.5):
             self.values()
-
-    def checked(self):
-        status, lines = reader.answer("request.json", reader.folder_of(self.folder.place))
-        return status, text_of(lines)
-
-    def planned(self):
-        planned, fault = self.subject.planned
-        return fault or (0, text_of(planner.text(planned)))
 
     def reads_failing(self):
         """The same where one call of the system fails."""
@@ -78,7 +70,7 @@ class Trial:
             want(told, "status", told.status, 6 if told.text == "failed host -\n" else 3)
             want(told, "files", (told.delivered, told.sites), ({}, {}))
         elif command != "eval":
-            status, text = {"check": self.checked, "plan": self.planned, "schedule": self.scheduled}[command]()
+            status, text = self.said(command, "request.json")[0]
             want_answer(told, (7, text[:len(told.text)]) if told.status == 7 else (status, text))
         self.kinds.append("reading under a failing call")
 
@@ -93,28 +85,19 @@ class Trial:
                 if fault:
                     want_answer(self.folder.fresh("ensemble", "ensemble.json"), fault)
             else:
-                want_answer(self.folder.fresh("check", "request.json"), self.checked())
+                want_answer(self.folder.fresh("check", "request.json"), self.said("check", "request.json")[0])
             self.folder.exchange(spoiled.documents, self.made.documents)
             self.kinds.append("spoiled documents")
 
-    def scheduled(self):
-        if self.subject.fault:
-            return self.subject.fault
-        survey = self.subject.survey
-        try:
-            return 0, text_of(planner.schedule(survey.request, survey.documents))
-        except planner.Refused as refused:
-            return fault_of(refused)
-
     def values(self):
         """Where several jobs make nothing of their inputs, any of them may be named of which no other one stands before."""
-        told, place = self.folder.call("eval", "request.json"), self.folder.place
-        status, lines = evaluation.answer("request.json", reader.folder_of(place), engine.Folder(place))
-        if lines[-1].startswith("failed declined ") and told.text.startswith("failed declined "):
-            workflow, found = evaluation.evaluated(self.subject.survey, engine.Folder(place))
-            named = {f"failed declined {printed(workflow.jobs[number].id)}\n" for number in found.declining}
-            lines = [told.text.rstrip("\n")] if told.text in named else lines
-        want_answer(told, (status, text_of(lines)))
+        told, (status, text) = self.folder.call("eval", "request.json"), self.said("eval", "request.json")[0]
+        if text.startswith("failed declined ") and told.text.startswith("failed declined "):
+            found = self.subject.survey
+            _, declining = evaluation.evaluated(found, Folder(self.folder.place))
+            named = {f"failed declined {printed(found.said.workflow.jobs[number].id)}\n" for number in declining}
+            text = told.text if told.text in named else text
+        want_answer(told, (status, text))
 
     def alone(self):
         """One worker, whose text is known."""
@@ -152,16 +135,10 @@ class Trial:
             self.texts.append(told.text)
 
     def produces(self):
-        made, fault = self.subject.engine()
-        told = self.folder.fresh("produce", "request.json")
-        if fault:
-            want_answer(told, fault)
-            return
-        failed = made.work()
-        text = text_of(made.text(failed)) if failed else engine.catalogue(self.subject.survey.documents["workflow"], made.store) + "\n"
-        want_answer(told, (6 if failed else 0, text), made.store.delivered, made.store.scratch)
+        told, ((status, text), store) = self.folder.fresh("produce", "request.json"), self.said("produce", "request.json")
+        want_answer(told, (status, text), store.delivered, store.scratch)
         self.kinds.append("produce")
-        if not failed and self.chance.is_so(0.5):
+        if status == 0 and self.chance.is_so(0.5):
             self.uses_produced(text)
 
     def uses_produced(self, catalogue):
@@ -170,13 +147,9 @@ class Trial:
         shutil.rmtree(place / "sites", ignore_errors=True)
         (place / "produced.json").write_text(catalogue)
         (place / "second.json").write_text(json.dumps({**self.subject.survey.request, "replicas": "produced.json"}))
-        before, subject = resume.files_of(place / "output"), subject_of(place, "second.json")
-        made, fault = subject.engine()
-        failed = None if fault else made.work()
-        wanted = fault or (6 if failed else 0, text_of(made.text(failed)))
-        delivered, sites = ({}, {}) if fault else (made.store.delivered, made.store.scratch)
-        want_answer(self.folder.call("alone", "second.json"), wanted, {**before, **delivered}, sites)
-        self.kinds.append("alone of what was produced " + ("refused" if fault else "failed" if failed else "done"))
+        before, ((status, text), store) = files_of(place / "output"), self.said("alone", "second.json")
+        want_answer(self.folder.call("alone", "second.json"), (status, text), {**before, **store.delivered}, store.scratch)
+        self.kinds.append("alone of what was produced " + {0: "done", 6: "failed"}.get(status, "refused"))
 
     def judges(self):
         """A record as it was printed, and one that was changed, judged and summed up."""
@@ -197,27 +170,26 @@ class Trial:
     def plays(self):
         """The same with the record of a run that nobody ran; where its files are short enough it is gone on with."""
         self.folder.clear()
-        play = random_plays.played(self.chance, self.subject.to_judge)
+        play = random_plays.played(self.chance, self.subject.planned[0])
         self.kinds.extend(["audit with a fresh order"] * any(entry.startswith("regrant ") for entry in play.entries))
         self.judge(random_records.changed(self.chance, play.text()))
         self.judge(play.text())
-        stored, plan = random_plays.stored(play), self.subject.planned[0]
+        stored, plan = play.state.stored(), self.subject.planned[0]
         if sum(stored.values()) < 10**6:
             for (site, file), length in stored.items():
                 content = (b"1\n2\n" * length)[:length]
-                self.folder.put((plan.sites[site]["site"],), plan.workflow.files[file], content)
+                self.folder.put((plan.sites[site],), plan.files[file], content)
             self.resumes("played")
 
     def resumes(self, kind):
         """Goes on from the record that stands in the folder and what is at the sites: the text is known."""
         place = self.folder.place
-        before = resume.files_of(place / "output")
-        store = engine.Store(engine.Folder(place), scratch=resume.sites_of(place / "sites"))
-        status, lines = resume.answer("request.json", RECORD, reader.folder_of(place), store)
-        told = self.folder.call("resume", "request.json", RECORD)
+        words, before = ("resume", "request.json", RECORD), files_of(place / "output")
+        said, store = self.said(*words, scratch=sites_of(place / "sites"))
+        told = self.folder.call(*words)
         told.drafts = []
-        want_answer(told, (status, text_of(lines)), {**before, **store.delivered}, store.scratch)
-        self.kinds.append(f"resume {kind} {lines[-1].split(' ')[0]}")
+        want_answer(told, said, {**before, **store.delivered}, store.scratch)
+        self.kinds.append(f"resume {kind} {said[1].splitlines()[-1].split(' ')[0]}")
         return told
 
     def goes_on(self, told, kind):
@@ -310,19 +282,10 @@ class Trial:
             self.goes_on(told, "failing")
 
     def rehearses(self):
-        """A rehearsal tells what a run of the same workflow comes to that is made as files."""
+        """A rehearsal tells what a run of the same workflow comes to."""
         images, workers = self.chance.randint(2, 8), self.chance.choice((None, *WORKERS))
-        made = self.folder.place / "mosaic"
-        subprocess.run([sys.executable, MAKE, str(images), str(made)], stdout=subprocess.DEVNULL, check=True)
-        subject = subject_of(self.folder.place, "mosaic/request.json")
-        done, _ = subject.engine()
-        failed = done.work()
-        counts = {"images": images, "jobs": len(done.plan.workflow.jobs), "tasks": len(done.plan.tasks),
-                  "bound": subject.survey.request["execute"][0]["bound"], "peak": done.plan.made.peak[0]}
-        ended = done.text(failed)
-        lines = [f"{word} {count}" for word, count in counts.items()] + ended[ended.index("closed") + 1:]
-        told = self.folder.fresh("rehearse", images, *([] if workers is None else ["--workers", workers]))
-        want_answer(told, (0, text_of(lines)))
+        words = ["rehearse", str(images), *([] if workers is None else ["--workers", str(workers)])]
+        want_answer(self.folder.fresh(*words), self.said(*words)[0])
         self.kinds.append("rehearse")
 
     def may(self, step):

@@ -8,6 +8,7 @@ import re
 from dataclasses import dataclass
 
 import documents
+from model.tables import INLINED, KEYS
 
 # Of each kind what can be done.
 KINDS = {
@@ -48,15 +49,15 @@ def catalogues(found, name):
     """The catalogue that the program reads: the document and the path to it."""
     if name in found:
         yield name, "", found[name]
-    elif isinstance(found["workflow"].get(documents.INLINED[name]), dict):
-        key = documents.INLINED[name]
+    elif isinstance(found["workflow"].get(INLINED[name]), dict):
+        key = INLINED[name]
         yield "workflow", f"/{key}", found["workflow"][key]
 
 
 def table(found, name):
     """The keys of a document that are acted on. Of an inlined catalogue that isn't read none is looked at."""
-    unread = {key: {} for catalogue, key in documents.INLINED.items() if catalogue in found}
-    return {**documents.WORKFLOW, **unread} if name == "workflow" else documents.TABLES[name]
+    unread = {key: {} for catalogue, key in INLINED.items() if catalogue in found}
+    return {**KEYS["workflow"], **unread} if name == "workflow" else KEYS[name]
 
 
 # Where jobs can run
@@ -159,7 +160,7 @@ def places(found):
     """Each place that the program refuses, document by document; what holds a place comes before it."""
     yield from of_version(found["workflow"], "workflow", "")
     yield from of_jobs(found["workflow"])
-    for name in documents.INLINED:
+    for name in INLINED:
         if name != "replicas" and not list(catalogues(found, name)):
             yield Place("catalogue", "workflow", "", f"no catalogue of {name}", f" --{name}")
         for document, path, catalogue in catalogues(found, name):

@@ -1,13 +1,19 @@
 """Verdicts of the program that the gate built: on each front of the text of a run, cut after each line, with and without
-the line `closed`, and the sums of those that are records. What is wanted comes from tools/record-model over the plan of
-tools/plan-model; where a front is no record, the model names its line too."""
+the line `closed`, and the sums of those that are records. What is wanted comes from tools/model; where a
+front is no record, the model names its line too."""
 import pathlib
 import subprocess
 import sys
 import tempfile
 
+sys.dont_write_bytecode = True
+sys.path.insert(0, "tools")
+from model import commands
+from model.plan import plan_of
+from model.survey import in_folder
+from model.words import text_of
+
 PROGRAM = pathlib.Path("crates/pegasus/out/pegasus").absolute()
-MODEL = [sys.executable, "tools/record-model"]
 REQUESTS = ("examples/diamond/request.json", "examples/two_sites/request.json")
 
 
@@ -30,14 +36,13 @@ def fronts(text):
 def verdicts(plan):
     """On how many fronts of a run of this plan there are two verdicts: a transfer and a run have two entries, a removal one.
     Besides them a text has four lines, and of fronts with the line `closed` the first one has no entry."""
-    entries = sum(1 if " clean site " in line else 2 for line in plan.splitlines() if line.startswith("task "))
+    entries = sum(1 if task.removes else 2 for task in plan.tasks)
     return 2 * ((entries + 4 + 1) + (entries + 1))
 
 
 def compare(work, request):
     """Compares the two on each front, and returns how many verdicts there are."""
-    plan, record = work / "plan.txt", work / "run.txt"
-    plan.write_text(run(sys.executable, "tools/plan-model", request)[1])
+    record = work / "run.txt"
     folder = work / request.replace("/", "_")
     folder.mkdir()
     (folder / "examples").symlink_to(pathlib.Path("examples").absolute())
@@ -47,11 +52,10 @@ def compare(work, request):
         record.write_text(front)
         for command in ("audit", "stat"):
             status, told = run(PROGRAM, command, request, record)
-            _, wanted = run(*MODEL, command, plan, record)
-            assert told == wanted, (request, command, front, told, wanted)
-            assert status == (8 if told.startswith("bad record") else 0), (request, command, front, status)
+            wanted, lines = commands.answer([command, request, str(record)], commands.world_of("."))
+            assert (status, told) == (wanted, text_of(lines)), (request, command, front, told, lines)
             count += 1
-    assert count == verdicts(plan.read_text()) > 80, (request, count)
+    assert count == verdicts(plan_of(in_folder(".", request))) > 80, (request, count)
     return count
 
 

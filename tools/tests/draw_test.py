@@ -5,6 +5,10 @@ import sys
 import tempfile
 import xml.etree.ElementTree as tree
 
+sys.dont_write_bytecode = True
+sys.path.insert(0, "tools")
+from model import commands
+
 PLAN = """plan 1
 workflow report
 policy 1 0 8
@@ -104,7 +108,7 @@ assert count(record, "sweep") == 1 and marks(record, "failed") == 1
 for place in ("near: at most 14 bytes, bound 30", "far: at most 5 bytes, bound 20", "output: at most 5 bytes, bound 8"):
     assert place in words(record), words(record)
 
-run = [python([f"tools/{model}-model", DIAMOND]).stdout for model in ("plan", "run")]
+run = [commands.text(command, DIAMOND) for command in ("plan", "alone")]
 diamond = picture("record", *run)
 assert (count(diamond, "bar"), count(diamond, "sweep"), count(diamond, "failed")) == (6, 6, 0)
 assert "condorpool: at most 28 bytes, bound 30" in words(diamond), words(diamond)
@@ -122,7 +126,7 @@ for bad in ("failed tool A\n", RECORD.replace("closed\n", ""), RECORD.replace("g
             RECORD.replace("end 1 0 4", "end 1 0 4 4"), RECORD.replace("clean 0 4", "sweep 0 4")):
     refused = draw("record", PLAN, bad)
     assert refused.returncode == 1 and refused.stdout == "" and refused.stderr.startswith("draw: "), bad
-SCHEDULE = python(["tools/plan-model", "--schedule", "examples/two_sites/heft.json"]).stdout
+SCHEDULE = commands.text("schedule", "examples/two_sites/heft.json")
 schedule = picture("schedule", SCHEDULE)
 assert "4 jobs by a list schedule, 57 seconds in all" in words(schedule), words(schedule)
 assert count(schedule, "bar", "run") == 4 and "site 0" in words(schedule) and "site 1" in words(schedule)

@@ -3,8 +3,8 @@ gate built runs under a small library, made here with the C compiler, that answe
 device.
 
 What has to come each time: the name of the document that could not be read; or the task whose Fail stands in the record,
-which tools/record-model calls legal, while what was delivered is whole; or a front of the text, where a write of it failed, whose
-entries tools/record-model calls legal where there are several workers; or just what comes where none fails. `resume` is handed a whole record. So it is by one worker and by several, whose calls come in another order each time."""
+which tools/model calls legal, while what was delivered is whole; or a front of the text, where a write of it failed, whose
+entries tools/model calls legal where there are several workers; or just what comes where none fails. `resume` is handed a whole record. So it is by one worker and by several, whose calls come in another order each time."""
 import collections
 import concurrent.futures
 import os
@@ -17,8 +17,11 @@ import tempfile
 
 sys.dont_write_bytecode = True
 sys.path.insert(0, "tools")
-import beside
 import each_call_failing
+from model import commands, judge as judges
+from model.plan import plan_of
+from model.record import Malformed
+from model.survey import in_folder
 
 PROGRAM = pathlib.Path("crates/pegasus/out/pegasus").absolute()
 EXAMPLES = pathlib.Path("examples").absolute()
@@ -28,11 +31,6 @@ RECORD = "examples/record.txt"
 DELIVERED = b"c\nd\na\nb\n"
 # What a line of a whole run's record begins with.
 KINDS = ("grant", "arrive", "end", "clean", "closed")
-judges = beside.load("record-model")
-
-
-def made(*words):
-    return subprocess.run([sys.executable, *words], capture_output=True, text=True, check=True).stdout
 
 
 class Calls:
@@ -41,8 +39,8 @@ class Calls:
     def __init__(self, work):
         self.library = each_call_failing.made_library(work)
         self.counted = os.path.join(work, "calls")
-        self.record = made("tools/run-model", REQUEST)
-        self.plan = made("tools/plan-model", REQUEST)
+        self.record = commands.text("alone", REQUEST)
+        self.plan = plan_of(in_folder(".", REQUEST))
 
     def call(self, words, **more):
         """Status, text, the files of `output` by their names, and the drafts that are left."""
@@ -63,10 +61,10 @@ class Calls:
 
 
 def judge(plan, record, workers):
-    """The verdict of tools/record-model; nothing where it is no record."""
+    """The verdict of tools/model; nothing where it is no record."""
     try:
-        return judges.judge(plan, record, workers)
-    except judges.Malformed:
+        return judges.verdict(plan, record, workers)
+    except Malformed:
         return None
 
 

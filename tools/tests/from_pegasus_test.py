@@ -6,6 +6,11 @@ import shutil
 import subprocess
 import sys
 
+sys.dont_write_bytecode = True
+sys.path.insert(0, "tools")
+import beside
+from model import commands
+
 work = pathlib.Path(sys.argv[1])
 
 
@@ -142,8 +147,8 @@ assert [site["site"] for site in request["execute"]] == ["condorpool"]
 workflow["replicaCatalog"]["replicas"].append({"lfn": "inner", "pfns": [{"site": "local", "pfn": "examples/diamond/f.a"}]})
 (work / "full" / "workflow.json").write_text(json.dumps(workflow), encoding="utf-8")
 (work / "full" / "request.json").write_text(json.dumps({**request, "workflow": str(work / "full" / "workflow.json")}), encoding="utf-8")
-ran = subprocess.run([sys.executable, "tools/run-model", str(work / "full" / "request.json")], capture_output=True, text=True, check=False)
-assert ran.stdout.splitlines()[-1] == "done" and "delivered whole 16 " in ran.stdout, ran.stdout
+ran = commands.text("alone", str(work / "full" / "request.json"))
+assert ran.splitlines()[-1] == "done" and "delivered whole 16 " in ran, ran
 
 # An inlined catalogue isn't looked at where a document stands in its place, and one that is missing is told.
 (work / "catalogue.yml").write_text(
@@ -248,8 +253,8 @@ assert request["tools"] == {"cut": "deal", "mAdd": "digest"}
 assert request["sizes"] == {"a": 21} and "enlarged a from 9 to 21 bytes, for what is made up" in lines, (request, lines)
 assert {it["lfn"]: it["pfns"][0]["pfn"] for it in replicas}["here"] == f"file://{mine / 'here.txt'}"
 assert not any("checksum" in it for it in replicas) and len(replicas) == 3, replicas
-ran = subprocess.run([sys.executable, "tools/run-model", str(mine / "made" / "request.json")], capture_output=True, text=True, check=False)
-assert ran.stdout.splitlines()[-1] == "done" and "delivered d 65 " in ran.stdout, ran.stdout
+ran = commands.text("alone", str(mine / "made" / "request.json"))
+assert ran.splitlines()[-1] == "done" and "delivered d 65 " in ran, ran
 # A tool that is named stays; the files that were made up stay too where their texts are others.
 (mine / "made" / "files" / "00000.txt").write_text("others\n", encoding="utf-8")
 again = turn("--size", "100", "--tools", "made-up", "--tool", "mAdd=join", str(mine / "workflow.yml"), str(mine / "made"))
@@ -276,9 +281,6 @@ assert lines[2:4] == ["dropped workflow /jobs/2/uses/1 a use of type checkpoint"
 
 # The quick reader of YAML, where there is one, reads the same as the slow one.
 import yaml  # noqa: E402
-sys.dont_write_bytecode = True
-sys.path.insert(0, "tools")
-import beside  # noqa: E402
 tool = beside.load("from-pegasus")
 assert issubclass(tool.Plain, getattr(yaml, "CSafeLoader", yaml.SafeLoader))
 

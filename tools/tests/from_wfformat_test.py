@@ -1,9 +1,13 @@
 """Tests of tools/from-wfformat: the example and small instances of the shapes of Montage, CyberShake and 1000Genome are
-planned and run by the models, and instances with faults are refused."""
+planned and run by the model, and instances with faults are refused."""
 import json
 import pathlib
 import subprocess
 import sys
+
+sys.dont_write_bytecode = True
+sys.path.insert(0, "tools")
+from model import commands
 
 work = pathlib.Path(sys.argv[1])
 work.mkdir(parents=True, exist_ok=True)
@@ -39,10 +43,10 @@ def turn(*words):
     return subprocess.run([sys.executable, "tools/from-wfformat", *words], capture_output=True, text=True, check=False)
 
 
-def model(name, request):
-    done = subprocess.run([sys.executable, f"tools/{name}-model", str(request)], capture_output=True, text=True, check=False)
-    assert done.returncode == 0, (request, done.stdout)
-    return done.stdout.splitlines()
+def model(command, request):
+    status, lines = commands.answer([command, str(request)], commands.world_of("."))
+    assert status == 0, (request, lines)
+    return lines
 
 
 def instance(name, rows, size=4096):
@@ -76,13 +80,13 @@ assert request["runtimes"] == [{"transformation": name, "site": "pool", "seconds
 assert request["execute"] == [{"site": "pool", "bound": sum(sizes.values())}] and request["tools"]["fastqSplit"] == "deal"
 wanted = [use["lfn"] for job in workflow["jobs"] for use in job["uses"] if use.get("stageOut")]
 assert wanted == ["reads.pileup"]
-assert model("run", out / "request.json")[-1] == "done"
+assert model("alone", out / "request.json")[-1] == "done"
 
 for name, rows, delivered in (("montage", MONTAGE, 2), ("cybershake", CYBERSHAKE, 2), ("genome", GENOME, 4)):
     folder = work / name
     done = turn("--site", "cluster", written(name, instance(name, rows)), str(folder))
     assert done.returncode == 0 and "enlarged" not in done.stdout, done
-    ran = model("run", folder / "request.json")
+    ran = model("alone", folder / "request.json")
     assert ran[-1] == "done" and sum(line.startswith("delivered ") for line in ran) == delivered, ran
     assert sum(" run 0 " in line for line in model("plan", folder / "request.json")) == len(rows), name
 
@@ -104,10 +108,10 @@ jobs = json.loads((work / "small" / "workflow.json").read_text(encoding="utf-8")
 assert jobs[1]["profiles"] == {"pegasus": {"runtime": "0.001"}} and jobs[1]["arguments"] == ["0"]
 request = json.loads((work / "small" / "request.json").read_text(encoding="utf-8"))
 assert request["runtimes"] == [{"transformation": "cut", "site": "pool", "seconds": 1}]
-assert model("run", work / "small" / "request.json")[-1] == "done"
+assert model("alone", work / "small" / "request.json")[-1] == "done"
 tight = turn(written("tight", instance("tight", [("deal_1", "a b c", "d e"), ("deal_2", "d e", "f g")], 12)), str(work / "tight"))
 assert "enlarged d from 12 to 24 bytes, for what is made up" in tight.stdout, tight.stdout
-assert model("run", work / "tight" / "request.json")[-1] == "done"
+assert model("alone", work / "tight" / "request.json")[-1] == "done"
 
 
 def changed(change):

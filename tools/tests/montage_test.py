@@ -1,8 +1,13 @@
-"""Test of examples/montage/make: what it makes, planned and run by the models."""
+"""Test of examples/montage/make: what it makes, planned and run by the model."""
 import hashlib
+import os
 import pathlib
 import subprocess
 import sys
+
+sys.dont_write_bytecode = True
+sys.path.insert(0, "tools")
+from model import commands
 
 work = pathlib.Path(sys.argv[1])
 
@@ -25,7 +30,10 @@ for images, folder in ((2, "."), (10, "ten")):
     here.mkdir(parents=True)
     call(str(top / "examples/montage/make"), str(images), folder, folder=here)
     request = str(pathlib.Path(folder) / "request.json")
-    plan = call(str(top / "tools/plan-model"), request, folder=here)
+    # (paths in the documents are as seen from there)
+    os.chdir(here)
+    plan, run = (commands.text(command, request).splitlines() for command in ("plan", "alone"))
+    os.chdir(top)
     assert f"site 0 pool {162 * images}" in plan and f"peak 0 {162 * images}" in plan
     assert len([line for line in plan if line.startswith("job ")]) == 3 * images + 2
     assert len([line for line in plan if line.startswith("task ")]) == 8 * images + 5
@@ -33,5 +41,5 @@ for images, folder in ((2, "."), (10, "ten")):
     content = mosaic(images)
     wanted = f"delivered mosaic.txt {76 * images} {hashlib.sha256(content).hexdigest()}"
     assert len(content) == 76 * images
-    assert call(str(top / "tools/run-model"), request, folder=here)[-2:] == [wanted, "done"]
+    assert run[-2:] == [wanted, "done"]
 print("montage: ok")

@@ -9,9 +9,6 @@ MOST_WORDS = {
     "DEVELOPING": 2200, "DECISIONS": 1500, "GATE": 500, "MEASURED": 500,
 }
 MOST_IN_ALL = 27000
-OF_DOCUMENTS = re.compile(
-    "refused (request|workflow|sites|replicas|transformations|ensemble|member|twice|unknown|catalogue|many (jobs|files|sites|members)) "
-)
 
 
 def all_pages():
@@ -90,10 +87,9 @@ def blocks(page, command):
 
 
 def texts(command):
-    """Those of the examples on all pages but the refusals of documents, which the models don't know, and requests
-    that aren't there."""
+    """Those of the examples on all pages but what the script tells of a build, and requests that aren't there."""
     for page in PAGES:
         for request, pattern, lines in blocks(page, command):
             is_there = request.startswith("examples/") and pathlib.Path(request).exists()
-            if is_there and not OF_DOCUMENTS.match(lines[0]):
+            if is_there and not lines[0].startswith("pegasus: "):
                 yield request, pattern, lines

@@ -9,7 +9,7 @@ import pages
 
 sys.dont_write_bytecode = True
 sys.path.insert(0, "tools")
-import documents
+from model.transformations import TOOLS
 
 PATH = re.compile(r"(?:crates|docs|tools|bench|examples|\.ci)/[\w.*/-]+")
 NAME = re.compile(r"[A-Za-z][A-Za-z0-9]*(?:_[A-Za-z0-9]+)+|[A-Z][a-z]+(?:[A-Z][a-z]*)+")
@@ -19,7 +19,7 @@ told = {name: page.read_text(encoding="utf-8") for name, page in pages.all_pages
 
 def source_files():
     """The files in which a name of a page may stand."""
-    for pattern in ("crates/*/src/**/*.rt", "crates/*/specs/**/*.antt", "crates/*/proofs/**/*.antt", "crates/*/data/*.cases",
+    for pattern in ("crates/*/src/**/*.rt", "crates/*/specs/**/*.antt", "crates/*/proofs/**/*.antt", "crates/*/data/*.toml",
                     "tools/*", "tools/tests/*", "bench/*", "examples/**/*.json", "examples/**/*.yml"):
         yield from (it for it in pathlib.Path().glob(pattern) if it.is_file())
 
@@ -66,7 +66,7 @@ def paths_are_there():
             if not re.search("[A-Z]{3}", path):
                 assert any(pathlib.Path().glob(path.rstrip("/"))), f"{name}: there is no {path}"
                 count += 1
-        for file in {it for it in re.findall(r"(?<![\w/])\w+_test\.py\b|(?<![\w/])\w+\.cases\b", " ".join(ticked(text)))}:
+        for file in {it for it in re.findall(r"(?<![\w/])\w+_test\.py\b|(?<![\w/])\w+\.toml\b", " ".join(ticked(text)))}:
             assert any(pathlib.Path(folder, file).exists() for folder in ("tools/tests", "crates/cases/data")), f"{name}: there is no {file}"
             count += 1
     return count
@@ -132,7 +132,7 @@ def limits_are_those_of_the_definitions():
         assert said == found, f"README says {said}, and crates/{path} has {found}"
     table = told["COMMANDS"].split("| Transformation |")[1].split("\n\n")[0]
     shipped = [it for line in table.splitlines()[2:] for it in re.findall(r"`(\w+)`", line.split(" | ")[0])]
-    assert shipped == list(documents.TOOLS) and len(shipped) == 12 and "one of twelve shipped" in told["README"], shipped
+    assert shipped == list(TOOLS) and len(shipped) == 12 and "one of twelve shipped" in told["README"], shipped
 
 
 def counts_are_right():

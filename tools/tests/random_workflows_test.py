@@ -32,7 +32,7 @@ def again(seed):
     for number in range(20):
         first, second = (random_documents.made_of(random_jobs.Chance(f"{seed}/{number}")) for _ in range(2))
         assert first == second, (seed, number)
-        assert cases.text_of(seed, number) == cases.text_of(seed, number), (seed, number)
+        assert cases.cases_of(seed, number) == cases.cases_of(seed, number), (seed, number)
 
 
 def call(*words):
@@ -69,7 +69,7 @@ def is_found_out(work):
 
 def cases_end_alike(seed, work):
     """The program of cases over random ones; a file with one that differs is kept."""
-    file = work / "random.cases"
+    file = work / "random.toml"
     status, text = call("tools/random-cases", "--seed", seed, "--count", CASED, file)
     assert status == 0, text
     done = subprocess.run([CASES, file.name], cwd=work, capture_output=True, text=True, check=False)

@@ -1,4 +1,4 @@
-"""Tests of tools/report: pages of plans and of runs by the models, and by the program where it is built, which are the same."""
+"""Tests of tools/report: pages of plans and of runs by the model, and by the program where it is built, which are the same."""
 import pathlib
 import shutil
 import subprocess
@@ -11,7 +11,7 @@ import together
 
 work = pathlib.Path(sys.argv[1])
 PROGRAM = pathlib.Path("crates/pegasus/out/pegasus").absolute()
-STAND_IN = pathlib.Path("tools/tests/stand_in").absolute()
+MODEL = pathlib.Path("tools/model/__main__.py").absolute()
 TOOLS = pathlib.Path("tools").absolute()
 EXAMPLES = pathlib.Path("examples").absolute()
 SVG = "{http://www.w3.org/2000/svg}"
@@ -30,7 +30,7 @@ def call(place, *words):
     return subprocess.run(words, cwd=place, capture_output=True, text=True, check=False)
 
 
-models = folder("models", STAND_IN)
+models = folder("models", MODEL)
 program = folder("program", PROGRAM) if PROGRAM.exists() else None
 
 
@@ -191,7 +191,7 @@ assert call(models, "tools/report").returncode == 2
 
 # In a folder that has no program it is the one beside the tools.
 shutil.copytree(TOOLS, work / "top/tools")
-(work / "top/pegasus").symlink_to(STAND_IN)
+(work / "top/pegasus").symlink_to(MODEL)
 (work / "user").mkdir()
 (work / "user/examples").symlink_to(EXAMPLES)
 made = call(work / "user", str(work / "top/tools/report"), "examples/hello/request.json")

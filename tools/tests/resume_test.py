@@ -1,5 +1,5 @@
 """Runs of the program that the gate built, each stopped by another failing call of the system, and gone on with by `resume`:
-what is delivered in the end, what stands at the sites, and the whole record, as the program's `audit` and tools/record-model
+what is delivered in the end, what stands at the sites, and the whole record, as the program's `audit` and tools/model
 judge it. Then a `resume` whose own calls fail in turn, gone on with from what it printed."""
 import concurrent.futures
 import os
@@ -11,12 +11,13 @@ import tempfile
 
 sys.dont_write_bytecode = True
 sys.path.insert(0, "tools")
-import beside
 import each_call_failing
+from model import judge
+from model.plan import plan_of
+from model.survey import in_folder
 
 PROGRAM = pathlib.Path("crates/pegasus/out/pegasus").absolute()
 EXAMPLES = pathlib.Path("examples").absolute()
-judge = beside.load("record-model").judge
 NOTHING_DONE = "record 1\nclosed\nfailed host -\n"
 
 
@@ -31,9 +32,7 @@ class Example:
         self.name, self.library, self.workers = name, library, workers
         self.request = f"examples/{name}/request.json"
         self.run = ["alone", self.request] if workers == 1 else ["run", self.request, "--workers", str(workers)]
-        self.plan = subprocess.run(
-            [sys.executable, "tools/plan-model", self.request], capture_output=True, text=True, check=True
-        ).stdout
+        self.plan = plan_of(in_folder(".", self.request))
 
     def place(self):
         folder = tempfile.TemporaryDirectory()
@@ -64,7 +63,7 @@ class Example:
         status, printed = self.call(folder, words)
         assert status == 0 and printed.endswith("done\n"), (self.name, text, printed)
         record = printed.split("closed\n", 1)[0] + "closed\n"
-        assert judge(self.plan, record, self.workers) == "complete", (self.name, text, printed)
+        assert judge.verdict(self.plan, record, self.workers) == "complete", (self.name, text, printed)
         (pathlib.Path(folder) / "whole.txt").write_text(printed)
         assert self.call(folder, ["audit", self.request, "whole.txt"]) == (0, "verdict complete\ndone\n"), printed
         return record

@@ -11,8 +11,8 @@ import pages
 PATH = re.compile(r"`(?:crates/)?(\w+/(?:src|specs|proofs)/[\w./-]*?)/?`(?:: ((?:`\w+`(?:, )?)+))?")
 LINK = re.compile(r"\]\(([^)#]+)(#[^)]*)?\)")
 SHOWS = {it.stem for it in pathlib.Path("crates").glob("*/*/*.edit")}
-for cases in pathlib.Path("crates/cases/data").glob("*.cases"):
-    SHOWS.update(re.findall(r"^case (\S+)$", cases.read_text(encoding="utf-8"), re.MULTILINE))
+for cases in pathlib.Path("crates/cases/data").glob("*.toml"):
+    SHOWS.update(re.findall(r'^\[case\."?([^]"]+)"?\]$', cases.read_text(encoding="utf-8"), re.MULTILINE))
 paths, names, links, rules = 0, 0, 0, 0
 
 

@@ -7,7 +7,7 @@ import sys
 import tempfile
 
 TOP = pathlib.Path.cwd()
-STAND_IN = TOP / "tools/tests/stand_in"
+MODEL = TOP / "tools/model/__main__.py"
 HOSTILE = "<script>alert(1)</script>"
 TAGS = ("!!python/object/apply:os.mkdir [made]", "!!python/object/new:os.system [mkdir made]", "!!python/name:os.mkdir ''", "!!python/module:os ''")
 
@@ -38,9 +38,9 @@ def pages_show_text(place):
     request = {"workflow": "w.json", "execute": [{"site": "pool", "bound": 1000}], "default_size": 100, "tools": {HOSTILE: "text"}}
     (place / "w.json").write_text(json.dumps(workflow))
     (place / "request.json").write_text(json.dumps(request))
-    (place / "run.txt").write_text(call(place, STAND_IN, "alone", "request.json")[1])
+    (place / "run.txt").write_text(call(place, MODEL, "alone", "request.json")[1])
     for words in ([], ["run.txt"]):
-        status, page, errors = call(place, TOP / "tools/report", "--program", STAND_IN, "request.json", *words)
+        status, page, errors = call(place, TOP / "tools/report", "--program", MODEL, "request.json", *words)
         assert status == 0 and "<script" not in page and "&lt;script&gt;" in page, (words, status, errors)
     return 2
 

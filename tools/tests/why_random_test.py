@@ -12,14 +12,17 @@ import tempfile
 sys.dont_write_bytecode = True
 sys.path.insert(0, "tools")
 import beside
+import documents
+import findings
 import random_calls
 import random_documents
 import random_jobs
 import random_subjects
-import findings
+from model import commands
+from model.store import file_name, sites_of
+from model.words import text_of
 
-why, resume = beside.load("why"), beside.load("resume-model")
-engine = random_subjects.engine
+why = beside.load("why")
 COUNT = 250
 IN_A_RUN = ("failed declined ", "failed oversize ")
 
@@ -27,11 +30,11 @@ IN_A_RUN = ("failed declined ", "failed oversize ")
 def ended(place):
     """The last line of a run by the second engine, or the refusal in its place; and the engine, where there was a run."""
     subject = random_subjects.subject_of(place)
-    made, fault = subject.engine(resume.sites_of(place / "sites"))
+    made, fault = subject.engine(sites_of(place / "sites"))
     if fault:
         return fault[1].splitlines()[-1], None
     text = made.text(made.work())
-    (place / "run.txt").write_text(random_subjects.text_of(text), encoding="utf-8")
+    (place / "run.txt").write_text(text_of(text), encoding="utf-8")
     return text[-1], made
 
 
@@ -56,8 +59,7 @@ def compare_after(place, folder, made):
     for mend in (lambda: None, folder.mend):
         mend()
         found = looked(place, why.look_after, "request.json", "run.txt")
-        store = engine.Store(engine.Folder(place), scratch=resume.sites_of(place / "sites"))
-        last = resume.answer("request.json", "run.txt", resume.reader.folder_of(place), store)[1][-1]
+        last = commands.answer(["resume", "request.json", "run.txt"], commands.world_of(place, sites_of(place / "sites")))[1][-1]
         if is_wrong(found, last):
             return last, list(findings.text(found))
     return None
@@ -70,9 +72,9 @@ def joint(made, place):
         return False
     for name, document in subject.survey.documents.items():
         if name != "request":
-            random_subjects.join.documents.write(place / "joint", name, document)
+            documents.write(place / "joint", name, document)
     names = {kind: f"joint/{kind}.json" for kind in ("workflow", "sites", "replicas", "transformations")}
-    random_subjects.join.documents.write(place, "request", {**subject.survey.request, **names})
+    documents.write(place, "request", {**subject.survey.request, **names})
     return True
 
 
@@ -88,7 +90,7 @@ def compare(seed, number, work):
         if not joint(made, place):
             return None, True
     if chance.is_so(0.1) and (plan := random_subjects.subject_of(place).planned[0]):
-        site = engine.file_name(chance.choice(plan.sites)["site"]) if plan.sites else "none"
+        site = file_name(chance.choice(plan.sites)) if plan.sites else "none"
         (place / "sites" / site).mkdir(parents=True)
         (place / "sites" / site / "left").write_text("")
     found, (last, engine_made) = looked(place, why.look_before, "request.json"), ended(place)

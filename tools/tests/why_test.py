@@ -11,11 +11,12 @@ import tempfile
 
 sys.dont_write_bytecode = True
 sys.path.insert(0, "tools")
-import beside
 import workflows
+from model import commands
+from model.store import file_name
+from model.words import text_of
 from workflows import delivery, job, replica
 
-engine = beside.load("run-model")
 TOP = pathlib.Path.cwd()
 PROGRAM = TOP / "crates/pegasus/out/pegasus"
 DIGEST = "a948904f2f0f479b8f8197694b30184b0d2ed1c1cd2a1ec0fb85d299a192a447"
@@ -60,14 +61,13 @@ def inside(place):
 def run(place, name="run.txt"):
     """A run by the second engine, its text in a file, and what it leaves at the sites in the folder."""
     with inside(place):
-        request = engine.planner.load(".", "request.json")
-        store = engine.Store(engine.Folder("."))
-        _, lines = engine.run(request, engine.planner.read_documents(".", request), store)
-    for (site, file), data in store.scratch.items():
-        path = place / "sites" / engine.file_name(site) / engine.file_name(file)
+        world = commands.world_of(".")
+        _, lines = commands.answer(["alone", "request.json"], world)
+    for (site, file), data in world.store.scratch.items():
+        path = place / "sites" / file_name(site) / file_name(file)
         path.parent.mkdir(parents=True, exist_ok=True)
         path.write_bytes(data)
-    (place / name).write_text("".join(line + "\n" for line in lines))
+    (place / name).write_text(text_of(lines))
     return lines[-1]
 
 

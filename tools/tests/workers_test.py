@@ -1,9 +1,7 @@
 """Runs by several workers of the program that the gate built, on a disk: what each delivers, and each record judged by
-tools/record-model over the plan of tools/plan-model."""
+tools/model over its own plan."""
 import concurrent.futures
 import dataclasses
-import importlib.machinery
-import importlib.util
 import json
 import os
 import pathlib
@@ -12,18 +10,17 @@ import subprocess
 import sys
 import tempfile
 
+sys.dont_write_bytecode = True
+sys.path.insert(0, "tools")
 import calls_failing_by_chance
 import workflows
+from model.judge import verdict
+from model.plan import plan_of, read_plan
+from model.survey import in_folder
 
 RETRIES = 3
 PROGRAM = pathlib.Path("crates/pegasus/out/pegasus").absolute()
-PLAN_MODEL = pathlib.Path("tools/plan-model").absolute()
 MAKE = pathlib.Path("examples/montage/make").absolute()
-sys.dont_write_bytecode = True
-LOADER = importlib.machinery.SourceFileLoader("record_model", "tools/record-model")
-record_model = importlib.util.module_from_spec(importlib.util.spec_from_loader("record_model", LOADER))
-sys.modules["record_model"] = record_model
-LOADER.exec_module(record_model)
 
 
 def write(place, jobs, bound):
@@ -118,8 +115,8 @@ def arrived(place, plan, workers, alone):
     delivered what a run by one does; else nothing."""
     status, text, files, left = called(place, ["run", "request.json", "--workers", str(workers)])
     record, rest = text.split("closed\n", 1)
-    verdict = record_model.judge(plan, record + "closed\n", workers)
-    is_right = status == 0 and verdict == "complete" and (rest, files, left) == alone
+    is_complete = verdict(plan, record + "closed\n", workers) == "complete"
+    is_right = status == 0 and is_complete and (rest, files, left) == alone
     return beside(record) if is_right else None
 
 
@@ -128,7 +125,7 @@ def holds(make, counts, least=0):
     with tempfile.TemporaryDirectory() as work:
         place = pathlib.Path(work)
         make(place)
-        plan = subprocess.run([PLAN_MODEL, "request.json"], cwd=place, capture_output=True, text=True, check=True).stdout
+        plan = plan_of(in_folder(place, "request.json"))
         status, text, files, left = called(place, ["alone", "request.json"])
         assert status == 0 and files and not left, (make.__name__, status, text[-200:])
         alone = text.split("closed\n", 1)[1], files, left
@@ -144,11 +141,11 @@ def stops():
     with tempfile.TemporaryDirectory() as work:
         place = pathlib.Path(work)
         declined(place)
-        plan = subprocess.run([PLAN_MODEL, "request.json"], cwd=place, capture_output=True, text=True, check=True).stdout
+        plan = plan_of(in_folder(place, "request.json"))
         status, text, files, _ = called(place, ["run", "request.json", "--workers", "8"])
         record, rest = text.split("closed\n", 1)
         assert status == 6 and rest.splitlines()[-1] == "failed declined j39", (status, rest)
-        assert record_model.judge(plan, record + "closed\n", 8) == "legal" and record.count("\nfail ") == 1, record
+        assert verdict(plan, record + "closed\n", 8) == "legal" and record.count("\nfail ") == 1, record
         told = {line.split(" ")[1] for line in rest.splitlines()[:-1]}
         assert set(files) == told, (files, rest)
     return 1
@@ -197,10 +194,10 @@ class Trials:
         return (trial.status, trial.rest, trial.files, trial.left) == (0, self.rest, self.files, [])
 
     def plan(self, request):
-        """The plan's text, by the program: tools/plan-model is compared with it elsewhere."""
+        """The plan by the text of the program: tools/model is compared with it elsewhere."""
         status, text, _, _ = called(self.place, ["plan", request])
         assert status == 0, text
-        return text
+        return read_plan(text)
 
 
 def large_mosaic(work):
@@ -213,7 +210,7 @@ def large_mosaic(work):
     assert trials.is_whole(trial), (trial.status, trial.rest, trial.left)
     assert len(again) == trial.failed >= 40 and not trial.entries("fail"), (len(again), trial.failed)
     assert trial.record.startswith("record 2\n") and all(line.split(" ")[3] == "hostfailed" for line in again), again
-    assert record_model.judge(trials.plan("retried.json"), trial.record, 16) == "complete"
+    assert verdict(trials.plan("retried.json"), trial.record, 16) == "complete"
     (trials.place / "run.txt").write_text(trial.record)
     assert called(trials.place, ["audit", "retried.json", "run.txt"])[:2] == (0, "verdict complete\ndone\n")
     return 1
@@ -235,7 +232,7 @@ def tried(trials, plans, seed):
             task = trial.entries("fail")[0].split(" ")[2]
             assert trial.status == 6 and trial.rest.splitlines()[-1] == f"failed host {task}", (seed, request, trial.rest)
         wanted = "legal" if trial.status else "complete"
-        assert record_model.judge(plans[request], trial.record, 16) == wanted, (seed, request, trial.record)
+        assert verdict(plans[request], trial.record, 16) == wanted, (seed, request, trial.record)
     # Where nothing is tried again, the first failure is the end: of a run by one worker the last entry.
     assert not many.entries("again") and not alone.entries("again"), seed
     is_last = alone.status == 0 or alone.record.splitlines()[-2] == alone.entries("fail")[0]

@@ -1,26 +1,23 @@
-"""Tests of tools/record-model: records of the diamond, right and wrong, those of the files of cases, and those on the pages."""
-import os
+"""Tests of how tools/model judges records of the diamond and of a small plan by hand, right and wrong; and of what its tools
+make."""
 import pathlib
 import re
-import shutil
-import subprocess
 import sys
-import tempfile
-
-import case_files
-import pages
 
 sys.dont_write_bytecode = True
 sys.path.insert(0, "tools")
-import beside
-from documents import INLINED
+from model import commands, judge
+from model.book import State
+from model.plan import read_plan
+from model.tasks import OUT
+from model.transformations import TOOLS, Declined, apply
+from model.words import text_of
 
-planner, model, resume = beside.load("plan-model"), beside.load("record-model"), beside.load("resume-model")
-
-PLAN = subprocess.run([sys.executable, "tools/plan-model", "examples/diamond/request.json"], capture_output=True, text=True, check=True).stdout
+PLAN = commands.text("plan", "examples/diamond/request.json")
 PRINTED = re.search(r"    record 1\n(.*?)    closed\n", pathlib.Path("docs/COMMANDS.md").read_text(encoding="utf-8"), re.DOTALL)
 RUN = [line.strip() for line in PRINTED[1].splitlines()]
-READ = re.findall(r"`((?:grant|arrive|end|clean) [\d ]+)`", pathlib.Path("docs/GUIDE.md").read_text(encoding="utf-8").split("| Lines |")[1].split("\n\n")[0])
+TABLE = pathlib.Path("docs/GUIDE.md").read_text(encoding="utf-8").split("| Lines |")[1].split("\n\n")[0]
+READ = re.findall(r"`((?:grant|arrive|end|clean) [\d ]+)`", TABLE)
 assert READ == RUN, f"the guide reads another record line by line: {READ}"
 
 # Task 1 runs and task 2 is ready. At 36 a first job that made less leaves room for it.
@@ -33,7 +30,7 @@ def with_bound(bound):
 
 
 def judged(entries, plan=PLAN, workers=16):
-    return model.judge(plan, "".join(line + "\n" for line in ["record 1", *entries, "closed", "done"]), workers)
+    return judge.verdict(read_plan(plan), text_of(["record 1", *entries, "closed", "done"]), workers)
 
 
 def swapped(one, other):
@@ -113,13 +110,12 @@ closed
 
 def left(*entries, plan=CHAIN):
     """What is left of the order after entries, each of which is allowed, and what is held."""
-    read = model.read_plan(plan)
-    state = model.State(read, rest=list(read.order))
+    state = State(read_plan(plan))
     assert all(state.enter(entry.split(" ")) for entry in entries), entries
     return state.rest, state.held
 
 
-A, T, OUT_T = (0, 0), (0, 2), (model.OUT, 2)
+A, T, OUT_T = (0, 0), (0, 2), (OUT, 2)
 LEFT = [
     (left(), ([0, 2, 5, 3, 6, 1, 4, 7], {})),
     (left("grant 0 0"), ([2, 5, 3, 6, 1, 4, 7], {A: 2})),
@@ -139,82 +135,32 @@ assert judged(["grant 0 0"], CHAIN.replace("policy 1 1 11", "policy 1 1 10")) ==
 assert judged(["grant 0 0"], CHAIN) == "legal"
 
 
-def answers(case):
-    """What the model says of each record that a case names, under the plan of the request beside it."""
-    documents = {name: planner.parsed(content.decode()) for name, content in case.documents.items() if name.endswith(".json")}
-    for line in case.words:
-        _, command, request, record = line.split(" ")
-        stated = documents[request]
-        found = {kind: catalogue(documents, stated, kind) for kind in ("replicas", "transformations")}
-        made = planner.make_plan(stated, {"workflow": documents[stated["workflow"]], **found})
-        assert is_ordered("\n".join(planner.text(made))), (case.name, request)
-        plan = resume.plan_to_judge(made, resume.engine.registered_sums(found["replicas"]["replicas"]))
-        yield model.told(command, plan, case.documents[record])
+# What each tool makes of its arguments and inputs, with so many outputs, by the page alone; nothing where it makes nothing. Numbers
+# have one to eighteen digits.
+THREE = [b"c\na\n", b"b"]
+BY_HAND = [
+    ("text", ["a", "", "b"], [], 1, [b"a  b\n"]), ("text", ["a"], [b"a\n"], 1, None), ("join", [], THREE, 1, [b"c\na\nb"]),
+    ("join", [], THREE, 2, None), ("take", ["2"], THREE, 1, [b"c\na\n"]), ("take", [], THREE, 1, None), ("take", ["x"], THREE, 1, None),
+    ("drop", ["2"], THREE, 1, [b"b\n"]), ("drop", ["9"], THREE, 1, [b""]), ("deal", [], THREE, 2, [b"c\nb\n", b"a\n"]),
+    ("deal", [], THREE, 0, None), ("sorted", [], [b"b\n\xc3\na\nb\n"], 1, [b"a\nb\nb\n\xc3\n"]),
+    ("distinct", [], [b"b\na\nb\nc\na\n"], 1, [b"b\na\nc\n"]), ("count", [], THREE, 1, [b"3 5\n"]),
+    ("holds", ["a"], [b"ab\nb\ncab\n"], 1, [b"ab\ncab\n"]), ("holds", [""], THREE, 1, None), ("holds", [], THREE, 1, None),
+    ("column", ["2"], [b"a\tb\nc\n\td\te\n"], 1, [b"b\n\nd\n"]), ("column", ["0"], THREE, 1, None),
+    ("digest", [], [b"a", b"bc"], 1, [b"ba7816bf8f01cfea414140de5dae2223b00361a396177a9cb410ff61f20015ad\n"]),
+    ("total", [], [b"1\n20\n"], 1, [b"21\n"]), *(("total", [], [it + b"\n"], 1, [it + b"\n"]) for it in (b"0", b"9" * 18)),
+    *(("total", [], [it + b"\n"], 1, None) for it in (b"9" * 19, b"", b"-1", b"1 ", "\u0661".encode(), b"x")),
+]
 
 
-def is_ordered(text):
-    """Whether the judge, from the start, makes the order that the planner does."""
-    plan = model.read_plan(text)
-    return model.Order(model.State(plan, rest=[]), {}, plan.order).made() == plan.order
+def applied(*words):
+    """What a tool makes, or nothing."""
+    try:
+        return apply(*words)
+    except Declined:
+        return None
 
 
-def catalogue(documents, request, kind):
-    """The one that the request names, else the workflow's own, else one without entries."""
-    inlined = documents[request["workflow"]].get(INLINED[kind], {kind: []})
-    return documents[request[kind]] if kind in request else inlined
-
-
-def is_judged(case):
-    """Whether its calls judge records. The other answers come before the record is looked at."""
-    is_judgement = all(line.startswith(("words audit ", "words stat ")) for line in case.words)
-    return is_judgement and case.status in (0, 8)
-
-
-def judged_cases(name, least):
-    found = [case for case in case_files.read(f"crates/cases/data/{name}.cases") if is_judged(case)]
-    assert len(found) >= least, (name, len(found))
-    return found
-
-
-counted = {"records": 35, "retries": 25, "fresh": 12}
-cases = [case for name, least in counted.items() for case in judged_cases(name, least)]
-for case in cases:
-    for status, lines in answers(case):
-        assert (status, "".join(line + "\n" for line in lines)) == (case.status, case.text), (case.name, status, lines)
-# The commands of the pages that judge records, make texts for it, or join and run an ensemble, typed as they stand there, with
-# the three models in the program's place.
-MODELS = """#!/usr/bin/env bash
-case $1 in
-  alone | run) exec tools/run-model "$2" ;;
-  plan) exec tools/plan-model "$2" ;;
-  ensemble) tools/join "$2" "$2.joint" && exec tools/run-model "$2.joint/request.json" ;;
-  *) tools/plan-model "$2" >"$2.plan"; exec tools/record-model "$1" "$2.plan" "$3" ;;
-esac
-"""
-JUDGES = re.compile(r"\./pegasus (audit|stat) ")
-MAKES = re.compile(r" > \w+\.txt$|^sed .* > \w+\.json$|\|\| tail -n 1 \w+\.txt$|^mv |^tools/join |^\./pegasus ensemble examples/|^diff -s ")
-
-
-def folder(place):
-    shutil.copytree("examples", place / "examples")
-    (place / "tools").symlink_to(pathlib.Path("tools").absolute())
-    (place / "pegasus").write_text(MODELS)
-    (place / "pegasus").chmod(0o755)
-    return place
-
-
-def page_holds(page, place):
-    """Types them in their order, and counts the judgements."""
-    count = 0
-    for command, printed in pages.commands(page):
-        if JUDGES.search(command) or MAKES.search(command):
-            done = subprocess.run(["bash", "-c", command], cwd=place, capture_output=True, text=True, env={**os.environ, "PYTHONDONTWRITEBYTECODE": "1"})
-            assert done.stdout.splitlines() == printed and not done.stderr, (page, command, done.stdout, done.stderr)
-            count += JUDGES.search(command) is not None
-    return count
-
-
-with tempfile.TemporaryDirectory() as work:
-    judged_there = sum(page_holds(page, folder(pathlib.Path(work, page.replace("/", "_")))) for page in pages.PAGES)
-assert judged_there >= 6, judged_there
-print(f"record-model: ok, {len(VERDICTS) + len(LEFT)} records, {len(cases)} cases and {judged_there} on the pages")
+for tool, arguments, read, outs, wanted in BY_HAND:
+    assert applied(tool, arguments, read, outs) == wanted, (tool, arguments, read)
+assert {it[0] for it in BY_HAND} == set(TOOLS)
+print(f"model of records: ok, {len(VERDICTS) + len(LEFT)} records and {len(BY_HAND)} texts by tools")
