@@ -1,12 +1,12 @@
 -- What a run that ended Done delivers.
-use Rattle.std.proofs.Common.{◌≡◌, List}
+use Rattle.std.proofs.Common.{◌≡◌, List, []}
 use Rattle.std.specs.Prelude.{Option, Some, None, IfSome, MatchOption}
 use Rattle.outside.specs.declared.store.Store.{Store}
 use Rattle.plan_core.specs.declared.plan.Plan.{Plan}
 use Rattle.planner.specs.declared.surveyed.Surveyed.{Surveyed}
 use Rattle.run_record.specs.Events.{Event}
 use Rattle.site_yard.specs.Changes.{carries}
-use Rattle.site_yard.specs.Law.{Agrees, IsDeliveryOf}
+use Rattle.site_yard.specs.Law.{AgreesSince, IsDeliveryOf}
 use Rattle.plan_run.specs.Moments.{Work}
 use Rattle.plan_run.specs.Running.{IsShown}
 use Rattle.pegasus_commands.specs.Fault.{done}
@@ -25,10 +25,10 @@ set_valued w s p r m new all delivers honest = record {
 }
 
 -- what two stores show, where the host told and still tells
-pub told_so : (w : Work) (p : Plan) (r : List Event) (Delivers Holds : Store → Store → Type 0) → IsShown w p r → IfSome w.before.told (λ m. IfSome w.after.told (λ new. Delivers m new)) → ((m new : Store) → Agrees w.apply p r m new → Delivers m new → Holds m new) → ShownBy w Holds
+pub told_so : (w : Work) (p : Plan) (r : List Event) (Delivers Holds : Store → Store → Type 0) → IsShown w p [] r → IfSome w.before.told (λ m. IfSome w.after.told (λ new. Delivers m new)) → ((m new : Store) → AgreesSince w.apply p [] r m new → Delivers m new → Holds m new) → ShownBy w Holds
 told_so w p r Delivers Holds shown delivers so = by w.before.told w.after.told shown delivers
   where
-    by : (old new : Option Store) → IfSome old (λ m. MatchOption new ⊥ (λ x. Agrees w.apply p r m x)) → IfSome old (λ m. IfSome new (λ x. Delivers m x)) → IfSome old (λ m. MatchOption new ⊥ (λ x. Holds m x))
+    by : (old new : Option Store) → IfSome old (λ m. MatchOption new ⊥ (λ x. AgreesSince w.apply p [] r m x)) → IfSome old (λ m. IfSome new (λ x. Delivers m x)) → IfSome old (λ m. MatchOption new ⊥ (λ x. Holds m x))
     by None new h d = tt
     by (Some m) None h d = absurd h
     by (Some m) (Some x) h d = so m x h d

@@ -25,11 +25,12 @@ use Rattle.planner.specs.declared.plan_fault.PlanFault.{PlanFault}
 use Rattle.planner.specs.declared.plan_fault.PlanFault.TheVariants as plan_faults
 use Rattle.planner.specs.declared.surveyed.Surveyed.{Surveyed}
 use Rattle.site_yard.specs.Changes.{carries}
-use Rattle.site_yard.specs.Law.{Agrees, IsDeliveryOf}
+use Rattle.site_yard.specs.Law.{AgreesSince, Holds, IsDeliveryOf}
 use Rattle.plan_core.specs.Names.{file_name, lfn_in}
 use Rattle.site_yard.specs.Places.{IsUndelivered, is_delivered}
 use Rattle.plan_run.specs.Finishing.{CanEnd, IsDoneOrMemory as EndsOrMemory, NoneFailed, replicas_of}
 use Rattle.plan_run.specs.Moments.{Tools, Work}
+use Rattle.site_yard.proofs.AgreesLemmas.{opening_of_none}
 use Rattle.plan_run.specs.Running.{End, HasRun, IsOpened, IsReport, IsShown, Report, Reports, Tells}
 use Rattle.pegasus_commands.specs.declared.fault.CallFault.{CallFault}
 use Rattle.pegasus_commands.specs.declared.fault.CallFault.TheVariants.{Memory}
@@ -83,14 +84,16 @@ pub all_delivered : (w : Work) (s : Surveyed) (p : Plan) (order : List ℕ) (r :
 all_delivered w s p order r (Ok ended) laws requests legal tells = λ f asked. let task = requests.delivered f asked in laws.complete r legal tells.1 task.0 f task.1
 all_delivered w s p order r (Err fault) laws requests legal tells = tt
 
-pub shown_delivers : (w : Work) (s : Surveyed) (p : Plan) (order : List ℕ) (r : List Event) → HasDeliveryLaws p order → DeliversRequests s.request s.survey p → MeansWorkflow s.request s.survey p → IsShown w p r
+pub shown_delivers : (w : Work) (s : Surveyed) (p : Plan) (order : List ℕ) (r : List Event) → HasDeliveryLaws p order → DeliversRequests s.request s.survey p → MeansWorkflow s.request s.survey p → IsShown w p [] r
     → IfSome w.before.told (λ m. IfSome w.after.told (λ new. DeliversRequested w s p r m new))
 shown_delivers w s p order r laws requests means shown = by w.before.told w.after.told shown
   where
-    by : (old new : Option Store) → IfSome old (λ m. MatchOption new ⊥ (λ x. Agrees w.apply p r m x)) → IfSome old (λ m. IfSome new (λ x. DeliversRequested w s p r m x))
+    by : (old new : Option Store) → IfSome old (λ m. MatchOption new ⊥ (λ x. AgreesSince w.apply p [] r m x)) → IfSome old (λ m. IfSome new (λ x. DeliversRequested w s p r m x))
     by None new h = tt
     by (Some m) None h = tt
-    by (Some m) (Some x) h = delivered_so w s p order r m x laws requests means (record { delivered = h.delivered; undelivered = h.undelivered })
+    by (Some m) (Some x) h =
+        let holds : Holds w.apply p [] r m x = h.holds (opening_of_none w.apply p m) in
+        delivered_so w s p order r m x laws requests means (record { delivered = holds.delivered; undelivered = holds.undelivered })
 
 -- ---- the plan
 

@@ -29,7 +29,7 @@ use Rattle.run_record.specs.Events.{Event, Log}
 use Rattle.run_record.specs.declared.run_fault.RunFault.{RunFault}
 use Rattle.run_record.specs.declared.run_fault.RunFault.TheVariants as run_faults
 use Rattle.site_yard.specs.Faults.{AllCarried}
-use Rattle.site_yard.specs.Law.{Agrees}
+use Rattle.site_yard.specs.Law.{AgreesSince}
 use Rattle.plan_core.specs.Names.{site_name}
 use Rattle.site_yard.specs.Opening.{AreUnused}
 use Rattle.site_yard.specs.Places.{is_delivered}
@@ -101,7 +101,7 @@ some_is : {A : Type 0} (a b : A) → ◌≡◌ {A = Option A} (Some a) (Some b) 
 some_is a b h = cc
 
 store_after : (n : ℕ) (w : Work) (s : Surveyed) (old new : MemoryHost) (p : Plan) (r : List Event) (x : Rehearsal) (content : List ℕ) → IsPrepared n (prepared s old) → r ≡ x.record.events → x.host ≡ new
-    → Agrees w.apply p r (host_store old) (host_store new) → DeliversRequested (inside_of w old new) s p r (host_store old) (host_store new) → files.get (host_store new).delivered mosaic_name ≡ Some content → IsStoreAfter n p x content
+    → AgreesSince w.apply p [] r (host_store old) (host_store new) → DeliversRequested (inside_of w old new) s p r (host_store old) (host_store new) → files.get (host_store new).delivered mosaic_name ≡ Some content → IsStoreAfter n p x content
 store_after n w s old new p r x content prep is host agrees delivers mosaic = record {
   replicas = ap (λ (h : MemoryHost). (host_store h).replicas) host ∙ agrees.replicas ∙ ap (λ (m : Store). m.replicas) prep.store;
   changes = ap (λ (h : MemoryHost). (host_store h).trace) host ∙ agrees.trace ∙ ap (λ (os : List Operation). os ++ trace_of p r) (ap (λ (m : Store). m.trace) prep.store ∙ (workload_is_new n).2) ∙ ap (trace_of p) is;

@@ -34,7 +34,8 @@ use Rattle.plan_run.specs.Finishing.{NoneFailed, replicas_of}
 use Rattle.plan_run.specs.Moments.{Tools, Work}
 use Rattle.resume_run.specs.Finishing.{CanEnd, IsDoneOrMemory as EndsOrMemory}
 use Rattle.resume_run.specs.Replaying.{without_fails}
-use Rattle.resume_run.specs.Resuming.{End as Ending, HasResumed, IsShownSince, IsUnresumed, Resumes, Tells}
+use Rattle.plan_run.specs.Running.{IsShown}
+use Rattle.resume_run.specs.Resuming.{End as Ending, HasResumed, IsUnresumed, Resumes, Tells}
 use Rattle.resume_run.specs.declared.resuming.ResumeFault.TheVariants as resumed
 use Rattle.pegasus_commands.specs.declared.fault.CallFault.{CallFault}
 use Rattle.pegasus_commands.specs.declared.fault.CallFault.TheVariants.{BadRecord, IllegalRecord, Memory, Refused}
@@ -140,7 +141,7 @@ all_stand w s p order first r m new proper laws requests means opening holds all
     others name none = delivers_so.others name (λ f h e. none f (delivers_so.requested f h).0 e)
 
 -- what two stores show where the first of them held the record
-since_so : (w : Work) (p : Plan) (first r : List Event) (Shows : Store → Store → Type 0) → IsShownSince w p first r → ((m new : Store) → IsOpening w.apply p first m → Holds w.apply p first r m new → Shows m new) → ShownBy w (λ m new. IsOpening w.apply p first m → Shows m new)
+since_so : (w : Work) (p : Plan) (first r : List Event) (Shows : Store → Store → Type 0) → IsShown w p first r → ((m new : Store) → IsOpening w.apply p first m → Holds w.apply p first r m new → Shows m new) → ShownBy w (λ m new. IsOpening w.apply p first m → Shows m new)
 since_so w p first r Shows shown so = by w.before.told w.after.told shown
   where
     by : (old new : Option Store) → IfSome old (λ m. MatchOption new ⊥ (λ x. AgreesSince w.apply p first r m x)) → IfSome old (λ m. MatchOption new ⊥ (λ x. IsOpening w.apply p first m → Shows m x))

@@ -18,7 +18,6 @@ with_tools w t u n p order x a before after h = record {
     legal = h.run.legal;
     below = h.run.below;
     over = h.run.over;
-    none_open = h.run.none_open;
     safe = h.run.safe;
     output = h.run.output;
     left = h.run.left;
@@ -26,9 +25,10 @@ with_tools w t u n p order x a before after h = record {
     inputs = h.run.inputs;
     counted = h.run.counted;
     tools = λ k l. subst (λ (m : MemberMoment). RoseBy (tool_faults k h.r) m.faults (count_of u.after k)) (sym (before k l)) (subst (λ (m : MemberMoment). RoseBy (tool_faults k h.r) (count_of t.before k) m.faults) (sym (after k l)) (h.run.tools k l));
-    gates = λ k l. subst (λ (m : MemberMoment). HasAsked (entries_by k h.r) m.asked (asked_of u.after k)) (sym (before k l)) (subst (λ (m : MemberMoment). HasAsked (entries_by k h.r) (asked_of t.before k) m.asked) (sym (after k l)) (h.run.gates k l));
     told = λ k l. ap (λ (m : MemberMoment). m.told) (after k l) ∙ h.run.told k l ∙ ap (λ (m : MemberMoment). m.told ++ placed_by k 0 h.r) (sym (before k l));
   };
+  none_open = h.none_open;
+  gates = λ k l. subst (λ (m : MemberMoment). HasAsked (entries_by k h.r) m.asked (asked_of u.after k)) (sym (before k l)) (subst (λ (m : MemberMoment). HasAsked (entries_by k h.r) (asked_of t.before k) m.asked) (sym (after k l)) (h.gates k l));
   tells = h.tells;
   reports = h.reports;
 }

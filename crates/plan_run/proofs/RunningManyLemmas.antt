@@ -11,7 +11,6 @@ use Rattle.run_record.specs.Events.{Event}
 use Rattle.lease_rules.specs.Owning.{entries_by}
 use Rattle.lease_rules.specs.State.{now}
 use Rattle.site_yard.specs.Failures.{RoseBy, tool_faults}
-use Rattle.site_yard.specs.Opening.{AreUnused}
 use Rattle.worker_gate.specs.Alone.{IsOver}
 use Rattle.worker_gate.specs.Asking.{AreGatesAsked}
 use Rattle.worker_gate.specs.Inputs.{AreOfInputs}
@@ -26,20 +25,17 @@ over_so p order r true none over = inl (none refl)
 over_so p order r false none over = inr (over refl)
 
 pub many_end : (w : Work) (t : Tools) (n : ℕ) (p : Plan) (order : List ℕ) (r : List Event) (unstarted : Bool) (told : Option Store) (marked : Store) (faults misses : ℕ) → w.after.told ≡ told → is_some told ≡ is_some w.before.told → IfSome w.before.told (λ s. marked ≡ s) → faults ≡ w.before.counts.faults → misses ≡ w.before.counts.misses
-    → AreUnused p w.before.told → WorksMany p order n unstarted r → (unstarted ≡ true → r ≡ []) → ((k : ℕ) → k < n → RoseBy (tool_faults k r) (count_of t.before k) (count_of t.after k)) → ((k : ℕ) → k < n → HasAsked (entries_by k r) (asked_of t.before k) (asked_of t.after k)) → ((k : ℕ) → k < n → told_of t.after k ≡ told_of t.before k ++ placed_by k 0 r) → AreOfInputs w.apply p r → IsYardEnd w t n p order r told marked faults misses
-many_end w t n p order r unstarted told marked faults misses told_is tells marked_is faults_are misses_are unused works none tools gates entered inputs = record {
+    → WorksMany p order n unstarted r → (unstarted ≡ true → r ≡ []) → ((k : ℕ) → k < n → RoseBy (tool_faults k r) (count_of t.before k) (count_of t.after k)) → ((k : ℕ) → k < n → told_of t.after k ≡ told_of t.before k ++ placed_by k 0 r) → AreOfInputs w.apply p r → IsYardEnd w t n p order [] r told marked faults misses
+many_end w t n p order r unstarted told marked faults misses told_is tells marked_is faults_are misses_are works none tools entered inputs = record {
   told_is = told_is;
   tells = tells;
   marked_is = marked_is;
   faults_are = faults_are;
   misses_are = misses_are;
-  unused = unused;
   below = works.below;
   over = over_so p order r unstarted none works.over;
-  none_open = works.none_open;
   inputs = inputs;
   tools = tools;
-  gates = gates;
   entered = entered;
 }
 

@@ -15,5 +15,5 @@ mod running_many;
 
 pub use law::{deliveries_stay_within_the_output, runs_finish};
 pub use run_text::print_run;
-pub use running::{Ran, run_plan};
+pub use running::{Ran, end_run, refuse_run, run_plan};
 pub use running_many::run_plan_by;

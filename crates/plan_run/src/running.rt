@@ -1,12 +1,12 @@
 //! A run of a plan by one worker, and how a run ends.
 
-ghost use Rattle.std.specs.Prelude.{◌≡◌, ◌≤◌, ◌⊎◌, [], Err, IfOk, Some, take, true};
+ghost use Rattle.std.specs.Prelude.{◌≡◌, ◌≤◌, ◌⊎◌, [], Err, IfOk, Some, drop, take, true};
 ghost use Rattle.plan_core.specs.Words.{retries, task_numbers};
 ghost use Rattle.lease_book.specs.Book.{state_at};
 ghost use Rattle.lease_rules.specs.Legal.{IsComplete};
 ghost use Rattle.run_record.specs.declared.run_fault.RunFault.TheVariants as faults;
 ghost use Rattle.plan_run.specs.Moments.{member_moment, work_moment, working};
-ghost use Rattle.plan_run.specs.Running.{EndsAs, HasRunAlone, IsEmptyReport, IsRefusal, IsReport, Reports, ended_by, marked_if, reporting};
+ghost use Rattle.plan_run.specs.Running.{EndsAs, HasRunAlone, IsEmptyReport, IsRefusal, IsReportSince, ReportsSince, ended_by, marked_if, reporting};
 
 use crate::law::deliveries_stay_within_the_output;
 use crate::record_copy::copy_of;
@@ -71,10 +71,11 @@ fn end_of<H: Host, T: Tool>(alloc: Global, yard: &Yard<H, T>) -> Result<(), RunF
     }
 }
 
-/// The record of a run, and what it delivered.
+/// The record of a run, and what was delivered since the yard's opening.
 fn report_of<H: Host, T: Tool>(alloc: Global, yard: &Yard<H, T>) -> Result<Report, Memory>
-    requires fresh { take yard.now.opened yard.now.book.history.events ≡ [] }
-    ensures { IfOk result (λ x. IsReport T.apply yard.now.ordered.plan yard.now.book.history.events
+    ensures { IfOk result (λ x. IsReportSince T.apply yard.now.ordered.plan
+        (take yard.now.opened yard.now.book.history.events)
+        (drop yard.now.opened yard.now.book.history.events)
         (marked_if (H.told yard.now.host) (H.marked yard.now.host))
         (reporting (Some x.history) x.text.items x.delivered.items)) }
 {
@@ -93,14 +94,15 @@ fn report_of<H: Host, T: Tool>(alloc: Global, yard: &Yard<H, T>) -> Result<Repor
     })
 }
 
-/// The end and the report of a run that is over, and its host.
-pub(crate) fn end_run<H: Host, T: Tool>(alloc: Global, yard: Yard<H, T>) -> Ran<H>
-    requires fresh { take yard.opened yard.book.history.events ≡ [] }
+/// The end and the report of a run that is over, and its host. Of a yard that was opened with a record it tells what was
+/// delivered since.
+pub fn end_run<H: Host, T: Tool>(alloc: Global, yard: Yard<H, T>) -> Ran<H>
     requires over { IsComplete yard.ordered.plan (state_at yard.book)
         ⊎ ((state_at yard.book).failing ≡ true) }
     ensures ends { EndsAs yard.ordered.plan
         (task_numbers yard.ordered.tasks.items) yard.book.history.events result.end }
-    ensures reports { Reports T.apply yard.ordered.plan yard.book.history.events
+    ensures reports { ReportsSince T.apply yard.ordered.plan (take yard.opened yard.book.history.events)
+        (drop yard.opened yard.book.history.events)
         (marked_if (H.told yard.host) (H.marked yard.host))
         (reporting result.history result.text.items result.delivered.items) result.end }
     ensures host { result.host ≡ yard.host }
@@ -141,7 +143,7 @@ fn empty_report(alloc: Global, plan: &Plan) -> Result<Report, Memory>
 }
 
 /// The end and the report of a run whose opening was refused, and its host.
-pub(crate) fn refuse_run<H: Host>(alloc: Global, refused: OpenRefused<H>) -> Ran<H>
+pub fn refuse_run<H: Host>(alloc: Global, refused: OpenRefused<H>) -> Ran<H>
     ensures refusal { IsRefusal refused.ordered.plan refused.fault
         (reporting result.history result.text.items result.delivered.items) result.end }
     ensures host { result.host ≡ refused.host }

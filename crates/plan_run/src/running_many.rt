@@ -5,7 +5,7 @@ ghost use Rattle.plan_core.specs.Words.{retries, task_numbers};
 ghost use Rattle.lease_book.specs.Book.{state_at};
 ghost use Rattle.lease_rules.specs.Legal.{IsComplete};
 ghost use Rattle.plan_run.specs.Moments.{counting, crew_moment, first_shown, work_moment, working};
-ghost use Rattle.plan_run.specs.Running.{EndsAs, HasRun, Reports, marked_if, reporting};
+ghost use Rattle.plan_run.specs.Running.{EndsAs, HasRun, ReportsSince, marked_if, reporting};
 
 use crate::law::deliveries_stay_within_the_output;
 use crate::members::{put_back, take_members};
@@ -28,12 +28,12 @@ struct RanBy<H: Host, T: Tool, G: Gate> {
 
 /// The end and the report of a run that is over, or that there was no memory to begin, and its host.
 fn end_many<H: Host, T: Tool>(alloc: Global, yard: Yard<H, T>, unstarted: bool) -> Ran<H>
-    requires fresh { take yard.opened yard.book.history.events ≡ [] }
     requires over { unstarted ≡ false
         → IsComplete yard.ordered.plan (state_at yard.book) ⊎ ((state_at yard.book).failing ≡ true) }
     ensures ends { EndsAs yard.ordered.plan
         (task_numbers yard.ordered.tasks.items) yard.book.history.events result.end }
-    ensures reports { Reports T.apply yard.ordered.plan yard.book.history.events
+    ensures reports { ReportsSince T.apply yard.ordered.plan (take yard.opened yard.book.history.events)
+        (drop yard.opened yard.book.history.events)
         (marked_if (H.told yard.host) (H.marked yard.host))
         (reporting result.history result.text.items result.delivered.items) result.end }
     ensures host { result.host ≡ yard.host }

@@ -1,28 +1,21 @@
 //! A run that is gone on with from a record.
 
-ghost use Rattle.std.specs.Prelude.{◌≡◌, ◌≤◌, ◌⊎◌, [], Err, IfOk, drop, false, length, map, take, true};
+ghost use Rattle.std.specs.Prelude.{◌≡◌, ◌≤◌, [], Err, false, length, map};
 ghost use Rattle.craft.specs.declared.crew.Crew.{Crew};
 ghost use Rattle.plan_core.specs.Words.{count_tasks, retries, task_numbers};
 ghost use Rattle.lease_book.specs.Book.{state_at};
-ghost use Rattle.lease_rules.specs.Legal.{IsComplete};
 ghost use Rattle.plan_run.specs.Moments.{counting, crew_moment, first_shown, work_moment, working};
-ghost use Rattle.plan_run.specs.RunText.{run_text};
-ghost use Rattle.plan_run.specs.Running.{marked_if};
 ghost use Rattle.resume_run.specs.Lost.{lost_below};
-ghost use Rattle.resume_run.specs.Resuming.{EndsAs, HasGoneOn, IsRefusal, IsResumedText, Reports, Resumes};
+ghost use Rattle.resume_run.specs.Resuming.{HasGoneOn, Resumes, resumed_end};
 
 use crate::replaying::{ReplayFault, Replayed, replay};
 use crate::working::work_on;
 use craft::{Crew, Gate};
 use lease_rules::{legal_records_are_safe, ordered_plans_fit};
-use outside::{Host, Memory, Tool};
-use plan_core::Plan;
-use plan_run::{deliveries_stay_within_the_output, print_run};
+use outside::{Host, Tool};
+use plan_run::{Ran, deliveries_stay_within_the_output, end_run, refuse_run};
 use run_record::{Record, RunFault};
-use site_yard::{
-    OpenRefused, Yard, empty_records, fails_show_in_the_state, nothing_else_fails, opening_fault,
-    what_is_left_is_held,
-};
+use site_yard::{Yard, fails_show_in_the_state, nothing_else_fails, what_is_left_is_held};
 use std::alloc::Global;
 use storage_simulation::Ordered;
 
@@ -58,72 +51,23 @@ fn unresumed<H: Host>(alloc: Global, fault: ResumeFault, host: H) -> Resumed<H>
     }
 }
 
-/// The whole record, and what was delivered since the yard's opening.
-fn text_of<H: Host, T: Tool>(alloc: Global, yard: &Yard<H, T>) -> Result<Vec<u8>, Memory>
-    ensures { IfOk result (λ x. IsResumedText T.apply yard.now.ordered.plan
-        (take yard.now.opened yard.now.book.history.events)
-        (drop yard.now.opened yard.now.book.history.events)
-        (marked_if (H.told yard.now.host) (H.marked yard.now.host)) x.items) }
+/// The same of a run that was gone on with.
+fn of_run<H: Host>(ran: Ran<H>) -> Resumed<H>
+    ensures end { result.end ≡ resumed_end ran.end }
+    ensures text { result.text.items ≡ ran.text.items }
+    ensures host { result.host ≡ ran.host }
 {
-    let record = yard.book().record();
-    // What holds of every record, for the proof.
-    record.has_entries();
-    print_run(alloc, yard.plan(), record, yard.delivered())
-}
-
-/// The end and the text of a run that is over, and its host.
-fn end_resumed<H: Host, T: Tool>(alloc: Global, yard: Yard<H, T>) -> Resumed<H>
-    requires over { IsComplete yard.ordered.plan (state_at yard.book)
-        ⊎ ((state_at yard.book).failing ≡ true) }
-    ensures ends { EndsAs yard.ordered.plan
-        (task_numbers yard.ordered.tasks.items) yard.book.history.events result.end }
-    ensures reports { Reports T.apply yard.ordered.plan (take yard.opened yard.book.history.events)
-        (drop yard.opened yard.book.history.events)
-        (marked_if (H.told yard.host) (H.marked yard.host)) result.text.items result.end }
-    ensures host { result.host ≡ yard.host }
-{
-    match text_of(alloc, &yard) {
-        Ok(text) => {
-            let end = match yard.ending(alloc) {
-                Ok(()) => Ok(()),
-                Err(fault) => Err(ResumeFault::Failed(fault)),
-            };
-            Resumed {
-                end,
-                text,
-                host: yard.into_host(),
-            }
-        }
-        Err(Memory) => unresumed(
-            alloc,
-            ResumeFault::Failed(RunFault::Memory),
-            yard.into_host(),
-        ),
-    }
-}
-
-/// The text of a record without entries.
-fn empty_text(alloc: Global, plan: &Plan) -> Result<Vec<u8>, Memory>
-    ensures { IfOk result (λ x. x.items ≡ run_text plan.now [] []) }
-{
-    let record = Record::with_room(alloc, 0, 0)?;
-    print_run(alloc, plan, &record, &[])
-}
-
-/// The end and the text of a run whose opening was refused, and its host.
-fn refuse<H: Host>(alloc: Global, refused: OpenRefused<H>) -> Resumed<H>
-    ensures refusal { IsRefusal refused.ordered.plan refused.fault result.text.items result.end }
-    ensures host { result.host ≡ refused.host }
-{
-    let fault = opening_fault(refused.ordered.plan(), alloc, refused.fault);
-    match empty_text(alloc, refused.ordered.plan()) {
-        Ok(text) => Resumed {
-            end: Err(ResumeFault::Failed(fault)),
-            text,
-            host: refused.host,
-        },
-        Err(Memory) => unresumed(alloc, ResumeFault::Failed(RunFault::Memory), refused.host),
-    }
+    let Ran {
+        end,
+        text,
+        host,
+        ..
+    } = ran;
+    let end = match end {
+        Ok(()) => Ok(()),
+        Err(fault) => Err(ResumeFault::Failed(fault)),
+    };
+    Resumed { end, text, host }
 }
 
 /// Goes on from a book without a Fail, whose open tasks are these.
@@ -154,7 +98,6 @@ fn go_on<H: Host, T: Tool, G: Gate>(
     legal_records_are_safe();
     what_is_left_is_held();
     deliveries_stay_within_the_output();
-    empty_records();
     nothing_else_fails();
     let Replayed { book, lost } = replayed;
     // What holds of every book, for the proof.
@@ -164,9 +107,9 @@ fn go_on<H: Host, T: Tool, G: Gate>(
             let yard = work_on(alloc, yard, lost.as_slice(), crew);
             // What holds of every yard, for the proof.
             yard.agrees();
-            end_resumed(alloc, yard)
+            of_run(end_run(alloc, yard))
         }
-        Err(refused) => refuse(alloc, refused),
+        Err(refused) => of_run(refuse_run(alloc, refused)),
     }
 }
 

@@ -17,7 +17,7 @@ use Rattle.lease_rules.specs.State.{State, after, now, now_from, opened}
 use Rattle.site_yard.specs.Changes.{carries, changes}
 use Rattle.site_yard.specs.Failures.{AreCounted}
 use Rattle.site_yard.specs.Kept.{IsKept, IsOpening, IsTruthful}
-use Rattle.site_yard.specs.Law.{Agrees, AgreesSince, HasPlanLaws, HasRecordLaws, Holds}
+use Rattle.site_yard.specs.Law.{AgreesSince, HasPlanLaws, HasRecordLaws, Holds}
 use Rattle.plan_core.specs.Names.{pair_file}
 use Rattle.site_yard.specs.Places.{is_delivered, is_published, is_swept}
 use Rattle.site_yard.specs.Truthful.{Truthful}
@@ -83,7 +83,7 @@ book_agrees b laws apply k o m f0 m0 counts kept =
 pub book_counted : (b : Book) (apply : Apply) (k : ℕ) (o : Option Store) (m : Store) (f0 m0 : ℕ) (counts : Counts) → ∥ IsKept apply b.plan (task_numbers b.order.items) (take k b.history.events) (drop k b.history.events) o m f0 m0 counts ∥₁ → ∥ AreCounted o f0 m0 counts (drop k b.history.events) ∥₁
 book_counted b apply k o m f0 m0 counts kept = ∥∥₁_map kept (λ x. x.counted)
 
--- a yard that was opened with no entry
+-- what is said of a yard that was opened with no entry
 pub opening_of_none : (apply : Apply) (p : Plan) (m : Store) → IsOpening apply p [] m
 unfolding is_delivered
 opening_of_none apply p m = record { truthful = tt; stored = λ t q h e free. absurd cc; delivered = λ t f h e. absurd cc }
@@ -92,22 +92,6 @@ pub all_since : {A : Type 0} (k : ℕ) (h : List A) → take k h ≡ [] → drop
 all_since zero h e = refl
 all_since (suc k) [] e = refl
 all_since (suc k) (x ∷ h) e = absurd cc
-
-from_start : (apply : Apply) (p : Plan) (r : List Event) (m s : Store) → AgreesSince apply p [] r m s → Agrees apply p r m s
-from_start apply p r m s since =
-    let h : Holds apply p [] r m s = since.holds (opening_of_none apply p m) in
-    record { truthful = h.truthful; replicas = since.replicas; trace = since.trace; published = h.published; swept = h.swept; untouched = h.untouched; delivered = h.delivered; undelivered = h.undelivered }
-
-told_from_start : (apply : Apply) (p : Plan) (first r h : List Event) (o : Option Store) (m : Store) → first ≡ [] → r ≡ h → IfSome o (AgreesSince apply p first r m) → IfSome o (Agrees apply p h m)
-told_from_start apply p first r h None m none all since = tt
-told_from_start apply p first r h (Some s) m none all since =
-    from_start apply p h m s (subst (λ l. AgreesSince apply p [] l m s) all (subst (λ l. AgreesSince apply p l r m s) none since))
-
-pub fresh_agrees : (apply : Apply) (p : Plan) (k : ℕ) (h : List Event) (o : Option Store) (m : Store) → ∥ IfSome o (AgreesSince apply p (take k h) (drop k h) m) ∥₁ → take k h ≡ [] → ∥ IfSome o (Agrees apply p h m) ∥₁
-fresh_agrees apply p k h o m since none = ∥∥₁_map since (told_from_start apply p (take k h) (drop k h) h o m none (all_since k h none))
-
-pub fresh_counted : (k : ℕ) (h : List Event) (o : Option Store) (f0 m0 : ℕ) (counts : Counts) → ∥ AreCounted o f0 m0 counts (drop k h) ∥₁ → take k h ≡ [] → ∥ AreCounted o f0 m0 counts h ∥₁
-fresh_counted k h o f0 m0 counts counted none = subst (λ l. ∥ AreCounted o f0 m0 counts l ∥₁) (all_since k h none) counted
 
 -- a store shows no entries of itself
 pub none_agrees : (apply : Apply) (p : Plan) (first : List Event) (m : Store) → AgreesSince apply p first [] m m

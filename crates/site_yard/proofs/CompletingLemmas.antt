@@ -1,5 +1,5 @@
--- What complete records have delivered, and what empty ones say.
-use Rattle.std.proofs.Common.{◌≡◌, ℕ, ◌<◌, ◌⊎◌, inl, inr, true, false, List, [], ◌∷◌, refl, sym, ap, ◌∙◌, subst}
+-- What complete records have delivered.
+use Rattle.std.proofs.Common.{◌≡◌, ℕ, ◌<◌, ◌⊎◌, inl, inr, true, false, List, [], ◌∷◌, sym, ap, ◌∙◌, subst}
 use Rattle.std.specs.Prelude.{Option, Some, None, ◌≤◌}
 use Rattle.std.specs.List.{list_any}
 use Rattle.std.proofs.lemmas.Bool.{cases_lt}
@@ -10,12 +10,11 @@ use Rattle.plan_core.specs.declared.plan.TaskKind.TheVariants.{Transfer, Run, Cl
 use Rattle.plan_core.specs.Words.{count_tasks, delivers, is_clean_kind, is_run_kind, kind, kind_delivers, kind_in}
 use Rattle.plan_core.proofs.TestLemmas.{either, or_left, or_right, same_number}
 use Rattle.run_record.specs.Events.{Event, Grant, Arrive, End, Clean, Fail, Again, Regrant}
-use Rattle.lease_rules.specs.Legal.{IsComplete, IsOpen, Legal}
+use Rattle.lease_rules.specs.Legal.{IsComplete, Legal}
 use Rattle.lease_rules.specs.Reading.{ends}
 use Rattle.lease_rules.specs.State.{now, opened}
-use Rattle.site_yard.specs.Failures.{host_faults, host_misses, tool_faults}
 use Rattle.site_yard.specs.Law.{HasRecordLaws}
-use Rattle.site_yard.specs.Places.{delivers_file, is_delivered, is_published, is_swept}
+use Rattle.site_yard.specs.Places.{delivers_file, is_delivered}
 use Rattle.site_yard.proofs.SuitsLemmas.{AllSuit, Suits, legal_suits}
 
 -- a delivery is neither a Run nor a Clean, and is a task
@@ -76,31 +75,3 @@ delivered_by p (e ∷ r) f h = elim (either (delivers_file p f e) (list_any (del
   | inl d ↦ delivered_here p e f d
   | inr d ↦ delivered_by p r f d
 ]
-
--- the empty record
-pub none_open : (p : Plan) (order : List ℕ) (w t : ℕ) → IsOpen (now p order []) w t → ⊥
-none_open p order w t h = absurd (let k = h.runs in cc)
-
-pub none_published : (p : Plan) (q : ℕ) → is_published p [] q ≡ false
-unfolding is_published
-none_published p q = refl
-
-pub none_swept : (p : Plan) (q : ℕ) → is_swept p [] q ≡ false
-unfolding is_swept
-none_swept p q = refl
-
-pub none_delivered : (p : Plan) (f : ℕ) → is_delivered p [] f ≡ false
-unfolding is_delivered
-none_delivered p f = refl
-
-pub no_faults : host_faults [] ≡ 0
-unfolding host_faults
-no_faults = refl
-
-pub no_misses : host_misses [] ≡ 0
-unfolding host_misses
-no_misses = refl
-
-pub no_tool_faults : (w : ℕ) → tool_faults w [] ≡ 0
-unfolding tool_faults
-no_tool_faults w = refl

@@ -11,7 +11,7 @@ mod TraceLemmas
 mod GoneLemmas
 mod OthersLemmas
 mod DeliveredLemmas
-mod AgreesLemmas
+pub mod AgreesLemmas
 mod DeliveryListLemmas
 mod DeliveryRoomLemmas
 mod EndingLemmas

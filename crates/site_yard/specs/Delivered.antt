@@ -1,5 +1,5 @@
 -- What was delivered, by the record: one element for each delivery that arrived, in the order of the record.
-use Rattle.std.specs.Prelude.{◌≡◌, ℕ, true, List, [], ◌∷◌, ◌++◌, map, length, Option, Some, None, option_map, is_some, IfSome}
+use Rattle.std.specs.Prelude.{◌≡◌, ℕ, true, List, [], ◌∷◌, ◌++◌, map, length, Option, Some, None, option_map, is_some}
 use Rattle.std.specs.List.{All}
 use Rattle.sha2.specs.Sha256.{sha256}
 use Rattle.values.specs.Apply.{Apply}
@@ -69,14 +69,6 @@ pub record AreDelivered (apply : Apply) (p : Plan) (first r : List Event) (told 
   pub lengths : AreLengths ds (arrivals p r)
   pub digests : IsOpening apply p first marked → is_some told ≡ true
       → AreDigests (carries apply p marked) ds (arrivals p r)
-  pub of_bytes : AreOfBytes ds
-
--- The same of a yard that was opened with no entry.
-pub record AreAllDelivered (apply : Apply) (p : Plan) (r : List Event) (told : Option Store) (marked : Store)
-    (ds : List Delivered) : Type 0 where
-  pub files : AreFiles ds (arrivals p r)
-  pub lengths : AreLengths ds (arrivals p r)
-  pub digests : IfSome told (λ s. AreDigests (carries apply p marked) ds (arrivals p r))
   pub of_bytes : AreOfBytes ds
 
 -- the tasks of a plan that deliver a file; what is kept of a delivery of these bytes

@@ -78,19 +78,3 @@ pub record AgreesSince (apply : Apply) (p : Plan) (first r : List Event) (m s : 
   pub replicas : s.replicas ≡ m.replicas
   pub trace : s.trace ≡ m.trace ++ trace_of p r
   pub holds : IsOpening apply p first m → Holds apply p first r m s
-
--- The same of a yard that was opened with no entry: what its store shows of the whole record.
-pub record Agrees (apply : Apply) (p : Plan) (r : List Event) (m s : Store) : Type 0 where
-  pub truthful : IsTruthful apply p m r
-  pub replicas : s.replicas ≡ m.replicas
-  pub trace : s.trace ≡ m.trace ++ trace_of p r
-  pub published : (q : ℕ) → is_published p r q ≡ true → is_swept p r q ≡ false
-      → IsPairOf p (carries apply p m) q (pair_at s.scratch (pair_site_name p q) (pair_file_name p q))
-  pub swept : (q : ℕ) → is_swept p r q ≡ true
-      → pair_at s.scratch (pair_site_name p q) (pair_file_name p q) ≡ None
-  pub untouched : (site name : List ℕ) → IsUntouched p r site name
-      → pair_at s.scratch site name ≡ pair_at m.scratch site name
-  pub delivered : (f : ℕ) → is_delivered p r f ≡ true
-      → IsDeliveryOf p (carries apply p m) f (files.get s.delivered (file_name p f))
-  pub undelivered : (name : List ℕ) → IsUndelivered p r name
-      → files.get s.delivered name ≡ files.get m.delivered name

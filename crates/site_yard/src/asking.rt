@@ -1,15 +1,15 @@
 //! What is asked of a yard.
 
-ghost use Rattle.std.specs.Prelude.{◌≡◌, ◌⊎◌, [], IfOk, IfSome, drop, take, true};
+ghost use Rattle.std.specs.Prelude.{◌≡◌, ◌⊎◌, IfOk, IfSome, drop, take, true};
 ghost use Rattle.plan_core.specs.Words.{task_numbers};
 ghost use Rattle.lease_book.specs.Book.{state_at};
 ghost use Rattle.lease_rules.specs.Legal.{IsComplete, Legal};
 ghost use Rattle.site_yard.specs.Changes.{carries};
-ghost use Rattle.site_yard.specs.Delivered.{AreAllDelivered, AreDigests, AreFiles, AreLengths, AreOfBytes, arrivals};
+ghost use Rattle.site_yard.specs.Delivered.{AreDigests, AreFiles, AreLengths, AreOfBytes, arrivals};
 ghost use Rattle.site_yard.specs.Ending.{Ends};
 ghost use Rattle.site_yard.specs.Failures.{AreCounted};
 ghost use Rattle.site_yard.specs.Kept.{IsOpening};
-ghost use Rattle.site_yard.specs.Law.{Agrees, AgreesSince};
+ghost use Rattle.site_yard.specs.Law.{AgreesSince};
 
 use crate::delivered::Delivered;
 use crate::ending::{first_failed, run_fault};
@@ -22,8 +22,7 @@ use run_record::RunFault;
 use std::alloc::Global;
 
 impl<H: Host, T: Tool> Yard<H, T> {
-    /// The record is Legal; a host that tells shows its entries since the opening, and the host's counts their failures. Of
-    /// a yard that was opened with no entry they are all.
+    /// The record is Legal; a host that tells shows its entries since the opening, and the host's counts their failures.
     pub fn agrees(&self)
         ensures legal { ∥ Legal self.now.ordered.plan
             (task_numbers self.now.ordered.tasks.items) self.now.book.history.events ∥₁ }
@@ -32,12 +31,6 @@ impl<H: Host, T: Tool> Yard<H, T> {
             (drop self.now.opened self.now.book.history.events) (H.marked self.now.host)) ∥₁ }
         ensures counted { ∥ AreCounted (H.told self.now.host) self.now.faults self.now.misses
             (H.counts self.now.host) (drop self.now.opened self.now.book.history.events) ∥₁ }
-        ensures shows_all { take self.now.opened self.now.book.history.events ≡ []
-            → ∥ IfSome (H.told self.now.host)
-            (Agrees T.apply self.now.ordered.plan self.now.book.history.events (H.marked self.now.host)) ∥₁ }
-        ensures counts_all { take self.now.opened self.now.book.history.events ≡ []
-            → ∥ AreCounted (H.told self.now.host) self.now.faults self.now.misses
-            (H.counts self.now.host) self.now.book.history.events ∥₁ }
     {
         plan_laws();
         record_laws();
@@ -75,9 +68,6 @@ impl<H: Host, T: Tool> Yard<H, T> {
             (carries T.apply self.now.ordered.plan (H.marked self.now.host)) result.now
             (arrivals self.now.ordered.plan (drop self.now.opened self.now.book.history.events))) }
         ensures of_bytes { AreOfBytes result.now }
-        ensures all { take self.now.opened self.now.book.history.events ≡ []
-            → AreAllDelivered T.apply self.now.ordered.plan self.now.book.history.events
-            (H.told self.now.host) (H.marked self.now.host) result.now }
     {
         &self.delivered
     }

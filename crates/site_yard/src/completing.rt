@@ -1,19 +1,14 @@
-//! What complete records have done, and empty ones.
+//! What complete records have done.
 
-ghost use Rattle.std.specs.Prelude.{◌≡◌, ℕ, true, false, List, []};
-ghost use Rattle.values.specs.Apply.{Apply};
-ghost use Rattle.outside.specs.declared.store.Store.{Store};
+ghost use Rattle.std.specs.Prelude.{◌≡◌, ℕ, true, List};
 ghost use Rattle.plan_core.specs.declared.plan.Plan.{Plan};
 ghost use Rattle.plan_core.specs.Proper.{IsProper};
 ghost use Rattle.plan_core.specs.Words.{delivers};
 ghost use Rattle.run_record.specs.Events.{Event};
 ghost use Rattle.lease_rules.specs.Law.{FitsFromStart};
-ghost use Rattle.lease_rules.specs.Legal.{IsComplete, IsOpen, Legal};
+ghost use Rattle.lease_rules.specs.Legal.{IsComplete, Legal};
 ghost use Rattle.lease_rules.specs.State.{now};
-ghost use Rattle.site_yard.specs.Failures.{host_faults, host_misses, tool_faults};
-ghost use Rattle.site_yard.specs.Kept.{IsOpening};
-ghost use Rattle.site_yard.specs.Law.{AgreesSince};
-ghost use Rattle.site_yard.specs.Places.{is_delivered, is_published, is_swept};
+ghost use Rattle.site_yard.specs.Places.{is_delivered};
 
 use crate::law::record_laws;
 
@@ -27,18 +22,3 @@ pub fn complete_records_deliver()
 {
     record_laws();
 }
-
-/// In a record without entries no task is open, nothing stands, and nothing was counted; a store shows them of itself,
-/// whatever entries stood before.
-pub fn empty_records()
-    ensures none_open { (p : Plan) (order : List ℕ) (w t : ℕ) → IsOpen (now p order []) w t → ⊥ }
-    ensures none_published { (p : Plan) (q : ℕ) → is_published p [] q ≡ false }
-    ensures none_swept { (p : Plan) (q : ℕ) → is_swept p [] q ≡ false }
-    ensures none_delivered { (p : Plan) (f : ℕ) → is_delivered p [] f ≡ false }
-    ensures faults { host_faults [] ≡ 0 }
-    ensures misses { host_misses [] ≡ 0 }
-    ensures tools { (w : ℕ) → tool_faults w [] ≡ 0 }
-    ensures agrees { (apply : Apply) (p : Plan) (first : List Event) (m : Store)
-        → AgreesSince apply p first [] m m }
-    ensures opening { (apply : Apply) (p : Plan) (m : Store) → IsOpening apply p [] m }
-{}

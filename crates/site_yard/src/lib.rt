@@ -31,7 +31,7 @@ mod returning;
 mod yard;
 
 pub use chronicle::{Charter, JournalEntry};
-pub use completing::{complete_records_deliver, empty_records};
+pub use completing::complete_records_deliver;
 pub use delivered::Delivered;
 pub use faults::{fails_show_in_the_state, nothing_else_fails};
 pub use law::{kept_stores_show_records, plan_laws};

@@ -4,7 +4,7 @@ use Rattle.plan_core.specs.Words.{task_numbers}
 use Rattle.planner.specs.declared.surveyed.Surveyed.{Surveyed}
 use Rattle.worker_gate.specs.Alone.{tried}
 use Rattle.plan_run.specs.Moments.{Tools, Work, first_tool}
-use Rattle.plan_run.specs.Running.{TakesCalls, WasRefused}
+use Rattle.plan_run.specs.Running.{AsksNothingElse, Fresh}
 use Rattle.pegasus_commands.specs.CommandSpec.{CommandSpec}
 use Rattle.pegasus_commands.specs.Fault.{Answer}
 use Rattle.pegasus_commands.specs.PlanRun.{CanRun, HasRunPlan, IsUnrun}
@@ -16,7 +16,7 @@ pub record HasRunFirst (w : Work) (s : Surveyed) (text : List ℕ) (answer : Ans
   -- tasks are begun in the kept order, and one that is tried again at once
   pub in_order : tried planned.ran.r ≡ take (length (tried planned.ran.r)) (task_numbers planned.order)
   -- the host was asked for nothing else: each read, draft, publication and removal once
-  pub asked : TakesCalls w planned.plan planned.ran.r ⊎ ((planned.ran.r ≡ []) × WasRefused w planned.plan)
+  pub asked : AsksNothingElse w planned.plan Fresh planned.ran.r
 
 abbrev pub RunsAlone : Work → Tools → Surveyed → List ℕ → Answer → Type 0
 RunsAlone w t s text answer = IsUnrun w (first_tool w) s text answer ⊎ ∥ HasRunFirst w s text answer ∥₁

@@ -7,7 +7,7 @@ use Rattle.lease_rules.specs.State.{now}
 use Rattle.worker_gate.specs.Alone.{IsOver}
 use Rattle.plan_run.specs.Moments.{counting, crew_moment, first_shown, work_moment, working}
 use Rattle.plan_run.specs.Running.{reporting}
-use Rattle.plan_run.proofs.RunningLemmas.{marked_so, not_begun, over_in, ran}
+use Rattle.plan_run.proofs.RunningLemmas.{marked_so, over_in, ran, was_refused}
 use Rattle.plan_run.proofs.RunningManyLemmas.{gates_shown, many_end, told_shown, tools_shown}
 use Rattle.plan_run.proofs.running_many.run_members.Goals as goal
 
@@ -26,7 +26,7 @@ returns-in-Ok-clause-ran g c =
     let same = c.run_many-end.ensures.ordered ∙ c.in-Ok.ensures.ordered in
     let legal = rw same at c.agrees.ensures.legal in
     let fresh = c.run_many-end.ensures.opened ∙ ap (λ n. take n c.in-Ok.yard.book.history.events) c.in-Ok.ensures.opened in
-    let shows = rw same at c.agrees.ensures.shows_all fresh in
+    let shows = rw same at c.agrees.ensures.shows in
     let ends = rw same at c.end_many-ran.ensures.ends in
     let reports = rw same at c.end_many-ran.ensures.reports in
     let works = rw c.in-Ok.ensures.ordered at c.run_many-end.ensures.works in
@@ -41,18 +41,23 @@ returns-in-Ok-clause-ran g c =
     (marked_so (g.H.Host.told c.args.host) _ _ c.run_many-end.ensures.marked c.in-Ok.ensures.marked)
     (c.run_many-end.ensures.faults ∙ c.in-Ok.ensures.faults)
     (c.run_many-end.ensures.misses ∙ c.in-Ok.ensures.misses)
-    c.in-Ok.ensures.unused works (λ u. (c.run_many-end.ensures.unstarted u).0)
+    works (λ u. (c.run_many-end.ensures.unstarted u).0)
     (tools_shown g.T.Tool g.G.Gate r c.args.members.items many.crew.items c.run_many-end.ensures.tools)
-    (gates_shown g.T.Tool g.G.Gate r c.args.members.items many.crew.items c.run_many-end.ensures.members c.run_many-end.ensures.gates)
     (told_shown g.T.Tool g.G.Gate r c.args.members.items many.crew.items c.run_many-end.ensures.told) inputs in
-    rw c.end_many-ran.ensures.host (∥∥₁_elim legal ∥∥₁_prop (λ l. ∥∥₁_elim shows ∥∥₁_prop (λ s. ∥∥₁_map (c.agrees.ensures.counts_all fresh) (λ k.
-    ran w t n p order r (g.H.Host.told y.host) (g.H.Host.marked y.host) y.faults y.misses x end_ end
+    rw c.end_many-ran.ensures.host (∥∥₁_elim legal ∥∥₁_prop (λ l. ∥∥₁_elim shows ∥∥₁_prop (λ s. ∥∥₁_map c.agrees.ensures.counted (λ k.
+    ran w t n p order r y.opened (g.H.Host.told y.host) (g.H.Host.marked y.host) y.faults y.misses x end_ fresh c.in-Ok.ensures.unused works.none_open
+    (gates_shown g.T.Tool g.G.Gate r c.args.members.items many.crew.items c.run_many-end.ensures.members c.run_many-end.ensures.gates) end
     (record {
-      safe = λ j. c.legal_records_are_safe.ensures.always p order r c.args.ordered.proper fits l j;
-      output = c.deliveries_stay_within_the_output.ensures p order r c.args.ordered.proper fits l;
-      left = λ j site. c.what_is_left_is_held.ensures p order r c.args.ordered.proper fits l j site;
+      laws = record {
+        safe = λ j. c.legal_records_are_safe.ensures.always p order r c.args.ordered.proper fits l j;
+        output = c.deliveries_stay_within_the_output.ensures p order r c.args.ordered.proper fits l;
+        left = λ j site. c.what_is_left_is_held.ensures p order r c.args.ordered.proper fits l j site;
+      };
+      legal = l;
+      agrees = s;
+      counted = k;
     })
-    l s k ends reports))))
+    ends reports))))
 
 pub returns-in-Err-clause-ran : goal.returns-in-Err-clause-ran
 returns-in-Err-clause-ran g c =
@@ -64,7 +69,7 @@ returns-in-Err-clause-ran g c =
     let before = work_moment g.H.Host c.args.host (first_shown old) in
     let after = work_moment g.H.Host c.in-Err.refused.host (first_shown old) in
     let w = working g.T.Tool.apply g.T.Tool.known before after in
-    rw c.refuse_run.ensures.host (∣ not_begun w (counting old old) (length c.args.members.items) p order c.in-Err.refused.fault (reporting c.refuse_run.result.history c.refuse_run.result.text.items c.refuse_run.result.delivered.items) c.refuse_run.result.end
+    rw c.refuse_run.ensures.host (∣ was_refused w (counting old old) (length c.args.members.items) p order c.in-Err.refused.fault (reporting c.refuse_run.result.history c.refuse_run.result.text.items c.refuse_run.result.delivered.items) c.refuse_run.result.end
     (record {
       safe = λ n. c.legal_records_are_safe.ensures.always p order [] c.args.ordered.proper fits tt n;
       output = c.deliveries_stay_within_the_output.ensures p order [] c.args.ordered.proper fits tt;
@@ -72,11 +77,10 @@ returns-in-Err-clause-ran g c =
     })
     c.in-Err.ensures.back.1 refl c.in-Err.ensures.refused refusal ∣₁)
 
-pub end_many-ran-requires-clause-fresh : goal.end_many-ran-requires-clause-fresh
-end_many-ran-requires-clause-fresh g c = c.run_many-end.ensures.opened ∙ ap (λ n. take n c.in-Ok.yard.book.history.events) c.in-Ok.ensures.opened
-
-pub end_many-ran-requires-clause-over : goal.end_many-ran-requires-clause-over
-end_many-ran-requires-clause-over g c = λ begun.
+pub end_many-ran-requires : goal.end_many-ran-requires
+end_many-ran-requires g c =
     let y = c.run_many-end.result.yard in
-    over_in y.book y.ordered.plan y.ordered.tasks.items y.same_plan y.same_order
-    (subst (λ (o : Ordered). IsOver o.plan (now o.plan (task_numbers o.tasks.items) y.book.history.events)) (sym c.run_many-end.ensures.ordered) (c.run_many-end.ensures.works.over begun))
+    record {
+      over = λ begun. over_in y.book y.ordered.plan y.ordered.tasks.items y.same_plan y.same_order
+          (subst (λ (o : Ordered). IsOver o.plan (now o.plan (task_numbers o.tasks.items) y.book.history.events)) (sym c.run_many-end.ensures.ordered) (c.run_many-end.ensures.works.over begun));
+    }

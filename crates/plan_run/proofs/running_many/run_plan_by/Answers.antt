@@ -1,4 +1,4 @@
-use Rattle.std.proofs.Common.{ℕ, [], List, ◌++◌, ◌∙◌, ap, refl}
+use Rattle.std.proofs.Common.{[], List, ◌++◌, ◌∙◌, ap, refl}
 use Rattle.craft.specs.declared.crew.Crew.{Crew}
 use Rattle.plan_core.specs.Words.{task_numbers}
 use Rattle.plan_run.specs.Moments.{MemberMoment, counting, crew_moment, first_shown, member_moment, work_moment, working}

@@ -1,4 +1,4 @@
-use Rattle.std.proofs.Common.{◌∙◌, ◌∷◌, [], ap, refl}
+use Rattle.std.proofs.Common.{◌∙◌, ◌∷◌, [], ap}
 use Rattle.run_record.specs.Events.{Log}
 use Rattle.lease_book.specs.declared.book.Book.{Book}
 use Rattle.craft.specs.declared.crew.Crew.{Crew}

@@ -1,4 +1,4 @@
-use Rattle.std.proofs.Common.{ap, inr, subst}
+use Rattle.std.proofs.Common.{inr, subst}
 use Rattle.std.proofs.Math.Logic.{∥∥₁_map}
 use Rattle.plan_core.specs.Words.{task_numbers}
 use Rattle.plan_run.specs.Moments.{counting, crew_moment, first_shown, work_moment, working}

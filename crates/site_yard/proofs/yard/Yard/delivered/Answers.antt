@@ -1,5 +1,5 @@
 use Rattle.std.proofs.Common.{sym, drop, take}
-use Rattle.site_yard.proofs.DeliveryListLemmas.{are_of_bytes, digests_told, files_are, fresh_delivered, lengths_are}
+use Rattle.site_yard.proofs.DeliveryListLemmas.{are_of_bytes, digests_told, files_are, lengths_are}
 use Rattle.site_yard.proofs.yard.Yard.delivered.Goals as goal
 
 pub returns-clause-files : goal.returns-clause-files
@@ -21,8 +21,3 @@ pub returns-clause-of_bytes : goal.returns-clause-of_bytes
 returns-clause-of_bytes g c =
     let y = c.args.self.now in
     rw c.deref.ensures.value (are_of_bytes g.T.Tool.apply y.book.plan (take y.opened y.book.history.events) (drop y.opened y.book.history.events) (g.H.Host.told y.host) (g.H.Host.marked y.host) y.delivered.items y.listed)
-
-pub returns-clause-all : goal.returns-clause-all
-returns-clause-all g c = λ none.
-    let y = c.args.self.now in
-    rw (c.deref.ensures.value, sym y.same_plan) (fresh_delivered g.T.Tool.apply y.book.plan y.opened y.book.history.events (g.H.Host.told y.host) (g.H.Host.marked y.host) y.delivered.items y.listed none)
