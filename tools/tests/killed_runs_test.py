@@ -225,6 +225,18 @@ def refused_files(work):
         assert (place / KEPT).read_text() == text
 
 
+def while_it_builds(work):
+    """Where no program is built salvage has the script build it, and what that tells is seen."""
+    place, request = diamond(work, "unbuilt")
+    top = pathlib.Path(work) / "top"
+    shutil.copytree("tools", top / "tools", ignore=shutil.ignore_patterns("tests"))
+    (top / "pegasus").write_text("#!/bin/sh\necho 'pegasus: building' >&2\nexit 70\n")
+    (top / "pegasus").chmod(0o755)
+    (place / KEPT).write_text(f"word alone\nword {request}\ngrant 0 0\n")
+    told = subprocess.run([sys.executable, top / "tools" / "salvage"], cwd=place, capture_output=True, text=True)
+    assert (told.returncode, told.stdout) == (1, "") and told.stderr.startswith("pegasus: building\n"), told
+
+
 def main(words):
     parser = argparse.ArgumentParser(description=__doc__.split("\n\n")[0])
     parser.add_argument("--seed", type=int, default=random.SystemRandom().randrange(2**31))
@@ -238,6 +250,7 @@ def main(words):
         kept_as_printed(library, work)
         without_a_file(work)
         refused_files(work)
+        while_it_builds(work)
         print(f"killed runs: seed {asked.seed}", flush=True)
         came = kill_random_workflows(asked.seed, asked.seconds, library, work)
     assert came.get("gone on with", 0) >= LEAST, came
