@@ -6,7 +6,7 @@ use Rattle.planner.specs.declared.plan_fault.PlanFault.TheVariants as plan
 use Rattle.run_record.specs.declared.run_fault.RunFault.{RunFault}
 use Rattle.run_record.specs.declared.run_fault.RunFault.TheVariants as run
 use Rattle.pegasus_commands.specs.declared.fault.CallFault.{CallFault}
-use Rattle.pegasus_commands.specs.declared.fault.CallFault.TheVariants.{Memory, Refused, Exceeds, Failed}
+use Rattle.pegasus_commands.specs.declared.fault.CallFault.TheVariants.{Memory, Refused, Failed}
 use Rattle.pegasus_commands.specs.Fault.{Answer, IsDoneOrMemory, done, not_for, plan_answer, run_answer}
 
 -- a fault that is neither want of memory nor a bound that is passed

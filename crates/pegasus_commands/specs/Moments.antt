@@ -1,5 +1,5 @@
 -- What a command's objects show at a moment: the documents, and the work with one member of the crew.
-use Rattle.std.specs.Prelude.{ℕ, Option}
+use Rattle.std.specs.Prelude.{Option}
 use Rattle.values.specs.FileMap.{Files}
 use Rattle.outside.specs.declared.counts.Counts.{Counts}
 use Rattle.outside.specs.declared.docs.Docs as docs

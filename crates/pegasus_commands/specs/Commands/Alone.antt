@@ -1,5 +1,5 @@
 -- `alone`: plans, and runs the plan with one worker. It prints the record of the run and what was delivered.
-use Rattle.std.specs.Prelude.{◌≡◌, ◌⊎◌, ℕ, List, [], length, take}
+use Rattle.std.specs.Prelude.{◌≡◌, ◌⊎◌, ℕ, List, length, take}
 use Rattle.plan_core.specs.Words.{task_numbers}
 use Rattle.planner.specs.declared.surveyed.Surveyed.{Surveyed}
 use Rattle.worker_gate.specs.Alone.{tried}
