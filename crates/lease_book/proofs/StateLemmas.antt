@@ -41,7 +41,7 @@ shown_after p s b w t st limits tied allowed long phase held = record {
     deliveries = long.deliveries;
     small = λ g.
         let is = ap held_size (held g) in
-        let few = (sound_more p s (Regrant w t) tied.behind.laws tied.behind.sound allowed).small g in
+        let few = (sound_more p s (Regrant w t) tied.behind.rules.laws tied.behind.sound allowed).small g in
         let size = good_small p g limits in
         omega (arith, is, few, size);
   };
@@ -71,5 +71,5 @@ line_is_rest p s peaks unfailed none = by_stack (stack_of s.peaks) refl
   where
     by_stack : (xs : List ℕ) → stack_of s.peaks ≡ xs → stack_of s.peaks ≡ []
     by_stack [] e = e
-    by_stack (t ∷ ts) e = absurd (none t (first_is_choice p (state_of s) t (ts ++ filter (left_of s.peaks) (line_of s.peaks)) peaks.tied.behind.laws peaks.tied.behind.sound unfailed
+    by_stack (t ∷ ts) e = absurd (none t (first_is_choice p (state_of s) t (ts ++ filter (left_of s.peaks) (line_of s.peaks)) peaks.tied.behind.rules.laws peaks.tied.behind.sound unfailed
         (ap (λ (xs : List ℕ). xs ++ filter (left_of s.peaks) (line_of s.peaks)) e) (peaks.tied.behind.waiting t (ap (λ (xs : List ℕ). has xs t) e ∙ has_head t ts))))

@@ -28,7 +28,7 @@ off_parts true true e = inr refl
 off_parts true false e = absurd cc
 
 pub counts_line : (p : Plan) (b : Peaks) → HasGroups p b → count b.ready.index ≡ length (line_of b)
-counts_line p b groups = ap length groups.groups ∙ length-map (line_of b) (λ t. group_of (places p) (get_or b.homes.items t None))
+counts_line p b groups = ap length groups.groups ∙ length-map (line_of b) (λ t. group_of (places p) (get_or b.seating.homes.items t None))
 
 -- a task's position in the line is its own
 own_position : (p : Plan) (b : Peaks) (j k : ℕ) → HasGroups p b → j < length (line_of b) → k < length (line_of b) → get_or (line_of b) j 0 ≡ get_or (line_of b) k 0 → j ≡ k

@@ -5,7 +5,7 @@ use Rattle.plan_core.specs.Numbers.{has}
 use Rattle.plan_core.specs.Words.{task_numbers}
 use Rattle.storage_simulation.proofs.FollowingLemmas.{at_place}
 use Rattle.place_peaks.proofs.OpeningLemmas.{seats_some, width_few}
-use Rattle.place_peaks.proofs.opening.seat_next.Goals as goal
+use Rattle.place_peaks.proofs.seating.seat_next.Goals as goal
 
 pub index_mut-requires : goal.index_mut-requires
 index_mut-requires c =
