@@ -1,14 +1,11 @@
 -- The state that arrays and trees show after one entry more.
 use Rattle.std.proofs.Common.{◌≡◌, ℕ, false, List, [], ◌∷◌, ◌++◌, refl, sym, ap, subst, ◌∙◌, arith}
 use Rattle.std.specs.Prelude.{filter, replicate}
-use Rattle.lease_rules.proofs.ListLemmas.{has_head}
+use Rattle.place_peaks.proofs.Offered.{first_is_choice, good_small, has_head, sound_more}
 use Rattle.lease_rules.specs.Choice.{HasNoChoice}
-use Rattle.lease_rules.proofs.StartLemmas.{first_is_choice}
 use Rattle.place_peaks.specs.Peaks.{left_of, line_of, stack_of}
 use Rattle.plan_core.specs.Numbers.{has}
 use Rattle.storage_simulation.specs.declared.standing.Held.TheVariants.{Nothing}
-use Rattle.lease_rules.proofs.GoodsLemmas.{good_small}
-use Rattle.lease_rules.proofs.SoundLemmas.{sound_more}
 use Rattle.lease_rules.specs.Legal.{Allowed}
 use Rattle.lease_rules.specs.State.{State, after, opened, put, reserved_for}
 use Rattle.plan_core.specs.declared.plan.Plan.{Plan}

@@ -4,8 +4,7 @@ use Rattle.std.specs.Prelude.{Decides, filter, slice_get}
 use Rattle.values.specs.declared.numbers.TaskId.{TaskId}
 use Rattle.std.proofs.lemmas.List.{take_more}
 use Rattle.std.proofs.lemmas.List.Folds.{list_any-append}
-use Rattle.lease_rules.proofs.SoundLemmas.{choice_in}
-use Rattle.lease_rules.proofs.StartLemmas.{clean_can_start, first_is_choice}
+use Rattle.place_peaks.proofs.Offered.{choice_in, clean_can_start, first_is_choice}
 use Rattle.lease_rules.specs.Choice.{CanStart, HasNoChoice, IsChoice}
 use Rattle.lease_rules.specs.State.{State}
 use Rattle.peak_tree.specs.Numbers.{greatest}

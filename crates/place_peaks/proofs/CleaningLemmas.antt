@@ -3,9 +3,7 @@ use Rattle.std.proofs.Common.{◌≡◌, ℕ, suc, ◌-◌, ◌<◌, ◌||◌, B
 use Rattle.std.specs.Prelude.{filter, not, set}
 use Rattle.std.proofs.Math.Path.{fun_ext}
 use Rattle.std.proofs.lemmas.List.Folds.{list_any-append}
-use Rattle.lease_rules.proofs.ListLemmas.{filter_without, has_take, without_has}
-use Rattle.lease_rules.proofs.SafeLemmas.{maker_of}
-use Rattle.lease_rules.proofs.SoundLemmas.{choice_in, cleaned_held, not_both, sound_more}
+use Rattle.place_peaks.proofs.Offered.{choice_in, cleaned_held, false_of, filter_without, follows_of, has_take, maker_of, not_both, or_left, or_right, sound_more, sum_same, without_has}
 use Rattle.lease_rules.specs.Legal.{Allowed}
 use Rattle.lease_rules.specs.State.{State, after, ended, put, without}
 use Rattle.plan_core.specs.declared.plan.Plan.{Plan}
@@ -23,15 +21,12 @@ use Rattle.storage_simulation.specs.Following.{AreOnce, Follows}
 use Rattle.storage_simulation.specs.Goods.{lies_at, makes, place, places}
 use Rattle.storage_simulation.specs.Standings.{held_size, sizes, waits}
 use Rattle.storage_simulation.specs.Usage.{made, sum_of, usage}
-use Rattle.storage_simulation.proofs.FollowingLemmas.{false_of, or_left, or_right}
-use Rattle.storage_simulation.proofs.SumsLemmas.{sum_same}
 use Rattle.place_peaks.specs.declared.peaks.Peaks.{Peaks}
 use Rattle.place_peaks.specs.Cleaning.{IsSwept}
 use Rattle.place_peaks.specs.Peaks.{AreBehind, ArePeaks, left_of, line_of}
 use Rattle.place_peaks.specs.Places.{brings, held_by, is_place, swept, there}
 use Rattle.place_peaks.specs.Tree.{front_changed}
 use Rattle.place_peaks.specs.Values.{values}
-use Rattle.lease_rules.proofs.StartLemmas.{follows_of}
 use Rattle.place_peaks.proofs.ChoosingLemmas.{rest_split, split}
 use Rattle.place_peaks.proofs.CountLemmas.{counts_end, still_open}
 use Rattle.place_peaks.proofs.DecisionLemmas.{no_wait}

@@ -5,9 +5,7 @@ use Rattle.std.proofs.Math.Path.{fun_ext}
 use Rattle.std.proofs.Math.Seq.{take-append-add}
 use Rattle.std.proofs.lemmas.Bool.{cases_lt}
 use Rattle.std.proofs.lemmas.List.{take-append-le, take_all}
-use Rattle.lease_rules.proofs.ListLemmas.{once_parts, without_head}
-use Rattle.lease_rules.proofs.SoundLemmas.{put_at, put_off, safe_grant}
-use Rattle.lease_rules.proofs.StartLemmas.{fit_of, follows_of, follows_without}
+use Rattle.place_peaks.proofs.Offered.{fit_of, follows_of, follows_without, once_parts, put_at, put_off, safe_grant, without_head}
 use Rattle.lease_rules.specs.Choice.{CanStart, HaveParentsEnded, Safe}
 use Rattle.lease_rules.specs.Law.{IsSoundState}
 use Rattle.lease_rules.specs.State.{State, after, ended, put, reserved_for, without}

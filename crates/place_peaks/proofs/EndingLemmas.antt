@@ -1,17 +1,13 @@
 -- One good more is settled.
 use Rattle.std.proofs.Common.{◌≡◌, ℕ, zero, suc, ◌-◌, ◌≤◌, ◌<◌, ◌^◌, Bool, true, false, cond, nat_eq, List, [], ◌∷◌, length, drop, get_or, Option, Some, None, refl, sym, ap, subst, ◌∙◌, arith}
 use Rattle.std.proofs.Math.Path.{fun_ext}
-use Rattle.lease_rules.proofs.ListLemmas.{once_parts}
-use Rattle.lease_rules.proofs.SoundLemmas.{declared_long}
+use Rattle.place_peaks.proofs.Offered.{at_place, declared_long, false_of, good_small, once_parts, or_right, rises_once}
 use Rattle.plan_core.specs.declared.plan.Plan.{Plan}
 use Rattle.plan_core.specs.Numbers.{has}
 use Rattle.storage_simulation.specs.Following.{AreOnce}
 use Rattle.storage_simulation.specs.Goods.{IsWithinLimits, good_size, lies_at, makes, place, places}
 use Rattle.storage_simulation.specs.Standings.{held_size, sizes}
 use Rattle.storage_simulation.specs.Usage.{usage}
-use Rattle.storage_simulation.proofs.FollowingLemmas.{at_place, false_of, or_right}
-use Rattle.storage_simulation.proofs.RisingLemmas.{rises_once}
-use Rattle.storage_simulation.proofs.UsageLemmas.{good_small}
 use Rattle.place_peaks.specs.declared.links.Links.{Links}
 use Rattle.place_peaks.specs.declared.peaks.Peaks.{Peaks}
 use Rattle.place_peaks.specs.Cleaning.{CanEnd}

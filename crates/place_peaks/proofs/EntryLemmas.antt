@@ -3,9 +3,7 @@ use Rattle.std.proofs.Common.{◌≡◌, ◌-◌, ◌<◌, ℕ, Bool, true, fals
 use Rattle.std.specs.Prelude.{MatchOption, filter, replicate, slice_get, vec_capacity}
 use Rattle.std.proofs.lemmas.List.Folds.{list_any-append}
 use Rattle.values.specs.declared.numbers.TaskId.{TaskId}
-use Rattle.lease_rules.proofs.ListLemmas.{absent_filter, by_bool, has_filter, has_head}
-use Rattle.lease_rules.proofs.OneLemmas.{one_choice}
-use Rattle.lease_rules.proofs.SoundLemmas.{choice_in}
+use Rattle.place_peaks.proofs.Offered.{absent_filter, by_bool, choice_in, false_of, first_is_choice, has_filter, has_head, is_itself, one_choice, or_left, pair_place, place_of}
 use Rattle.lease_rules.specs.Choice.{HaveParentsEnded, IsChoice}
 use Rattle.lease_rules.specs.Law.{HasStorageLaws}
 use Rattle.lease_rules.specs.Legal.{Allowed, MayFail}
@@ -24,8 +22,6 @@ use Rattle.storage_simulation.specs.Change.{held_part}
 use Rattle.storage_simulation.specs.Following.{AreOnce}
 use Rattle.storage_simulation.specs.Goods.{IsWithinLimits, kind_place, lies_at, makes, pair_site, place}
 use Rattle.storage_simulation.specs.Standings.{sizes, waits}
-use Rattle.storage_simulation.proofs.FollowingLemmas.{false_of, is_itself, or_left, place_of}
-use Rattle.storage_simulation.proofs.LawLemmas.{pair_place}
 use Rattle.place_peaks.specs.declared.peaks.Peaks.{Peaks}
 use Rattle.place_peaks.specs.Cleaning.{CanEnd, CanGive, IsSwept, IsSweptAgain}
 use Rattle.place_peaks.specs.Entries.{AreTied, CanEnter, Frees, IsWhole}
@@ -36,7 +32,6 @@ use Rattle.place_peaks.specs.Links.{AreLinks}
 use Rattle.place_peaks.specs.Settling.{CanSettle, IsSettled}
 use Rattle.place_peaks.specs.Stack.{IsFirstOf}
 use Rattle.place_peaks.specs.Waiting.{CanFree, HasStackRoom, IsAgain, IsMoved}
-use Rattle.lease_rules.proofs.StartLemmas.{first_is_choice}
 use Rattle.place_peaks.proofs.ChoosingLemmas.{behind_none, last_first, none_stacked}
 use Rattle.place_peaks.proofs.CleaningLemmas.{cleaned_good, swept_at}
 use Rattle.place_peaks.proofs.FirstLemmas.{granted_again, swept_again}

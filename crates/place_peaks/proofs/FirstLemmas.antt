@@ -2,10 +2,7 @@
 use Rattle.std.proofs.Common.{◌≡◌, ℕ, ◌+◌, ◌-◌, ◌<◌, ◌||◌, Bool, true, false, cond, nat_eq, List, [], ◌∷◌, ◌++◌, take, get_or, Option, Some, None, refl, sym, ap, subst, ◌∙◌, arith}
 use Rattle.std.specs.Prelude.{filter}
 use Rattle.std.proofs.lemmas.List.Folds.{list_any-append}
-use Rattle.lease_rules.proofs.ListLemmas.{has_head, has_take, without_has, without_head}
-use Rattle.lease_rules.proofs.SafeLemmas.{maker_of}
-use Rattle.lease_rules.proofs.SoundLemmas.{cleaned_held, not_both, sound_more}
-use Rattle.lease_rules.proofs.StartLemmas.{follows_of}
+use Rattle.place_peaks.proofs.Offered.{cleaned_held, false_of, follows_of, has_head, has_take, maker_of, not_both, or_case, or_left, or_right, sound_more, without_has, without_head}
 use Rattle.lease_rules.specs.Choice.{HaveParentsEnded}
 use Rattle.lease_rules.specs.Law.{IsSoundState}
 use Rattle.lease_rules.specs.Legal.{Allowed}
@@ -19,7 +16,6 @@ use Rattle.storage_simulation.specs.Following.{AreOnce, Follows}
 use Rattle.storage_simulation.specs.Goods.{makes, place, places}
 use Rattle.storage_simulation.specs.Standings.{sizes, waits}
 use Rattle.storage_simulation.specs.Usage.{made, usage}
-use Rattle.storage_simulation.proofs.FollowingLemmas.{false_of, or_case, or_left, or_right}
 use Rattle.place_peaks.specs.declared.peaks.Peaks.{Peaks}
 use Rattle.place_peaks.specs.Cleaning.{IsSweptAgain}
 use Rattle.place_peaks.specs.Granting.{IsGrantedAgain}

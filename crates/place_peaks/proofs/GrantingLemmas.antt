@@ -1,13 +1,11 @@
 -- A grant keeps what trees say; a task that brings no more and stands before another can start if that one can.
 use Rattle.std.proofs.Common.{◌≡◌, ℕ, suc, ◌+◌, ◌-◌, ◌≤◌, ◌<◌, ◌||◌, ◌&&◌, Bool, true, false, cond, eqb, eqb-true, List, [], ◌∷◌, ◌++◌, length, take, drop, get_or, Option, Some, None, refl, sym, ap, subst, ◌∙◌, arith, ◌^◌}
 use Rattle.std.specs.Prelude.{filter, not, set}
-use Rattle.lease_rules.proofs.ListLemmas.{filter_without, once_parts, without_has}
-use Rattle.lease_rules.proofs.SoundLemmas.{choice_in, sound_more}
+use Rattle.place_peaks.proofs.Offered.{choice_in, false_of, filter_without, good_small, greatest-append, once_parts, or_left, or_right, sound_more, sum_same, without_has}
 use Rattle.lease_rules.specs.Choice.{HaveParentsEnded}
 use Rattle.lease_rules.specs.Legal.{Allowed}
 use Rattle.lease_rules.specs.State.{State, after, ended, put, reserved_for, without}
 use Rattle.peak_tree.specs.Numbers.{greater, greatest}
-use Rattle.peak_tree.proofs.NumbersLemmas.{greatest-append}
 use Rattle.plan_core.specs.declared.plan.Plan.{Plan}
 use Rattle.plan_core.specs.Numbers.{has}
 use Rattle.plan_core.specs.Words.{cleans, is_clean, parents}
@@ -20,9 +18,6 @@ use Rattle.storage_simulation.specs.Following.{AreOnce}
 use Rattle.storage_simulation.specs.Goods.{IsWithinLimits, good_size, lies_at, makes, place, place_bound, places}
 use Rattle.storage_simulation.specs.Standings.{sizes, waits}
 use Rattle.storage_simulation.specs.Usage.{sum_of, usage}
-use Rattle.storage_simulation.proofs.FollowingLemmas.{false_of, or_left, or_right}
-use Rattle.storage_simulation.proofs.SumsLemmas.{sum_same}
-use Rattle.storage_simulation.proofs.UsageLemmas.{good_small}
 use Rattle.place_peaks.specs.declared.peaks.Peaks.{Peaks}
 use Rattle.place_peaks.specs.Granting.{CanGrant, IsGranted}
 use Rattle.place_peaks.specs.Peaks.{AreBehind, ArePeaks, AreSeated, left_of, line_of}

@@ -2,10 +2,7 @@
 use Rattle.std.proofs.Common.{◌≡◌, ℕ, suc, zero, ◌+◌, ◌≤◌, ◌<◌, ◌^◌, Bool, true, false, cond, nat_eq, eqb-true, List, [], ◌∷◌, ◌++◌, length, take, drop, get_or, Some, None, refl, sym, ap, subst, ◌∙◌, arith}
 use Rattle.std.specs.Prelude.{filter, vec_capacity}
 use Rattle.std.proofs.lemmas.List.Folds.{list_any-append}
-use Rattle.lease_rules.proofs.ListLemmas.{few_once}
-use Rattle.lease_rules.proofs.ListLemmas.{has_head, once_more, once_parts}
-use Rattle.lease_rules.proofs.NumbersLemmas.{count_tasks_in}
-use Rattle.lease_rules.proofs.StartLemmas.{follows_of}
+use Rattle.place_peaks.proofs.Offered.{count_tasks_in, false_of, few_once, follows_of, good_small, has_head, once_more, once_parts, or_case, or_left}
 use Rattle.lease_rules.specs.Choice.{HaveParentsEnded}
 use Rattle.lease_rules.specs.State.{State, ended, reserved_for}
 use Rattle.plan_core.specs.declared.plan.Plan.{Plan}
@@ -17,8 +14,6 @@ use Rattle.storage_simulation.specs.Following.{AreOnce, Follows}
 use Rattle.storage_simulation.specs.Goods.{IsWithinLimits, place, places}
 use Rattle.storage_simulation.specs.Standings.{sizes}
 use Rattle.storage_simulation.specs.Usage.{sum_of, usage}
-use Rattle.storage_simulation.proofs.FollowingLemmas.{false_of, or_case, or_left}
-use Rattle.storage_simulation.proofs.UsageLemmas.{good_small}
 use Rattle.place_peaks.specs.declared.peaks.Peaks.{Peaks}
 use Rattle.place_peaks.specs.Cleaning.{CanEnd, CanGive}
 use Rattle.place_peaks.specs.Granting.{CanHold}

@@ -2,12 +2,11 @@
 use Rattle.std.proofs.Common.{◌≡◌, ℕ, ◌+◌, ◌<◌, ◌≤◌, ◌^◌, ◌&&◌, ◌||◌, Bool, true, false, cond, nat_eq, List, length, get_or, Option, Some, None, refl, sym, ap, subst, ◌∙◌, arith}
 use Rattle.std.specs.Prelude.{not}
 use Rattle.group_index.specs.Index.{number}
-use Rattle.group_index.proofs.IndexLemmas.{front_more}
+use Rattle.place_peaks.proofs.Offered.{at_place, front_longer}
 use Rattle.lease_rules.specs.State.{State}
 use Rattle.plan_core.specs.declared.plan.Plan.{Plan}
 use Rattle.plan_core.specs.Numbers.{has}
 use Rattle.plan_core.specs.Words.{count_tasks, is_clean, parents, task_numbers}
-use Rattle.storage_simulation.proofs.FollowingLemmas.{at_place}
 use Rattle.storage_simulation.specs.Goods.{place}
 use Rattle.place_peaks.specs.declared.peaks.Peaks.{Peaks}
 use Rattle.place_peaks.specs.declared.seating.Seating.{Seating}
@@ -63,7 +62,7 @@ rising_of p s b front h j k q less l at_j at_k =
     let place_k : place p (get_or (line_of b) k 0) ≡ Some q = sym (h.seated.homes (get_or (line_of b) k 0) (h.seated.in_plan (get_or (line_of b) k 0) (at_place (line_of b) k l))) ∙ at_k in
     let first = h.seated.counted.seat j q (omega (arith, less, l)) place_j in
     let second = h.seated.counted.seat k q l place_k in
-    let more = front_more (there p q) (line_of b) j k (omega (arith, less)) in
+    let more = front_longer (there p q) (line_of b) j k (omega (arith, less)) in
     omega (arith, first, second, more)
 
 -- scores

@@ -9,7 +9,7 @@ use Rattle.group_index.specs.Index.{count, number}
 use Rattle.plan_core.specs.declared.plan.Plan.{Plan}
 use Rattle.plan_core.specs.Numbers.{has}
 use Rattle.plan_core.specs.Words.{count_tasks}
-use Rattle.storage_simulation.proofs.FollowingLemmas.{at_place, once_at}
+use Rattle.place_peaks.proofs.Offered.{at_place, once_at}
 use Rattle.storage_simulation.specs.Following.{AreOnce}
 use Rattle.storage_simulation.specs.Goods.{places}
 use Rattle.place_peaks.specs.declared.peaks.Peaks.{Peaks}

@@ -6,11 +6,7 @@ use Rattle.std.proofs.lemmas.Bool.{cases_lt, eqb-false}
 use Rattle.std.proofs.lemmas.List.{length-map, length-replicate}
 use Rattle.std.proofs.lemmas.List.Folds.{list_any-append}
 use Rattle.values.specs.declared.numbers.TaskId.{TaskId}
-use Rattle.lease_rules.proofs.ListLemmas.{few_once}
-use Rattle.lease_rules.proofs.ListLemmas.{has_head, has_without, once_filter, once_more, once_parts}
-use Rattle.lease_rules.proofs.NumbersLemmas.{count_tasks_in}
-use Rattle.lease_rules.proofs.SoundLemmas.{fresh_among, is_waiting, sound_more}
-use Rattle.lease_rules.proofs.StartLemmas.{first_is_choice, follows_of}
+use Rattle.place_peaks.proofs.Offered.{Making, at_place, below_rises, below_test, by_bool, cleaning, count_tasks_in, false_of, few_once, first_is_choice, follows_of, fresh_among, front_more, good_small, has_head, has_without, is_itself, is_waiting, making, not_of, once_filter, once_more, once_parts, or_case, or_left, or_right, rises_once, sound_more}
 use Rattle.lease_rules.specs.Choice.{HasNoChoice, HaveParentsEnded, IsCandidate}
 use Rattle.lease_rules.specs.Law.{HasStorageLaws, IsSoundState}
 use Rattle.lease_rules.specs.Legal.{Allowed}
@@ -30,10 +26,6 @@ use Rattle.storage_simulation.specs.Goods.{IsWithinLimits, good_size, makes, pla
 use Rattle.storage_simulation.specs.Law.{KeepsGoods}
 use Rattle.storage_simulation.specs.Standings.{held_of, held_size, sizes, waits}
 use Rattle.storage_simulation.specs.Usage.{usage}
-use Rattle.storage_simulation.proofs.ChangeLemmas.{Making, cleaning, making}
-use Rattle.storage_simulation.proofs.FollowingLemmas.{at_place, by_bool, false_of, front_more, is_itself, not_of, or_case, or_left, or_right}
-use Rattle.storage_simulation.proofs.LawLemmas.{below_rises, below_test}
-use Rattle.storage_simulation.proofs.RisingLemmas.{rises_once}
 use Rattle.place_peaks.specs.declared.peaks.Peaks.{Peaks}
 use Rattle.place_peaks.specs.Entries.{AreTied}
 use Rattle.place_peaks.specs.Granting.{CanHold}
@@ -61,7 +53,6 @@ use Rattle.place_peaks.proofs.PlacesLemmas.{brings_more, is_there, not_there}
 use Rattle.place_peaks.proofs.SetLemmas.{get_set}
 use Rattle.place_peaks.proofs.StackLemmas.{numbers_last}
 use Rattle.place_peaks.proofs.ValuesLemmas.{filter_same, values_append, values_long, values_same}
-use Rattle.storage_simulation.proofs.UsageLemmas.{good_small}
 
 -- One task more of a fresh order, at a place.
 pub level_made : (p : Plan) (phase : ℕ → Phase) (size : ℕ → ℕ) (ts : List ℕ) (k q before need : ℕ) → KeepsGoods p → Follows p phase ts → k < length ts → q < places p → ((g : ℕ) → cleans p (get_or ts k 0) g ≡ false) → ((g : ℕ) → size g ≤ good_size p g)

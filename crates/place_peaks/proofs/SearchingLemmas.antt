@@ -4,14 +4,13 @@ use Rattle.std.specs.Prelude.{min}
 use Rattle.std.proofs.lemmas.Bool.{cases_lt}
 use Rattle.std.proofs.lemmas.List.{get_or-map, get_or-take, length-map, length-take}
 use Rattle.group_index.specs.Index.{IsBefore, IsLeastAt, IsLeastBefore, count, group, number}
-use Rattle.lease_rules.proofs.ListLemmas.{absent_filter, has_filter}
+use Rattle.place_peaks.proofs.Offered.{absent_filter, has_filter, place_of}
 use Rattle.lease_rules.specs.Choice.{CanStart, HasNoChoice, IsChoice}
 use Rattle.lease_rules.specs.State.{State}
 use Rattle.peak_tree.specs.Numbers.{greatest}
 use Rattle.plan_core.specs.declared.plan.Plan.{Plan}
 use Rattle.plan_core.specs.Numbers.{has}
 use Rattle.plan_core.specs.Words.{is_clean}
-use Rattle.storage_simulation.proofs.FollowingLemmas.{place_of}
 use Rattle.storage_simulation.specs.Goods.{place_bound, places}
 use Rattle.place_peaks.specs.declared.peaks.Peaks.{Peaks}
 use Rattle.place_peaks.specs.Choosing.{AtAll, CanBegin, HasRoomAt, InGroup, InGroupBelow, IsFirst, IsFirstAt, earlier}

@@ -3,14 +3,11 @@ use Rattle.std.proofs.Common.{◌≡◌, ℕ, suc, ◌-◌, ◌≤◌, ◌<◌, 
 use Rattle.std.specs.Prelude.{filter, replicate}
 use Rattle.std.proofs.Math.Path.{fun_ext}
 use Rattle.std.proofs.lemmas.List.Folds.{list_any-append}
-use Rattle.lease_rules.proofs.ListLemmas.{absent_filter, has_filter, has_take, once_parts}
-use Rattle.lease_rules.proofs.SafeLemmas.{maker_of}
+use Rattle.place_peaks.proofs.Offered.{absent_filter, false_of, has_filter, has_head, has_take, maker_of, once_parts, or_case, or_left, or_right, place_of, rises_once, sound_more, sum_same}
 use Rattle.lease_rules.specs.Law.{IsSoundState}
 use Rattle.lease_rules.specs.Legal.{Allowed, AreDeclared}
 use Rattle.lease_rules.specs.State.{State, after, ended, put, stored_among}
-use Rattle.lease_rules.proofs.SoundLemmas.{sound_more}
 use Rattle.run_record.specs.Events.{Arrive, End}
-use Rattle.storage_simulation.proofs.RisingLemmas.{rises_once}
 use Rattle.plan_core.specs.declared.plan.Plan.{Plan}
 use Rattle.plan_core.specs.Numbers.{has}
 use Rattle.plan_core.specs.Words.{cleans, parents}
@@ -23,8 +20,6 @@ use Rattle.storage_simulation.specs.Following.{AreOnce}
 use Rattle.storage_simulation.specs.Goods.{good_size, lies_at, makes, place, places}
 use Rattle.storage_simulation.specs.Standings.{held_size, sizes, waits}
 use Rattle.storage_simulation.specs.Usage.{cleaned, made, sum_of, usage}
-use Rattle.storage_simulation.proofs.FollowingLemmas.{false_of, has_head, or_case, or_left, or_right, place_of}
-use Rattle.storage_simulation.proofs.SumsLemmas.{sum_same}
 use Rattle.place_peaks.specs.declared.links.Links.{Links}
 use Rattle.place_peaks.specs.declared.peaks.Peaks.{Peaks}
 use Rattle.place_peaks.specs.Links.{AreLinks, IsCleaner}

@@ -1,9 +1,7 @@
 -- An Again keeps what trees say, and puts the task to the front.
 use Rattle.std.proofs.Common.{◌≡◌, ℕ, suc, ◌-◌, ◌<◌, inl, inr, Bool, true, false, cond, nat_eq, List, [], ◌∷◌, ◌++◌, length, take, drop, get_or, Option, Some, None, refl, sym, ap, subst, ◌∙◌, arith, eqb-true}
 use Rattle.std.specs.Prelude.{filter, not, set}
-use Rattle.lease_rules.proofs.ListLemmas.{filter_without, has_head, without_absent, without_has}
-use Rattle.lease_rules.proofs.SoundLemmas.{is_waiting, sound_more}
-use Rattle.lease_rules.proofs.StartLemmas.{follows_of}
+use Rattle.place_peaks.proofs.Offered.{false_of, filter_without, follows_of, has_head, is_waiting, or_case, sound_more, sum_same, without_absent, without_has}
 use Rattle.lease_rules.specs.Choice.{HaveParentsEnded, IsChoice}
 use Rattle.lease_rules.specs.Law.{IsSoundState}
 use Rattle.lease_rules.specs.Legal.{Allowed, MayFail}
@@ -19,8 +17,6 @@ use Rattle.storage_simulation.specs.Change.{held_part, size_part}
 use Rattle.storage_simulation.specs.Following.{AreOnce, Follows}
 use Rattle.storage_simulation.specs.Goods.{good_size, lies_at, makes, place, places}
 use Rattle.storage_simulation.specs.Standings.{held_size, sizes, waits}
-use Rattle.storage_simulation.proofs.FollowingLemmas.{false_of, or_case}
-use Rattle.storage_simulation.proofs.SumsLemmas.{sum_same}
 use Rattle.place_peaks.specs.declared.peaks.Peaks.{Peaks}
 use Rattle.place_peaks.specs.Peaks.{AreBehind, ArePeaks, left_of, line_of}
 use Rattle.place_peaks.specs.Waiting.{IsAgain, IsMoved}

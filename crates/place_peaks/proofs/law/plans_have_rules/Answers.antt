@@ -1,5 +1,4 @@
-use Rattle.lease_rules.proofs.GoodsLemmas.{storage_laws}
-use Rattle.storage_simulation.proofs.OrderableLemmas.{orderable}
+use Rattle.place_peaks.proofs.Offered.{orderable, storage_laws}
 use Rattle.storage_simulation.specs.OrderLaw.{less_by_score}
 use Rattle.place_peaks.proofs.law.plans_have_rules.Goals as goal
 

@@ -1,9 +1,8 @@
 use Rattle.std.proofs.Common.{◌<◌, length, ap, ◌∙◌, arith}
 use Rattle.std.proofs.lemmas.List.{length-set}
-use Rattle.lease_rules.proofs.NumbersLemmas.{count_tasks_in}
+use Rattle.place_peaks.proofs.Offered.{at_place, count_tasks_in}
 use Rattle.plan_core.specs.Numbers.{has}
 use Rattle.plan_core.specs.Words.{task_numbers}
-use Rattle.storage_simulation.proofs.FollowingLemmas.{at_place}
 use Rattle.place_peaks.proofs.RefreshLemmas.{placed_next}
 use Rattle.place_peaks.proofs.ready.place_all.Goals as goal
 

@@ -1,6 +1,5 @@
 use Rattle.std.proofs.Common.{◌≡◌, ◌+◌, ◌∙◌, ℕ, List, Option, [], None, cond, false, length, get_or, refl, sym, ap, subst, arith}
-use Rattle.lease_rules.proofs.ListLemmas.{few_once}
-use Rattle.lease_rules.proofs.NumbersLemmas.{count_tasks_in}
+use Rattle.place_peaks.proofs.Offered.{count_tasks_in, few_once}
 use Rattle.lease_rules.specs.State.{after}
 use Rattle.plan_core.specs.Words.{count_tasks, task_numbers}
 use Rattle.run_record.specs.Events.{Regrant}

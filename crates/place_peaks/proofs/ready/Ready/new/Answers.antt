@@ -2,9 +2,8 @@ use Rattle.std.proofs.Common.{◌+◌, None, length, get_or, ap, ◌∙◌, arit
 use Rattle.std.proofs.lemmas.List.{length-map, length-replicate}
 use Rattle.storage_simulation.specs.Goods.{places}
 use Rattle.place_peaks.specs.Ready.{group_of}
-use Rattle.lease_rules.proofs.NumbersLemmas.{count_tasks_in}
+use Rattle.place_peaks.proofs.Offered.{at_place, count_tasks_in}
 use Rattle.plan_core.specs.Words.{task_numbers}
-use Rattle.storage_simulation.proofs.FollowingLemmas.{at_place}
 use Rattle.place_peaks.proofs.RefreshLemmas.{groups_low}
 use Rattle.place_peaks.proofs.RenewingLemmas.{seating_long, seating_low}
 use Rattle.place_peaks.proofs.ready.Ready.new.Goals as goal
