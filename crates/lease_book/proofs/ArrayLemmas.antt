@@ -15,7 +15,7 @@ use Rattle.storage_simulation.specs.Goods.{makes}
 use Rattle.lease_rules.specs.Law.{HasStorageLaws}
 use Rattle.lease_book.specs.RunState.{HasLengths, IsSame}
 use Rattle.lease_rules.specs.State.{State, put, stored_among}
-use Rattle.lease_rules.proofs.ListLemmas.{has_head, or_right}
+use Rattle.place_peaks.proofs.Offered.{has_head, or_right}
 
 -- one place written
 -- a list of one value has it everywhere, and where it ends

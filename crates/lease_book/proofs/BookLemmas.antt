@@ -4,12 +4,7 @@ use Rattle.std.specs.Prelude.{◌⊎◌, not, Some, slice_get}
 use Rattle.std.specs.List.{list_any}
 use Rattle.std.proofs.Math.Logic.{∥∥₁_map}
 use Rattle.lease_book.proofs.ArrayLemmas.{same_state}
-use Rattle.lease_rules.proofs.GoodsLemmas.{good_small}
-use Rattle.lease_rules.proofs.ListLemmas.{both, by_bool, un_not}
-use Rattle.lease_rules.proofs.RoomLemmas.{consistent_more, room_falls}
-use Rattle.lease_rules.proofs.SizesRoomLemmas.{sizes_fall}
-use Rattle.lease_rules.proofs.SoundLemmas.{fresh_among, sound_opened}
-use Rattle.lease_rules.proofs.SafeLemmas.{choice_exists, complete_of, safe_state}
+use Rattle.place_peaks.proofs.Offered.{both, by_bool, choice_exists, complete_of, consistent_more, fresh_among, good_small, room_falls, safe_state, sizes_fall, sound_opened, un_not}
 use Rattle.lease_book.specs.Book.{is_tried_again, state_at}
 use Rattle.lease_rules.specs.Choice.{IsChoice}
 use Rattle.lease_book.specs.Kept.{IsBook}

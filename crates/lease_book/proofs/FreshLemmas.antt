@@ -1,7 +1,7 @@
 -- The search for the task of a fresh order.
 use Rattle.std.proofs.Common.{◌≡◌, Bool, false, cond, ℕ, zero, suc, ◌+◌, ◌-◌, ◌<◌, inl, inr, List, [], ◌∷◌, length, drop, get_or, refl, sym, ap, subst, ◌∙◌, arith, true, eqb}
 use Rattle.std.specs.Prelude.{Some, None, filter, is_some, ◌⊎◌}
-use Rattle.lease_rules.proofs.ListLemmas.{by_bool, has_head, or_right}
+use Rattle.place_peaks.proofs.Offered.{by_bool, has_head, or_right}
 use Rattle.lease_rules.specs.Choice.{IsCandidate, IsFreshAmong}
 use Rattle.lease_rules.specs.State.{State, order_with}
 use Rattle.plan_core.specs.declared.plan.Plan.{Plan}

@@ -6,7 +6,7 @@ use Rattle.plan_core.specs.declared.plan.Plan.{Plan}
 use Rattle.plan_core.specs.Numbers.{has}
 use Rattle.storage_simulation.specs.Goods.{good_size}
 use Rattle.lease_rules.specs.Legal.{AreDeclared, AreOfFirst}
-use Rattle.lease_rules.proofs.ListLemmas.{or_case}
+use Rattle.place_peaks.proofs.Offered.{or_case}
 
 pub first_short : (p : Plan) (gs ns : List ℕ) → AreOfFirst p gs ns → length ns ≤ length gs
 first_short p [] [] h = omega arith

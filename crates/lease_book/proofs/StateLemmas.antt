@@ -1,14 +1,11 @@
 -- The state that arrays and trees show after one entry more.
 use Rattle.std.proofs.Common.{◌≡◌, ℕ, false, List, [], ◌∷◌, ◌++◌, refl, sym, ap, subst, ◌∙◌, arith}
 use Rattle.std.specs.Prelude.{filter, replicate}
-use Rattle.lease_rules.proofs.ListLemmas.{has_head}
+use Rattle.place_peaks.proofs.Offered.{first_is_choice, good_small, has_head, sound_more}
 use Rattle.lease_rules.specs.Choice.{HasNoChoice}
-use Rattle.lease_rules.proofs.StartLemmas.{first_is_choice}
 use Rattle.place_peaks.specs.Peaks.{left_of, line_of, stack_of}
 use Rattle.plan_core.specs.Numbers.{has}
 use Rattle.storage_simulation.specs.declared.standing.Held.TheVariants.{Nothing}
-use Rattle.lease_rules.proofs.GoodsLemmas.{good_small}
-use Rattle.lease_rules.proofs.SoundLemmas.{sound_more}
 use Rattle.lease_rules.specs.Legal.{Allowed}
 use Rattle.lease_rules.specs.State.{State, after, opened, put, reserved_for}
 use Rattle.plan_core.specs.declared.plan.Plan.{Plan}
@@ -41,7 +38,7 @@ shown_after p s b w t st limits tied allowed long phase held = record {
     deliveries = long.deliveries;
     small = λ g.
         let is = ap held_size (held g) in
-        let few = (sound_more p s (Regrant w t) tied.behind.laws tied.behind.sound allowed).small g in
+        let few = (sound_more p s (Regrant w t) tied.behind.rules.laws tied.behind.sound allowed).small g in
         let size = good_small p g limits in
         omega (arith, is, few, size);
   };
@@ -71,5 +68,5 @@ line_is_rest p s peaks unfailed none = by_stack (stack_of s.peaks) refl
   where
     by_stack : (xs : List ℕ) → stack_of s.peaks ≡ xs → stack_of s.peaks ≡ []
     by_stack [] e = e
-    by_stack (t ∷ ts) e = absurd (none t (first_is_choice p (state_of s) t (ts ++ filter (left_of s.peaks) (line_of s.peaks)) peaks.tied.behind.laws peaks.tied.behind.sound unfailed
+    by_stack (t ∷ ts) e = absurd (none t (first_is_choice p (state_of s) t (ts ++ filter (left_of s.peaks) (line_of s.peaks)) peaks.tied.behind.rules.laws peaks.tied.behind.sound unfailed
         (ap (λ (xs : List ℕ). xs ++ filter (left_of s.peaks) (line_of s.peaks)) e) (peaks.tied.behind.waiting t (ap (λ (xs : List ℕ). has xs t) e ∙ has_head t ts))))

@@ -1,6 +1,6 @@
 -- Sums of what is stored, and of what is reserved.
 use Rattle.std.proofs.Common.{◌≡◌, ℕ, ◌+◌, ◌^◌, ◌≤◌, cond, arith}
-use Rattle.lease_rules.proofs.TotalLemmas.{total_more}
+use Rattle.place_peaks.proofs.Offered.{total_more}
 use Rattle.lease_rules.specs.State.{reserved_size, stored_size}
 use Rattle.plan_core.specs.declared.plan.Plan.{Plan}
 use Rattle.storage_simulation.specs.Goods.{lies_at}

@@ -3,8 +3,7 @@ use Rattle.std.proofs.Common.{◌≡◌, ℕ, zero, suc, ◌≤◌, ◌||◌, Bo
 use Rattle.std.specs.Prelude.{Decides}
 use Rattle.std.specs.List.{list_all, list_any}
 use Rattle.std.proofs.Math.Path.{fun_ext}
-use Rattle.lease_rules.proofs.GoodsLemmas.{good_small}
-use Rattle.lease_rules.proofs.ListLemmas.{all_have, have_all}
+use Rattle.place_peaks.proofs.Offered.{all_have, good_small, have_all}
 use Rattle.lease_rules.specs.Choice.{HaveParentsEnded, IsCandidate, start}
 use Rattle.lease_rules.specs.Law.{IsSoundState}
 use Rattle.lease_rules.specs.State.{State, ended, held_after, phase_after, put, reserved_for, runs, started}

@@ -1,5 +1,5 @@
 -- Tasks that wait again stand at the front, and the start of the first of them changes no value.
-use Rattle.std.proofs.Common.{◌≡◌, ℕ, Bool, true, false, List, ◌∷◌, ◌++◌, take, sym, ◌∙◌}
+use Rattle.std.proofs.Common.{◌≡◌, ℕ, Bool, false, List, ◌∷◌, ◌++◌, take, sym, ◌∙◌}
 use Rattle.std.specs.Prelude.{filter}
 use Rattle.plan_core.specs.declared.plan.Plan.{Plan}
 use Rattle.plan_core.specs.Numbers.{has}

@@ -2,7 +2,7 @@
 use Rattle.std.proofs.Common.{◌≡◌, ℕ, zero, suc, ◌+◌, ◌-◌, ◌<◌, ◌≤◌, List, [], ◌∷◌, ◌++◌, length, get_or, Some, refl, sym, ap, ◌∙◌, arith}
 use Rattle.std.specs.Prelude.{slice_get}
 use Rattle.values.specs.declared.numbers.TaskId.{TaskId}
-use Rattle.lease_rules.proofs.NumbersLemmas.{count_tasks_in}
+use Rattle.place_peaks.proofs.Offered.{count_tasks_in}
 use Rattle.plan_core.specs.Words.{task_numbers}
 use Rattle.place_peaks.specs.Stack.{stacked}
 

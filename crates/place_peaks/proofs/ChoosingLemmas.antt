@@ -4,8 +4,7 @@ use Rattle.std.specs.Prelude.{Decides, filter, slice_get}
 use Rattle.values.specs.declared.numbers.TaskId.{TaskId}
 use Rattle.std.proofs.lemmas.List.{take_more}
 use Rattle.std.proofs.lemmas.List.Folds.{list_any-append}
-use Rattle.lease_rules.proofs.SoundLemmas.{choice_in}
-use Rattle.lease_rules.proofs.StartLemmas.{clean_can_start, first_is_choice}
+use Rattle.place_peaks.proofs.Offered.{choice_in, clean_can_start, first_is_choice}
 use Rattle.lease_rules.specs.Choice.{CanStart, HasNoChoice, IsChoice}
 use Rattle.lease_rules.specs.State.{State}
 use Rattle.peak_tree.specs.Numbers.{greatest}
@@ -68,26 +67,24 @@ closed p s b k peaks l is some = (λ h. absurd cc, λ can. absurd (let none = op
 
 -- a Clean without open parents
 pub clean : (p : Plan) (s : State) (b : Peaks) (k : ℕ) → ArePeaks p s b → k < length (line_of b) → left_of b (get_or (line_of b) k 0) ≡ true → get_or b.missing.items (get_or (line_of b) k 0) 1 ≡ 0 → is_clean p (get_or (line_of b) k 0) ≡ true → Decides true (CanStart p s (get_or (line_of b) k 0))
-clean p s b k peaks l is none kind = (λ h. clean_can_start p s (get_or (line_of b) k 0) peaks.laws peaks.sound (there_is p s b k peaks l is) kind (none_open p s b [] peaks (get_or (line_of b) k 0) (there_is p s b k peaks l is) none), λ can. refl)
+clean p s b k peaks l is none kind = (λ h. clean_can_start p s (get_or (line_of b) k 0) peaks.rules.laws peaks.sound (there_is p s b k peaks l is) kind (none_open p s b [] peaks (get_or (line_of b) k 0) (there_is p s b k peaks l is) none), λ can. refl)
 
 pub spot_of : (p : Plan) (s : State) (b : Peaks) (k : ℕ) → ArePeaks p s b → k < length (line_of b) → left_of b (get_or (line_of b) k 0) ≡ true → get_or b.missing.items (get_or (line_of b) k 0) 1 ≡ 0 → is_clean p (get_or (line_of b) k 0) ≡ false
     → IsSpot p s (left_of b) (take k (line_of b)) (get_or (line_of b) k 0) (drop (suc k) (line_of b))
 spot_of p s b k peaks l is none kind = record {
-  laws = peaks.laws;
-  keeps = peaks.keeps;
-  one = peaks.one;
+  rules = peaks.rules;
   sound = peaks.sound;
   is = rest_split p s b k peaks l is;
   makes_goods = kind;
   parents_ended = none_open p s b [] peaks (get_or (line_of b) k 0) (there_is p s b k peaks l is) none;
 }
 
-home_is : (p : Plan) (s : State) (b : Peaks) (k : ℕ) → ArePeaks p s b → k < length (line_of b) → left_of b (get_or (line_of b) k 0) ≡ true → (o : Option ℕ) → o ≡ get_or b.homes.items (get_or (line_of b) k 0) None → place p (get_or (line_of b) k 0) ≡ o
-home_is p s b k peaks l is o e = sym (peaks.homes (get_or (line_of b) k 0) (peaks.sound.safe.tasks (get_or (line_of b) k 0) (there_is p s b k peaks l is))) ∙ sym e
+home_is : (p : Plan) (s : State) (b : Peaks) (k : ℕ) → ArePeaks p s b → k < length (line_of b) → left_of b (get_or (line_of b) k 0) ≡ true → (o : Option ℕ) → o ≡ get_or b.seating.homes.items (get_or (line_of b) k 0) None → place p (get_or (line_of b) k 0) ≡ o
+home_is p s b k peaks l is o e = sym (peaks.seated.homes (get_or (line_of b) k 0) (peaks.sound.safe.tasks (get_or (line_of b) k 0) (there_is p s b k peaks l is))) ∙ sym e
 
 -- a task of no place
 pub placeless : (p : Plan) (s : State) (b : Peaks) (k : ℕ) → ArePeaks p s b → k < length (line_of b) → left_of b (get_or (line_of b) k 0) ≡ true → get_or b.missing.items (get_or (line_of b) k 0) 1 ≡ 0 → is_clean p (get_or (line_of b) k 0) ≡ false
-    → None ≡ get_or b.homes.items (get_or (line_of b) k 0) None → Decides true (CanStart p s (get_or (line_of b) k 0))
+    → None ≡ get_or b.seating.homes.items (get_or (line_of b) k 0) None → Decides true (CanStart p s (get_or (line_of b) k 0))
 placeless p s b k peaks l is none kind home = (
   λ h. place_can p s (left_of b) (take k (line_of b)) (get_or (line_of b) k 0) (drop (suc k) (line_of b)) (spot_of p s b k peaks l is none kind) (λ q at. absurd (let no : None ≡ Some q = sym (home_is p s b k peaks l is None home) ∙ at in cc)),
   λ can. refl,
@@ -116,18 +113,18 @@ placed_by p s left xs t ys q n b top c spot at need base tops d = (
 
 -- the values before the seat of a task are those of the tasks before it
 top_is : (p : Plan) (s : State) (b : Peaks) (k q : ℕ) → ArePeaks p s b → k < length (line_of b) → place p (get_or (line_of b) k 0) ≡ Some q
-    → take (get_or b.seats.items (get_or (line_of b) k 0) 0) (get_or b.trees.items q []) ≡ values (there p q) (left_of b) (held_by p (sizes s.held) q) [] (take k (line_of b))
+    → take (get_or b.seating.seats.items (get_or (line_of b) k 0) 0) (get_or b.trees.items q []) ≡ values (there p q) (left_of b) (held_by p (sizes s.held) q) [] (take k (line_of b))
 top_is p s b k q peaks l at =
-    ap (λ (n : ℕ). take n (get_or b.trees.items q [])) (peaks.seats k q l at)
-    ∙ ap (take (length (filter (there p q) (take k (line_of b))))) (peaks.trees q (peaks.one.place_below (get_or (line_of b) k 0) q at) ∙ ap (values (there p q) (left_of b) (held_by p (sizes s.held) q) []) (split (line_of b) k l))
+    ap (λ (n : ℕ). take n (get_or b.trees.items q [])) (peaks.seated.counted.seat k q l at)
+    ∙ ap (take (length (filter (there p q) (take k (line_of b))))) (peaks.trees q (peaks.rules.one.place_below (get_or (line_of b) k 0) q at) ∙ ap (values (there p q) (left_of b) (held_by p (sizes s.held) q) []) (split (line_of b) k l))
     ∙ values_before (there p q) (left_of b) (held_by p (sizes s.held) q) [] (take k (line_of b)) (get_or (line_of b) k 0 ∷ drop (suc k) (line_of b))
 
 pub placed : (p : Plan) (s : State) (b : Peaks) (k q : ℕ) (c : Bool) → ArePeaks p s b → k < length (line_of b) → left_of b (get_or (line_of b) k 0) ≡ true → get_or b.missing.items (get_or (line_of b) k 0) 1 ≡ 0 → is_clean p (get_or (line_of b) k 0) ≡ false
-    → Some q ≡ get_or b.homes.items (get_or (line_of b) k 0) None → Decides c (HasRoomAt b (get_or (line_of b) k 0) q (place_bound p q)) → Decides c (CanStart p s (get_or (line_of b) k 0))
+    → Some q ≡ get_or b.seating.homes.items (get_or (line_of b) k 0) None → Decides c (HasRoomAt b (get_or (line_of b) k 0) q (place_bound p q)) → Decides c (CanStart p s (get_or (line_of b) k 0))
 placed p s b k q c peaks l is none kind home d =
     let at = home_is p s b k peaks l is (Some q) home in
-    placed_by p s (left_of b) (take k (line_of b)) (get_or (line_of b) k 0) (drop (suc k) (line_of b)) q (get_or b.needs.items (get_or (line_of b) k 0) 0) (get_or b.base.items q 0) (greatest (take (get_or b.seats.items (get_or (line_of b) k 0) 0) (get_or b.trees.items q []))) c
-    (spot_of p s b k peaks l is none kind) at (peaks.needs (get_or (line_of b) k 0) q (there_is p s b k peaks l is) kind at) (peaks.bases q (peaks.one.place_below (get_or (line_of b) k 0) q at)) (ap greatest (top_is p s b k q peaks l at)) d
+    placed_by p s (left_of b) (take k (line_of b)) (get_or (line_of b) k 0) (drop (suc k) (line_of b)) q (get_or b.needs.items (get_or (line_of b) k 0) 0) (get_or b.base.items q 0) (greatest (take (get_or b.seating.seats.items (get_or (line_of b) k 0) 0) (get_or b.trees.items q []))) c
+    (spot_of p s b k peaks l is none kind) at (peaks.needs (get_or (line_of b) k 0) q (there_is p s b k peaks l is) kind at) (peaks.bases q (peaks.rules.one.place_below (get_or (line_of b) k 0) q at)) (ap greatest (top_is p s b k q peaks l at)) d
 
 pub take_none : (n : ℕ) → greatest (take n []) ≡ None
 take_none zero = refl
@@ -189,7 +186,7 @@ last_first (x ∷ y ∷ zs) more t e = last_first (y ∷ zs) (x ∷ more) t (ap 
 pub waiting_is_choice : (p : Plan) (s : State) (b : Peaks) (t : ℕ) → AreBehind p s b (stack_of b) → s.failing ≡ false → slice_get (task_numbers b.again.items) (length (task_numbers b.again.items) - 1) ≡ Some t → IsChoice p s t
 waiting_is_choice p s b t peaks unfailed e =
     let f = last_first (task_numbers b.again.items) [] t e in
-    first_is_choice p s t (f.0 ++ filter (left_of b) (line_of b)) peaks.laws peaks.sound unfailed (peaks.rest ∙ ap (λ (xs : List ℕ). xs ++ filter (left_of b) (line_of b)) f.1) (peaks.waiting t (ap (λ (xs : List ℕ). has xs t) f.1 ∙ has_middle [] t f.0))
+    first_is_choice p s t (f.0 ++ filter (left_of b) (line_of b)) peaks.rules.laws peaks.sound unfailed (peaks.rest ∙ ap (λ (xs : List ℕ). xs ++ filter (left_of b) (line_of b)) f.1) (peaks.waiting t (ap (λ (xs : List ℕ). has xs t) f.1 ∙ has_middle [] t f.0))
 
 pub none_stacked : (xs : List TaskId) → xs ≡ [] → stacked (task_numbers xs) [] ≡ []
 none_stacked xs e = ap (λ (ys : List TaskId). stacked (task_numbers ys) []) e
@@ -213,9 +210,9 @@ has_at xs k l = ap (λ (ys : List ℕ). has ys (get_or xs k 0)) (split xs k l) �
 
 pub seated : (p : Plan) (s : State) (b : Peaks) (front : List ℕ) → AreBehind p s b front → AreSeated b
 seated p s b front peaks k q l e =
-    let at : place p (get_or (line_of b) k 0) ≡ Some q = sym (peaks.homes (get_or (line_of b) k 0) (peaks.in_plan (get_or (line_of b) k 0) (has_at (line_of b) k l))) ∙ e in
-    let seat = peaks.seats k q l at in
-    let tree = ap length (peaks.trees q (peaks.one.place_below (get_or (line_of b) k 0) q at)) in
+    let at : place p (get_or (line_of b) k 0) ≡ Some q = sym (peaks.seated.homes (get_or (line_of b) k 0) (peaks.seated.in_plan (get_or (line_of b) k 0) (has_at (line_of b) k l))) ∙ e in
+    let seat = peaks.seated.counted.seat k q l at in
+    let tree = ap length (peaks.trees q (peaks.rules.one.place_below (get_or (line_of b) k 0) q at)) in
     let long = values_long (there p q) (left_of b) (held_by p (sizes s.held) q) front (line_of b) in
     let less = filter_long (there p q) (line_of b) k l (placed_there q (place p (get_or (line_of b) k 0)) at) in
     omega (arith, seat, tree, long, less)

@@ -1,6 +1,6 @@
 -- How many parents of a task haven't ended.
 use Rattle.std.proofs.Common.{◌≡◌, ℕ, ◌+◌, ◌||◌, Bool, true, false, cond, nat_eq, List, [], ◌∷◌, get_or, refl, sym, ap, ◌∙◌, arith, eqb-true}
-use Rattle.lease_rules.proofs.ListLemmas.{once_parts}
+use Rattle.place_peaks.proofs.Offered.{once_parts, or_case, or_left, or_right}
 use Rattle.lease_rules.specs.Choice.{HaveParentsEnded}
 use Rattle.lease_rules.specs.State.{State, ended, put}
 use Rattle.plan_core.specs.declared.plan.Plan.{Plan}
@@ -11,7 +11,6 @@ use Rattle.storage_simulation.specs.declared.standing.Phase.TheVariants.{Ended, 
 use Rattle.storage_simulation.specs.Following.{AreOnce}
 use Rattle.storage_simulation.specs.Standings.{waits}
 use Rattle.storage_simulation.specs.Usage.{sum_of}
-use Rattle.storage_simulation.proofs.FollowingLemmas.{or_case, or_left, or_right}
 use Rattle.place_peaks.specs.declared.peaks.Peaks.{Peaks}
 use Rattle.place_peaks.specs.Peaks.{AreBehind}
 

@@ -5,11 +5,9 @@ use Rattle.std.proofs.Math.Path.{fun_ext}
 use Rattle.std.proofs.Math.Seq.{take-append-add}
 use Rattle.std.proofs.lemmas.Bool.{cases_lt}
 use Rattle.std.proofs.lemmas.List.{take-append-le, take_all}
-use Rattle.lease_rules.proofs.ListLemmas.{once_parts, without_head}
-use Rattle.lease_rules.proofs.SoundLemmas.{put_at, put_off, safe_grant}
-use Rattle.lease_rules.proofs.StartLemmas.{fit_of, follows_of, follows_without}
+use Rattle.place_peaks.proofs.Offered.{fit_of, follows_of, follows_without, once_parts, put_at, put_off, safe_grant, without_head}
 use Rattle.lease_rules.specs.Choice.{CanStart, HaveParentsEnded, Safe}
-use Rattle.lease_rules.specs.Law.{HasStorageLaws, IsSoundState}
+use Rattle.lease_rules.specs.Law.{IsSoundState}
 use Rattle.lease_rules.specs.State.{State, after, ended, put, reserved_for, without}
 use Rattle.peak_tree.specs.Numbers.{greatest}
 use Rattle.plan_core.specs.declared.plan.Plan.{Plan}
@@ -23,10 +21,10 @@ use Rattle.storage_simulation.specs.declared.standing.Phase.TheVariants.{Ended, 
 use Rattle.storage_simulation.specs.Fitting.{Fits}
 use Rattle.storage_simulation.specs.Following.{AreOnce, Follows}
 use Rattle.storage_simulation.specs.Goods.{good_size, makes, place, place_bound, places}
-use Rattle.storage_simulation.specs.Law.{KeepsGoods}
 use Rattle.storage_simulation.specs.Standings.{held_size, sizes, waits}
 use Rattle.storage_simulation.specs.Usage.{usage}
-use Rattle.place_peaks.specs.Places.{ChangesOnePlace, brings, held_by, is_place, started, there}
+use Rattle.place_peaks.specs.Peaks.{HasRules}
+use Rattle.place_peaks.specs.Places.{brings, held_by, is_place, started, there}
 use Rattle.place_peaks.specs.Tree.{IsUpTo}
 use Rattle.place_peaks.specs.Values.{values}
 use Rattle.place_peaks.proofs.PlacesLemmas.{brings_more, fronts_within, is_there, not_there, within_fronts}
@@ -74,9 +72,7 @@ pub record HasPlaceFor (p : Plan) (size : ℕ → ℕ) (left : ℕ → Bool) (xs
 
 -- what is the same for all lemmas here: the order that is kept is that of the tasks that are left, t among them
 pub record IsSpot (p : Plan) (s : State) (left : ℕ → Bool) (xs : List ℕ) (t : ℕ) (ys : List ℕ) : Type 0 where
-  pub laws : HasStorageLaws p
-  pub keeps : KeepsGoods p
-  pub one : ChangesOnePlace p
+  pub rules : HasRules p
   pub sound : IsSoundState p s
   pub is : s.rest ≡ filter left xs ++ t ∷ filter left ys
   pub makes_goods : is_clean p t ≡ false
@@ -95,9 +91,9 @@ rest_then p s left xs t ys spot = ap (without t) spot.is ∙ without_middle (fil
 pub then_holds : (p : Plan) (s : State) (left : ℕ → Bool) (xs : List ℕ) (t : ℕ) (ys : List ℕ) (q k : ℕ) → IsSpot p s left xs t ys → q < places p
     → usage p (sizes (reserved_for p t s.held)) (take k (filter left xs)) q ≡ usage p (sizes s.held) (take k (filter left xs)) q + brings p (sizes s.held) q t
 then_holds p s left xs t ys q k spot l =
-    let adds = start_adds p s.phase (sizes s.held) (filter left xs) (filter left ys) t q k spot.keeps l (λ g. spot.laws.cleans_only t g spot.makes_goods) (follows_spot p s left xs t ys spot) (not_waiting p s left xs t ys spot) in
+    let adds = start_adds p s.phase (sizes s.held) (filter left xs) (filter left ys) t q k spot.rules.keeps l (λ g. spot.rules.laws.cleans_only t g spot.makes_goods) (follows_spot p s left xs t ys spot) (not_waiting p s left xs t ys spot) in
     let more = brings_more p (sizes s.held) q t spot.sound.small in
-    let same = start_usage p (sizes s.held) (take k (filter left xs)) t q (λ g. spot.laws.cleans_only t g spot.makes_goods) in
+    let same = start_usage p (sizes s.held) (take k (filter left xs)) t q (λ g. spot.rules.laws.cleans_only t g spot.makes_goods) in
     let is = ap (λ (f : ℕ → ℕ). usage p f (take k (filter left xs)) q) (started_sizes p t s.held) in
     omega (arith, adds.0, adds.1, more, same, is)
 
@@ -105,14 +101,14 @@ pub then_same : (p : Plan) (s : State) (left : ℕ → Bool) (xs : List ℕ) (t 
     → usage p (sizes (reserved_for p t s.held)) (take k (filter left xs)) q ≡ usage p (sizes s.held) (take k (filter left xs)) q
 then_same p s left xs t ys q k spot l off =
     ap (λ (f : ℕ → ℕ). usage p f (take k (filter left xs)) q) (started_sizes p t s.held)
-    ∙ start_usage p (sizes s.held) (take k (filter left xs)) t q (λ g. spot.laws.cleans_only t g spot.makes_goods)
-    ∙ usage_away p (sizes s.held) (take k (filter left xs)) t q spot.one l off
+    ∙ start_usage p (sizes s.held) (take k (filter left xs)) t q (λ g. spot.rules.laws.cleans_only t g spot.makes_goods)
+    ∙ usage_away p (sizes s.held) (take k (filter left xs)) t q spot.rules.one l off
 
 then_behind : (p : Plan) (s : State) (left : ℕ → Bool) (xs : List ℕ) (t : ℕ) (ys : List ℕ) (q : ℕ) (zs : List ℕ) → IsSpot p s left xs t ys
     → usage p (sizes (reserved_for p t s.held)) (filter left xs ++ zs) q ≡ usage p (sizes s.held) ((filter left xs ++ t ∷ []) ++ zs) q
 then_behind p s left xs t ys q zs spot =
     ap (λ (f : ℕ → ℕ). usage p f (filter left xs ++ zs) q) (started_sizes p t s.held)
-    ∙ start_usage p (sizes s.held) (filter left xs ++ zs) t q (λ g. spot.laws.cleans_only t g spot.makes_goods)
+    ∙ start_usage p (sizes s.held) (filter left xs ++ zs) t q (λ g. spot.rules.laws.cleans_only t g spot.makes_goods)
     ∙ usage_swap p (sizes s.held) (filter left xs) zs t q
 
 -- fronts of the order before and after
@@ -145,7 +141,7 @@ can_has_place p s left xs t ys q spot at can = record {
 }
   where
     low : q < places p
-    low = spot.one.place_below t q at
+    low = spot.rules.one.place_below t q at
 
     fits : Fits p (put s.phase t Runs) (reserved_for p t s.held) (filter left xs ++ filter left ys)
     fits = subst (Fits p (put s.phase t Runs) (reserved_for p t s.held)) (rest_then p s left xs t ys spot) (safe_grant p s 0 t spot.makes_goods (can.leaves_safe 0))
@@ -182,7 +178,7 @@ place_can p s left xs t ys spot room = record {
         before k q m true e =
             let at = is_there q (place p t) e in
             let r = room q at in
-            let up = fronts_within p (sizes s.held) left xs q (place_bound p q - brings p (sizes s.held) q t) spot.one m r.base r.tops k in
+            let up = fronts_within p (sizes s.held) left xs q (place_bound p q - brings p (sizes s.held) q t) spot.rules.one m r.base r.tops k in
             let holds = then_holds p s left xs t ys q k spot m in
             let low = r.brings_less in
             omega (arith, up, holds, low)

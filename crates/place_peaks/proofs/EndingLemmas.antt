@@ -1,24 +1,20 @@
 -- One good more is settled.
 use Rattle.std.proofs.Common.{◌≡◌, ℕ, zero, suc, ◌-◌, ◌≤◌, ◌<◌, ◌^◌, Bool, true, false, cond, nat_eq, List, [], ◌∷◌, length, drop, get_or, Option, Some, None, refl, sym, ap, subst, ◌∙◌, arith}
 use Rattle.std.proofs.Math.Path.{fun_ext}
-use Rattle.lease_rules.proofs.ListLemmas.{once_parts}
-use Rattle.lease_rules.proofs.SoundLemmas.{declared_long}
+use Rattle.place_peaks.proofs.Offered.{at_place, declared_long, false_of, good_small, once_parts, or_right, rises_once}
 use Rattle.plan_core.specs.declared.plan.Plan.{Plan}
 use Rattle.plan_core.specs.Numbers.{has}
 use Rattle.storage_simulation.specs.Following.{AreOnce}
 use Rattle.storage_simulation.specs.Goods.{IsWithinLimits, good_size, lies_at, makes, place, places}
 use Rattle.storage_simulation.specs.Standings.{held_size, sizes}
 use Rattle.storage_simulation.specs.Usage.{usage}
-use Rattle.storage_simulation.proofs.FollowingLemmas.{at_place, false_of, or_right}
-use Rattle.storage_simulation.proofs.RisingLemmas.{rises_once}
-use Rattle.storage_simulation.proofs.UsageLemmas.{good_small}
 use Rattle.place_peaks.specs.declared.links.Links.{Links}
 use Rattle.place_peaks.specs.declared.peaks.Peaks.{Peaks}
 use Rattle.place_peaks.specs.Cleaning.{CanEnd}
 use Rattle.place_peaks.specs.Links.{AreLinks}
 use Rattle.place_peaks.proofs.PossibleLemmas.{can_end}
 use Rattle.lease_rules.specs.State.{ended}
-use Rattle.place_peaks.specs.Peaks.{is_left, left_of, line_of}
+use Rattle.place_peaks.specs.Peaks.{left_of, line_of}
 use Rattle.place_peaks.specs.Places.{held_by, there}
 use Rattle.place_peaks.specs.Settling.{AreLowered, CanLower, CanSettle, CanSettleOne, IsKept, count_at, count_by, lowered, settled}
 use Rattle.place_peaks.specs.Tree.{front_changed}
@@ -105,29 +101,17 @@ lowered_none p s size (x ∷ xs) (n ∷ ns) b h =
 
 -- where a good is lowered stays the same
 count_kept : (old new : Peaks) (q : ℕ) (o : Option ℕ) → IsKept old new → count_by new q o ≡ count_by old q o
-count_kept old new q None kept = ap (λ (v : List ℕ). get_or v q 0) kept.widths
-count_kept old new q (Some c) kept =
-    ap (λ (marks : List Bool). cond (is_left marks c) (get_or new.seats.items c 0) (get_or new.widths.items q 0)) kept.left
-    ∙ ap (λ (v : List ℕ). cond (left_of old c) (get_or v c 0) (get_or new.widths.items q 0)) kept.seats
-    ∙ ap (λ (v : List ℕ). cond (left_of old c) (get_or old.seats.items c 0) (get_or v q 0)) kept.widths
+count_kept old new q None kept = ap (λ (b : Peaks). count_by b q None) kept.same
+count_kept old new q (Some c) kept = ap (λ (b : Peaks). count_by b q (Some c)) kept.same
 
 pub counts_kept : (links : Links) (old new : Peaks) (q : ℕ) → IsKept old new → count_at new links q ≡ count_at old links q
 counts_kept links old new q kept = fun_ext (λ g. count_kept old new q (get_or links.cleaners.items g None) kept)
 
 pub kept_more : (a b c : Peaks) → IsKept a b → IsKept b c → IsKept a c
 kept_more a b c h k = record {
-  line = k.line ∙ h.line;
-  left = k.left ∙ h.left;
-  homes = k.homes ∙ h.homes;
-  widths = k.widths ∙ h.widths;
-  seats = k.seats ∙ h.seats;
-  needs = k.needs ∙ h.needs;
-  again = k.again ∙ h.again;
-  missing = k.missing ∙ h.missing;
+  same = k.same ∙ ap (λ (x : Peaks). record x { base = c.base; trees = c.trees }) h.same;
   bases_long = k.bases_long ∙ h.bases_long;
   trees_long = k.trees_long ∙ h.trees_long;
-  ready = k.ready ∙ h.ready;
-  passed = λ m. k.passed (h.passed m);
 }
 
 -- sizes stay small
@@ -160,7 +144,7 @@ settle_one p links old new t q x n xs ms ns limits sums linked can kept home onc
 }
   where
     low : q < places p
-    low = can.tied.one.place_below t q home
+    low = can.tied.rules.one.place_below t q home
 
     size_is : (g : ℕ) → has (makes p t) g ≡ true → sizes can.state.held g ≡ good_size p g
     size_is g m = ap held_size (can.tied.sound.running_held t g can.runs m)
@@ -183,7 +167,7 @@ pub can_settle : (p : Plan) (links : Links) (old new : Peaks) (t q k : ℕ) (ns 
     → lies_at p (get_or (makes p t) k 0) q ≡ true → CanSettleOne p links new q (get_or (makes p t) k 0) (get_or ns k 0)
 can_settle p links old new t q k ns limits sums linked can kept home below bases trees at =
     let long = declared_long p (makes p t) ns can.declared in
-    let once = rises_once 0 (makes p t) (can.tied.keeps.rises t) in
+    let once = rises_once 0 (makes p t) (can.tied.rules.keeps.rises t) in
     let less = are_less p (sizes can.state.held) (makes p t) ns can.declared (λ g m. ap held_size (can.tied.sound.running_held t g can.runs m)) in
     let its = drop_at (makes p t) k below in
     let theirs = drop_at ns k (omega (arith, long, below)) in
@@ -194,14 +178,14 @@ can_settle p links old new t q k ns limits sums linked can kept home below bases
 
 -- where the task has a place, its goods lie there alone
 pub lies_only : (p : Plan) (links : Links) (b : Peaks) (t q k r : ℕ) (ns : List ℕ) → CanSettle p links b t ns → place p t ≡ Some q → k < length (makes p t) → r < places p → lies_at p (get_or (makes p t) k 0) r ≡ true → q ≡ r
-lies_only p links b t q k r ns can home below low at = some_same q r (sym home ∙ can.tied.one.makes_there t (get_or (makes p t) k 0) r low (at_place (makes p t) k below) at)
+lies_only p links b t q k r ns can home below low at = some_same q r (sym home ∙ can.tied.rules.one.makes_there t (get_or (makes p t) k 0) r low (at_place (makes p t) k below) at)
   where
     some_same : (a c : ℕ) → Some a ≡ Some c → a ≡ c
     some_same a c e = cc
 
 -- where it has none, they lie nowhere
 pub lies_nowhere : (p : Plan) (links : Links) (b : Peaks) (t g r : ℕ) (ns : List ℕ) → CanSettle p links b t ns → place p t ≡ None → r < places p → has (makes p t) g ≡ true → lies_at p g r ≡ false
-lies_nowhere p links b t g r ns can home low m = false_of (lies_at p g r) (λ at. absurd (let no : None ≡ Some r = sym home ∙ can.tied.one.makes_there t g r low m at in cc))
+lies_nowhere p links b t g r ns can home low m = false_of (lies_at p g r) (λ at. absurd (let no : None ≡ Some r = sym home ∙ can.tied.rules.one.makes_there t g r low m at in cc))
 
 pub step_fits : (p : Plan) (links : Links) (old new : Peaks) (t q k m x v : ℕ) (ns : List ℕ) → IsWithinLimits p → SumsAreSmall p → AreLinks p links → CanSettle p links old t ns → IsKept old new → place p t ≡ Some q → suc k ≡ m → k < length (makes p t) → x ≡ get_or (makes p t) k 0 → v ≡ get_or ns k 0
     → AreLowered p links old new (drop m (makes p t)) (drop m ns) → lies_at p x q ≡ true → CanSettleOne p links new q x v
@@ -253,12 +237,12 @@ none_lowered p links b t ns can home = (
 )
 
 pub kept_none : (b : Peaks) → IsKept b b
-kept_none b = record { line = refl; left = refl; homes = refl; widths = refl; seats = refl; needs = refl; again = refl; missing = refl; bases_long = refl; trees_long = refl; ready = refl; passed = λ h. h }
+kept_none b = record { same = refl; bases_long = refl; trees_long = refl }
 
 -- the place of a task that runs
-pub home_of : (p : Plan) (links : Links) (b : Peaks) (t : ℕ) (ns : List ℕ) (o : Option ℕ) → CanSettle p links b t ns → o ≡ get_or b.homes.items t None → place p t ≡ o
-home_of p links b t ns o can e = sym (can.tied.homes t (can.tied.sound.running_kind t can.runs).1) ∙ sym e
+pub home_of : (p : Plan) (links : Links) (b : Peaks) (t : ℕ) (ns : List ℕ) (o : Option ℕ) → CanSettle p links b t ns → o ≡ get_or b.seating.homes.items t None → place p t ≡ o
+home_of p links b t ns o can e = sym (can.tied.seated.homes t (can.tied.sound.running_kind t can.runs).1) ∙ sym e
 
 -- a task has ended, once its goods are settled and its children are told
 pub can_end_then : (p : Plan) (links : Links) (old new : Peaks) (t : ℕ) (ns : List ℕ) → CanSettle p links old t ns → IsKept old new → CanEnd p new.missing.items t
-can_end_then p links old new t ns can kept = subst (λ (v : List ℕ). CanEnd p v t) (sym kept.missing) (can_end p can.state old can.front t can.tied (ap ended can.runs))
+can_end_then p links old new t ns can kept = subst (λ (b : Peaks). CanEnd p b.missing.items t) (sym kept.same) (can_end p can.state old can.front t can.tied (ap ended can.runs))

@@ -1,31 +1,26 @@
 -- The first task of rest, which waited again, begins: what trees say is kept.
-use Rattle.std.proofs.Common.{◌≡◌, ℕ, ◌+◌, ◌-◌, ◌<◌, ◌||◌, Bool, true, false, cond, nat_eq, List, [], ◌∷◌, ◌++◌, length, take, get_or, Option, Some, None, refl, sym, ap, subst, ◌∙◌, arith}
+use Rattle.std.proofs.Common.{◌≡◌, ℕ, ◌+◌, ◌-◌, ◌<◌, ◌||◌, Bool, true, false, cond, nat_eq, List, [], ◌∷◌, ◌++◌, take, get_or, Option, Some, None, refl, sym, ap, subst, ◌∙◌, arith}
 use Rattle.std.specs.Prelude.{filter}
 use Rattle.std.proofs.lemmas.List.Folds.{list_any-append}
-use Rattle.lease_rules.proofs.ListLemmas.{has_head, has_take, without_has, without_head}
-use Rattle.lease_rules.proofs.SafeLemmas.{maker_of}
-use Rattle.lease_rules.proofs.SoundLemmas.{cleaned_held, not_both, sound_more}
-use Rattle.lease_rules.proofs.StartLemmas.{follows_of}
+use Rattle.place_peaks.proofs.Offered.{cleaned_held, false_of, follows_of, has_head, has_take, maker_of, not_both, or_case, or_left, or_right, sound_more, without_has, without_head}
 use Rattle.lease_rules.specs.Choice.{HaveParentsEnded}
-use Rattle.lease_rules.specs.Law.{HasStorageLaws, IsSoundState}
+use Rattle.lease_rules.specs.Law.{IsSoundState}
 use Rattle.lease_rules.specs.Legal.{Allowed}
 use Rattle.lease_rules.specs.State.{State, after, reserved_for, without}
 use Rattle.plan_core.specs.declared.plan.Plan.{Plan}
 use Rattle.plan_core.specs.Numbers.{has}
-use Rattle.plan_core.specs.Words.{cleans, is_clean, parents, task_numbers}
+use Rattle.plan_core.specs.Words.{cleans, is_clean, parents}
 use Rattle.run_record.specs.Events.{Clean, Grant}
 use Rattle.storage_simulation.specs.Change.{held_part}
 use Rattle.storage_simulation.specs.Following.{AreOnce, Follows}
 use Rattle.storage_simulation.specs.Goods.{makes, place, places}
-use Rattle.storage_simulation.specs.Law.{KeepsGoods}
 use Rattle.storage_simulation.specs.Standings.{sizes, waits}
 use Rattle.storage_simulation.specs.Usage.{made, usage}
-use Rattle.storage_simulation.proofs.FollowingLemmas.{false_of, or_case, or_left, or_right}
 use Rattle.place_peaks.specs.declared.peaks.Peaks.{Peaks}
 use Rattle.place_peaks.specs.Cleaning.{IsSweptAgain}
 use Rattle.place_peaks.specs.Granting.{IsGrantedAgain}
-use Rattle.place_peaks.specs.Peaks.{AreBehind, is_left, left_of, line_of}
-use Rattle.place_peaks.specs.Places.{ChangesOnePlace, brings, held_by, is_place, started, swept, there}
+use Rattle.place_peaks.specs.Peaks.{AreBehind, HasRules, left_of, line_of}
+use Rattle.place_peaks.specs.Places.{brings, held_by, is_place, started, swept, there}
 use Rattle.place_peaks.specs.Values.{values}
 use Rattle.place_peaks.proofs.AgainLemmas.{front_started, front_swept}
 use Rattle.place_peaks.proofs.CleaningLemmas.{brings_kept, ends_more, swept_sizes}
@@ -45,9 +40,7 @@ first_stays rest t ts is once = ap (λ (zs : List ℕ). t ∷ zs) (first_leaves 
 
 -- what is the same for the lemmas on the first task of rest: it waits, and its parents have ended
 pub record IsFirst (p : Plan) (s : State) (t : ℕ) (ts : List ℕ) : Type 0 where
-  pub laws : HasStorageLaws p
-  pub keeps : KeepsGoods p
-  pub one : ChangesOnePlace p
+  pub rules : HasRules p
   pub sound : IsSoundState p s
   pub is : s.rest ≡ t ∷ ts
   pub parents_ended : HaveParentsEnded p s t
@@ -61,36 +54,36 @@ ready_first p s t ts first u m = no_wait (s.phase u) (first.parents_ended u m)
 -- what a place holds once the first task of rest has started
 pub first_brings : (p : Plan) (s : State) (t : ℕ) (ts : List ℕ) (q : ℕ) → IsFirst p s t ts → is_clean p t ≡ false → q < places p → usage p (sizes (reserved_for p t s.held)) [] q ≡ usage p (sizes s.held) [] q + brings p (sizes s.held) q t
 first_brings p s t ts q first kind l =
-    let adds : Adds p (sizes s.held) [] t q = start_adds p s.phase (sizes s.held) [] ts t q 0 first.keeps l (λ g. first.laws.cleans_only t g kind) (follows_first p s t ts first) (ready_first p s t ts first) in
+    let adds : Adds p (sizes s.held) [] t q = start_adds p s.phase (sizes s.held) [] ts t q 0 first.rules.keeps l (λ g. first.rules.laws.cleans_only t g kind) (follows_first p s t ts first) (ready_first p s t ts first) in
     let more = brings_more p (sizes s.held) q t first.sound.small in
-    let same : usage p (started p t (sizes s.held)) [] q ≡ usage p (sizes s.held) ([] ++ t ∷ []) q = start_usage p (sizes s.held) [] t q (λ g. first.laws.cleans_only t g kind) in
+    let same : usage p (started p t (sizes s.held)) [] q ≡ usage p (sizes s.held) ([] ++ t ∷ []) q = start_usage p (sizes s.held) [] t q (λ g. first.rules.laws.cleans_only t g kind) in
     let is = ap (λ (f : ℕ → ℕ). usage p f [] q) (started_sizes p t s.held) in
     omega (arith, adds.0, adds.1, more, same, is)
 
 pub first_brings_away : (p : Plan) (s : State) (t : ℕ) (ts : List ℕ) (q : ℕ) → IsFirst p s t ts → is_clean p t ≡ false → q < places p → (place p t ≡ Some q → ⊥) → usage p (sizes (reserved_for p t s.held)) [] q ≡ usage p (sizes s.held) [] q
 first_brings_away p s t ts q first kind l away =
     ap (λ (f : ℕ → ℕ). usage p f [] q) (started_sizes p t s.held)
-    ∙ start_usage p (sizes s.held) [] t q (λ g. first.laws.cleans_only t g kind)
-    ∙ usage_away p (sizes s.held) [] t q first.one l away
+    ∙ start_usage p (sizes s.held) [] t q (λ g. first.rules.laws.cleans_only t g kind)
+    ∙ usage_away p (sizes s.held) [] t q first.rules.one l away
 
 -- and once the first task of rest, a Clean, is done
 pub first_frees : (p : Plan) (s : State) (t : ℕ) (ts : List ℕ) (q g : ℕ) → IsFirst p s t ts → is_clean p t ≡ true → ((x : ℕ) → cleans p t x ≡ nat_eq g x) → q < places p
     → usage p (sizes (cleaned_held p t s.held)) [] q + held_part p (sizes s.held) q g ≡ usage p (sizes s.held) [] q
 first_frees p s t ts q g first kind its l =
-    let takes : usage p (sizes s.held) ([] ++ t ∷ []) q + held_part p (sizes s.held) q g ≡ usage p (sizes s.held) [] q = sweep_takes p s.phase (sizes s.held) [] ts t q 0 g first.keeps l its (follows_first p s t ts first) (ready_first p s t ts first) in
-    let same : usage p (swept p t (sizes s.held)) [] q ≡ usage p (sizes s.held) ([] ++ t ∷ []) q = sweep_usage p (sizes s.held) [] t q (λ x. first.laws.cleans_make t x kind) (λ x m. refl) in
+    let takes : usage p (sizes s.held) ([] ++ t ∷ []) q + held_part p (sizes s.held) q g ≡ usage p (sizes s.held) [] q = sweep_takes p s.phase (sizes s.held) [] ts t q 0 g first.rules.keeps l its (follows_first p s t ts first) (ready_first p s t ts first) in
+    let same : usage p (swept p t (sizes s.held)) [] q ≡ usage p (sizes s.held) ([] ++ t ∷ []) q = sweep_usage p (sizes s.held) [] t q (λ x. first.rules.laws.cleans_make t x kind) (λ x m. refl) in
     let is = ap (λ (f : ℕ → ℕ). usage p f [] q) (swept_sizes p t s.held) in
     omega (arith, takes, same, is)
 
 pub first_frees_away : (p : Plan) (s : State) (t : ℕ) (ts : List ℕ) (q : ℕ) → IsFirst p s t ts → is_clean p t ≡ true → q < places p → (place p t ≡ Some q → ⊥) → usage p (sizes (cleaned_held p t s.held)) [] q ≡ usage p (sizes s.held) [] q
 first_frees_away p s t ts q first kind l away =
     ap (λ (f : ℕ → ℕ). usage p f [] q) (swept_sizes p t s.held)
-    ∙ sweep_usage p (sizes s.held) [] t q (λ x. first.laws.cleans_make t x kind) (λ x m. refl)
-    ∙ usage_away p (sizes s.held) [] t q first.one l away
+    ∙ sweep_usage p (sizes s.held) [] t q (λ x. first.rules.laws.cleans_make t x kind) (λ x m. refl)
+    ∙ usage_away p (sizes s.held) [] t q first.rules.one l away
 
 -- tasks of rest make nothing that the ended parents of a Clean have made
 pub first_unmade : (p : Plan) (s : State) (t : ℕ) (ts : List ℕ) → IsFirst p s t ts → (front : List ℕ) → ((u : ℕ) → has front u ≡ true → has s.rest u ≡ true) → AreUnmade p t front
-first_unmade p s t ts first front inside x c = false_of (made p front x) (λ m. let u = maker_of p front x m in not_both (s.phase u.0) (first.sound.safe.waiting u.0 (inside u.0 u.1)) (first.parents_ended u.0 (first.laws.cleans_after t u.0 x c u.2)))
+first_unmade p s t ts first front inside x c = false_of (made p front x) (λ m. let u = maker_of p front x m in not_both (s.phase u.0) (first.sound.safe.waiting u.0 (inside u.0 u.1)) (first.parents_ended u.0 (first.rules.laws.cleans_after t u.0 x c u.2)))
 
 has_both : (xs ys : List ℕ) (u : ℕ) → has (xs ++ ys) u ≡ (has xs u || has ys u)
 has_both xs ys u = list_any-append (λ y. nat_eq y u) xs ys
@@ -100,9 +93,7 @@ has_front xs ys k u m = has_both xs ys u ∙ or_case (has xs u) (has (take k ys)
 
 pub first_of : (p : Plan) (s : State) (b : Peaks) (front : List ℕ) (t : ℕ) → AreBehind p s b (t ∷ front) → IsFirst p s t (front ++ filter (left_of b) (line_of b))
 first_of p s b front t peaks = record {
-  laws = peaks.laws;
-  keeps = peaks.keeps;
-  one = peaks.one;
+  rules = peaks.rules;
   sound = peaks.sound;
   is = peaks.rest;
   parents_ended = peaks.waiting t (has_head t front);
@@ -110,45 +101,32 @@ first_of p s b front t peaks = record {
 
 -- its grant
 pub granted_again : (p : Plan) (s : State) (old new : Peaks) (front : List ℕ) (w t : ℕ) → AreBehind p s old (t ∷ front) → Allowed p s (Grant w t) → IsGrantedAgain old new t → AreBehind p (after p s (Grant w t)) new front
-granted_again p s old new front w t peaks allowed is = record {
-  laws = peaks.laws;
-  keeps = peaks.keeps;
-  one = peaks.one;
-  sound = sound_more p s (Grant w t) peaks.laws peaks.sound allowed;
-  once = subst AreOnce (sym same_line) peaks.once;
-  in_plan = λ u m. peaks.in_plan u (sym (ap (λ (zs : List ℕ). has zs u) same_line) ∙ m);
-  marked = λ u m. ap (λ (zs : List ℕ). has zs u) same_line ∙ peaks.marked u (sym (ap (λ (marks : List Bool). is_left marks u) is.left) ∙ m);
-  marks_long = ap length is.left ∙ peaks.marks_long;
+granted_again p s old new front w t peaks allowed is = subst (λ (b : Peaks). AreBehind p (after p s (Grant w t)) b front) (sym is.same) (record {
+  rules = peaks.rules;
+  sound = sound_more p s (Grant w t) peaks.rules.laws peaks.sound allowed;
+  seated = peaks.seated;
+  marked = λ u m. peaks.marked u m;
+  marks_long = peaks.marks_long;
   bases_long = is.bases_long ∙ peaks.bases_long;
-  trees_long = ap length is.trees ∙ peaks.trees_long;
-  missing_long = ap length is.missing ∙ peaks.missing_long;
-  rest = first_leaves s.rest t (front ++ filter (left_of old) (line_of old)) peaks.rest peaks.sound.safe.once ∙ ap (λ (zs : List ℕ). front ++ zs) same_left;
+  trees_long = peaks.trees_long;
+  missing_long = peaks.missing_long;
+  rest = first_leaves s.rest t (front ++ filter (left_of old) (line_of old)) peaks.rest peaks.sound.safe.once;
   waiting = λ u m v n. ended_stays s.phase t v waiting (peaks.waiting u (or_right (nat_eq t u) (has front u) m) v n);
-  homes = λ u low. ap (λ (v : List (Option ℕ)). get_or v u None) is.homes ∙ peaks.homes u low;
-  widths = λ q l. ap (λ (v : List ℕ). get_or v q 0) is.widths ∙ peaks.widths q l ∙ ap (λ (zs : List ℕ). length (filter (there p q) zs)) (sym same_line);
-  needs = λ u q m kind at. ap (λ (v : List ℕ). get_or v u 0) is.needs ∙ peaks.needs u q (was u m) kind at ∙ sym (brings_same p s.held t u q (λ g n. false_of (has (makes p t) g) (λ j. absurd (let same : t ≡ u = peaks.laws.one_maker t u g j n in let off = (without_has t u s.rest m).1 in let yes : nat_eq t u ≡ true = grind (arith, same) in cc))));
-  counts = λ u low. ap (λ (x : List ℕ). get_or x u 1) is.missing ∙ peaks.counts u low ∙ counts_run s.phase t (parents p u) waiting;
+  needs = λ u q m kind at. peaks.needs u q (was u m) kind at ∙ sym (brings_same p s.held t u q (λ g n. false_of (has (makes p t) g) (λ j. absurd (let same : t ≡ u = peaks.rules.laws.one_maker t u g j n in let off = (without_has t u s.rest m).1 in let yes : nat_eq t u ≡ true = grind (arith, same) in cc))));
+  counts = λ u low. peaks.counts u low ∙ counts_run s.phase t (parents p u) waiting;
   bases = λ q l. is.base q ∙ ap (λ (o : Option ℕ). cond (is_place q o) (get_or old.base.items q 0 + get_or old.needs.items t 0) (get_or old.base.items q 0)) home ∙ base_then q l (is_place q (place p t)) refl;
-  trees = λ q l. ap (λ (v : List (List (Option ℕ))). get_or v q []) is.trees ∙ peaks.trees q l ∙ sym (front_started p (sizes s.held) (left_of old) front (line_of old) t q (λ g. peaks.laws.cleans_only t g allowed.1))
-      ∙ ap (λ (f : ℕ → ℕ). values (there p q) (left_of old) (held_by p f q) front (line_of old)) (sym (started_sizes p t s.held))
-      ∙ ap (values (there p q) (left_of old) (held_by p (sizes (reserved_for p t s.held)) q) front) (sym same_line) ∙ ap (λ (marks : List Bool). values (there p q) (is_left marks) (held_by p (sizes (reserved_for p t s.held)) q) front (line_of new)) (sym is.left);
-  seats = subst (λ (zs : List ℕ). (j q : ℕ) → j < length zs → place p (get_or zs j 0) ≡ Some q → get_or new.seats.items (get_or zs j 0) 0 ≡ length (filter (there p q) (take j zs))) (sym same_line) (λ j q m at. ap (λ (v : List ℕ). get_or v (get_or (line_of old) j 0) 0) is.seats ∙ peaks.seats j q m at);
-}
+  trees = λ q l. peaks.trees q l ∙ sym (front_started p (sizes s.held) (left_of old) front (line_of old) t q (λ g. peaks.rules.laws.cleans_only t g allowed.1))
+      ∙ ap (λ (f : ℕ → ℕ). values (there p q) (left_of old) (held_by p f q) front (line_of old)) (sym (started_sizes p t s.held));
+})
   where
-    same_line : line_of new ≡ line_of old
-    same_line = ap task_numbers is.line
-
-    same_left : filter (left_of old) (line_of old) ≡ filter (left_of new) (line_of new)
-    same_left = ap (filter (left_of old)) (sym same_line) ∙ ap (λ (marks : List Bool). filter (is_left marks) (line_of new)) (sym is.left)
-
     in_rest : has s.rest t ≡ true
     in_rest = ap (λ (zs : List ℕ). has zs t) peaks.rest ∙ has_head t (front ++ filter (left_of old) (line_of old))
 
     waiting : waits (s.phase t) ≡ true
     waiting = peaks.sound.safe.waiting t in_rest
 
-    home : get_or old.homes.items t None ≡ place p t
-    home = peaks.homes t (peaks.sound.safe.tasks t in_rest)
+    home : get_or old.seating.homes.items t None ≡ place p t
+    home = peaks.seated.homes t (peaks.sound.safe.tasks t in_rest)
 
     was : (u : ℕ) → has (without t s.rest) u ≡ true → has s.rest u ≡ true
     was u m = (without_has t u s.rest m).0
@@ -167,45 +145,32 @@ granted_again p s old new front w t peaks allowed is = record {
 -- its Clean
 pub swept_again : (p : Plan) (s : State) (old new : Peaks) (front : List ℕ) (w t g frees : ℕ) → AreBehind p s old (t ∷ front) → Allowed p s (Clean w t) → ((u : ℕ) → AreOnce (parents p u))
     → ((x : ℕ) → cleans p t x ≡ nat_eq g x) → ((q : ℕ) → place p t ≡ Some q → held_part p (sizes s.held) q g ≡ frees) → IsSweptAgain p old new t frees → AreBehind p (after p s (Clean w t)) new front
-swept_again p s old new front w t g q0 peaks allowed once_parents its frees is = record {
-  laws = peaks.laws;
-  keeps = peaks.keeps;
-  one = peaks.one;
-  sound = sound_more p s (Clean w t) peaks.laws peaks.sound allowed;
-  once = subst AreOnce (sym same_line) peaks.once;
-  in_plan = λ u m. peaks.in_plan u (sym (ap (λ (zs : List ℕ). has zs u) same_line) ∙ m);
-  marked = λ u m. ap (λ (zs : List ℕ). has zs u) same_line ∙ peaks.marked u (sym (ap (λ (marks : List Bool). is_left marks u) is.left) ∙ m);
-  marks_long = ap length is.left ∙ peaks.marks_long;
+swept_again p s old new front w t g q0 peaks allowed once_parents its frees is = subst (λ (b : Peaks). AreBehind p (after p s (Clean w t)) b front) (sym is.same) (record {
+  rules = peaks.rules;
+  sound = sound_more p s (Clean w t) peaks.rules.laws peaks.sound allowed;
+  seated = peaks.seated;
+  marked = λ u m. peaks.marked u m;
+  marks_long = peaks.marks_long;
   bases_long = is.bases_long ∙ peaks.bases_long;
-  trees_long = ap length is.trees ∙ peaks.trees_long;
+  trees_long = peaks.trees_long;
   missing_long = is.missing_long ∙ peaks.missing_long;
-  rest = first_leaves s.rest t (front ++ filter (left_of old) (line_of old)) peaks.rest peaks.sound.safe.once ∙ ap (λ (zs : List ℕ). front ++ zs) same_left;
+  rest = first_leaves s.rest t (front ++ filter (left_of old) (line_of old)) peaks.rest peaks.sound.safe.once;
   waiting = λ u m v n. ends_more s.phase t v (peaks.waiting u (or_right (nat_eq t u) (has front u) m) v n);
-  homes = λ u low. ap (λ (v : List (Option ℕ)). get_or v u None) is.homes ∙ peaks.homes u low;
-  widths = λ q l. ap (λ (v : List ℕ). get_or v q 0) is.widths ∙ peaks.widths q l ∙ ap (λ (zs : List ℕ). length (filter (there p q) zs)) (sym same_line);
-  needs = λ u q m kind at. ap (λ (v : List ℕ). get_or v u 0) is.needs ∙ peaks.needs u q (was u m) kind at ∙ sym (brings_kept p s.held t u q (λ x n. false_of (cleans p t x) (λ c. not_both (s.phase u) (peaks.sound.safe.waiting u (was u m)) (allowed.2.can.parents_ended u (peaks.laws.cleans_after t u x c n)))));
+  needs = λ u q m kind at. peaks.needs u q (was u m) kind at ∙ sym (brings_kept p s.held t u q (λ x n. false_of (cleans p t x) (λ c. not_both (s.phase u) (peaks.sound.safe.waiting u (was u m)) (allowed.2.can.parents_ended u (peaks.rules.laws.cleans_after t u x c n)))));
   counts = λ u low. let less = is.missing u low in let had = peaks.counts u low in let now = counts_end s.phase t (parents p u) (once_parents u) (still_open (s.phase t) waiting) in omega (arith, less, had, now);
   bases = λ q l. is.base q ∙ ap (λ (o : Option ℕ). cond (is_place q o) (get_or old.base.items q 0 - q0) (get_or old.base.items q 0)) home ∙ base_then q l (is_place q (place p t)) refl;
-  trees = λ q l. ap (λ (v : List (List (Option ℕ))). get_or v q []) is.trees ∙ peaks.trees q l ∙ sym (front_swept p (sizes s.held) (left_of old) front (line_of old) t q (λ x. peaks.laws.cleans_make t x allowed.1) unmade)
-      ∙ ap (λ (f : ℕ → ℕ). values (there p q) (left_of old) (held_by p f q) front (line_of old)) (sym (swept_sizes p t s.held))
-      ∙ ap (values (there p q) (left_of old) (held_by p (sizes (cleaned_held p t s.held)) q) front) (sym same_line) ∙ ap (λ (marks : List Bool). values (there p q) (is_left marks) (held_by p (sizes (cleaned_held p t s.held)) q) front (line_of new)) (sym is.left);
-  seats = subst (λ (zs : List ℕ). (j q : ℕ) → j < length zs → place p (get_or zs j 0) ≡ Some q → get_or new.seats.items (get_or zs j 0) 0 ≡ length (filter (there p q) (take j zs))) (sym same_line) (λ j q m at. ap (λ (v : List ℕ). get_or v (get_or (line_of old) j 0) 0) is.seats ∙ peaks.seats j q m at);
-}
+  trees = λ q l. peaks.trees q l ∙ sym (front_swept p (sizes s.held) (left_of old) front (line_of old) t q (λ x. peaks.rules.laws.cleans_make t x allowed.1) unmade)
+      ∙ ap (λ (f : ℕ → ℕ). values (there p q) (left_of old) (held_by p f q) front (line_of old)) (sym (swept_sizes p t s.held));
+})
   where
-    same_line : line_of new ≡ line_of old
-    same_line = ap task_numbers is.line
-
-    same_left : filter (left_of old) (line_of old) ≡ filter (left_of new) (line_of new)
-    same_left = ap (filter (left_of old)) (sym same_line) ∙ ap (λ (marks : List Bool). filter (is_left marks) (line_of new)) (sym is.left)
-
     in_rest : has s.rest t ≡ true
     in_rest = ap (λ (zs : List ℕ). has zs t) peaks.rest ∙ has_head t (front ++ filter (left_of old) (line_of old))
 
     waiting : waits (s.phase t) ≡ true
     waiting = peaks.sound.safe.waiting t in_rest
 
-    home : get_or old.homes.items t None ≡ place p t
-    home = peaks.homes t (peaks.sound.safe.tasks t in_rest)
+    home : get_or old.seating.homes.items t None ≡ place p t
+    home = peaks.seated.homes t (peaks.sound.safe.tasks t in_rest)
 
     was : (u : ℕ) → has (without t s.rest) u ≡ true → has s.rest u ≡ true
     was u m = (without_has t u s.rest m).0

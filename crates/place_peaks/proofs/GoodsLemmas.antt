@@ -6,7 +6,7 @@ use Rattle.plan_core.specs.Numbers.{has}
 use Rattle.storage_simulation.specs.Following.{AreOnce}
 use Rattle.storage_simulation.specs.Goods.{lies_at, places}
 use Rattle.storage_simulation.specs.Usage.{cleaned}
-use Rattle.storage_simulation.proofs.FollowingLemmas.{once_parts, or_left, or_right}
+use Rattle.place_peaks.proofs.Offered.{once_parts, or_left, or_right}
 use Rattle.place_peaks.specs.Places.{held_by, there}
 use Rattle.place_peaks.specs.Tree.{front_changed}
 use Rattle.place_peaks.specs.Values.{values}

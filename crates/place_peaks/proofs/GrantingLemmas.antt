@@ -1,16 +1,14 @@
 -- A grant keeps what trees say; a task that brings no more and stands before another can start if that one can.
 use Rattle.std.proofs.Common.{◌≡◌, ℕ, suc, ◌+◌, ◌-◌, ◌≤◌, ◌<◌, ◌||◌, ◌&&◌, Bool, true, false, cond, eqb, eqb-true, List, [], ◌∷◌, ◌++◌, length, take, drop, get_or, Option, Some, None, refl, sym, ap, subst, ◌∙◌, arith, ◌^◌}
 use Rattle.std.specs.Prelude.{filter, not, set}
-use Rattle.lease_rules.proofs.ListLemmas.{filter_without, once_parts, without_has}
-use Rattle.lease_rules.proofs.SoundLemmas.{choice_in, sound_more}
+use Rattle.place_peaks.proofs.Offered.{choice_in, false_of, filter_without, good_small, greatest-append, once_parts, or_left, or_right, sound_more, sum_same, without_has}
 use Rattle.lease_rules.specs.Choice.{HaveParentsEnded}
 use Rattle.lease_rules.specs.Legal.{Allowed}
 use Rattle.lease_rules.specs.State.{State, after, ended, put, reserved_for, without}
 use Rattle.peak_tree.specs.Numbers.{greater, greatest}
-use Rattle.peak_tree.proofs.NumbersLemmas.{greatest-append}
 use Rattle.plan_core.specs.declared.plan.Plan.{Plan}
 use Rattle.plan_core.specs.Numbers.{has}
-use Rattle.plan_core.specs.Words.{cleans, is_clean, parents, task_numbers}
+use Rattle.plan_core.specs.Words.{cleans, is_clean, parents}
 use Rattle.run_record.specs.Events.{Grant}
 use Rattle.storage_simulation.specs.declared.standing.Held.{Held}
 use Rattle.storage_simulation.specs.declared.standing.Phase.{Phase}
@@ -20,12 +18,9 @@ use Rattle.storage_simulation.specs.Following.{AreOnce}
 use Rattle.storage_simulation.specs.Goods.{IsWithinLimits, good_size, lies_at, makes, place, place_bound, places}
 use Rattle.storage_simulation.specs.Standings.{sizes, waits}
 use Rattle.storage_simulation.specs.Usage.{sum_of, usage}
-use Rattle.storage_simulation.proofs.FollowingLemmas.{false_of, or_left, or_right}
-use Rattle.storage_simulation.proofs.SumsLemmas.{sum_same}
-use Rattle.storage_simulation.proofs.UsageLemmas.{good_small}
 use Rattle.place_peaks.specs.declared.peaks.Peaks.{Peaks}
 use Rattle.place_peaks.specs.Granting.{CanGrant, IsGranted}
-use Rattle.place_peaks.specs.Peaks.{ArePeaks, AreSeated, left_of, line_of}
+use Rattle.place_peaks.specs.Peaks.{AreBehind, ArePeaks, AreSeated, left_of, line_of}
 use Rattle.place_peaks.specs.Places.{brings, held_by, is_place, started, there}
 use Rattle.place_peaks.specs.Tree.{AllFirst, CanRise, IsUpTo, front_changed}
 use Rattle.place_peaks.specs.Values.{values}
@@ -125,43 +120,34 @@ and_first false c e = absurd cc
 
 -- A grant of a task of the line keeps what the trees say.
 granted_by : (p : Plan) (s : State) (old new : Peaks) (w k t : ℕ) (xs ys : List ℕ) → ArePeaks p s old → line_of old ≡ xs ++ t ∷ ys → Allowed p s (Grant w t) → IsGranted old new t → left_of old t ≡ true
-    → ((q : ℕ) → place p t ≡ Some q → get_or old.seats.items t 0 ≡ length (filter (there p q) xs))
+    → ((q : ℕ) → place p t ≡ Some q → get_or old.seating.seats.items t 0 ≡ length (filter (there p q) xs))
     → IsSpot p s (left_of old) xs t ys → ArePeaks p (after p s (Grant w t)) new
-granted_by p s old new w k t xs ys peaks line allowed is on seat spot = record {
-  laws = peaks.laws;
-  keeps = peaks.keeps;
-  one = peaks.one;
-  sound = sound_more p s (Grant w t) peaks.laws peaks.sound allowed;
-  once = subst AreOnce (sym same_line) peaks.once;
-  in_plan = λ u m. peaks.in_plan u (sym (ap (λ (xs : List ℕ). has xs u) same_line) ∙ m);
-  marked = λ u m. ap (λ (zs : List ℕ). has zs u) same_line ∙ peaks.marked u (and_first (left_of old u) (not (eqb t u)) (sym (is.left u) ∙ m));
+granted_by p s old new w k t xs ys peaks line allowed is on seat spot = subst (λ (b : Peaks). AreBehind p (after p s (Grant w t)) b []) (sym is.same) (record {
+  rules = peaks.rules;
+  sound = sound_more p s (Grant w t) peaks.rules.laws peaks.sound allowed;
+  seated = peaks.seated;
+  marked = λ u m. peaks.marked u (and_first (left_of old u) (not (eqb t u)) (sym (is.left u) ∙ m));
   marks_long = is.marks_long ∙ peaks.marks_long;
   bases_long = is.bases_long ∙ peaks.bases_long;
   trees_long = is.trees_long ∙ peaks.trees_long;
   waiting = λ u m. absurd cc;
-  rest = ap (without t) peaks.rest ∙ sym (filter_without (left_of old) (left_of new) t is.left (line_of old)) ∙ ap (filter (left_of new)) (sym same_line);
-  homes = λ u low. ap (λ (v : List (Option ℕ)). get_or v u None) is.homes ∙ peaks.homes u low;
-  widths = λ q l. ap (λ (v : List ℕ). get_or v q 0) is.widths ∙ peaks.widths q l ∙ ap (λ (zs : List ℕ). length (filter (there p q) zs)) (sym same_line);
-  needs = λ u q m kind at. ap (λ (v : List ℕ). get_or v u 0) is.needs ∙ peaks.needs u q (was u m) kind at ∙ sym (brings_same p s.held t u q (λ g n. false_of (has (makes p t) g) (λ j. absurd (let same : t ≡ u = peaks.laws.one_maker t u g j n in let off = (without_has t u s.rest m).1 in let yes : eqb t u ≡ true = grind (arith, same) in cc))));
-  missing_long = ap length is.missing ∙ peaks.missing_long;
-  counts = λ u low. ap (λ (x : List ℕ). get_or x u 1) is.missing ∙ peaks.counts u low ∙ counts_run s.phase t (parents p u) waiting;
+  rest = ap (without t) peaks.rest ∙ sym (filter_without (left_of old) (left_of new) t is.left (line_of old));
+  needs = λ u q m kind at. peaks.needs u q (was u m) kind at ∙ sym (brings_same p s.held t u q (λ g n. false_of (has (makes p t) g) (λ j. absurd (let same : t ≡ u = peaks.rules.laws.one_maker t u g j n in let off = (without_has t u s.rest m).1 in let yes : eqb t u ≡ true = grind (arith, same) in cc))));
+  missing_long = peaks.missing_long;
+  counts = λ u low. peaks.counts u low ∙ counts_run s.phase t (parents p u) waiting;
   bases = λ q l. is.base q ∙ ap (λ (o : Option ℕ). cond (is_place q o) (get_or old.base.items q 0 + get_or old.needs.items t 0) (get_or old.base.items q 0)) home ∙ base_then q l (is_place q (place p t)) refl;
-  trees = λ q l. is.trees q ∙ ap (λ (o : Option ℕ). cond (is_place q o) (set (front_changed (get_or old.seats.items t 0) (λ n. n + get_or old.needs.items t 0) (get_or old.trees.items q [])) (get_or old.seats.items t 0) None) (get_or old.trees.items q [])) home ∙ tree_then q l (is_place q (place p t)) refl
-      ∙ ap (λ (f : ℕ → ℕ). values (there p q) (left_of new) (held_by p f q) [] (xs ++ t ∷ ys)) (sym (started_sizes p t s.held)) ∙ ap (values (there p q) (left_of new) (held_by p (sizes (reserved_for p t s.held)) q) []) (sym line ∙ sym same_line);
-  seats = subst (λ (zs : List ℕ). (j q : ℕ) → j < length zs → place p (get_or zs j 0) ≡ Some q → get_or new.seats.items (get_or zs j 0) 0 ≡ length (filter (there p q) (take j zs))) (sym same_line) (λ j q m at. ap (λ (v : List ℕ). get_or v (get_or (line_of old) j 0) 0) is.seats ∙ peaks.seats j q m at);
-}
+  trees = λ q l. is.trees q ∙ ap (λ (o : Option ℕ). cond (is_place q o) (set (front_changed (get_or old.seating.seats.items t 0) (λ n. n + get_or old.needs.items t 0) (get_or old.trees.items q [])) (get_or old.seating.seats.items t 0) None) (get_or old.trees.items q [])) home ∙ tree_then q l (is_place q (place p t)) refl
+      ∙ ap (λ (f : ℕ → ℕ). values (there p q) (left_of new) (held_by p f q) [] (xs ++ t ∷ ys)) (sym (started_sizes p t s.held)) ∙ ap (values (there p q) (left_of new) (held_by p (sizes (reserved_for p t s.held)) q) []) (sym line);
+})
   where
-    same_line : line_of new ≡ line_of old
-    same_line = ap task_numbers is.line
-
     in_rest : has s.rest t ≡ true
     in_rest = choice_in p s t allowed.2
 
     waiting : waits (s.phase t) ≡ true
     waiting = peaks.sound.safe.waiting t in_rest
 
-    home : get_or old.homes.items t None ≡ place p t
-    home = peaks.homes t (peaks.sound.safe.tasks t in_rest)
+    home : get_or old.seating.homes.items t None ≡ place p t
+    home = peaks.seated.homes t (peaks.sound.safe.tasks t in_rest)
 
     was : (u : ℕ) → has (without t s.rest) u ≡ true → has s.rest u ≡ true
     was u m = (without_has t u s.rest m).0
@@ -170,10 +156,10 @@ granted_by p s old new w k t xs ys peaks line allowed is on seat spot = record {
     gone = is.left t ∙ and_false (left_of old t) (eqb t t) (let e : eqb t t ≡ true = grind arith in e)
 
     apart : (has xs t ≡ false) × (has ys t ≡ false)
-    apart = absent_first xs t ys (subst AreOnce line peaks.once)
+    apart = absent_first xs t ys (subst AreOnce line peaks.seated.once)
 
     unclean : (g : ℕ) → cleans p t g ≡ false
-    unclean g = peaks.laws.cleans_only t g allowed.1
+    unclean g = peaks.rules.laws.cleans_only t g allowed.1
 
     base_then : (q : ℕ) → q < places p → (b : Bool) → is_place q (place p t) ≡ b → cond b (get_or old.base.items q 0 + get_or old.needs.items t 0) (get_or old.base.items q 0) ≡ usage p (sizes (reserved_for p t s.held)) [] q
     base_then q l true e =
@@ -187,19 +173,19 @@ granted_by p s old new w k t xs ys peaks line allowed is on seat spot = record {
     old_tree q l = peaks.trees q l ∙ ap (values (there p q) (left_of old) (held_by p (sizes s.held) q) []) line
 
     tree_then : (q : ℕ) → q < places p → (b : Bool) → is_place q (place p t) ≡ b
-        → cond b (set (front_changed (get_or old.seats.items t 0) (λ n. n + get_or old.needs.items t 0) (get_or old.trees.items q [])) (get_or old.seats.items t 0) None) (get_or old.trees.items q [])
+        → cond b (set (front_changed (get_or old.seating.seats.items t 0) (λ n. n + get_or old.needs.items t 0) (get_or old.trees.items q [])) (get_or old.seating.seats.items t 0) None) (get_or old.trees.items q [])
         ≡ values (there p q) (left_of new) (held_by p (started p t (sizes s.held)) q) [] (xs ++ t ∷ ys)
     tree_then q l true e =
         ap (λ (n : ℕ). set (front_changed n (λ m. m + get_or old.needs.items t 0) (get_or old.trees.items q [])) n None) (seat q (is_there q (place p t) e))
         ∙ ap (λ (d : ℕ). set (front_changed (length (filter (there p q) xs)) (λ m. m + d) (get_or old.trees.items q [])) (length (filter (there p q) xs)) None) (peaks.needs t q in_rest allowed.1 (is_there q (place p t) e))
         ∙ ap (λ (vs : List (Option ℕ)). set (front_changed (length (filter (there p q) xs)) (λ m. m + brings p (sizes s.held) q t) vs) (length (filter (there p q) xs)) None) (old_tree q l)
-        ∙ sym (start_here p s.phase (sizes s.held) (left_of old) (left_of new) xs t ys q peaks.keeps l peaks.sound.small unclean (follows_spot p s (left_of old) xs t ys spot) (not_waiting p s (left_of old) xs t ys spot) on gone (same_but (left_of old) (left_of new) t is.left xs apart.0) (same_but (left_of old) (left_of new) t is.left ys apart.1) e)
-    tree_then q l false e = old_tree q l ∙ sym (start_there p (sizes s.held) (left_of old) (left_of new) xs t ys q peaks.one l unclean on gone (same_but (left_of old) (left_of new) t is.left xs apart.0) (same_but (left_of old) (left_of new) t is.left ys apart.1) e)
+        ∙ sym (start_here p s.phase (sizes s.held) (left_of old) (left_of new) xs t ys q peaks.rules.keeps l peaks.sound.small unclean (follows_spot p s (left_of old) xs t ys spot) (not_waiting p s (left_of old) xs t ys spot) on gone (same_but (left_of old) (left_of new) t is.left xs apart.0) (same_but (left_of old) (left_of new) t is.left ys apart.1) e)
+    tree_then q l false e = old_tree q l ∙ sym (start_there p (sizes s.held) (left_of old) (left_of new) xs t ys q peaks.rules.one l unclean on gone (same_but (left_of old) (left_of new) t is.left xs apart.0) (same_but (left_of old) (left_of new) t is.left ys apart.1) e)
 
 pub granted_at : (p : Plan) (s : State) (old new : Peaks) (w k : ℕ) → ArePeaks p s old → Allowed p s (Grant w (get_or (line_of old) k 0)) → IsGranted old new (get_or (line_of old) k 0) → k < length (line_of old) → left_of old (get_or (line_of old) k 0) ≡ true
     → ArePeaks p (after p s (Grant w (get_or (line_of old) k 0))) new
 granted_at p s old new w k peaks allowed is l on =
-    granted_by p s old new w k (get_or (line_of old) k 0) (take k (line_of old)) (drop (suc k) (line_of old)) peaks (split (line_of old) k l) allowed is on (λ q at. peaks.seats k q l at)
+    granted_by p s old new w k (get_or (line_of old) k 0) (take k (line_of old)) (drop (suc k) (line_of old)) peaks (split (line_of old) k l) allowed is on (λ q at. peaks.seated.counted.seat k q l at)
     (spot_of p s old k peaks l on (open_none p s old [] peaks (get_or (line_of old) k 0) (choice_in p s (get_or (line_of old) k 0) allowed.2) allowed.2.can.parents_ended) allowed.1)
 
 -- A task of the line that brings something can be granted: nothing leaves the range of the trees.
@@ -214,21 +200,25 @@ abbrev pub SumsAreSmall : Plan → Type 0
 SumsAreSmall p = (size : ℕ → ℕ) (front : List ℕ) (s : ℕ) → ((g : ℕ) → size g ≤ 2 ^ 40) → usage p size front s < 2 ^ 62
 
 can_grant_by : (p : Plan) (s : State) (b : Peaks) (k t q : ℕ) (xs ys : List ℕ) → IsWithinLimits p → SumsAreSmall p → ArePeaks p s b → AreSeated b → k < length (line_of b) → get_or (line_of b) k 0 ≡ t → line_of b ≡ xs ++ t ∷ ys
-    → get_or b.seats.items t 0 ≡ length (filter (there p q) xs) → IsSpot p s (left_of b) xs t ys → has s.rest t ≡ true → place p t ≡ Some q → CanGrant b t q
+    → get_or b.seating.seats.items t 0 ≡ length (filter (there p q) xs) → IsSpot p s (left_of b) xs t ys → has s.rest t ≡ true → place p t ≡ Some q → CanGrant b t q
 can_grant_by p s b k t q xs ys limits sums peaks seated l is line seat spot in_rest at = record {
-  tree_in = let long = peaks.trees_long in omega (arith, long, low);
-  base_in = let long = peaks.bases_long in omega (arith, long, low);
-  seat_in = subst (λ (n : ℕ). get_or b.seats.items n 0 < length (get_or b.trees.items q [])) is (seated k q l (ap (λ (n : ℕ). get_or b.homes.items n None) is ∙ peaks.homes t (peaks.sound.safe.tasks t in_rest) ∙ at));
-  need_small = let n = within 0 in omega (arith, n, need);
-  base_small = let n = within 0 in let base = peaks.bases q low in omega (arith, n, need, base);
-  can_rise = subst (λ (n : ℕ). AllFirst (get_or b.seats.items t 0) (CanRise n) (get_or b.trees.items q [])) (sym need)
-      (subst (λ (n : ℕ). AllFirst n (CanRise (brings p (sizes s.held) q t)) (get_or b.trees.items q [])) (sym seat)
-      (subst (AllFirst (length (filter (there p q) xs)) (CanRise (brings p (sizes s.held) q t))) (sym (peaks.trees q low ∙ ap (values (there p q) (left_of b) (held_by p (sizes s.held) q) []) line))
-      (all_before (CanRise (brings p (sizes s.held) q t)) (there p q) (left_of b) (held_by p (sizes s.held) q) [] xs (t ∷ ys) tt (λ j. let n = within j in omega (arith, n)))));
+  holds = record {
+    base_in = let long = peaks.bases_long in omega (arith, long, low);
+    base_small = let n = within 0 in let base = peaks.bases q low in omega (arith, n, need, base);
+  };
+  starts = record {
+    tree_in = let long = peaks.trees_long in omega (arith, long, low);
+    seat_in = subst (λ (n : ℕ). get_or b.seating.seats.items n 0 < length (get_or b.trees.items q [])) is (seated k q l (ap (λ (n : ℕ). get_or b.seating.homes.items n None) is ∙ peaks.seated.homes t (peaks.sound.safe.tasks t in_rest) ∙ at));
+    need_small = let n = within 0 in omega (arith, n, need);
+    can_rise = subst (λ (n : ℕ). AllFirst (get_or b.seating.seats.items t 0) (CanRise n) (get_or b.trees.items q [])) (sym need)
+        (subst (λ (n : ℕ). AllFirst n (CanRise (brings p (sizes s.held) q t)) (get_or b.trees.items q [])) (sym seat)
+        (subst (AllFirst (length (filter (there p q) xs)) (CanRise (brings p (sizes s.held) q t))) (sym (peaks.trees q low ∙ ap (values (there p q) (left_of b) (held_by p (sizes s.held) q) []) line))
+        (all_before (CanRise (brings p (sizes s.held) q t)) (there p q) (left_of b) (held_by p (sizes s.held) q) [] xs (t ∷ ys) tt (λ j. let n = within j in omega (arith, n)))));
+  };
 }
   where
     low : q < places p
-    low = spot.one.place_below t q at
+    low = spot.rules.one.place_below t q at
 
     need : get_or b.needs.items t 0 ≡ brings p (sizes s.held) q t
     need = peaks.needs t q in_rest spot.makes_goods at
@@ -240,9 +230,9 @@ can_grant_by p s b k t q xs ys limits sums peaks seated l is line seat spot in_r
         omega (arith, holds, few)
 
 pub can_grant : (p : Plan) (s : State) (b : Peaks) (k q : ℕ) → IsWithinLimits p → SumsAreSmall p → ArePeaks p s b → k < length (line_of b) → left_of b (get_or (line_of b) k 0) ≡ true → is_clean p (get_or (line_of b) k 0) ≡ false → HaveParentsEnded p s (get_or (line_of b) k 0)
-    → get_or b.homes.items (get_or (line_of b) k 0) None ≡ Some q → CanGrant b (get_or (line_of b) k 0) q
+    → get_or b.seating.homes.items (get_or (line_of b) k 0) None ≡ Some q → CanGrant b (get_or (line_of b) k 0) q
 can_grant p s b k q limits sums peaks l on kind ended home =
     let in_rest = there_is p s b k peaks l on in
-    let at : place p (get_or (line_of b) k 0) ≡ Some q = sym (peaks.homes (get_or (line_of b) k 0) (peaks.sound.safe.tasks (get_or (line_of b) k 0) in_rest)) ∙ home in
-    can_grant_by p s b k (get_or (line_of b) k 0) q (take k (line_of b)) (drop (suc k) (line_of b)) limits sums peaks (seated p s b [] peaks) l refl (split (line_of b) k l) (peaks.seats k q l at)
+    let at : place p (get_or (line_of b) k 0) ≡ Some q = sym (peaks.seated.homes (get_or (line_of b) k 0) (peaks.sound.safe.tasks (get_or (line_of b) k 0) in_rest)) ∙ home in
+    can_grant_by p s b k (get_or (line_of b) k 0) q (take k (line_of b)) (drop (suc k) (line_of b)) limits sums peaks (seated p s b [] peaks) l refl (split (line_of b) k l) (peaks.seated.counted.seat k q l at)
     (spot_of p s b k peaks l on (open_none p s b [] peaks (get_or (line_of b) k 0) in_rest ended) kind) in_rest at

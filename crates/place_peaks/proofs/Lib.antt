@@ -1,3 +1,4 @@
+pub mod Offered
 pub mod ValuesLemmas
 pub mod TreeLemmas
 pub mod UsageLemmas

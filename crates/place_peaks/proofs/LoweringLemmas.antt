@@ -7,8 +7,7 @@ use Rattle.storage_simulation.specs.Change.{held_part}
 use Rattle.storage_simulation.specs.Following.{AreOnce}
 use Rattle.storage_simulation.specs.Goods.{lies_at, places}
 use Rattle.storage_simulation.specs.Usage.{usage}
-use Rattle.lease_rules.proofs.ListLemmas.{once_parts}
-use Rattle.storage_simulation.proofs.FollowingLemmas.{has_head, or_right}
+use Rattle.place_peaks.proofs.Offered.{has_head, once_parts, or_right}
 use Rattle.place_peaks.specs.Places.{held_by, there}
 use Rattle.place_peaks.specs.Settling.{CanLower, lowered, settled}
 use Rattle.place_peaks.specs.Tree.{AllFirst, CanFall, front_changed}

@@ -1,43 +1,43 @@
 -- The trees of an order before the first entry.
 use Rattle.std.proofs.Common.{◌≡◌, ℕ, zero, suc, ◌+◌, ◌*◌, ◌≤◌, ◌<◌, ◌^◌, ◌⊎◌, inl, inr, Bool, true, false, cond, nat_eq, eqb-true, List, [], ◌∷◌, ◌++◌, length, length-append, take, map, get_or, Option, Some, None, refl, sym, ap, subst, ◌∙◌, arith}
-use Rattle.std.specs.Prelude.{Vec, filter, replicate, set}
-use Rattle.std.specs.declared.alloc.Global.{Global}
+use Rattle.std.specs.Prelude.{filter, replicate, set}
 use Rattle.std.proofs.lemmas.Bool.{cases_lt}
-use Rattle.std.proofs.lemmas.List.{get_or-replicate, get_or_past, length-replicate, length-set}
-use Rattle.digraph.specs.Adjacency.{lists_of}
-use Rattle.lease_rules.proofs.ListLemmas.{few_once}
-use Rattle.lease_rules.proofs.SoundLemmas.{sound_opened}
-use Rattle.lease_rules.specs.Law.{FitsFromStart, HasStorageLaws}
+use Rattle.std.proofs.Math.Seq.{get_or-append_seam}
+use Rattle.std.proofs.lemmas.List.{get_or-replicate, get_or_append_left, get_or_past, length-replicate, length-set}
+use Rattle.place_peaks.proofs.Offered.{below_rises, by_bool, few_once, follows_of, front_more, good_small, is_itself, lies_below, once_at, or_left, or_right, rises_once, sound_opened, sum_at_most, total_bound}
+use Rattle.lease_rules.specs.Law.{FitsFromStart}
 use Rattle.lease_rules.specs.State.{ended, opened}
 use Rattle.plan_core.specs.declared.plan.Plan.{Plan}
 use Rattle.plan_core.specs.Numbers.{below, has}
 use Rattle.plan_core.specs.Proper.{IsProper}
-use Rattle.plan_core.specs.Words.{cleans, count_tasks, parents}
+use Rattle.plan_core.specs.Words.{count_tasks, parents, task_numbers}
+use Rattle.storage_simulation.specs.declared.standing.Held.TheVariants.{Nothing}
+use Rattle.storage_simulation.specs.declared.standing.Phase.{Phase}
 use Rattle.storage_simulation.specs.declared.standing.Phase.TheVariants.{Waits}
-use Rattle.storage_simulation.specs.Change.{cleaned_part, held_part, size_part}
+use Rattle.storage_simulation.specs.declared.standing.Standing.{Standing}
+use Rattle.storage_simulation.specs.Standings.{IsStanding, held_of, phase_of, sizes}
+use Rattle.std.proofs.Math.Path.{fun_ext}
+use Rattle.storage_simulation.specs.Change.{held_part, size_part}
 use Rattle.storage_simulation.specs.Following.{AreOnce, Follows}
 use Rattle.storage_simulation.specs.Goods.{IsWithinLimits, good_size, goods, lies_at, makes, place, places}
 use Rattle.storage_simulation.specs.Law.{KeepsGoods}
 use Rattle.storage_simulation.specs.Usage.{sum_of, total, usage}
-use Rattle.storage_simulation.proofs.ChangeLemmas.{Making, cleaning, making}
-use Rattle.storage_simulation.proofs.FollowingLemmas.{by_bool, front_more, is_itself, once_at, or_left, or_right}
-use Rattle.storage_simulation.proofs.GoodsLemmas.{lies_below}
-use Rattle.storage_simulation.proofs.LawLemmas.{below_rises}
-use Rattle.storage_simulation.proofs.RisingLemmas.{rises_once}
-use Rattle.storage_simulation.proofs.SumsLemmas.{sum_at_most, total_bound}
-use Rattle.storage_simulation.proofs.UsageLemmas.{good_small}
 use Rattle.place_peaks.specs.declared.peaks.Peaks.{Peaks}
-use Rattle.place_peaks.specs.Opening.{AreLevels, AreSeats, all_left, nothing}
-use Rattle.place_peaks.specs.Peaks.{ArePeaks, left_of, line_of}
-use Rattle.place_peaks.specs.Places.{ChangesOnePlace, held_by, is_place, there}
-use Rattle.place_peaks.specs.Values.{values}
+use Rattle.place_peaks.specs.declared.seating.Seating.{Seating}
+use Rattle.place_peaks.specs.Peaks.{ArePeaks, HasRules, IsSeating, left_of, line_of}
+use Rattle.place_peaks.specs.Places.{AreSeats, ChangesOnePlace, held_by, is_place, there}
+use Rattle.place_peaks.specs.Renewing.{CanWalk}
+use Rattle.place_peaks.specs.Values.{all_left, values}
 use Rattle.place_peaks.proofs.ChoosingLemmas.{filter_both}
 use Rattle.place_peaks.proofs.GrantingLemmas.{SumsAreSmall}
 use Rattle.place_peaks.proofs.SetLemmas.{get_set}
 use Rattle.place_peaks.proofs.UsageLemmas.{usage_away}
 use Rattle.place_peaks.proofs.ValuesLemmas.{AreSame, filter_same, values_append, values_same}
 
--- sizes where nothing is held
+-- nothing is held
+abbrev nothing : ℕ → ℕ
+nothing g = 0
+
 sum_none : (p : Plan) (q : ℕ) (xs : List ℕ) → sum_of (held_part p nothing q) xs ≡ 0
 sum_none p q [] = refl
 sum_none p q (x ∷ xs) = let here = by (lies_at p x q) in let rest = sum_none p q xs in omega (arith, here, rest)
@@ -105,18 +105,6 @@ width_few p line seats widths k a so_far low = let is = so_far.width a low in le
 some_same : (a b : ℕ) → Some a ≡ Some b → a ≡ b
 some_same a b e = cc
 
-pub seats_first : (p : Plan) (line : List ℕ) (n m k : ℕ) → n ≡ count_tasks p → m ≡ places p → k ≡ 0 → AreSeats p line (replicate n 0) (replicate m 0) k
-seats_first p line n m k e f z = record {
-  seats_long = length-replicate n 0 ∙ e;
-  widths_long = length-replicate m 0 ∙ f;
-  width = λ q l. get_or-replicate m q 0 0 (omega (arith, l, f)) ∙ sym (ap (λ (j : ℕ). length (filter (there p q) (take j line))) z ∙ none line q);
-  seat = λ j q l at. absurd (omega (arith, l, z));
-}
-  where
-    none : (xs : List ℕ) (q : ℕ) → length (filter (there p q) (take 0 xs)) ≡ 0
-    none [] q = refl
-    none (x ∷ xs) q = refl
-
 pub seats_none : (p : Plan) (line seats widths : List ℕ) (k t : ℕ) → AreSeats p line seats widths k → k < length line → t ≡ get_or line k 0 → place p t ≡ None → AreSeats p line seats widths (k + 1)
 seats_none p line seats widths k t so_far l is home = record {
   seats_long = so_far.seats_long;
@@ -175,21 +163,6 @@ seats_some p line seats widths k t a seat so_far once l is home low_task low sea
         ∙ ap (λ (b : Bool). cond b seat (get_or seats (get_or line j 0) 0)) (ap (nat_eq t) (ap (λ (i : ℕ). get_or line i 0) e ∙ sym is) ∙ is_itself t)
         ∙ seat_is ∙ ap (λ (n : ℕ). get_or widths n 0) same ∙ so_far.width q (subst (λ (n : ℕ). n < places p) same low) ∙ ap (λ (i : ℕ). length (filter (there p q) (take i line))) (sym e)
 
--- what a place holds after it
-pub level_made : (p : Plan) (line : List ℕ) (k q before : ℕ) → KeepsGoods p → Follows p (λ t. Waits) line → k < length line → q < places p → ((g : ℕ) → cleans p (get_or line k 0) g ≡ false) → before ≡ usage p nothing (take k line) q
-    → before + sum_of (size_part p q) (makes p (get_or line k 0)) ≡ usage p nothing (take (k + 1) line) q
-level_made p line k q before keeps follows l low off is =
-    let m : Making p nothing line k q (get_or line k 0) = making p (λ t. Waits) nothing line k q keeps follows l low off in
-    let first = m.0 in
-    let none = sum_none p q (makes p (get_or line k 0)) in
-    omega (arith, first, none, is)
-
-pub level_cleaned : (p : Plan) (line : List ℕ) (k q g before : ℕ) → KeepsGoods p → Follows p (λ t. Waits) line → k < length line → q < places p → ((x : ℕ) → cleans p (get_or line k 0) x ≡ nat_eq g x) → before ≡ usage p nothing (take k line) q
-    → usage p nothing (take (k + 1) line) q + cleaned_part p (λ t. Waits) nothing (get_or line k 0) q g ≡ before
-level_cleaned p line k q g before keeps follows l low its is =
-    let c = cleaning p (λ t. Waits) nothing line k q g keeps follows l low its in
-    omega (arith, c, is)
-
 pub filter_all : (xs : List ℕ) → filter all_left xs ≡ xs
 filter_all [] = refl
 filter_all (x ∷ xs) = ap (λ (ys : List ℕ). x ∷ ys) (filter_all xs)
@@ -210,18 +183,6 @@ pub some_last : (xs : List ℕ) (y : ℕ) → map Some (xs ++ y ∷ []) ≡ map 
 some_last [] y = refl
 some_last (x ∷ xs) y = ap (λ (ys : List (Option ℕ)). Some x ∷ ys) (some_last xs y)
 
-pub levels_first : (p : Plan) (line : List ℕ) (m k : ℕ) (lists : List (List ℕ)) → m ≡ places p → k ≡ 0 → length lists ≡ places p → ((q : ℕ) → get_or lists q [] ≡ []) → AreLevels p line (replicate m 0) lists k
-levels_first p line m k lists e z long empty = record {
-  used_long = length-replicate m 0 ∙ e;
-  lists_long = long;
-  level = λ q l. get_or-replicate m q 0 0 (omega (arith, l, e)) ∙ sym (ap (λ (j : ℕ). usage p nothing (take j line) q) z ∙ ap (λ (xs : List ℕ). usage p nothing xs q) (none line) ∙ usage_none p q);
-  list = λ q l. ap (map Some) (empty q) ∙ sym (ap (λ (j : ℕ). values (there p q) all_left (held_by p nothing q) [] (take j line)) z ∙ ap (values (there p q) all_left (held_by p nothing q) []) (none line));
-}
-  where
-    none : (xs : List ℕ) → take 0 xs ≡ []
-    none [] = refl
-    none (x ∷ xs) = refl
-
 -- a place that the task doesn't change
 pub level_stays : (p : Plan) (size : ℕ → ℕ) (line : List ℕ) (k q : ℕ) → ChangesOnePlace p → k < length line → q < places p → (place p (get_or line k 0) ≡ Some q → ⊥) → usage p size (take (k + 1) line) q ≡ usage p size (take k line) q
 level_stays p size line k q one l low away = ap (λ (xs : List ℕ). usage p size xs q) (front_more line k l) ∙ usage_away p size (take k line) (get_or line k 0) q one low away
@@ -229,120 +190,45 @@ level_stays p size line k q one l low away = ap (λ (xs : List ℕ). usage p siz
 pub list_stays : (p : Plan) (size : ℕ → ℕ) (line : List ℕ) (k q : ℕ) → k < length line → there p q (get_or line k 0) ≡ false → values (there p q) all_left (held_by p size q) [] (take (k + 1) line) ≡ values (there p q) all_left (held_by p size q) [] (take k line)
 list_stays p size line k q l off = list_more p size q line k l ∙ ap (λ (b : Bool). values (there p q) all_left (held_by p size q) [] (take k line) ++ cond b (Some (usage p size (take (k + 1) line) q) ∷ []) []) off ∙ append_none (values (there p q) all_left (held_by p size q) [] (take k line))
 
-pub levels_none : (p : Plan) (line used : List ℕ) (lists : List (List ℕ)) (k t : ℕ) → ChangesOnePlace p → AreLevels p line used lists k → k < length line → t ≡ get_or line k 0 → place p t ≡ None → AreLevels p line used lists (k + 1)
-levels_none p line used lists k t one so_far l is home = record {
-  used_long = so_far.used_long;
-  lists_long = so_far.lists_long;
-  level = λ q m. so_far.level q m ∙ sym (level_stays p nothing line k q one l m (λ at. absurd (let no : None ≡ Some q = sym here ∙ at in cc)));
-  list = λ q m. so_far.list q m ∙ sym (list_stays p nothing line k q l (ap (is_place q) here));
-}
-  where
-    here : place p (get_or line k 0) ≡ None
-    here = ap (place p) (sym is) ∙ home
-
-pub levels_some : (p : Plan) (line used : List ℕ) (lists after : List (List ℕ)) (k t a level : ℕ) → ChangesOnePlace p → AreLevels p line used lists k → k < length line → t ≡ get_or line k 0 → place p t ≡ Some a → a < places p → level ≡ usage p nothing (take (k + 1) line) a
-    → length after ≡ length lists → ((q : ℕ) → get_or after q [] ≡ cond (nat_eq a q) (get_or lists a [] ++ level ∷ []) (get_or lists q [])) → AreLevels p line (set used a level) after (k + 1)
-levels_some p line used lists after k t a level one so_far l is home low level_is long each = record {
-  used_long = length-set used a level ∙ so_far.used_long;
-  lists_long = long ∙ so_far.lists_long;
-  level = λ q m. get_set used a q level 0 (let n = so_far.used_long in omega (arith, n, low)) ∙ level_then q m (nat_eq a q) refl;
-  list = λ q m. ap (map Some) (each q) ∙ list_then q m (nat_eq a q) refl;
-}
-  where
-    here : place p (get_or line k 0) ≡ Some a
-    here = ap (place p) (sym is) ∙ home
-
-    not_there : (q : ℕ) → nat_eq a q ≡ false → place p (get_or line k 0) ≡ Some q → ⊥
-    not_there q e at = absurd (let same : a ≡ q = some_same a q (sym here ∙ at) in let yes : nat_eq a q ≡ true = ap (nat_eq a) (sym same) ∙ is_itself a in cc)
-
-    level_then : (q : ℕ) → q < places p → (b : Bool) → nat_eq a q ≡ b → cond b level (get_or used q 0) ≡ usage p nothing (take (k + 1) line) q
-    level_then q m true e = level_is ∙ ap (usage p nothing (take (k + 1) line)) (eqb-true a q e)
-    level_then q m false e = so_far.level q m ∙ sym (level_stays p nothing line k q one l m (not_there q e))
-
-    list_then : (q : ℕ) → q < places p → (b : Bool) → nat_eq a q ≡ b → map Some (cond b (get_or lists a [] ++ level ∷ []) (get_or lists q [])) ≡ values (there p q) all_left (held_by p nothing q) [] (take (k + 1) line)
-    list_then q m true e =
-        some_last (get_or lists a []) level
-        ∙ ap (λ (n : ℕ). map Some (get_or lists n []) ++ Some level ∷ []) (eqb-true a q e)
-        ∙ ap (λ (vs : List (Option ℕ)). vs ++ Some level ∷ []) (so_far.list q m)
-        ∙ ap (λ (n : ℕ). values (there p q) all_left (held_by p nothing q) [] (take k line) ++ Some n ∷ []) (level_then q m true e)
-        ∙ sym (list_more p nothing q line k l ∙ ap (λ (o : Option ℕ). values (there p q) all_left (held_by p nothing q) [] (take k line) ++ cond (is_place q o) (Some (usage p nothing (take (k + 1) line) q) ∷ []) []) here
-        ∙ ap (λ (b : Bool). values (there p q) all_left (held_by p nothing q) [] (take k line) ++ cond b (Some (usage p nothing (take (k + 1) line) q) ∷ []) []) e)
-    list_then q m false e = so_far.list q m ∙ sym (list_stays p nothing line k q l (ap (is_place q) here ∙ e))
-
--- one number more in a list of lists
-pub lists_set : (vs : List (Vec ℕ Global)) (i q : ℕ) (v : Vec ℕ Global) → i < length vs → get_or (lists_of (set vs i v)) q [] ≡ cond (nat_eq i q) v.items (get_or (lists_of vs) q [])
-lists_set [] i q v l = absurd (omega (arith, l))
-lists_set (w ∷ vs) zero zero v l = refl
-lists_set (w ∷ vs) zero (suc q) v l = let e : nat_eq 0 (suc q) ≡ false = grind arith in ap (λ (b : Bool). cond b v.items (get_or (lists_of vs) q [])) (sym e)
-lists_set (w ∷ vs) (suc i) zero v l = let e : nat_eq (suc i) 0 ≡ false = grind arith in ap (λ (b : Bool). cond b v.items w.items) (sym e)
-lists_set (w ∷ vs) (suc i) (suc q) v l = lists_set vs i q v (omega (arith, l)) ∙ ap (λ (b : Bool). cond b v.items (get_or (lists_of vs) q [])) (let e : nat_eq i q ≡ nat_eq (suc i) (suc q) = grind arith in e)
-
-pub lists_long : (vs : List (Vec ℕ Global)) → length (lists_of vs) ≡ length vs
-lists_long [] = refl
-lists_long (v ∷ vs) = ap suc (lists_long vs)
-
-pub lists_at : (vs : List (Vec ℕ Global)) (i : ℕ) (d : Vec ℕ Global) → i < length vs → get_or (lists_of vs) i [] ≡ (get_or vs i d).items
-lists_at [] i d l = absurd (omega (arith, l))
-lists_at (v ∷ vs) zero d l = refl
-lists_at (v ∷ vs) (suc i) d l = lists_at vs i d (omega (arith, l))
-
-pub empty_more : (vs : List (Vec ℕ Global)) (v : Vec ℕ Global) (q : ℕ) → v.items ≡ [] → ((r : ℕ) → get_or (lists_of vs) r [] ≡ []) → get_or (lists_of (vs ++ v ∷ [])) q [] ≡ []
-empty_more [] v zero e h = e
-empty_more [] v (suc q) e h = refl
-empty_more (w ∷ vs) v zero e h = h 0
-empty_more (w ∷ vs) v (suc q) e h = empty_more vs v q e (λ r. h (suc r))
-
-pub long_more : (vs : List (Vec ℕ Global)) (v : Vec ℕ Global) → length (lists_of (vs ++ v ∷ [])) ≡ length (lists_of vs) + 1
-long_more [] v = refl
-long_more (w ∷ vs) v = let e = long_more vs v in omega (arith, e)
-
 -- the parts that are made of an order
-pub record IsOpened (p : Plan) (order : List ℕ) (b : Peaks) : Type 0 where
+pub record IsOpened (p : Plan) (size : ℕ → ℕ) (order : List ℕ) (b : Peaks) : Type 0 where
   pub line : line_of b ≡ order
   pub left : b.left.items ≡ replicate (count_tasks p) true
-  pub homes : (t : ℕ) → t < count_tasks p → get_or b.homes.items t None ≡ place p t
   pub needs : (t q : ℕ) → t < count_tasks p → place p t ≡ Some q → get_or b.needs.items t 0 ≡ sum_of (size_part p q) (makes p t)
   pub missing_long : length b.missing.items ≡ count_tasks p
   pub missing : (t : ℕ) → t < count_tasks p → get_or b.missing.items t 1 ≡ length (parents p t)
-  pub seats : AreSeats p order b.seats.items b.widths.items (length order)
+  pub seated : IsSeating p b.seating
   pub base : b.base.items ≡ replicate (places p) 0
   pub trees_long : length b.trees.items ≡ places p
-  pub trees : (q : ℕ) → q < places p → get_or b.trees.items q [] ≡ values (there p q) all_left (held_by p nothing q) [] (take (length order) order)
+  pub trees : (q : ℕ) → q < places p → get_or b.trees.items q [] ≡ values (there p q) all_left (held_by p size q) [] order
 
 sum_ones : (us : List ℕ) → sum_of (λ u. cond (ended Waits) 0 1) us ≡ length us
 sum_ones [] = refl
 sum_ones (u ∷ us) = let e = sum_ones us in omega (arith, e)
 
-all_taken : (xs : List ℕ) → take (length xs) xs ≡ xs
-all_taken [] = refl
-all_taken (x ∷ xs) = ap (λ (ys : List ℕ). x ∷ ys) (all_taken xs)
-
 pub same_on : (f : ℕ → Bool) (xs : List ℕ) → ((x : ℕ) → has xs x ≡ true → f x ≡ true) → AreSame f all_left xs
 same_on f [] h = tt
 same_on f (x ∷ xs) h = (h x (or_left (nat_eq x x) (has xs x) (is_itself x)), same_on f xs (λ y m. h y (or_right (nat_eq x y) (has xs y) m)))
 
-pub opened_by : (p : Plan) (order : List ℕ) (b : Peaks) → HasStorageLaws p → KeepsGoods p → ChangesOnePlace p → FitsFromStart p order → IsOpened p order b → ArePeaks p (opened order) b
-opened_by p order b laws keeps one fits is = record {
-  laws = laws;
-  keeps = keeps;
-  one = one;
+pub opened_by : (p : Plan) (size : ℕ → ℕ) (order : List ℕ) (b : Peaks) → HasRules p → FitsFromStart p order → ((g : ℕ) → size g ≡ 0) → IsOpened p size order b → ArePeaks p (opened order) b
+opened_by p size order b rules fits none is = record {
+  rules = rules;
   sound = sound_opened p order fits;
-  once = subst AreOnce (sym is.line) fits.fits.once;
-  in_plan = λ t m. fits.fits.tasks t (ap (λ (zs : List ℕ). has zs t) (sym is.line) ∙ m);
+  seated = is.seated;
   marked = λ t on. ap (λ (zs : List ℕ). has zs t) is.line ∙ fits.all t (low_of t (cases_lt t (count_tasks p)) on);
   marks_long = ap length is.left ∙ length-replicate (count_tasks p) true;
   bases_long = ap length is.base ∙ length-replicate (places p) 0;
   trees_long = is.trees_long;
   rest = sym (filter_same (left_of b) all_left (line_of b) all_on ∙ filter_all (line_of b) ∙ is.line);
   waiting = λ t m. absurd cc;
-  homes = is.homes;
   needs = λ t q m kind at. is.needs t q (fits.fits.tasks t m) at ∙ (let none = sum_none p q (makes p t) in omega (arith, none));
   missing_long = is.missing_long;
   counts = λ t l. is.missing t l ∙ sym (sum_ones (parents p t));
   bases = λ q l. ap (λ (v : List ℕ). get_or v q 0) is.base ∙ get_or-replicate (places p) q 0 0 l ∙ sym (usage_none p q);
-  trees = λ q l. is.trees q l ∙ ap (values (there p q) all_left (held_by p nothing q) []) (all_taken order ∙ sym is.line) ∙ sym (values_same (there p q) (left_of b) all_left (held_by p nothing q) [] (line_of b) all_on);
-  widths = λ q l. is.seats.width q l ∙ ap (λ (zs : List ℕ). length (filter (there p q) zs)) (all_taken order ∙ sym is.line);
-  seats = subst (λ (zs : List ℕ). (j q : ℕ) → j < length zs → place p (get_or zs j 0) ≡ Some q → get_or b.seats.items (get_or zs j 0) 0 ≡ length (filter (there p q) (take j zs))) (sym is.line) (λ j q l at. is.seats.seat j q l at);
+  trees = λ q l. is.trees q l
+      ∙ ap (λ (f : ℕ → ℕ). values (there p q) all_left (held_by p f q) [] order) (fun_ext none)
+      ∙ ap (values (there p q) all_left (held_by p nothing q) []) (sym is.line)
+      ∙ sym (values_same (there p q) (left_of b) all_left (held_by p nothing q) [] (line_of b) all_on);
 }
   where
     on_below : (t : ℕ) → t < count_tasks p → left_of b t ≡ true
@@ -354,3 +240,38 @@ opened_by p order b laws keeps one fits is = record {
 
     all_on : AreSame (left_of b) all_left (line_of b)
     all_on = same_on (left_of b) (line_of b) (λ t m. on_below t (fits.fits.tasks t (ap (λ (zs : List ℕ). has zs t) (sym is.line) ∙ m)))
+
+-- a walk along the order, where nothing is held
+pub walk_first : (p : Plan) (homes : List (Option ℕ)) (needs base : List ℕ) (st : Standing) (order : List ℕ) → IsWithinLimits p → HasRules p → FitsFromStart p order → IsStanding p st
+    → ((g : ℕ) → sizes (held_of st) g ≡ 0) → ((t : ℕ) → phase_of st t ≡ Waits) → ((t : ℕ) → t < count_tasks p → get_or homes t None ≡ place p t)
+    → ((t q : ℕ) → t < count_tasks p → place p t ≡ Some q → get_or needs t 0 ≡ sum_of (size_part p q) (makes p t)) → base ≡ replicate (places p) 0
+    → CanWalk p homes needs base st order
+walk_first p homes needs base st order limits rules fits standing none waits home need empty = record {
+  limits = limits;
+  rules = rules;
+  standing = standing;
+  small = λ g. let no = none g in omega (arith, no);
+  follows = subst (λ (f : ℕ → Phase). Follows p f order) (sym (fun_ext waits)) (follows_of p (λ t. Waits) (λ g. Nothing) order fits.fits);
+  homes = home;
+  needs = λ t q m kind at. need t q (fits.fits.tasks t m) at ∙ (let no : sum_of (held_part p (sizes (held_of st)) q) (makes p t) ≡ 0 = ap (λ (f : ℕ → ℕ). sum_of (held_part p f q) (makes p t)) (fun_ext none) ∙ sum_none p q (makes p t) in omega (arith, no));
+  bases = λ q l. ap (λ (v : List ℕ). get_or v q 0) empty ∙ get_or-replicate (places p) q 0 0 l ∙ sym (ap (λ (f : ℕ → ℕ). usage p f [] q) (fun_ext none) ∙ usage_none p q);
+}
+
+-- the line of an order of all tasks
+pub opened_seating : (p : Plan) (order : List ℕ) (old new : Seating) → FitsFromStart p order → new ≡ record old { seats = new.seats; widths = new.widths } → task_numbers old.line.items ≡ order
+    → ((t : ℕ) → t < count_tasks p → get_or old.homes.items t None ≡ place p t) → AreSeats p (task_numbers old.line.items) new.seats.items new.widths.items (length (task_numbers old.line.items)) → IsSeating p new
+opened_seating p order old new fits same line homes counted = subst (IsSeating p) (sym same) (record {
+  once = subst AreOnce (sym line) fits.fits.once;
+  in_plan = λ t m. fits.fits.tasks t (ap (λ (zs : List ℕ). has zs t) (sym line) ∙ m);
+  all = λ t l. ap (λ (zs : List ℕ). has zs t) line ∙ fits.all t l;
+  homes = homes;
+  counted = counted;
+})
+
+-- one tree more
+pub one_tree_more : (f : ℕ → List (Option ℕ)) (vs : List (List (Option ℕ))) (v : List (Option ℕ)) (k : ℕ) → length vs ≡ k → ((q : ℕ) → q < k → get_or vs q [] ≡ f q) → v ≡ f k → (q : ℕ) → q < k + 1 → get_or (vs ++ v ∷ []) q [] ≡ f q
+one_tree_more f vs v k long so_far is q l = by (cases_lt q k)
+  where
+    by : (q < k) ⊎ (k ≤ q) → get_or (vs ++ v ∷ []) q [] ≡ f q
+    by (inl m) = get_or_append_left vs (v ∷ []) [] q (omega (arith, long, m)) ∙ so_far q m
+    by (inr m) = ap (λ (i : ℕ). get_or (vs ++ v ∷ []) i []) (let at : q ≡ length vs = omega (arith, long, l, m) in at) ∙ get_or-append_seam vs v [] [] ∙ is ∙ ap f (let same : k ≡ q = omega (arith, m, l) in same)

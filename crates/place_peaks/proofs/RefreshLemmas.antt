@@ -9,7 +9,7 @@ use Rattle.group_index.specs.Index.{count, number}
 use Rattle.plan_core.specs.declared.plan.Plan.{Plan}
 use Rattle.plan_core.specs.Numbers.{has}
 use Rattle.plan_core.specs.Words.{count_tasks}
-use Rattle.storage_simulation.proofs.FollowingLemmas.{at_place, once_at}
+use Rattle.place_peaks.proofs.Offered.{at_place, once_at}
 use Rattle.storage_simulation.specs.Following.{AreOnce}
 use Rattle.storage_simulation.specs.Goods.{places}
 use Rattle.place_peaks.specs.declared.peaks.Peaks.{Peaks}
@@ -28,7 +28,7 @@ off_parts true true e = inr refl
 off_parts true false e = absurd cc
 
 pub counts_line : (p : Plan) (b : Peaks) → HasGroups p b → count b.ready.index ≡ length (line_of b)
-counts_line p b groups = ap length groups.groups ∙ length-map (line_of b) (λ t. group_of (places p) (get_or b.homes.items t None))
+counts_line p b groups = ap length groups.groups ∙ length-map (line_of b) (λ t. group_of (places p) (get_or b.seating.homes.items t None))
 
 -- a task's position in the line is its own
 own_position : (p : Plan) (b : Peaks) (j k : ℕ) → HasGroups p b → j < length (line_of b) → k < length (line_of b) → get_or (line_of b) j 0 ≡ get_or (line_of b) k 0 → j ≡ k

@@ -1,17 +1,12 @@
 -- A fresh order in place of the one that is kept.
 use Rattle.std.proofs.Common.{◌≡◌, ℕ, zero, suc, ◌+◌, ◌-◌, ◌≤◌, ◌<◌, ◌^◌, ◌⊎◌, inl, inr, ◌||◌, Bool, true, false, cond, nat_eq, eqb-true, List, [], ◌∷◌, ◌++◌, length, length-append, take, drop, map, get_or, Option, Some, None, refl, sym, ap, subst, ◌∙◌, append_assoc, arith}
-use Rattle.std.specs.Prelude.{Vec, filter, not, replicate, set, vec_capacity}
-use Rattle.std.specs.declared.alloc.Global.{Global}
+use Rattle.std.specs.Prelude.{filter, not, replicate, set}
 use Rattle.std.proofs.Math.Path.{fun_ext}
 use Rattle.std.proofs.lemmas.Bool.{cases_lt, eqb-false}
-use Rattle.std.proofs.lemmas.List.{get_or_default, length-replicate}
+use Rattle.std.proofs.lemmas.List.{length-map, length-replicate}
 use Rattle.std.proofs.lemmas.List.Folds.{list_any-append}
 use Rattle.values.specs.declared.numbers.TaskId.{TaskId}
-use Rattle.lease_rules.proofs.ListLemmas.{few_once}
-use Rattle.lease_rules.proofs.ListLemmas.{has_head, has_without, once_filter, once_more, once_parts}
-use Rattle.lease_rules.proofs.NumbersLemmas.{count_tasks_in}
-use Rattle.lease_rules.proofs.SoundLemmas.{fresh_among, is_waiting, sound_more}
-use Rattle.lease_rules.proofs.StartLemmas.{first_is_choice, follows_of}
+use Rattle.place_peaks.proofs.Offered.{Making, at_place, below_rises, below_test, by_bool, cleaning, count_tasks_in, false_of, few_once, first_is_choice, follows_of, fresh_among, front_more, good_small, has_head, has_without, is_itself, is_waiting, making, not_of, once_filter, once_more, once_parts, or_case, or_left, or_right, rises_once, sound_more}
 use Rattle.lease_rules.specs.Choice.{HasNoChoice, HaveParentsEnded, IsCandidate}
 use Rattle.lease_rules.specs.Law.{HasStorageLaws, IsSoundState}
 use Rattle.lease_rules.specs.Legal.{Allowed}
@@ -31,21 +26,19 @@ use Rattle.storage_simulation.specs.Goods.{IsWithinLimits, good_size, makes, pla
 use Rattle.storage_simulation.specs.Law.{KeepsGoods}
 use Rattle.storage_simulation.specs.Standings.{held_of, held_size, sizes, waits}
 use Rattle.storage_simulation.specs.Usage.{usage}
-use Rattle.storage_simulation.proofs.ChangeLemmas.{Making, cleaning, making}
-use Rattle.storage_simulation.proofs.FollowingLemmas.{at_place, by_bool, false_of, front_more, is_itself, not_of, or_case, or_left, or_right}
-use Rattle.storage_simulation.proofs.LawLemmas.{below_rises, below_test}
-use Rattle.storage_simulation.proofs.RisingLemmas.{rises_once}
 use Rattle.place_peaks.specs.declared.peaks.Peaks.{Peaks}
 use Rattle.place_peaks.specs.Entries.{AreTied}
-use Rattle.place_peaks.specs.Opening.{AreSeats, all_left}
-use Rattle.place_peaks.specs.Peaks.{AreBehind, ArePeaks, is_left, left_of, line_of, stack_of}
+use Rattle.place_peaks.specs.Granting.{CanHold}
+use Rattle.place_peaks.specs.Places.{AreSeats}
+use Rattle.place_peaks.specs.Values.{all_left}
+use Rattle.place_peaks.specs.declared.seating.Seating.{Seating}
+use Rattle.place_peaks.specs.Peaks.{AreBehind, ArePeaks, HasPassed, IsSeating, is_left, left_of, line_of, stack_of}
 use Rattle.place_peaks.specs.Places.{ChangesOnePlace, brings, held_by, is_place, there}
-use Rattle.place_peaks.specs.Renewing.{CanRenew, CanWalk, IsLevel, IsRenewed, IsShown, renewed_line, renewed_values}
-use Rattle.place_peaks.specs.Stack.{stacked}
-use Rattle.place_peaks.specs.Settling.{IsKept}
+use Rattle.place_peaks.specs.Renewing.{CanRenew, CanWalk, IsLaid, IsLevel, IsRenewed, IsShown, renewed_line, renewed_values}
+use Rattle.place_peaks.specs.Waiting.{HasStackRoom}
 use Rattle.place_peaks.specs.Values.{value, values}
 use Rattle.group_index.specs.Index.{AreAsMany, count_before}
-use Rattle.place_peaks.specs.Ready.{group_of, groups_of}
+use Rattle.place_peaks.specs.Ready.{WasGrouped, group_of, groups_of}
 use Rattle.place_peaks.specs.declared.ready.Ready.{Ready}
 use Rattle.place_peaks.proofs.ReadyLemmas.{HaveTrees}
 use Rattle.place_peaks.proofs.ChoosingLemmas.{filter_both, placed_there, spot_of, take_past}
@@ -53,13 +46,13 @@ use Rattle.place_peaks.proofs.CleaningLemmas.{cleaned_good}
 use Rattle.place_peaks.proofs.CountLemmas.{counts_run, open_none}
 use Rattle.place_peaks.proofs.DecisionLemmas.{IsSpot, then_holds, then_same}
 use Rattle.place_peaks.proofs.EntryLemmas.{in_line}
+use Rattle.place_peaks.proofs.FrontLemmas.{none_passed}
 use Rattle.place_peaks.proofs.GrantingLemmas.{SumsAreSmall, brings_same, started_small}
-use Rattle.place_peaks.proofs.OpeningLemmas.{filter_all, level_stays, list_more, list_stays, same_on, some_last}
+use Rattle.place_peaks.proofs.OpeningLemmas.{filter_all, filter_short, level_stays, list_more, list_stays, same_on, some_last, take_short}
 use Rattle.place_peaks.proofs.PlacesLemmas.{brings_more, is_there, not_there}
 use Rattle.place_peaks.proofs.SetLemmas.{get_set}
 use Rattle.place_peaks.proofs.StackLemmas.{numbers_last}
 use Rattle.place_peaks.proofs.ValuesLemmas.{filter_same, values_append, values_long, values_same}
-use Rattle.storage_simulation.proofs.UsageLemmas.{good_small}
 
 -- One task more of a fresh order, at a place.
 pub level_made : (p : Plan) (phase : ℕ → Phase) (size : ℕ → ℕ) (ts : List ℕ) (k q before need : ℕ) → KeepsGoods p → Follows p phase ts → k < length ts → q < places p → ((g : ℕ) → cleans p (get_or ts k 0) g ≡ false) → ((g : ℕ) → size g ≤ good_size p g)
@@ -101,54 +94,24 @@ level_added p size ts q k level next levels l on is so_far = record {
 -- there is room for one number more
 pub level_short : (p : Plan) (size : ℕ → ℕ) (ts : List ℕ) (q k level : ℕ) (levels : List ℕ) → IsLevel p size ts q k level levels → length levels ≤ k
 level_short p size ts q k level levels so_far =
-    let all = some_long levels in
+    let all = length-map levels Some in
     let same = ap length so_far.levels in
     let long = values_long (there p q) all_left (held_by p size q) [] (take k ts) in
-    let few = short (there p q) (take k ts) in
-    let front = front_short k ts in
+    let few = filter_short (there p q) (take k ts) in
+    let front = take_short k ts in
     omega (arith, all, same, long, few, front)
-  where
-    some_long : (xs : List ℕ) → length (map Some xs) ≡ length xs
-    some_long [] = refl
-    some_long (x ∷ xs) = ap suc (some_long xs)
-
-    short : (f : ℕ → Bool) (xs : List ℕ) → length (filter f xs) ≤ length xs
-    short f [] = omega arith
-    short f (x ∷ xs) = by (f x) (short f xs)
-      where
-        by : (b : Bool) → length (filter f xs) ≤ length xs → length (cond b (x ∷ filter f xs) (filter f xs)) ≤ length (x ∷ xs)
-        by true h = omega (arith, h)
-        by false h = omega (arith, h)
-
-    front_short : (n : ℕ) (xs : List ℕ) → length (take n xs) ≤ n
-    front_short zero [] = omega arith
-    front_short zero (x ∷ xs) = omega arith
-    front_short (suc n) [] = omega arith
-    front_short (suc n) (x ∷ xs) = let e = front_short n xs in omega (arith, e)
 
 pub level_last : (p : Plan) (size : ℕ → ℕ) (ts : List ℕ) (q k level : ℕ) (levels : List ℕ) → k ≡ length ts → IsLevel p size ts q k level levels → map Some levels ≡ values (there p q) all_left (held_by p size q) [] ts
-level_last p size ts q k level levels end so_far = so_far.levels ∙ ap (values (there p q) all_left (held_by p size q) []) (ap (λ (n : ℕ). take n ts) end ∙ all ts)
-  where
-    all : (xs : List ℕ) → take (length xs) xs ≡ xs
-    all [] = refl
-    all (x ∷ xs) = ap (λ (ys : List ℕ). x ∷ ys) (all xs)
+level_last p size ts q k level levels end so_far = so_far.levels ∙ ap (values (there p q) all_left (held_by p size q) []) (take_past ts k (omega (arith, end)))
 
 -- the tree of a place then
 pub renewed_is : (p : Plan) (size : ℕ → ℕ) (ts levels : List ℕ) (q : ℕ) (vs : List (Option ℕ)) → map Some levels ≡ values (there p q) all_left (held_by p size q) [] ts → filled levels (length vs) ≡ renewed_values p size ts q vs
 renewed_is p size ts levels q vs is =
     ap (λ (ws : List (Option ℕ)). ws ++ replicate (length vs - length levels) None) is
-    ∙ ap (λ (n : ℕ). values (there p q) all_left (held_by p size q) [] ts ++ replicate (length vs - n) None) (sym (some_long levels) ∙ ap length is)
-  where
-    some_long : (xs : List ℕ) → length (map Some xs) ≡ length xs
-    some_long [] = refl
-    some_long (x ∷ xs) = ap suc (some_long xs)
+    ∙ ap (λ (n : ℕ). values (there p q) all_left (held_by p size q) [] ts ++ replicate (length vs - n) None) (sym (length-map levels Some) ∙ ap length is)
 
 pub levels_few : (p : Plan) (size : ℕ → ℕ) (ts levels : List ℕ) (q : ℕ) → map Some levels ≡ values (there p q) all_left (held_by p size q) [] ts → length levels ≡ length (filter (there p q) ts)
-levels_few p size ts levels q is = sym (some_long levels) ∙ ap length is ∙ values_long (there p q) all_left (held_by p size q) [] ts
-  where
-    some_long : (xs : List ℕ) → length (map Some xs) ≡ length xs
-    some_long [] = refl
-    some_long (x ∷ xs) = ap suc (some_long xs)
+levels_few p size ts levels q is = sym (length-map levels Some) ∙ ap length is ∙ values_long (there p q) all_left (held_by p size q) [] ts
 
 -- The marks.
 pub none_marked : (n u : ℕ) → get_or (replicate n false) u false ≡ false
@@ -362,7 +325,7 @@ no_stack p s b behind unfailed none = by (stack_of b) refl
   where
     by : (us : List ℕ) → stack_of b ≡ us → stack_of b ≡ []
     by [] e = e
-    by (u ∷ us) e = absurd (let head = subst (AreBehind p s b) e behind in none u (first_is_choice p s u (us ++ filter (left_of b) (line_of b)) head.laws head.sound unfailed head.rest (head.waiting u (has_head u us))))
+    by (u ∷ us) e = absurd (let head = subst (AreBehind p s b) e behind in none u (first_is_choice p s u (us ++ filter (left_of b) (line_of b)) head.rules.laws head.sound unfailed head.rest (head.waiting u (has_head u us))))
 
 empty_stack : (p : Plan) (s : State) (b : Peaks) (w t : ℕ) → AreTied p s b → Allowed p s (Regrant w t) → stack_of b ≡ []
 empty_stack p s b w t tied allowed = no_stack p s b tied.behind allowed.1.no_fail allowed.1.no_choice
@@ -396,38 +359,38 @@ begun_at p s b k q peaks l on inside kind ended low = by (is_place q (place p (g
     by false e = peaks.bases q low ∙ sym (then_same p s (left_of b) (take k (line_of b)) (get_or (line_of b) k 0) (drop (suc k) (line_of b)) q 0 spot low (not_there q (place p (get_or (line_of b) k 0)) e))
 
 pub begun_base : (p : Plan) (s : State) (b : Peaks) (w t q : ℕ) → ArePeaks p s b → Allowed p s (Regrant w t) → q < places p
-    → cond (is_place q (get_or b.homes.items t None)) (get_or b.base.items q 0 + get_or b.needs.items t 0) (get_or b.base.items q 0) ≡ usage p (sizes (reserved_for p t s.held)) [] q
+    → cond (is_place q (get_or b.seating.homes.items t None)) (get_or b.base.items q 0 + get_or b.needs.items t 0) (get_or b.base.items q 0) ≡ usage p (sizes (reserved_for p t s.held)) [] q
 begun_base p s b w t q peaks allowed low =
     let inside = in_rest p s w t allowed in
     let can = candidate p s w t allowed in
     let k = in_line p s b t peaks inside in
-    ap (λ (o : Option ℕ). cond (is_place q o) (get_or b.base.items q 0 + get_or b.needs.items t 0) (get_or b.base.items q 0)) (peaks.homes t (peaks.sound.safe.tasks t inside))
+    ap (λ (o : Option ℕ). cond (is_place q o) (get_or b.base.items q 0 + get_or b.needs.items t 0) (get_or b.base.items q 0)) (peaks.seated.homes t (peaks.sound.safe.tasks t inside))
     ∙ subst (λ (n : ℕ). left_of b n ≡ true → has s.rest n ≡ true → is_clean p n ≡ false → HaveParentsEnded p s n → cond (is_place q (place p n)) (get_or b.base.items q 0 + get_or b.needs.items n 0) (get_or b.base.items q 0) ≡ usage p (sizes (reserved_for p n s.held)) [] q) k.is
     (λ on m kind ended. begun_at p s b k.at q peaks k.within on m kind ended low) k.left inside can.no_clean can.parents_ended
 
-pub begun_room : (p : Plan) (s : State) (b : Peaks) (w t q : ℕ) → IsWithinLimits p → SumsAreSmall p → AreTied p s b → Allowed p s (Regrant w t) → get_or b.homes.items t None ≡ Some q → (q < length b.base.items) × (get_or b.base.items q 0 + get_or b.needs.items t 0 ≤ 2 ^ 62)
-begun_room p s b w t q limits sums tied allowed home = (
-  let long = peaks.bases_long in omega (arith, long, low),
-  let is = begun_base p s b w t q peaks allowed low in
-      let on : cond (is_place q (get_or b.homes.items t None)) (get_or b.base.items q 0 + get_or b.needs.items t 0) (get_or b.base.items q 0) ≡ get_or b.base.items q 0 + get_or b.needs.items t 0 = ap (λ (o : Bool). cond o (get_or b.base.items q 0 + get_or b.needs.items t 0) (get_or b.base.items q 0)) (placed_there q (get_or b.homes.items t None) home) in
+pub begun_room : (p : Plan) (s : State) (b : Peaks) (w t q : ℕ) → IsWithinLimits p → SumsAreSmall p → AreTied p s b → Allowed p s (Regrant w t) → get_or b.seating.homes.items t None ≡ Some q → CanHold b.base.items q (get_or b.needs.items t 0)
+begun_room p s b w t q limits sums tied allowed home = record {
+  base_in = let long = peaks.bases_long in omega (arith, long, low);
+  base_small = let is = begun_base p s b w t q peaks allowed low in
+      let on : cond (is_place q (get_or b.seating.homes.items t None)) (get_or b.base.items q 0 + get_or b.needs.items t 0) (get_or b.base.items q 0) ≡ get_or b.base.items q 0 + get_or b.needs.items t 0 = ap (λ (o : Bool). cond o (get_or b.base.items q 0 + get_or b.needs.items t 0) (get_or b.base.items q 0)) (placed_there q (get_or b.seating.homes.items t None) home) in
       let few = sums (sizes (reserved_for p t s.held)) [] q (λ g. started_small p t s.held g (2 ^ 40) (peaks.sound.small g) (good_small p g limits)) in
-      omega (arith, is, on, few),
-)
+      omega (arith, is, on, few);
+}
   where
     peaks : ArePeaks p s b
     peaks = peaks_then p s b w t tied allowed
 
     low : q < places p
-    low = peaks.one.place_below t q (sym (peaks.homes t (peaks.sound.safe.tasks t (in_rest p s w t allowed))) ∙ home)
+    low = peaks.rules.one.place_below t q (sym (peaks.seated.homes t (peaks.sound.safe.tasks t (in_rest p s w t allowed))) ∙ home)
 
 needs_then : (p : Plan) (s : State) (b : Peaks) (w t u q : ℕ) (ts : List ℕ) → ArePeaks p s b → Allowed p s (Regrant w t) → order_with p s t ≡ Some ts → has ts u ≡ true → is_clean p u ≡ false → place p u ≡ Some q
     → get_or b.needs.items u 0 ≡ brings p (sizes (reserved_for p t s.held)) q u
 needs_then p s b w t u q ts peaks allowed order m kind at =
     peaks.needs u q (peaks.sound.all_left u (fits.tasks u m) (is_waiting (s.phase u) was)) kind at
-    ∙ sym (brings_same p s.held t u q (λ g n. false_of (has (makes p t) g) (λ j. absurd (let same : t ≡ u = peaks.laws.one_maker t u g j n in let no = off in let yes : nat_eq t u ≡ true = grind (arith, same) in cc))))
+    ∙ sym (brings_same p s.held t u q (λ g n. false_of (has (makes p t) g) (λ j. absurd (let same : t ≡ u = peaks.rules.laws.one_maker t u g j n in let no = off in let yes : nat_eq t u ≡ true = grind (arith, same) in cc))))
   where
     fits : Fits p (put s.phase t Runs) (reserved_for p t s.held) ts
-    fits = fits_then p s w t ts peaks.laws peaks.sound allowed order
+    fits = fits_then p s w t ts peaks.rules.laws peaks.sound allowed order
 
     split : (b : Bool) → nat_eq t u ≡ b → waits (cond b Runs (s.phase u)) ≡ true → (nat_eq t u ≡ false) × (waits (s.phase u) ≡ true)
     split true e h = absurd cc
@@ -445,33 +408,23 @@ needs_then p s b w t u q ts peaks allowed order m kind at =
 sizes_shown : (p : Plan) (standing : Standing) (s : State) (w t : ℕ) → IsShown p standing (after p s (Regrant w t)) → sizes (held_of standing) ≡ sizes (reserved_for p t s.held)
 sizes_shown p standing s w t shown = fun_ext (λ g. ap held_size (shown.held g))
 
-pub walk_of : (p : Plan) (old mid : Peaks) (standing : Standing) (t : ℕ) (ts : List ℕ) → IsWithinLimits p → CanRenew p old standing t ts → mid.homes.items ≡ old.homes.items → mid.needs.items ≡ old.needs.items → mid.trees.items ≡ old.trees.items
-    → ((q : ℕ) → get_or mid.base.items q 0 ≡ cond (is_place q (get_or old.homes.items t None)) (get_or old.base.items q 0 + get_or old.needs.items t 0) (get_or old.base.items q 0)) → CanWalk p mid standing ts
-walk_of p old mid standing t ts limits can homes needs trees base = record {
+pub walk_of : (p : Plan) (old : Peaks) (base : List ℕ) (standing : Standing) (t : ℕ) (ts : List ℕ) → IsWithinLimits p → CanRenew p old standing t ts
+    → ((q : ℕ) → get_or base q 0 ≡ cond (is_place q (get_or old.seating.homes.items t None)) (get_or old.base.items q 0 + get_or old.needs.items t 0) (get_or old.base.items q 0))
+    → CanWalk p old.seating.homes.items old.needs.items base standing ts
+walk_of p old base standing t ts limits can is = record {
   limits = limits;
-  keeps = peaks.keeps;
-  one = peaks.one;
+  rules = peaks.rules;
   standing = can.shown.standing;
-  small = λ g. let few = (sound_more p s (Regrant can.worker t) peaks.laws peaks.sound can.allowed).small g in let same = ap (λ (f : ℕ → ℕ). f g) size in omega (arith, few, same);
-  follows = subst (λ (f : ℕ → Phase). Follows p f ts) (sym (fun_ext can.shown.phase)) (follows_of p (put s.phase t Runs) (reserved_for p t s.held) ts fits);
-  homes = λ u l. ap (λ (v : List (Option ℕ)). get_or v u None) homes ∙ peaks.homes u l;
-  needs = λ u q m kind at. ap (λ (v : List ℕ). get_or v u 0) needs ∙ needs_then p s old can.worker t u q ts peaks can.allowed can.order m kind at ∙ ap (λ (f : ℕ → ℕ). brings p f q u) (sym size);
-  bases = λ q l. base q ∙ begun_base p s old can.worker t q peaks can.allowed l ∙ ap (λ (f : ℕ → ℕ). usage p f [] q) (sym size);
-  trees_long = ap length trees ∙ peaks.trees_long;
-  wide = λ q l.
-      let fewer_there = fewer (there p q) ts (line_of old) fits.once (λ u m. can.tied.whole.all u (fits.tasks u m)) in
-      let tree = ap (λ (v : List (List (Option ℕ))). length (get_or v q [])) trees ∙ ap length (peaks.trees q l) ∙ values_long (there p q) (left_of old) (held_by p (sizes s.held) q) [] (line_of old) in
-      omega (arith, fewer_there, tree);
+  small = λ g. let few = (sound_more p can.state (Regrant can.worker t) peaks.rules.laws peaks.sound can.allowed).small g in let same = ap (λ (f : ℕ → ℕ). f g) size in omega (arith, few, same);
+  follows = subst (λ (f : ℕ → Phase). Follows p f ts) (sym (fun_ext can.shown.phase)) (follows_of p (put can.state.phase t Runs) (reserved_for p t can.state.held) ts
+      (fits_then p can.state can.worker t ts peaks.rules.laws peaks.sound can.allowed can.order));
+  homes = peaks.seated.homes;
+  needs = λ u q m kind at. needs_then p can.state old can.worker t u q ts peaks can.allowed can.order m kind at ∙ ap (λ (f : ℕ → ℕ). brings p f q u) (sym size);
+  bases = λ q l. is q ∙ begun_base p can.state old can.worker t q peaks can.allowed l ∙ ap (λ (f : ℕ → ℕ). usage p f [] q) (sym size);
 }
   where
-    s : State
-    s = can.state
-
     peaks : ArePeaks p can.state old
     peaks = peaks_then p can.state old can.worker t can.tied can.allowed
-
-    fits : Fits p (put can.state.phase t Runs) (reserved_for p t can.state.held) ts
-    fits = fits_then p can.state can.worker t ts peaks.laws peaks.sound can.allowed can.order
 
     size : sizes (held_of standing) ≡ sizes (reserved_for p t can.state.held)
     size = sizes_shown p standing can.state can.worker t can.shown
@@ -479,8 +432,17 @@ walk_of p old mid standing t ts limits can homes needs trees base = record {
 -- the order of a Regrant has tasks of the plan alone, each once
 pub order_once : (p : Plan) (b : Peaks) (standing : Standing) (t : ℕ) (ts : List ℕ) → CanRenew p b standing t ts → AreOnce ts × ((u : ℕ) → has ts u ≡ true → u < count_tasks p)
 order_once p b standing t ts can =
-    let fits = fits_then p can.state can.worker t ts can.tied.behind.laws can.tied.behind.sound can.allowed can.order in
+    let fits = fits_then p can.state can.worker t ts can.tied.behind.rules.laws can.tied.behind.sound can.allowed can.order in
     (fits.once, fits.tasks)
+
+-- each tree has room for the tasks of the order that change its place
+pub wide_of : (p : Plan) (old : Peaks) (standing : Standing) (t : ℕ) (ts : List ℕ) → CanRenew p old standing t ts → (q : ℕ) → q < places p → length (filter (there p q) ts) ≤ length (get_or old.trees.items q [])
+wide_of p old standing t ts can q l =
+    let once = order_once p old standing t ts can in
+    let behind = can.tied.behind in
+    let fewer_there = fewer (there p q) ts (line_of old) once.0 (λ u m. behind.seated.all u (once.1 u m)) in
+    let tree = ap length (behind.trees q l) ∙ values_long (there p q) (left_of old) (held_by p (sizes can.state.held) q) (stack_of old) (line_of old) in
+    omega (arith, fewer_there, tree)
 
 -- the line has as many tasks as the plan
 below_all : (n : ℕ) → length (below n (λ u. true)) ≡ n
@@ -512,121 +474,103 @@ groups_many last count homes xs ys groups once_x once_y to_y to_x is g l =
     whole : (zs : List ℕ) → count_before (groups_of last homes zs) g (length (groups_of last homes zs)) ≡ length (filter (λ t. nat_eq (group_of last (get_or homes t None)) g) zs)
     whole zs = ap (λ (ns : List ℕ). length (filter (λ h. nat_eq h g) ns)) (take_past (groups_of last homes zs) (length (groups_of last homes zs)) (omega arith)) ∙ filter_mapped (λ t. group_of last (get_or homes t None)) g zs
 
-pub line_long : (p : Plan) (s : State) (b : Peaks) → AreTied p s b → count_tasks p ≤ length (line_of b)
-line_long p s b tied =
-    let few = shorter_once (below (count_tasks p) (λ u. true)) (line_of b) (rises_once 0 (below (count_tasks p) (λ u. true)) (below_rises (count_tasks p) (λ u. true))) (λ u m. tied.whole.all u (below_low (count_tasks p) (λ v. true) u m)) in
-    let all = below_all (count_tasks p) in
-    omega (arith, few, all)
+pub seating_long : (p : Plan) (x : Seating) → IsSeating p x → length (task_numbers x.line.items) ≡ count_tasks p
+seating_long p x seated = line_exact (count_tasks p) (task_numbers x.line.items) seated.once seated.in_plan seated.all
+
+pub seating_low : (p : Plan) (x : Seating) → ChangesOnePlace p → IsSeating p x → (t q : ℕ) → t < count_tasks p → get_or x.homes.items t None ≡ Some q → q < places p
+seating_low p x one seated t q l home = one.place_below t q (sym (seated.homes t l) ∙ home)
+
+-- an index of another line of the same tasks has each group as often
+pub was_grouped : (p : Plan) (x : Seating) (r : Ready) → IsSeating p x → WasGrouped p x r
+    → (length r.groups.items ≡ length (task_numbers x.line.items)) × (length r.index.groups.items ≡ length (task_numbers x.line.items)) × AreAsMany (places p + 1) (groups_of (places p) x.homes.items (task_numbers x.line.items)) r.index.groups.items
+was_grouped p x r seated was = (
+  was.grouped.groups_long ∙ same,
+  ap length was.grouped.groups ∙ length-map (task_numbers was.before.line.items) (λ t. group_of (places p) (get_or was.before.homes.items t None)) ∙ same,
+  groups_many (places p) (places p + 1) x.homes.items (task_numbers x.line.items) (task_numbers was.before.line.items) r.index.groups.items seated.once was.seated.once
+      (λ u m. was.seated.all u (seated.in_plan u m)) (λ u m. seated.all u (was.seated.in_plan u m))
+      (was.grouped.groups ∙ ap (λ (hs : List (Option ℕ)). groups_of (places p) hs (task_numbers was.before.line.items)) (sym was.homes)),
+)
+  where
+    same : length (task_numbers was.before.line.items) ≡ length (task_numbers x.line.items)
+    same = seating_long p was.before was.seated ∙ sym (seating_long p x seated)
+
+-- the line of a fresh order has its places as before
+pub laid_of : (p : Plan) (old new : Seating) (ts : List ℕ) → IsSeating p old → AreOnce ts → ((u : ℕ) → has ts u ≡ true → u < count_tasks p) → new.homes.items ≡ old.homes.items → task_numbers new.line.items ≡ renewed_line (count_tasks p) ts
+    → AreSeats p (task_numbers new.line.items) new.seats.items new.widths.items (length (task_numbers new.line.items)) → IsLaid p old new ts
+laid_of p old new ts seated once low homes line counted = record {
+  line = line;
+  homes = homes;
+  seated = record {
+    once = subst AreOnce (sym line) (line_once (count_tasks p) ts once);
+    in_plan = λ u m. line_low (count_tasks p) ts low u (ap (λ (zs : List ℕ). has zs u) (sym line) ∙ m);
+    all = λ u l. ap (λ (zs : List ℕ). has zs u) line ∙ line_all (count_tasks p) ts u l;
+    homes = λ u l. ap (λ (v : List (Option ℕ)). get_or v u None) homes ∙ seated.homes u l;
+    counted = counted;
+  };
+}
 
 -- A fresh order keeps what the trees say.
 pub renewed_tied : (p : Plan) (s : State) (old new : Peaks) (standing : Standing) (w t : ℕ) (ts : List ℕ) → AreTied p s old → Allowed p s (Regrant w t) → order_with p s t ≡ Some ts → IsShown p standing (after p s (Regrant w t))
     → IsRenewed p (sizes (held_of standing)) old new t ts → HaveTrees p (after p s (Regrant w t)) new
 renewed_tied p s old new standing w t ts tied allowed order shown is = record {
-  behind = subst (AreBehind p (after p s (Regrant w t)) new) (sym (ap (λ (v : Vec TaskId Global). stacked (task_numbers v.items) []) is.again ∙ empty_stack p s old w t tied allowed)) then_behind;
-  whole = record {
-    all = λ u l. ap (λ (zs : List ℕ). has zs u) is.line ∙ line_all (count_tasks p) ts u l;
-    seats_long = is.seats.seats_long;
-    widths_long = is.seats.widths_long;
-    room = subst (λ (v : Vec TaskId Global). count_tasks p ≤ vec_capacity v) (sym is.again) tied.whole.room;
-    passed = is.passed;
-  };
+  behind = subst (AreBehind p (after p s (Regrant w t)) new) (sym (ap stack_of is.same ∙ empty_stack p s old w t tied allowed))
+      (subst (λ (b : Peaks). ArePeaks p (after p s (Regrant w t)) b) (sym is.same) then_behind);
+  whole = (subst (HasStackRoom p) (sym is.same) tied.whole.0, subst HasPassed (sym is.same) (none_passed (left_of new) (line_of new)));
 }
   where
     peaks : ArePeaks p s old
     peaks = peaks_then p s old w t tied allowed
 
     fits : Fits p (put s.phase t Runs) (reserved_for p t s.held) ts
-    fits = fits_then p s w t ts peaks.laws peaks.sound allowed order
+    fits = fits_then p s w t ts peaks.rules.laws peaks.sound allowed order
 
     size : sizes (held_of standing) ≡ sizes (reserved_for p t s.held)
     size = sizes_shown p standing s w t shown
 
-    waiting : waits (s.phase t) ≡ true
-    waiting = peaks.sound.safe.waiting t (in_rest p s w t allowed)
-
     rest_is : order_or (order_with p s t) s.rest ≡ ts
     rest_is = ap (λ (o : Option (List ℕ)). order_or o s.rest) order
-
-    take_all : (xs : List ℕ) → take (length xs) xs ≡ xs
-    take_all [] = refl
-    take_all (x ∷ xs) = ap (λ (ys : List ℕ). x ∷ ys) (take_all xs)
 
     long : (q : ℕ) → q < places p → length (get_or old.trees.items q []) ≡ length (filter (there p q) (renewed_line (count_tasks p) ts))
     long q l =
         ap length (peaks.trees q l)
         ∙ values_long (there p q) (left_of old) (held_by p (sizes s.held) q) [] (line_of old)
-        ∙ as_many (there p q) (line_of old) (renewed_line (count_tasks p) ts) peaks.once (line_once (count_tasks p) ts fits.once) (λ u m. line_all (count_tasks p) ts u (peaks.in_plan u m)) (λ u m. tied.whole.all u (line_low (count_tasks p) ts fits.tasks u m))
+        ∙ as_many (there p q) (line_of old) (renewed_line (count_tasks p) ts) peaks.seated.once (line_once (count_tasks p) ts fits.once) (λ u m. line_all (count_tasks p) ts u (peaks.seated.in_plan u m)) (λ u m. tied.behind.seated.all u (line_low (count_tasks p) ts fits.tasks u m))
 
-    then_behind : ArePeaks p (after p s (Regrant w t)) new
+    then_behind : ArePeaks p (after p s (Regrant w t)) (record old { seating = new.seating; left = new.left; first = 0; base = new.base; trees = new.trees })
     then_behind = record {
-      laws = peaks.laws;
-      keeps = peaks.keeps;
-      one = peaks.one;
-      sound = sound_more p s (Regrant w t) peaks.laws peaks.sound allowed;
-      once = subst AreOnce (sym is.line) (line_once (count_tasks p) ts fits.once);
-      in_plan = λ u m. line_low (count_tasks p) ts fits.tasks u (ap (λ (zs : List ℕ). has zs u) (sym is.line) ∙ m);
-      marked = λ u on. ap (λ (zs : List ℕ). has zs u) is.line ∙ list_any-append (λ y. nat_eq y u) ts (below (count_tasks p) (λ v. not (has ts v))) ∙ or_left (has ts u) (has (below (count_tasks p) (λ v. not (has ts v))) u) (sym (is.left u) ∙ on);
-      marks_long = is.marks_long ∙ peaks.marks_long;
+      rules = peaks.rules;
+      sound = sound_more p s (Regrant w t) peaks.rules.laws peaks.sound allowed;
+      seated = is.laid.seated;
+      marked = λ u on. ap (λ (zs : List ℕ). has zs u) is.laid.line ∙ list_any-append (λ y. nat_eq y u) ts (below (count_tasks p) (λ v. not (has ts v))) ∙ or_left (has ts u) (has (below (count_tasks p) (λ v. not (has ts v))) u) (sym (is.left u) ∙ on);
+      marks_long = is.marks_long;
       bases_long = is.bases_long ∙ peaks.bases_long;
       trees_long = is.trees_long ∙ peaks.trees_long;
-      rest = rest_is ∙ sym (ap (filter (left_of new)) is.line ∙ line_left (left_of new) (count_tasks p) ts is.left);
+      rest = rest_is ∙ sym (ap (filter (left_of new)) is.laid.line ∙ line_left (left_of new) (count_tasks p) ts is.left);
       waiting = λ u m. absurd cc;
-      homes = λ u low. ap (λ (v : List (Option ℕ)). get_or v u None) is.homes ∙ peaks.homes u low;
-      needs = λ u q m kind at. ap (λ (v : List ℕ). get_or v u 0) is.needs ∙ needs_then p s old w t u q ts peaks allowed order (ap (λ (zs : List ℕ). has zs u) (sym rest_is) ∙ m) kind at;
-      missing_long = ap length is.missing ∙ peaks.missing_long;
-      counts = λ u low. ap (λ (x : List ℕ). get_or x u 1) is.missing ∙ peaks.counts u low ∙ counts_run s.phase t (parents p u) waiting;
+      needs = λ u q m kind at. needs_then p s old w t u q ts peaks allowed order (ap (λ (zs : List ℕ). has zs u) (sym rest_is) ∙ m) kind at;
+      missing_long = peaks.missing_long;
+      counts = λ u low. peaks.counts u low ∙ counts_run s.phase t (parents p u) (peaks.sound.safe.waiting t (in_rest p s w t allowed));
       bases = λ q l. is.base q ∙ begun_base p s old w t q peaks allowed l;
       trees = λ q l. is.trees q l ∙ line_values p (sizes (held_of standing)) (left_of new) (count_tasks p) q ts (get_or old.trees.items q []) is.left (long q l)
           ∙ ap (λ (f : ℕ → ℕ). values (there p q) (left_of new) (held_by p f q) [] (renewed_line (count_tasks p) ts)) size
-          ∙ ap (values (there p q) (left_of new) (held_by p (sizes (reserved_for p t s.held)) q) []) (sym is.line);
-      widths = λ q l. is.seats.width q l ∙ ap (λ (zs : List ℕ). length (filter (there p q) zs)) (take_all (line_of new));
-      seats = λ k q l at. is.seats.seat k q l at;
+          ∙ ap (values (there p q) (left_of new) (held_by p (sizes (reserved_for p t s.held)) q) []) (sym is.laid.line);
     }
 
 -- a task that cleans nothing is no Clean
 pub no_clean : (p : Plan) (t : ℕ) → ((g : ℕ) → cleans p t g ≡ false) → is_clean p t ≡ false
 no_clean p t off = false_of (is_clean p t) (λ e. absurd (let g = cleaned_good p t e in let no = off g.0 in let yes = g.1 g.0 ∙ is_itself g.0 in cc))
 
--- a walk goes on where some trees are made anew
-pub walk_kept : (p : Plan) (old mid : Peaks) (standing : Standing) (ts : List ℕ) (k : ℕ) → CanWalk p old standing ts → IsKept old mid → mid.base.items ≡ old.base.items
-    → ((q : ℕ) → q < k → get_or mid.trees.items q [] ≡ renewed_values p (sizes (held_of standing)) ts q (get_or old.trees.items q []))
-    → ((q : ℕ) → k ≤ q → get_or mid.trees.items q [] ≡ get_or old.trees.items q []) → CanWalk p mid standing ts
-walk_kept p old mid standing ts k walk kept base filled others = record {
-  limits = walk.limits;
-  keeps = walk.keeps;
-  one = walk.one;
-  standing = walk.standing;
-  small = walk.small;
-  follows = walk.follows;
-  homes = λ u l. ap (λ (v : List (Option ℕ)). get_or v u None) kept.homes ∙ walk.homes u l;
-  needs = λ u q m kind at. ap (λ (v : List ℕ). get_or v u 0) kept.needs ∙ walk.needs u q m kind at;
-  bases = λ q l. ap (λ (v : List ℕ). get_or v q 0) base ∙ walk.bases q l;
-  trees_long = kept.trees_long ∙ walk.trees_long;
-  wide = λ q l. by q (cases_lt q k) l;
-}
-  where
-    by : (q : ℕ) → (q < k) ⊎ (k ≤ q) → q < places p → length (filter (there p q) ts) ≤ length (get_or mid.trees.items q [])
-    by q (inl m) l =
-        let is = ap length (filled q m) in
-        let sum = length-append (values (there p q) all_left (held_by p (sizes (held_of standing)) q) [] ts) (replicate (length (get_or old.trees.items q []) - length (values (there p q) all_left (held_by p (sizes (held_of standing)) q) [] ts)) None) in
-        let long = values_long (there p q) all_left (held_by p (sizes (held_of standing)) q) [] ts in
-        omega (arith, is, sum, long)
-    by q (inr m) l = let is = ap length (others q m) in let had = walk.wide q l in omega (arith, is, had)
-
 -- of the task at a position of a walk: its place, and what it brings
-pub there_same : (p : Plan) (b : Peaks) (standing : Standing) (ts : List ℕ) (k q t : ℕ) → CanWalk p b standing ts → k < length ts → t ≡ get_or ts k 0 → is_place q (get_or b.homes.items t None) ≡ is_place q (place p (get_or ts k 0))
-there_same p b standing ts k q t walk l is = ap (is_place q) (ap (λ (n : ℕ). get_or b.homes.items n None) is ∙ walk.homes (get_or ts k 0) (walk.follows.tasks (get_or ts k 0) (at_place ts k l)))
+pub there_same : (p : Plan) (homes : List (Option ℕ)) (needs base : List ℕ) (standing : Standing) (ts : List ℕ) (k q t : ℕ) → CanWalk p homes needs base standing ts → k < length ts → t ≡ get_or ts k 0 → is_place q (get_or homes t None) ≡ is_place q (place p (get_or ts k 0))
+there_same p homes needs base standing ts k q t walk l is = ap (is_place q) (ap (λ (n : ℕ). get_or homes n None) is ∙ walk.homes (get_or ts k 0) (walk.follows.tasks (get_or ts k 0) (at_place ts k l)))
 
-pub walk_need : (p : Plan) (b : Peaks) (standing : Standing) (ts : List ℕ) (k q t : ℕ) → CanWalk p b standing ts → k < length ts → t ≡ get_or ts k 0 → is_place q (get_or b.homes.items t None) ≡ true → is_clean p (get_or ts k 0) ≡ false
-    → get_or b.needs.items t 0 ≡ brings p (sizes (held_of standing)) q (get_or ts k 0)
-walk_need p b standing ts k q t walk l is on kind =
-    ap (λ (n : ℕ). get_or b.needs.items n 0) is
-    ∙ walk.needs (get_or ts k 0) q (at_place ts k l) kind (is_there q (place p (get_or ts k 0)) (sym (there_same p b standing ts k q t walk l is) ∙ on))
+pub walk_need : (p : Plan) (homes : List (Option ℕ)) (needs base : List ℕ) (standing : Standing) (ts : List ℕ) (k q t : ℕ) → CanWalk p homes needs base standing ts → k < length ts → t ≡ get_or ts k 0 → is_place q (get_or homes t None) ≡ true → is_clean p (get_or ts k 0) ≡ false
+    → get_or needs t 0 ≡ brings p (sizes (held_of standing)) q (get_or ts k 0)
+walk_need p homes needs base standing ts k q t walk l is on kind =
+    ap (λ (n : ℕ). get_or needs n 0) is
+    ∙ walk.needs (get_or ts k 0) q (at_place ts k l) kind (is_there q (place p (get_or ts k 0)) (sym (there_same p homes needs base standing ts k q t walk l is) ∙ on))
 
 -- one task more of the line, where it has no mark
-pub marked_at : (marks : List Bool) (t : ℕ) (b : Bool) → t < length marks → b ≡ get_or marks t b → is_left marks t ≡ b
-marked_at marks t b l is = get_or_default marks t false b l ∙ sym is
-
 pub added_none : (marks : List Bool) (line : List TaskId) (t : ℕ) → is_left marks t ≡ true → task_numbers line ≡ task_numbers line ++ cond (not (is_left marks t)) (t ∷ []) []
 added_none marks line t on = sym (ap (λ (b : Bool). task_numbers line ++ cond (not b) (t ∷ []) []) on ∙ append_none (task_numbers line))
 
@@ -671,11 +615,7 @@ marked_first n marks ts k z none u = ap (λ (bs : List Bool). get_or bs u false)
     start (x ∷ xs) = refl
 
 pub marked_last : (marks : List Bool) (ts : List ℕ) (k : ℕ) → k ≡ length ts → ((u : ℕ) → is_left marks u ≡ has (take k ts) u) → (u : ℕ) → is_left marks u ≡ has ts u
-marked_last marks ts k end so_far u = so_far u ∙ ap (λ (xs : List ℕ). has xs u) (ap (λ (n : ℕ). take n ts) end ∙ all ts)
-  where
-    all : (xs : List ℕ) → take (length xs) xs ≡ xs
-    all [] = refl
-    all (x ∷ xs) = ap (λ (ys : List ℕ). x ∷ ys) (all xs)
+marked_last marks ts k end so_far u = so_far u ∙ ap (λ (xs : List ℕ). has xs u) (take_past ts k (omega (arith, end)))
 
 -- the line that is made: its tasks, and that there is room for it
 pub line_is : (n : ℕ) (marks : List Bool) (ts line : List ℕ) → length marks ≡ n → ((u : ℕ) → is_left marks u ≡ has ts u) → line ≡ ts ++ below (length marks) (λ u. not (is_left marks u)) → line ≡ renewed_line n ts
@@ -718,20 +658,3 @@ new_room n marks slice tasks over long each same copied once low =
     let first = ap length copied in
     let rest = ap (λ (bs : List Bool). length (below (length bs) (λ u. not (is_left bs u)))) same in
     omega (arith, few, count, first, rest)
-
-pub base_begun : (base : List ℕ) (q need : ℕ) (o p : Option ℕ) (n : ℕ) → o ≡ p → need ≡ n → cond (is_place q o) (get_or base q 0 + need) (get_or base q 0) ≡ cond (is_place q p) (get_or base q 0 + n) (get_or base q 0)
-base_begun base q need o p n e f = ap (λ (x : Option ℕ). cond (is_place q x) (get_or base q 0 + need) (get_or base q 0)) e ∙ ap (λ (m : ℕ). cond (is_place q p) (get_or base q 0 + m) (get_or base q 0)) f
-
--- the line of a fresh order has the tasks of the one before
-pub renewed_many : (p : Plan) (s : State) (old : Peaks) (ts line : List ℕ) (homes : List (Option ℕ)) (ready : Ready) → AreTied p s old → AreOnce ts → ((u : ℕ) → has ts u ≡ true → u < count_tasks p) → line ≡ renewed_line (count_tasks p) ts → homes ≡ old.homes.items → ready ≡ old.ready
-    → AreAsMany (places p + 1) (groups_of (places p) homes line) ready.index.groups.items
-renewed_many p s old ts line homes ready tied once low is same kept =
-    groups_many (places p) (places p + 1) homes line (line_of old) ready.index.groups.items (subst AreOnce (sym is) (line_once (count_tasks p) ts once)) tied.behind.once
-    (λ u m. tied.whole.all u (line_low (count_tasks p) ts low u (ap (λ (zs : List ℕ). has zs u) (sym is) ∙ m))) (λ u m. ap (λ (zs : List ℕ). has zs u) is ∙ line_all (count_tasks p) ts u (tied.behind.in_plan u m))
-    (ap (λ (r : Ready). r.index.groups.items) kept ∙ tied.indexed.grouped.groups ∙ ap (λ (hs : List (Option ℕ)). groups_of (places p) hs (line_of old)) (sym same))
-
-pub line_as_long : (p : Plan) (s : State) (old : Peaks) (ts line : List ℕ) → AreTied p s old → AreOnce ts → ((u : ℕ) → has ts u ≡ true → u < count_tasks p) → line ≡ renewed_line (count_tasks p) ts → (length line ≡ count_tasks p) × (length (line_of old) ≡ count_tasks p)
-line_as_long p s old ts line tied once low is = (
-  ap length is ∙ line_exact (count_tasks p) (renewed_line (count_tasks p) ts) (line_once (count_tasks p) ts once) (line_low (count_tasks p) ts low) (line_all (count_tasks p) ts),
-  line_exact (count_tasks p) (line_of old) tied.behind.once tied.behind.in_plan tied.whole.all,
-)

@@ -4,14 +4,13 @@ use Rattle.std.specs.Prelude.{min}
 use Rattle.std.proofs.lemmas.Bool.{cases_lt}
 use Rattle.std.proofs.lemmas.List.{get_or-map, get_or-take, length-map, length-take}
 use Rattle.group_index.specs.Index.{IsBefore, IsLeastAt, IsLeastBefore, count, group, number}
-use Rattle.lease_rules.proofs.ListLemmas.{absent_filter, has_filter}
+use Rattle.place_peaks.proofs.Offered.{absent_filter, has_filter, place_of}
 use Rattle.lease_rules.specs.Choice.{CanStart, HasNoChoice, IsChoice}
 use Rattle.lease_rules.specs.State.{State}
 use Rattle.peak_tree.specs.Numbers.{greatest}
 use Rattle.plan_core.specs.declared.plan.Plan.{Plan}
 use Rattle.plan_core.specs.Numbers.{has}
 use Rattle.plan_core.specs.Words.{is_clean}
-use Rattle.storage_simulation.proofs.FollowingLemmas.{place_of}
 use Rattle.storage_simulation.specs.Goods.{place_bound, places}
 use Rattle.place_peaks.specs.declared.peaks.Peaks.{Peaks}
 use Rattle.place_peaks.specs.Choosing.{AtAll, CanBegin, HasRoomAt, InGroup, InGroupBelow, IsFirst, IsFirstAt, earlier}
@@ -83,12 +82,12 @@ scored_some true need n home q e f h = absurd cc
 scored_some false need n None q e f h = absurd cc
 scored_some false need n (Some r) q e f h = h
 
-pub group_home : (p : Plan) (b : Peaks) (k : ℕ) → IsIndexed p b → k < length (line_of b) → group b.ready.index k ≡ group_of (places p) (get_or b.homes.items (get_or (line_of b) k 0) None)
+pub group_home : (p : Plan) (b : Peaks) (k : ℕ) → IsIndexed p b → k < length (line_of b) → group b.ready.index k ≡ group_of (places p) (get_or b.seating.homes.items (get_or (line_of b) k 0) None)
 group_home p b k indexed l =
-    ap (λ (gs : List ℕ). get_or gs k 0) indexed.grouped.groups ∙ get_or-map (λ t. group_of (places p) (get_or b.homes.items t None)) (line_of b) k 0 0 l
+    ap (λ (gs : List ℕ). get_or gs k 0) indexed.grouped.groups ∙ get_or-map (λ t. group_of (places p) (get_or b.seating.homes.items t None)) (line_of b) k 0 0 l
 
 pub long_of : (p : Plan) (b : Peaks) → IsIndexed p b → count b.ready.index ≡ length (line_of b)
-long_of p b indexed = ap length indexed.grouped.groups ∙ length-map (line_of b) (λ t. group_of (places p) (get_or b.homes.items t None))
+long_of p b indexed = ap length indexed.grouped.groups ∙ length-map (line_of b) (λ t. group_of (places p) (get_or b.seating.homes.items t None))
 
 earlier_can : (p : Plan) (b : Peaks) (k j m : ℕ) → IsIndexed p b → k < j → j < length (line_of b) → group b.ready.index j ≡ group b.ready.index k
     → number b.ready.index k ≡ Some m → m ≤ score p b (get_or (line_of b) j 0) → CanBegin p b (get_or (line_of b) j 0) → CanBegin p b (get_or (line_of b) k 0)
@@ -101,13 +100,13 @@ earlier_can p b k j m indexed before l same is less can = record {
     ready : IsReadyWith p b (get_or (line_of b) k 0) m
     ready = ready_with p b (get_or (line_of b) k 0) m (sym (indexed.scores k (omega (arith, before, l)) refl) ∙ is)
 
-    room : (q : ℕ) → is_clean p (get_or (line_of b) k 0) ≡ false → get_or b.homes.items (get_or (line_of b) k 0) None ≡ Some q → HasRoomAt b (get_or (line_of b) k 0) q (place_bound p q)
+    room : (q : ℕ) → is_clean p (get_or (line_of b) k 0) ≡ false → get_or b.seating.homes.items (get_or (line_of b) k 0) None ≡ Some q → HasRoomAt b (get_or (line_of b) k 0) q (place_bound p q)
     room q clean home =
-        let needs = scored_some (is_clean p (get_or (line_of b) k 0)) (get_or b.needs.items (get_or (line_of b) k 0) 0) m (get_or b.homes.items (get_or (line_of b) k 0) None) q clean home ready.scored in
-        let others = scored_more (is_clean p (get_or (line_of b) j 0)) (get_or b.needs.items (get_or (line_of b) j 0) 0) (get_or b.needs.items (get_or (line_of b) k 0) 0) (get_or b.homes.items (get_or (line_of b) j 0) None) (omega (arith, needs, less)) in
-        let in_group : group_of (places p) (get_or b.homes.items (get_or (line_of b) j 0) None) ≡ q = sym (group_home p b j indexed l) ∙ same ∙ group_home p b k indexed (omega (arith, before, l)) ∙ ap (group_of (places p)) home in
-        let there = home_of_group (places p) q (get_or b.homes.items (get_or (line_of b) j 0) None) (indexed.grouped.low (get_or (line_of b) k 0) q (indexed.grouped.in_plan k (omega (arith, before, l))) home) in_group in
-        room_less (get_or b.needs.items (get_or (line_of b) k 0) 0) (get_or b.needs.items (get_or (line_of b) j 0) 0) (get_or b.base.items q 0) (place_bound p q) (get_or b.seats.items (get_or (line_of b) k 0) 0) (get_or b.seats.items (get_or (line_of b) j 0) 0) (get_or b.trees.items q []) others.1
+        let needs = scored_some (is_clean p (get_or (line_of b) k 0)) (get_or b.needs.items (get_or (line_of b) k 0) 0) m (get_or b.seating.homes.items (get_or (line_of b) k 0) None) q clean home ready.scored in
+        let others = scored_more (is_clean p (get_or (line_of b) j 0)) (get_or b.needs.items (get_or (line_of b) j 0) 0) (get_or b.needs.items (get_or (line_of b) k 0) 0) (get_or b.seating.homes.items (get_or (line_of b) j 0) None) (omega (arith, needs, less)) in
+        let in_group : group_of (places p) (get_or b.seating.homes.items (get_or (line_of b) j 0) None) ≡ q = sym (group_home p b j indexed l) ∙ same ∙ group_home p b k indexed (omega (arith, before, l)) ∙ ap (group_of (places p)) home in
+        let there = home_of_group (places p) q (get_or b.seating.homes.items (get_or (line_of b) j 0) None) (indexed.grouped.low (get_or (line_of b) k 0) q (indexed.grouped.in_plan k (omega (arith, before, l))) home) in_group in
+        room_less (get_or b.needs.items (get_or (line_of b) k 0) 0) (get_or b.needs.items (get_or (line_of b) j 0) 0) (get_or b.base.items q 0) (place_bound p q) (get_or b.seating.seats.items (get_or (line_of b) k 0) 0) (get_or b.seating.seats.items (get_or (line_of b) j 0) 0) (get_or b.trees.items q []) others.1
         (indexed.rising k j q before l home there) (can.room q others.0 there)
 
 -- one question of a group: of those before the end the one with the least score
@@ -241,13 +240,13 @@ first_of_all p b n x indexed e h = by x h
 pub begin_start : (p : Plan) (s : State) (b : Peaks) (k : ℕ) → ArePeaks p s b → k < length (line_of b) → CanBegin p b (get_or (line_of b) k 0) → CanStart p s (get_or (line_of b) k 0)
 begin_start p s b k peaks l can = by_kind (is_clean p (get_or (line_of b) k 0)) refl
   where
-    by_home : (o : Option ℕ) → get_or b.homes.items (get_or (line_of b) k 0) None ≡ o → is_clean p (get_or (line_of b) k 0) ≡ false → CanStart p s (get_or (line_of b) k 0)
+    by_home : (o : Option ℕ) → get_or b.seating.homes.items (get_or (line_of b) k 0) None ≡ o → is_clean p (get_or (line_of b) k 0) ≡ false → CanStart p s (get_or (line_of b) k 0)
     by_home None e kind = (placeless p s b k peaks l can.left can.none_open kind (sym e)).0 refl
     by_home (Some q) e kind = (placed p s b k q true peaks l can.left can.none_open kind (sym e) (λ h. can.room q kind e, λ h. refl)).0 refl
 
     by_kind : (c : Bool) → is_clean p (get_or (line_of b) k 0) ≡ c → CanStart p s (get_or (line_of b) k 0)
     by_kind true e = (clean p s b k peaks l can.left can.none_open e).0 refl
-    by_kind false e = by_home (get_or b.homes.items (get_or (line_of b) k 0) None) refl e
+    by_kind false e = by_home (get_or b.seating.homes.items (get_or (line_of b) k 0) None) refl e
 
 decide_up : (b : ℕ) (o : Option ℕ) → (IsUpTo b o) ⊎ (IsUpTo b o → ⊥)
 decide_up b None = inl tt
@@ -267,7 +266,7 @@ decide_room n b o bound = by (cases_lt bound n) (cases_lt (bound - n) b) (decide
     by (inr more) (inr low) (inr up) = inr (λ h. up h.2)
 
 pub start_begin : (p : Plan) (s : State) (b : Peaks) (k : ℕ) → ArePeaks p s b → k < length (line_of b) → left_of b (get_or (line_of b) k 0) ≡ true → CanStart p s (get_or (line_of b) k 0) → CanBegin p b (get_or (line_of b) k 0)
-start_begin p s b k peaks l left can = record { left = left; none_open = none; room = λ q kind home. room q kind home (decide_room (get_or b.needs.items (get_or (line_of b) k 0) 0) (get_or b.base.items q 0) (greatest (take (get_or b.seats.items (get_or (line_of b) k 0) 0) (get_or b.trees.items q []))) (place_bound p q)) }
+start_begin p s b k peaks l left can = record { left = left; none_open = none; room = λ q kind home. room q kind home (decide_room (get_or b.needs.items (get_or (line_of b) k 0) 0) (get_or b.base.items q 0) (greatest (take (get_or b.seating.seats.items (get_or (line_of b) k 0) 0) (get_or b.trees.items q []))) (place_bound p q)) }
   where
     not_open : (m : ℕ) → get_or b.missing.items (get_or (line_of b) k 0) 1 ≡ m → m ≡ 0
     not_open zero e = refl
@@ -276,7 +275,7 @@ start_begin p s b k peaks l left can = record { left = left; none_open = none; r
     none : get_or b.missing.items (get_or (line_of b) k 0) 1 ≡ 0
     none = not_open (get_or b.missing.items (get_or (line_of b) k 0) 1) refl
 
-    room : (q : ℕ) → is_clean p (get_or (line_of b) k 0) ≡ false → get_or b.homes.items (get_or (line_of b) k 0) None ≡ Some q → (HasRoomAt b (get_or (line_of b) k 0) q (place_bound p q)) ⊎ (HasRoomAt b (get_or (line_of b) k 0) q (place_bound p q) → ⊥) → HasRoomAt b (get_or (line_of b) k 0) q (place_bound p q)
+    room : (q : ℕ) → is_clean p (get_or (line_of b) k 0) ≡ false → get_or b.seating.homes.items (get_or (line_of b) k 0) None ≡ Some q → (HasRoomAt b (get_or (line_of b) k 0) q (place_bound p q)) ⊎ (HasRoomAt b (get_or (line_of b) k 0) q (place_bound p q) → ⊥) → HasRoomAt b (get_or (line_of b) k 0) q (place_bound p q)
     room q kind home (inl has_room) = has_room
     room q kind home (inr off) = absurd (let no = (placed p s b k q false peaks l left none kind (sym home) (λ h. absurd cc, λ h. absurd (off h))).1 can in cc)
 

@@ -10,9 +10,7 @@ use Rattle.storage_simulation.specs.Goods.{good_size, goods, lies_at, makes, pla
 use Rattle.storage_simulation.specs.Law.{KeepsGoods}
 use Rattle.storage_simulation.specs.Standings.{waits}
 use Rattle.storage_simulation.specs.Usage.{cleaned, made, part, usage, weight}
-use Rattle.storage_simulation.proofs.FollowingLemmas.{by_bool, is_itself}
-use Rattle.storage_simulation.proofs.GoodsLemmas.{lies_below}
-use Rattle.storage_simulation.proofs.SumsLemmas.{one_changed, total_same}
+use Rattle.place_peaks.proofs.Offered.{by_bool, is_itself, lies_below, one_changed, total_same}
 use Rattle.place_peaks.specs.Places.{ChangesOnePlace, held_by, there}
 use Rattle.place_peaks.specs.Tree.{front_changed}
 use Rattle.place_peaks.specs.Values.{values}

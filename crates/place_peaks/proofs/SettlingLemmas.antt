@@ -3,17 +3,14 @@ use Rattle.std.proofs.Common.{◌≡◌, ℕ, suc, ◌-◌, ◌≤◌, ◌<◌, 
 use Rattle.std.specs.Prelude.{filter, replicate}
 use Rattle.std.proofs.Math.Path.{fun_ext}
 use Rattle.std.proofs.lemmas.List.Folds.{list_any-append}
-use Rattle.lease_rules.proofs.ListLemmas.{absent_filter, has_filter, has_take, once_parts}
-use Rattle.lease_rules.proofs.SafeLemmas.{maker_of}
+use Rattle.place_peaks.proofs.Offered.{absent_filter, false_of, has_filter, has_head, has_take, maker_of, once_parts, or_case, or_left, or_right, place_of, rises_once, sound_more, sum_same}
 use Rattle.lease_rules.specs.Law.{IsSoundState}
 use Rattle.lease_rules.specs.Legal.{Allowed, AreDeclared}
 use Rattle.lease_rules.specs.State.{State, after, ended, put, stored_among}
-use Rattle.lease_rules.proofs.SoundLemmas.{sound_more}
 use Rattle.run_record.specs.Events.{Arrive, End}
-use Rattle.storage_simulation.proofs.RisingLemmas.{rises_once}
 use Rattle.plan_core.specs.declared.plan.Plan.{Plan}
 use Rattle.plan_core.specs.Numbers.{has}
-use Rattle.plan_core.specs.Words.{cleans, parents, task_numbers}
+use Rattle.plan_core.specs.Words.{cleans, parents}
 use Rattle.storage_simulation.specs.declared.standing.Held.{Held}
 use Rattle.storage_simulation.specs.declared.standing.Held.TheVariants.{Stored}
 use Rattle.storage_simulation.specs.declared.standing.Phase.{Phase}
@@ -23,17 +20,15 @@ use Rattle.storage_simulation.specs.Following.{AreOnce}
 use Rattle.storage_simulation.specs.Goods.{good_size, lies_at, makes, place, places}
 use Rattle.storage_simulation.specs.Standings.{held_size, sizes, waits}
 use Rattle.storage_simulation.specs.Usage.{cleaned, made, sum_of, usage}
-use Rattle.storage_simulation.proofs.FollowingLemmas.{false_of, has_head, or_case, or_left, or_right, place_of}
-use Rattle.storage_simulation.proofs.SumsLemmas.{sum_same}
 use Rattle.place_peaks.specs.declared.links.Links.{Links}
 use Rattle.place_peaks.specs.declared.peaks.Peaks.{Peaks}
 use Rattle.place_peaks.specs.Links.{AreLinks, IsCleaner}
-use Rattle.place_peaks.specs.Peaks.{AreBehind, is_left, left_of, line_of}
+use Rattle.place_peaks.specs.Peaks.{AreBehind, left_of, line_of}
 use Rattle.place_peaks.specs.Places.{brings, held_by, there}
 use Rattle.place_peaks.specs.Settling.{IsSettled, count_at, count_by, lowered, settled}
 use Rattle.place_peaks.specs.Tree.{front_changed}
 use Rattle.place_peaks.specs.Values.{values}
-use Rattle.place_peaks.proofs.ChoosingLemmas.{filter_split, placed_there, split}
+use Rattle.place_peaks.proofs.ChoosingLemmas.{filter_split, placed_there, split, take_past}
 use Rattle.place_peaks.proofs.CleaningLemmas.{ends_more}
 use Rattle.place_peaks.proofs.CountLemmas.{counts_end, open_one, sum_map}
 use Rattle.place_peaks.proofs.GrantingLemmas.{absent_first}
@@ -115,7 +110,7 @@ has_both xs ys u = list_any-append (λ y. nat_eq y u) xs ys
 unmade_by_rest : (p : Plan) (s : State) (b : Peaks) (front : List ℕ) (t g : ℕ) (zs : List ℕ) → AreBehind p s b front → s.phase t ≡ Runs → has (makes p t) g ≡ true → ((u : ℕ) → has zs u ≡ true → has s.rest u ≡ true) → made p zs g ≡ false
 unmade_by_rest p s b front t g zs peaks runs m inside = false_of (made p zs g) (λ h. absurd (
     let u = maker_of p zs g h in
-    let same : u.0 ≡ t = peaks.laws.one_maker u.0 t g u.2 m in
+    let same : u.0 ≡ t = peaks.rules.laws.one_maker u.0 t g u.2 m in
     let wait : waits (s.phase t) ≡ true = ap (λ (n : ℕ). waits (s.phase n)) (sym same) ∙ peaks.sound.safe.waiting u.0 (inside u.0 u.1) in
     let no : waits (s.phase t) ≡ false = ap waits runs in cc))
 
@@ -141,14 +136,14 @@ in_rest p s b front peaks k u m = ap (λ (zs : List ℕ). has zs u) peaks.rest �
 -- the Clean of what a running task makes isn't among the tasks that wait again, since their parents have ended
 not_in_front : (p : Plan) (s : State) (b : Peaks) (front : List ℕ) (t g c : ℕ) → AreBehind p s b front → s.phase t ≡ Runs → has (makes p t) g ≡ true → cleans p c g ≡ true → has front c ≡ false
 not_in_front p s b front t g c peaks runs m is = false_of (has front c) (λ h. absurd (
-    let done = peaks.waiting c h t (peaks.laws.cleans_after c t g is m) in
+    let done = peaks.waiting c h t (peaks.rules.laws.cleans_after c t g is m) in
     let no : ended (s.phase t) ≡ false = ap ended runs in cc))
 
 -- where no Clean of the good is left, no front of rest cleans it
 always : (p : Plan) (s : State) (b : Peaks) (front : List ℕ) (t g q : ℕ) → AreBehind p s b front → s.phase t ≡ Runs → has (makes p t) g ≡ true → q < places p
-    → ((c : ℕ) → cleans p c g ≡ true → left_of b c ≡ false) → IsAlways p (left_of b) front (line_of b) g q (get_or b.widths.items q 0)
+    → ((c : ℕ) → cleans p c g ≡ true → left_of b c ≡ false) → IsAlways p (left_of b) front (line_of b) g q (get_or b.seating.widths.items q 0)
 always p s b front t g q peaks runs m low gone = record {
-  count_is = peaks.widths q low;
+  count_is = peaks.seated.counted.width q low ∙ ap (λ (zs : List ℕ). length (filter (there p q) zs)) (take_past (line_of b) (length (line_of b)) (omega arith));
   counts = λ k. (
     false_of (cleaned p (front ++ take k (filter (left_of b) (line_of b))) g) (λ h. absurd (
         let u = cleaner_of p (front ++ take k (filter (left_of b) (line_of b))) g h in
@@ -162,22 +157,22 @@ always p s b front t g q peaks runs m low gone = record {
 
 -- where the Clean of the good is left, each front up to it counts what is held, and each further one cleans the good
 until : (p : Plan) (s : State) (b : Peaks) (front : List ℕ) (t g q c : ℕ) (xs ys : List ℕ) → AreBehind p s b front → s.phase t ≡ Runs → has (makes p t) g ≡ true → q < places p → lies_at p g q ≡ true → cleans p c g ≡ true → left_of b c ≡ true
-    → line_of b ≡ xs ++ c ∷ ys → get_or b.seats.items c 0 ≡ length (filter (there p q) xs) → IsUntil p (left_of b) front (line_of b) g q (get_or b.seats.items c 0)
+    → line_of b ≡ xs ++ c ∷ ys → get_or b.seating.seats.items c 0 ≡ length (filter (there p q) xs) → IsUntil p (left_of b) front (line_of b) g q (get_or b.seating.seats.items c 0)
 until p s b front t g q c xs ys peaks runs m low at its on line seat = record {
   before = xs;
   clean = c;
   behind = ys;
   is = line;
   left_clean = on;
-  clean_there = placed_there q (place p c) (peaks.one.cleans_there c g q low its at);
+  clean_there = placed_there q (place p c) (peaks.rules.one.cleans_there c g q low its at);
   count_is = seat;
   counts = λ k. (
     false_of (cleaned p (front ++ take k (filter (left_of b) xs)) g) (λ h. absurd (
         let u = cleaner_of p (front ++ take k (filter (left_of b) xs)) g h in
-        let same : u.0 ≡ c = peaks.keeps.one_clean u.0 c g u.2 its in
+        let same : u.0 ≡ c = peaks.rules.keeps.one_clean u.0 c g u.2 its in
         let inside : has (front ++ take k (filter (left_of b) xs)) c ≡ true = ap (has (front ++ take k (filter (left_of b) xs))) (sym same) ∙ u.1 in
         let off = not_in_front p s b front t g c peaks runs m its in
-        let gone = absent_filter (left_of b) c xs (absent_first xs c ys (subst AreOnce line peaks.once)).0 in
+        let gone = absent_filter (left_of b) c xs (absent_first xs c ys (subst AreOnce line peaks.seated.once)).0 in
         let early : has (filter (left_of b) xs) c ≡ true = or_case (has front c) (has (take k (filter (left_of b) xs)) c) (sym (has_both front (take k (filter (left_of b) xs)) c) ∙ inside) (λ y. absurd (let no = off in cc)) (λ y. has_take (filter (left_of b) xs) k c y) in
         cc)),
     unmade_by_rest p s b front t g (front ++ take k (filter (left_of b) xs)) peaks runs m (λ u h. front_in_rest k u h),
@@ -201,35 +196,30 @@ pub count_holds : (p : Plan) (s : State) (b : Peaks) (front : List ℕ) (t g q :
 count_holds p s b front t g q None peaks runs m low at none = inr (always p s b front t g q peaks runs m low (λ c is. absurd (let no = none c in cc)))
 count_holds p s b front t g q (Some c) peaks runs m low at its = by (left_of b c) refl
   where
-    here : (k : ℕ) → k < length (line_of b) → get_or (line_of b) k 0 ≡ c → left_of b c ≡ true → IsUntil p (left_of b) front (line_of b) g q (get_or b.seats.items c 0)
+    here : (k : ℕ) → k < length (line_of b) → get_or (line_of b) k 0 ≡ c → left_of b c ≡ true → IsUntil p (left_of b) front (line_of b) g q (get_or b.seating.seats.items c 0)
     here k l is on = until p s b front t g q c (take k (line_of b)) (drop (suc k) (line_of b)) peaks runs m low at its on
         (split (line_of b) k l ∙ ap (λ (n : ℕ). take k (line_of b) ++ n ∷ drop (suc k) (line_of b)) is)
-        (ap (λ (n : ℕ). get_or b.seats.items n 0) (sym is) ∙ peaks.seats k q l (ap (place p) is ∙ peaks.one.cleans_there c g q low its at))
+        (ap (λ (n : ℕ). get_or b.seating.seats.items n 0) (sym is) ∙ peaks.seated.counted.seat k q l (ap (place p) is ∙ peaks.rules.one.cleans_there c g q low its at))
 
-    by : (x : Bool) → left_of b c ≡ x → HasCount p (left_of b) front (line_of b) g q (cond x (get_or b.seats.items c 0) (get_or b.widths.items q 0))
+    by : (x : Bool) → left_of b c ≡ x → HasCount p (left_of b) front (line_of b) g q (cond x (get_or b.seating.seats.items c 0) (get_or b.seating.widths.items q 0))
     by true on = let spot = place_of (line_of b) c (peaks.marked c on) in inl (here spot.0 spot.1 spot.2 on)
-    by false off = inr (always p s b front t g q peaks runs m low (λ d is. ap (left_of b) (peaks.keeps.one_clean d c g is its) ∙ off))
+    by false off = inr (always p s b front t g q peaks runs m low (λ d is. ap (left_of b) (peaks.rules.keeps.one_clean d c g is its) ∙ off))
 
 -- The Arrive or the End.
 pub settled_by : (p : Plan) (s later : State) (links : Links) (old new : Peaks) (front : List ℕ) (t : ℕ) (ns : List ℕ) → AreBehind p s old front → AreLinks p links → s.phase t ≡ Runs → IsSoundState p later → ((v : ℕ) → later.phase v ≡ put s.phase t Ended v)
     → sizes later.held ≡ resized_all (makes p t) ns (sizes s.held) → later.rest ≡ s.rest → AreDeclared p (makes p t) ns → ((u : ℕ) → AreOnce (parents p u)) → AreOnce (makes p t) → IsSettled p links old new t ns → AreBehind p later new front
-settled_by p s later links old new front t ns peaks linked runs sound phase held rest declared once_parents once_made is = record {
-  laws = peaks.laws;
-  keeps = peaks.keeps;
-  one = peaks.one;
+settled_by p s later links old new front t ns peaks linked runs sound phase held rest declared once_parents once_made is = subst (λ (b : Peaks). AreBehind p (later) b front) (sym is.same) (record {
+  rules = peaks.rules;
   sound = sound;
-  once = subst AreOnce (sym same_line) peaks.once;
-  in_plan = λ u m. peaks.in_plan u (sym (ap (λ (zs : List ℕ). has zs u) same_line) ∙ m);
-  marked = λ u m. ap (λ (zs : List ℕ). has zs u) same_line ∙ peaks.marked u (sym (ap (λ (marks : List Bool). is_left marks u) is.left) ∙ m);
-  marks_long = ap length is.left ∙ peaks.marks_long;
+  seated = peaks.seated;
+  marked = λ u m. peaks.marked u m;
+  marks_long = peaks.marks_long;
   bases_long = is.bases_long ∙ peaks.bases_long;
   trees_long = is.trees_long ∙ peaks.trees_long;
   missing_long = is.missing_long ∙ peaks.missing_long;
-  rest = rest ∙ peaks.rest ∙ ap (λ (zs : List ℕ). front ++ zs) (ap (filter (left_of old)) (sym same_line) ∙ ap (λ (marks : List Bool). filter (is_left marks) (line_of new)) (sym is.left));
+  rest = rest ∙ peaks.rest;
   waiting = λ u m v n. ap ended (phase v) ∙ ends_more s.phase t v (peaks.waiting u m v n);
-  homes = λ u low. ap (λ (v : List (Option ℕ)). get_or v u None) is.homes ∙ peaks.homes u low;
-  widths = λ q l. ap (λ (v : List ℕ). get_or v q 0) is.widths ∙ peaks.widths q l ∙ ap (λ (zs : List ℕ). length (filter (there p q) zs)) (sym same_line);
-  needs = λ u q m kind at. ap (λ (v : List ℕ). get_or v u 0) is.needs ∙ peaks.needs u q (was u m) kind at ∙ sym (brings_as_before u q (was u m));
+  needs = λ u q m kind at. peaks.needs u q (was u m) kind at ∙ sym (brings_as_before u q (was u m));
   counts = λ u low. let less = is.missing u low in let had = peaks.counts u low in let now = counts_end s.phase t (parents p u) (once_parents u) (ap ended runs) in
       let same = sum_map (open_one later.phase) (open_one (put s.phase t Ended)) (parents p u) (λ v. ap (λ (x : Phase). cond (ended x) 0 1) (phase v)) in omega (arith, less, had, now, same);
   bases = λ q l. is.lowered.0 q l ∙ lowered_same p q (good_size p) (sizes s.held) (makes p t) ns (get_or old.base.items q 0) (λ g m. sym (declared_size g m)) ∙ ap (lowered p q (sizes s.held) (makes p t) ns) (peaks.bases q l)
@@ -237,14 +227,9 @@ settled_by p s later links old new front t ns peaks linked runs sound phase held
   trees = λ q l. is.lowered.1 q l ∙ settled_same p q (count_at old links q) (good_size p) (sizes s.held) (makes p t) ns (get_or old.trees.items q []) (λ g m. sym (declared_size g m))
       ∙ ap (settled p q (count_at old links q) (sizes s.held) (makes p t) ns) (peaks.trees q l)
       ∙ sym (settle_goods p (sizes s.held) (left_of old) front (line_of old) q (count_at old links q) (makes p t) ns l once_made less (λ g m at. count_holds p s old front t g q (get_or links.cleaners.items g None) peaks runs m l at (linked.cleaners g)))
-      ∙ ap (λ (f : ℕ → ℕ). values (there p q) (left_of old) (held_by p f q) front (line_of old)) (sym held)
-      ∙ ap (values (there p q) (left_of old) (held_by p (sizes later.held) q) front) (sym same_line) ∙ ap (λ (marks : List Bool). values (there p q) (is_left marks) (held_by p (sizes later.held) q) front (line_of new)) (sym is.left);
-  seats = subst (λ (zs : List ℕ). (j q : ℕ) → j < length zs → place p (get_or zs j 0) ≡ Some q → get_or new.seats.items (get_or zs j 0) 0 ≡ length (filter (there p q) (take j zs))) (sym same_line) (λ j q m at. ap (λ (v : List ℕ). get_or v (get_or (line_of old) j 0) 0) is.seats ∙ peaks.seats j q m at);
-}
+      ∙ ap (λ (f : ℕ → ℕ). values (there p q) (left_of old) (held_by p f q) front (line_of old)) (sym held);
+})
   where
-    same_line : line_of new ≡ line_of old
-    same_line = ap task_numbers is.line
-
     was : (u : ℕ) → has later.rest u ≡ true → has s.rest u ≡ true
     was u m = ap (λ (zs : List ℕ). has zs u) (sym rest) ∙ m
 
@@ -256,7 +241,7 @@ settled_by p s later links old new front t ns peaks linked runs sound phase held
 
     apart : (u : ℕ) → has s.rest u ≡ true → (g : ℕ) → has (makes p u) g ≡ true → has (makes p t) g ≡ false
     apart u m g n = false_of (has (makes p t) g) (λ j. absurd (
-        let same : u ≡ t = peaks.laws.one_maker u t g n j in
+        let same : u ≡ t = peaks.rules.laws.one_maker u t g n j in
         let wait : waits (s.phase t) ≡ true = ap (λ (k : ℕ). waits (s.phase k)) (sym same) ∙ peaks.sound.safe.waiting u m in
         let no : waits (s.phase t) ≡ false = ap waits runs in cc))
 
@@ -268,10 +253,10 @@ settled_by p s later links old new front t ns peaks linked runs sound phase held
 -- with its records of events
 pub arrived : (p : Plan) (s : State) (links : Links) (old new : Peaks) (front : List ℕ) (w t n : ℕ) → AreBehind p s old front → AreLinks p links → ((u : ℕ) → AreOnce (parents p u)) → Allowed p s (Arrive w t n) → IsSettled p links old new t (replicate (length (makes p t)) n) → AreBehind p (after p s (Arrive w t n)) new front
 arrived p s links old new front w t n peaks linked once_parents allowed is =
-    settled_by p s (after p s (Arrive w t n)) links old new front t (replicate (length (makes p t)) n) peaks linked allowed.2.runs (sound_more p s (Arrive w t n) peaks.laws peaks.sound allowed) (λ v. refl)
-    (arrive_sizes (makes p t) n s.held) refl (arrive_declared p (makes p t) n allowed.3) once_parents (rises_once 0 (makes p t) (peaks.keeps.rises t)) is
+    settled_by p s (after p s (Arrive w t n)) links old new front t (replicate (length (makes p t)) n) peaks linked allowed.2.runs (sound_more p s (Arrive w t n) peaks.rules.laws peaks.sound allowed) (λ v. refl)
+    (arrive_sizes (makes p t) n s.held) refl (arrive_declared p (makes p t) n allowed.3) once_parents (rises_once 0 (makes p t) (peaks.rules.keeps.rises t)) is
 
 pub ended_at : (p : Plan) (s : State) (links : Links) (old new : Peaks) (front : List ℕ) (w t : ℕ) (ns : List ℕ) → AreBehind p s old front → AreLinks p links → ((u : ℕ) → AreOnce (parents p u)) → Allowed p s (End w t ns) → IsSettled p links old new t ns → AreBehind p (after p s (End w t ns)) new front
 ended_at p s links old new front w t ns peaks linked once_parents allowed is =
-    settled_by p s (after p s (End w t ns)) links old new front t ns peaks linked allowed.2.runs (sound_more p s (End w t ns) peaks.laws peaks.sound allowed) (λ v. refl)
-    (end_sizes (makes p t) ns s.held) refl allowed.3 once_parents (rises_once 0 (makes p t) (peaks.keeps.rises t)) is
+    settled_by p s (after p s (End w t ns)) links old new front t ns peaks linked allowed.2.runs (sound_more p s (End w t ns) peaks.rules.laws peaks.sound allowed) (λ v. refl)
+    (end_sizes (makes p t) ns s.held) refl allowed.3 once_parents (rises_once 0 (makes p t) (peaks.rules.keeps.rises t)) is

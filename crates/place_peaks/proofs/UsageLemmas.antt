@@ -15,9 +15,7 @@ use Rattle.storage_simulation.specs.Goods.{good_size, goods, lies_at, makes, pla
 use Rattle.storage_simulation.specs.Law.{KeepsGoods}
 use Rattle.storage_simulation.specs.Standings.{waits}
 use Rattle.storage_simulation.specs.Usage.{cleaned, made, sum_of, usage, weight}
-use Rattle.storage_simulation.proofs.ChangeLemmas.{Making, cleaning, making, other_part}
-use Rattle.storage_simulation.proofs.FollowingLemmas.{by_bool, false_of, once_more, once_parts, or_case, or_left, or_right}
-use Rattle.storage_simulation.proofs.SumsLemmas.{total_same}
+use Rattle.place_peaks.proofs.Offered.{Making, by_bool, cleaning, false_of, making, once_more, once_parts, or_case, or_left, or_right, other_part, total_same}
 use Rattle.place_peaks.specs.Places.{ChangesOnePlace, started, swept}
 
 -- tests of lists in another order

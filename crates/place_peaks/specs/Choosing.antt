@@ -12,13 +12,13 @@ use Rattle.place_peaks.specs.Tree.{HasRoom}
 -- what task t brings fits below the bound of place q, before the first task and after each before t
 abbrev pub HasRoomAt : Peaks → ℕ → ℕ → ℕ → Type 0
 HasRoomAt b t q bound = HasRoom (get_or b.needs.items t 0) (get_or b.base.items q 0)
-    (greatest (take (get_or b.seats.items t 0) (get_or b.trees.items q []))) bound
+    (greatest (take (get_or b.seating.seats.items t 0) (get_or b.trees.items q []))) bound
 
 -- A task of the line is left, none of its parents is open, and it is a Clean or has room at its place, if it has one.
 pub record CanBegin (p : Plan) (b : Peaks) (t : ℕ) : Type 0 where
   pub left : left_of b t ≡ true
   pub none_open : get_or b.missing.items t 1 ≡ 0
-  pub room : (q : ℕ) → is_clean p t ≡ false → get_or b.homes.items t None ≡ Some q
+  pub room : (q : ℕ) → is_clean p t ≡ false → get_or b.seating.homes.items t None ≡ Some q
       → HasRoomAt b t q (place_bound p q)
 
 -- No task at one of some positions can begin, or a task that can stands at this one, which isn't behind any of them.

@@ -1,27 +1,20 @@
 -- What each entry of a record finds, and leaves.
-use Rattle.std.specs.Prelude.{◌≡◌, ◌<◌, ℕ, true, List, length}
+use Rattle.std.specs.Prelude.{◌≡◌, ℕ, true, List}
 use Rattle.lease_rules.specs.Legal.{Allowed}
 use Rattle.lease_rules.specs.State.{State}
 use Rattle.plan_core.specs.declared.plan.Plan.{Plan}
-use Rattle.plan_core.specs.Numbers.{has}
-use Rattle.plan_core.specs.Words.{cleans, count_tasks}
+use Rattle.plan_core.specs.Words.{cleans}
 use Rattle.run_record.specs.declared.entry.Cause.{Cause}
 use Rattle.run_record.specs.Events.{Event, Again, Clean}
-use Rattle.storage_simulation.specs.Goods.{places}
 use Rattle.storage_simulation.specs.Standings.{sizes}
 use Rattle.place_peaks.specs.declared.peaks.Peaks.{Peaks}
-use Rattle.place_peaks.specs.Peaks.{AreBehind, HasPassed, line_of, stack_of}
+use Rattle.place_peaks.specs.Peaks.{AreBehind, HasPassed, stack_of}
 use Rattle.place_peaks.specs.Ready.{IsIndexed}
 use Rattle.place_peaks.specs.Waiting.{HasStackRoom}
 
--- The line has all tasks, there is a number for each task and place, the stack has room for every task, and no task
--- before the front is left.
-pub record IsWhole (p : Plan) (b : Peaks) : Type 0 where
-  pub all : (t : ℕ) → t < count_tasks p → has (line_of b) t ≡ true
-  pub seats_long : length b.seats.items ≡ count_tasks p
-  pub widths_long : length b.widths.items ≡ places p
-  pub room : HasStackRoom p b
-  pub passed : HasPassed b
+-- the stack has room for every task, and no task before the front is left
+abbrev pub IsWhole : Plan → Peaks → Type 0
+IsWhole p b = HasStackRoom p b × HasPassed b
 
 -- The trees say what the state is, and the index which tasks can be asked for room.
 pub record AreTied (p : Plan) (s : State) (b : Peaks) : Type 0 where

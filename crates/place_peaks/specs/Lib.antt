@@ -16,8 +16,6 @@ pub mod Cleaning
 pub mod Waiting
 pub mod Links
 pub mod Settling
--- The order before the first entry
-pub mod Opening
 -- Each entry of a record
 pub mod Entries
 pub mod Renewing

@@ -13,7 +13,8 @@ use Rattle.storage_simulation.specs.Standings.{sizes}
 use Rattle.storage_simulation.specs.declared.standing.Phase.{Phase}
 use Rattle.storage_simulation.specs.Usage.{sum_of, usage}
 use Rattle.place_peaks.specs.declared.peaks.Peaks.{Peaks}
-use Rattle.place_peaks.specs.Places.{ChangesOnePlace, brings, held_by, there}
+use Rattle.place_peaks.specs.declared.seating.Seating.{Seating}
+use Rattle.place_peaks.specs.Places.{AreSeats, ChangesOnePlace, brings, held_by, there}
 use Rattle.place_peaks.specs.Stack.{stacked}
 use Rattle.place_peaks.specs.Values.{values}
 
@@ -21,7 +22,7 @@ abbrev pub is_left : List Bool → ℕ → Bool
 is_left marks t = get_or marks t false
 
 abbrev pub line_of : Peaks → List ℕ
-line_of b = task_numbers b.line.items
+line_of b = task_numbers b.seating.line.items
 
 abbrev pub left_of : Peaks → ℕ → Bool
 left_of b = is_left b.left.items
@@ -33,8 +34,8 @@ stack_of b = stacked (task_numbers b.again.items) []
 -- each seat of a task of the line is in its tree
 abbrev pub AreSeated : Peaks → Type 0
 AreSeated b = (k q : ℕ) → k < length (line_of b)
-    → get_or b.homes.items (get_or (line_of b) k 0) None ≡ Some q
-    → get_or b.seats.items (get_or (line_of b) k 0) 0 < length (get_or b.trees.items q [])
+    → get_or b.seating.homes.items (get_or (line_of b) k 0) None ≡ Some q
+    → get_or b.seating.seats.items (get_or (line_of b) k 0) 0 < length (get_or b.trees.items q [])
 
 -- no task of the line before the front is left
 abbrev pub HasPassed : Peaks → Type 0
@@ -44,23 +45,35 @@ HasPassed b = filter (left_of b) (take b.first (line_of b)) ≡ []
 abbrev pub open_parents : Plan → (ℕ → Phase) → ℕ → ℕ
 open_parents p phase t = sum_of (λ u. cond (ended (phase u)) 0 1) (parents p t)
 
--- Rest is a front of tasks that wait again, and then the tasks of the line that have a mark. Of each of these: what it
--- brings, and whether its parents have ended. Of each place: what it holds, and the values of the line there behind that
--- front. Of each task of the line: how many tasks of its place stand before it.
-pub record AreBehind (p : Plan) (s : State) (b : Peaks) (front : List ℕ) : Type 0 where
+-- what a proper plan keeps to
+pub record HasRules (p : Plan) : Type 0 where
   pub laws : HasStorageLaws p
   pub keeps : KeepsGoods p
   pub one : ChangesOnePlace p
+
+-- The line has each task of the plan once. Of each task: its place, and how many tasks of that place stand before it; of
+-- each place: how many tasks change it.
+pub record IsSeating (p : Plan) (x : Seating) : Type 0 where
+  pub once : AreOnce (task_numbers x.line.items)
+  pub in_plan : (t : ℕ) → has (task_numbers x.line.items) t ≡ true → t < count_tasks p
+  pub all : (t : ℕ) → t < count_tasks p → has (task_numbers x.line.items) t ≡ true
+  pub homes : (t : ℕ) → t < count_tasks p → get_or x.homes.items t None ≡ place p t
+  pub counted : AreSeats p (task_numbers x.line.items) x.seats.items x.widths.items
+      (length (task_numbers x.line.items))
+
+-- Rest is a front of tasks that wait again, and then the tasks of the line that have a mark. Of each of these: what it
+-- brings, and whether its parents have ended. Of each place: what it holds, and the values of the line there behind that
+-- front.
+pub record AreBehind (p : Plan) (s : State) (b : Peaks) (front : List ℕ) : Type 0 where
+  pub rules : HasRules p
   pub sound : IsSoundState p s
-  pub once : AreOnce (line_of b)
-  pub in_plan : (t : ℕ) → has (line_of b) t ≡ true → t < count_tasks p
+  pub seated : IsSeating p b.seating
   pub marked : (t : ℕ) → left_of b t ≡ true → has (line_of b) t ≡ true
   pub marks_long : length b.left.items ≡ count_tasks p
   pub bases_long : length b.base.items ≡ places p
   pub trees_long : length b.trees.items ≡ places p
   pub rest : s.rest ≡ front ++ filter (left_of b) (line_of b)
   pub waiting : (t : ℕ) → has front t ≡ true → HaveParentsEnded p s t
-  pub homes : (t : ℕ) → t < count_tasks p → get_or b.homes.items t None ≡ place p t
   pub needs : (t q : ℕ) → has s.rest t ≡ true → is_clean p t ≡ false → place p t ≡ Some q
       → get_or b.needs.items t 0 ≡ brings p (sizes s.held) q t
   pub missing_long : length b.missing.items ≡ count_tasks p
@@ -69,9 +82,6 @@ pub record AreBehind (p : Plan) (s : State) (b : Peaks) (front : List ℕ) : Typ
   pub trees : (q : ℕ) → q < places p
       → get_or b.trees.items q [] ≡ values (there p q) (left_of b) (held_by p (sizes s.held) q) front
       (line_of b)
-  pub widths : (q : ℕ) → q < places p → get_or b.widths.items q 0 ≡ length (filter (there p q) (line_of b))
-  pub seats : (k q : ℕ) → k < length (line_of b) → place p (get_or (line_of b) k 0) ≡ Some q
-      → get_or b.seats.items (get_or (line_of b) k 0) 0 ≡ length (filter (there p q) (take k (line_of b)))
 
 -- the same where no task waits again
 abbrev pub ArePeaks : Plan → State → Peaks → Type 0

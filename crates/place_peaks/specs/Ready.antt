@@ -2,11 +2,12 @@
 use Rattle.std.specs.Prelude.{◌≡◌, ℕ, ◌+◌, ◌<◌, ◌≤◌, ◌^◌, ◌==◌, ◌&&◌, Bool, false, cond, not, List, map, length, get_or, Option, Some, None}
 use Rattle.group_index.specs.Index.{IsIndex, number}
 use Rattle.plan_core.specs.declared.plan.Plan.{Plan}
-use Rattle.plan_core.specs.Words.{count_tasks, is_clean}
+use Rattle.plan_core.specs.Words.{count_tasks, is_clean, task_numbers}
 use Rattle.storage_simulation.specs.Goods.{places}
 use Rattle.place_peaks.specs.declared.peaks.Peaks.{Peaks}
 use Rattle.place_peaks.specs.declared.ready.Ready.{Ready}
-use Rattle.place_peaks.specs.Peaks.{left_of, line_of}
+use Rattle.place_peaks.specs.declared.seating.Seating.{Seating}
+use Rattle.place_peaks.specs.Peaks.{IsSeating, left_of, line_of}
 
 -- the group of a task: its place, or one number more
 abbrev pub group_of : ℕ → Option ℕ → ℕ
@@ -23,7 +24,7 @@ score_of clean need None = 0
 score_of clean need (Some q) = cond clean 0 (need + 1)
 
 abbrev pub score : Plan → Peaks → ℕ → ℕ
-score p b t = score_of (is_clean p t) (get_or b.needs.items t 0) (get_or b.homes.items t None)
+score p b t = score_of (is_clean p t) (get_or b.needs.items t 0) (get_or b.seating.homes.items t None)
 
 abbrev pub is_ready : Peaks → ℕ → Bool
 is_ready b t = left_of b t && (get_or b.missing.items t 1 == 0)
@@ -46,8 +47,15 @@ pub record AreGrouped (p : Plan) (line : List ℕ) (homes : List (Option ℕ)) (
   pub low : (t q : ℕ) → t < count_tasks p → get_or homes t None ≡ Some q → q < places p
   pub groups : r.index.groups.items ≡ groups_of (places p) homes line
 
+-- it had the positions of another line of the same tasks
+pub record WasGrouped (p : Plan) (x : Seating) (r : Ready) : Type 0 where
+  pub before : Seating
+  pub seated : IsSeating p before
+  pub homes : x.homes.items ≡ before.homes.items
+  pub grouped : AreGrouped p (task_numbers before.line.items) before.homes.items r
+
 abbrev pub HasGroups : Plan → Peaks → Type 0
-HasGroups p b = AreGrouped p (line_of b) b.homes.items b.ready
+HasGroups p b = AreGrouped p (line_of b) b.seating.homes.items b.ready
 
 -- a task can't need more than this
 abbrev pub AreSmall : Peaks → Type 0
@@ -68,25 +76,12 @@ AreRising line homes seats = (j k q : ℕ) → j < k → k < length line
 pub record IsIndexed (p : Plan) (b : Peaks) : Type 0 where
   pub grouped : HasGroups p b
   pub small : AreSmall b
-  pub rising : AreRising (line_of b) b.homes.items b.seats.items
+  pub rising : AreRising (line_of b) b.seating.homes.items b.seating.seats.items
   pub scores : IsIndexedBut p b (λ t. false)
 
 -- the same trees with another index
 abbrev pub with_ready : Peaks → Ready → Peaks
-with_ready b r = record {
-  line = b.line;
-  left = b.left;
-  homes = b.homes;
-  seats = b.seats;
-  needs = b.needs;
-  missing = b.missing;
-  again = b.again;
-  widths = b.widths;
-  base = b.base;
-  trees = b.trees;
-  first = b.first;
-  ready = r;
-}
+with_ready b r = record b { ready = r }
 
 -- the scores of a task, and of some tasks, are right besides
 abbrev pub but_one : (ℕ → Bool) → ℕ → ℕ → Bool

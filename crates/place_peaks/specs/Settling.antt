@@ -9,13 +9,13 @@ use Rattle.place_peaks.specs.declared.peaks.Peaks.{Peaks}
 use Rattle.lease_rules.specs.Legal.{AreDeclared}
 use Rattle.lease_rules.specs.State.{State}
 use Rattle.storage_simulation.specs.declared.standing.Phase.TheVariants.{Runs}
-use Rattle.place_peaks.specs.Peaks.{AreBehind, HasPassed, left_of}
+use Rattle.place_peaks.specs.Peaks.{AreBehind, left_of}
 use Rattle.place_peaks.specs.Tree.{AllFirst, CanFall, front_changed}
 
 -- Where a good counts less: in the values before the seat of its Clean, where that is left in the line, else in all.
 abbrev pub count_by : Peaks → ℕ → Option ℕ → ℕ
-count_by b q None = get_or b.widths.items q 0
-count_by b q (Some c) = cond (left_of b c) (get_or b.seats.items c 0) (get_or b.widths.items q 0)
+count_by b q None = get_or b.seating.widths.items q 0
+count_by b q (Some c) = cond (left_of b c) (get_or b.seating.seats.items c 0) (get_or b.seating.widths.items q 0)
 
 abbrev pub count_at : Peaks → Links → ℕ → ℕ → ℕ
 count_at b links q g = count_by b q (get_or links.cleaners.items g None)
@@ -46,36 +46,19 @@ AreLowered p links old new xs ns =
 
 -- A task has ended, and what it made is held at these sizes.
 pub record IsSettled (p : Plan) (links : Links) (old new : Peaks) (t : ℕ) (ns : List ℕ) : Type 0 where
-  pub line : new.line.items ≡ old.line.items
-  pub left : new.left.items ≡ old.left.items
-  pub homes : new.homes.items ≡ old.homes.items
-  pub widths : new.widths.items ≡ old.widths.items
-  pub seats : new.seats.items ≡ old.seats.items
-  pub needs : new.needs.items ≡ old.needs.items
-  pub again : new.again ≡ old.again
+  pub same : new ≡ record old { missing = new.missing; base = new.base; trees = new.trees }
   pub missing_long : length new.missing.items ≡ length old.missing.items
   pub missing : (u : ℕ) → u < count_tasks p
       → get_or new.missing.items u 1 + cond (has (parents p u) t) 1 0 ≡ get_or old.missing.items u 1
   pub bases_long : length new.base.items ≡ length old.base.items
   pub trees_long : length new.trees.items ≡ length old.trees.items
   pub lowered : AreLowered p links old new (makes p t) ns
-  pub ready : new.ready ≡ old.ready
-  pub passed : HasPassed old → HasPassed new
 
 -- what only a settling of goods leaves as it was
 pub record IsKept (old new : Peaks) : Type 0 where
-  pub line : new.line.items ≡ old.line.items
-  pub left : new.left.items ≡ old.left.items
-  pub homes : new.homes.items ≡ old.homes.items
-  pub widths : new.widths.items ≡ old.widths.items
-  pub seats : new.seats.items ≡ old.seats.items
-  pub needs : new.needs.items ≡ old.needs.items
-  pub again : new.again ≡ old.again
-  pub missing : new.missing.items ≡ old.missing.items
+  pub same : new ≡ record old { base = new.base; trees = new.trees }
   pub bases_long : length new.base.items ≡ length old.base.items
   pub trees_long : length new.trees.items ≡ length old.trees.items
-  pub ready : new.ready ≡ old.ready
-  pub passed : HasPassed old → HasPassed new
 
 -- so many values of a list, and a number, can be lowered by so much
 pub record CanLower (b less count : ℕ) (vs : List (Option ℕ)) : Type 0 where

@@ -14,7 +14,7 @@ impl Peaks {
     pub fn count_line(&self) -> usize
         ensures { result ≡ length (line_of self.now) }
     {
-        self.line.len()
+        self.seating.line.len()
     }
 
     /// The task at a position of the line.
@@ -23,7 +23,7 @@ impl Peaks {
         requires { k < length (line_of self.now) }
         ensures { result ≡ get_or (line_of self.now) k 0 }
     {
-        task_at(self.line.as_slice(), k)
+        self.seating.task(k)
     }
 
     /// The task at a position among those of the line that are left.

@@ -11,6 +11,7 @@ ghost use Rattle.place_peaks.specs.Choosing.{CanBegin, HasRoomAt};
 ghost use Rattle.place_peaks.specs.Ready.{IsIndexed};
 
 use crate::peaks::Peaks;
+use crate::seating::at;
 use crate::stack::last_of;
 use crate::tree::{greatest_before, has_room};
 use plan_core::Plan;
@@ -31,55 +32,25 @@ impl Peaks {
     pub fn is_left(&self, task: u32) -> bool
         ensures { result ≡ is_left self.now.left.items task }
     {
-        match self.left.get(task as usize) {
-            Some(left) => *left,
-            None => false,
-        }
-    }
-
-    pub(crate) fn home(&self, task: u32) -> Option<u32>
-        ensures { result ≡ get_or self.now.homes.items task None }
-    {
-        match self.homes.get(task as usize) {
-            Some(home) => *home,
-            None => None,
-        }
-    }
-
-    pub(crate) fn seat(&self, task: u32) -> usize
-        ensures { result ≡ get_or self.now.seats.items task 0 }
-    {
-        match self.seats.get(task as usize) {
-            Some(seat) => *seat,
-            None => 0,
-        }
+        at(self.left.as_slice(), task, false)
     }
 
     pub(crate) fn need(&self, task: u32) -> u64
         ensures { result ≡ get_or self.now.needs.items task 0 }
     {
-        match self.needs.get(task as usize) {
-            Some(need) => *need,
-            None => 0,
-        }
+        at(self.needs.as_slice(), task, 0)
     }
 
     pub(crate) fn missing(&self, task: u32) -> u32
         ensures { result ≡ get_or self.now.missing.items task 1 }
     {
-        match self.missing.get(task as usize) {
-            Some(missing) => *missing,
-            None => 1,
-        }
+        at(self.missing.as_slice(), task, 1)
     }
 
     pub(crate) fn base(&self, place: u32) -> u64
         ensures { result ≡ get_or self.now.base.items place 0 }
     {
-        match self.base.get(place as usize) {
-            Some(base) => *base,
-            None => 0,
-        }
+        at(self.base.as_slice(), place, 0)
     }
 
     /// The greatest value before a seat.
@@ -96,10 +67,10 @@ impl Peaks {
 
     /// Whether a task has room at its place.
     fn has_room_at(&self, place: u32, task: u32, bound: u64) -> bool
-        requires { get_or self.now.seats.items task 0 ≤ length (get_or self.now.trees.items place []) }
+        requires { get_or self.now.seating.seats.items task 0 ≤ length (get_or self.now.trees.items place []) }
         ensures { Decides result (HasRoomAt self.now task place bound) }
     {
-        let seat = self.seat(task);
+        let seat = self.seating.seat(task);
         has_room(
             self.top(place, seat),
             self.base(place),
@@ -110,16 +81,16 @@ impl Peaks {
 
     /// Whether a task that is left and of which no parent is open can begin.
     fn has_room_for(&self, plan: &Plan, task: u32) -> bool
-        requires { (q : ℕ) → get_or self.now.homes.items task None ≡ Some q
-            → get_or self.now.seats.items task 0 ≤ length (get_or self.now.trees.items q []) }
+        requires { (q : ℕ) → get_or self.now.seating.homes.items task None ≡ Some q
+            → get_or self.now.seating.seats.items task 0 ≤ length (get_or self.now.trees.items q []) }
         ensures { Decides result ((q : ℕ) → is_clean plan.now task ≡ false
-            → get_or self.now.homes.items task None ≡ Some q
+            → get_or self.now.seating.homes.items task None ≡ Some q
             → HasRoomAt self.now task q (place_bound plan.now q)) }
     {
         if plan.is_clean(TaskId(task)) {
             return true;
         }
-        match self.home(task) {
+        match self.seating.home(task) {
             None => true,
             Some(place) => self.has_room_at(place, task, place_bound(plan, place)),
         }

@@ -1,10 +1,12 @@
-//! The goods that a task makes, one by one.
+//! The goods that a task makes, one by one, and what they come to.
 
-ghost use Rattle.std.specs.Prelude.{◌≡◌, ◌<◌, length, get_or};
+ghost use Rattle.std.specs.Prelude.{◌≡◌, ◌<◌, ◌^◌, length, get_or};
+ghost use Rattle.storage_simulation.specs.Change.{size_part};
 ghost use Rattle.storage_simulation.specs.Goods.{IsWithinLimits, makes};
+ghost use Rattle.storage_simulation.specs.Usage.{sum_of};
 
 use plan_core::Plan;
-use storage_simulation::is_delivery;
+use storage_simulation::{good_size, is_delivery, lies_at};
 use values::TaskId;
 
 /// How many goods a task makes.
@@ -29,4 +31,28 @@ pub(crate) fn made_at(plan: &Plan, task: TaskId, k: usize) -> u32
         return (plan.pairs.as_slice().len() + task.0 as usize) as u32;
     }
     plan.writes(task)[k].0
+}
+
+/// The declared size of a good at a place.
+pub(crate) fn size_at(plan: &Plan, place: u32, good: u32) -> u64
+    ensures { result ≡ size_part plan.now place good }
+{
+    if lies_at(plan, good, place) {
+        good_size(plan, good)
+    } else {
+        0
+    }
+}
+
+/// The declared sizes at a place of the goods that a task makes.
+pub(crate) fn made_size(plan: &Plan, place: u32, task: u32) -> u64
+    requires limits { IsWithinLimits plan.now }
+    requires few { sum_of (size_part plan.now place) (makes plan.now task) < 2 ^ 62 }
+    ensures { result ≡ sum_of (size_part plan.now place) (makes plan.now task) }
+{
+    let mut sum = 0;
+    for k in 0..count_made(plan, TaskId(task)) {
+        sum += size_at(plan, place, made_at(plan, TaskId(task), k));
+    }
+    sum
 }

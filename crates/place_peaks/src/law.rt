@@ -11,21 +11,21 @@ ghost use Rattle.lease_rules.specs.Legal.{Allowed};
 ghost use Rattle.lease_rules.specs.State.{State, after};
 ghost use Rattle.place_peaks.specs.declared.peaks.Peaks.{Peaks};
 ghost use Rattle.place_peaks.specs.Entries.{AreTied};
-ghost use Rattle.place_peaks.specs.Peaks.{AreBehind, AreSeated, HasPassed};
-ghost use Rattle.place_peaks.specs.Places.{ChangesOnePlace};
+ghost use Rattle.place_peaks.specs.Peaks.{AreBehind, AreSeated, HasPassed, HasRules};
 ghost use Rattle.place_peaks.specs.Ready.{IsIndexed};
 
 use plan_core::{files_are_listed_by_pair, numbers_are_in_range, parents_come_before};
-use storage_simulation::proper_plans_keep_goods;
+use storage_simulation::{proper_plans_keep_goods, steps_fit};
 
-/// A task of a proper plan changes usage at one place at most.
-pub(crate) fn tasks_change_one_place()
-    ensures { (p : Plan) → IsProper p → ChangesOnePlace p }
+/// A proper plan keeps to the rules of storage, and each of its tasks changes one place at most.
+pub(crate) fn plans_have_rules()
+    ensures { (p : Plan) → IsProper p → HasRules p }
 {
     proper_plans_keep_goods();
     parents_come_before();
     files_are_listed_by_pair();
     numbers_are_in_range();
+    steps_fit();
 }
 
 /// In a proper plan no task stands twice among a task's parents.

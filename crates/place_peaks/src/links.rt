@@ -9,6 +9,7 @@ ghost use Rattle.plan_core.specs.Words.{count_pairs, count_tasks, parents, task_
 ghost use Rattle.storage_simulation.specs.Law.{KeepsGoods};
 ghost use Rattle.place_peaks.specs.Links.{AreCleanersBefore, AreLinks, IsCleaner};
 
+use crate::seating::at;
 use digraph::Digraph;
 use plan_core::Plan;
 use std::alloc::Global;
@@ -65,10 +66,7 @@ impl Links {
     pub(crate) fn cleaner_of(&self, good: u32) -> Option<u32>
         ensures { result ≡ get_or self.now.cleaners.items good None }
     {
-        match self.cleaners.get(good as usize) {
-            Some(clean) => *clean,
-            None => None,
-        }
+        at(self.cleaners.as_slice(), good, None)
     }
 
     /// The children of a task.

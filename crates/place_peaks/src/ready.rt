@@ -5,14 +5,14 @@ ghost use Rattle.plan_core.specs.Numbers.{has};
 ghost use Rattle.plan_core.specs.Words.{count_tasks, parents, task_numbers};
 ghost use Rattle.storage_simulation.specs.Following.{AreOnce};
 ghost use Rattle.storage_simulation.specs.Goods.{IsWithinLimits, places};
-ghost use Rattle.group_index.specs.Index.{AreAsMany, IsIndex, count};
 ghost use Rattle.place_peaks.specs.Links.{AreLinks};
-ghost use Rattle.place_peaks.specs.Peaks.{line_of};
-ghost use Rattle.place_peaks.specs.Ready.{AreGrouped, AreSmall, HasGroups, IsIndexedBut, but_one, but_some, group_of, groups_of, is_ready, position, ready_score, score, with_ready};
+ghost use Rattle.place_peaks.specs.Peaks.{IsSeating, line_of};
+ghost use Rattle.place_peaks.specs.Places.{ChangesOnePlace};
+ghost use Rattle.place_peaks.specs.Ready.{AreGrouped, AreSmall, HasGroups, IsIndexedBut, WasGrouped, but_one, but_some, group_of, groups_of, is_ready, position, ready_score, score, with_ready};
 
-use crate::choosing::task_at;
 use crate::links::Links;
 use crate::peaks::Peaks;
+use crate::seating::{Seating, at};
 use group_index::GroupIndex;
 use plan_core::Plan;
 use std::alloc::Global;
@@ -40,61 +40,47 @@ pub(crate) fn group_of(plan: &Plan, home: Option<u32>) -> u32
 }
 
 /// Each task of a line has its position.
-fn place_all(positions: &mut Vec<u32>, line: &[TaskId])
-    requires once { AreOnce (task_numbers line.now) }
-    requires few { length line.now < 2 ^ 32 }
-    requires tasks { (t : ℕ) → has (task_numbers line.now) t ≡ true → t < length positions.old.items }
-    ensures long { length positions.new.items ≡ length positions.old.items }
-    ensures placed { (k : ℕ) → k < length line.now
-        → get_or positions.new.items (get_or (task_numbers line.now) k 0) 0 ≡ k }
+fn place_all(positions: &mut Vec<u32>, plan: &Plan, seating: &Seating)
+    requires seated { IsSeating plan.now seating.now }
+    requires few { length seating.now.line.items < 2 ^ 32 }
+    requires long { length positions.old.items ≡ count_tasks plan.now }
+    ensures long { length positions.new.items ≡ count_tasks plan.now }
+    ensures placed { (k : ℕ) → k < length seating.now.line.items
+        → get_or positions.new.items (get_or (task_numbers seating.now.line.items) k 0) 0 ≡ k }
 {
-    for k in 0..line.len() {
-        let task = task_at(line, k);
+    let _ = plan;
+    for k in 0..seating.line.len() {
+        let task = seating.task(k);
         positions[task as usize] = k as u32;
     }
 }
 
-fn home_of(homes: &[Option<u32>], task: u32) -> Option<u32>
-    ensures { result ≡ get_or homes.now task None }
-{
-    match homes.get(task as usize) {
-        Some(home) => *home,
-        None => None,
-    }
-}
-
 /// Each position of a line has its group.
-fn group_all(groups: &mut Vec<u32>, plan: &Plan, line: &[TaskId], homes: &[Option<u32>])
+fn group_all(groups: &mut Vec<u32>, plan: &Plan, seating: &Seating)
     requires limits { IsWithinLimits plan.now }
-    requires long { length groups.old.items ≡ length line.now }
-    ensures { groups.new.items ≡ groups_of (places plan.now) homes.now (task_numbers line.now) }
+    requires long { length groups.old.items ≡ length seating.now.line.items }
+    ensures { groups.new.items ≡ groups_of (places plan.now) seating.now.homes.items
+        (task_numbers seating.now.line.items) }
 {
-    for k in 0..line.len() {
-        let home = home_of(homes, task_at(line, k));
+    for k in 0..seating.line.len() {
+        let home = seating.home(seating.task(k));
         groups[k] = group_of(plan, home);
     }
 }
 
 impl Ready {
     /// The positions and groups of a line, without a score.
-    pub(crate) fn new(
-        alloc: Global,
-        plan: &Plan,
-        line: &[TaskId],
-        homes: &[Option<u32>],
-    ) -> Result<Ready, Memory>
+    pub(crate) fn new(alloc: Global, plan: &Plan, seating: &Seating) -> Result<Ready, Memory>
         requires limits { IsWithinLimits plan.now }
-        requires once { AreOnce (task_numbers line.now) }
-        requires tasks { (t : ℕ) → has (task_numbers line.now) t ≡ true → t < count_tasks plan.now }
-        requires few { length line.now ≤ count_tasks plan.now }
-        requires homes { (t q : ℕ) → t < count_tasks plan.now → get_or homes.now t None ≡ Some q
-            → q < places plan.now }
-        ensures { IfOk result (λ r. AreGrouped plan.now (task_numbers line.now) homes.now r) }
+        requires one { ChangesOnePlace plan.now }
+        requires seated { IsSeating plan.now seating.now }
+        ensures { IfOk result (λ r. AreGrouped plan.now (task_numbers seating.now.line.items)
+            seating.now.homes.items r) }
     {
         let mut positions = vec![in alloc; 0; plan.tasks.as_slice().len()]?;
-        place_all(&mut positions, line);
-        let mut groups = vec![in alloc; 0; line.len()]?;
-        group_all(&mut groups, plan, line, homes);
+        place_all(&mut positions, plan, seating);
+        let mut groups = vec![in alloc; 0; seating.line.len()]?;
+        group_all(&mut groups, plan, seating);
         let index = GroupIndex::new(alloc, groups.as_slice(), places(plan) + 1)?;
         Ok(Ready {
             positions,
@@ -106,31 +92,19 @@ impl Ready {
     fn position(&self, task: u32) -> usize
         ensures { result ≡ position self.now task }
     {
-        match self.positions.get(task as usize) {
-            Some(position) => *position as usize,
-            None => 0,
-        }
+        at(self.positions.as_slice(), task, 0) as usize
     }
 
     /// The same tasks in another line, without a score.
-    pub(crate) fn renew(&mut self, plan: &Plan, line: &[TaskId], homes: &[Option<u32>])
+    pub(crate) fn renew(&mut self, plan: &Plan, seating: &Seating)
         requires limits { IsWithinLimits plan.now }
-        requires index { IsIndex self.old.index }
-        requires trees { length self.old.index.trees.items ≡ places plan.now + 1 }
-        requires once { AreOnce (task_numbers line.now) }
-        requires few { length line.now < 2 ^ 32 }
-        requires tasks { (t : ℕ) → has (task_numbers line.now) t ≡ true → t < count_tasks plan.now }
-        requires homes { (t q : ℕ) → t < count_tasks plan.now → get_or homes.now t None ≡ Some q
-            → q < places plan.now }
-        requires positions { length self.old.positions.items ≡ count_tasks plan.now }
-        requires groups { length self.old.groups.items ≡ length line.now }
-        requires long { count self.old.index ≡ length line.now }
-        requires as_many { AreAsMany (places plan.now + 1)
-            (groups_of (places plan.now) homes.now (task_numbers line.now)) self.old.index.groups.items }
-        ensures { AreGrouped plan.now (task_numbers line.now) homes.now self.new }
+        requires one { ChangesOnePlace plan.now }
+        requires seated { IsSeating plan.now seating.now }
+        requires grouped { WasGrouped plan.now seating.now self.old }
+        ensures { AreGrouped plan.now (task_numbers seating.now.line.items) seating.now.homes.items self.new }
     {
-        place_all(&mut self.positions, line);
-        group_all(&mut self.groups, plan, line, homes);
+        place_all(&mut self.positions, plan, seating);
+        group_all(&mut self.groups, plan, seating);
         self.index.renew(self.groups.as_slice());
     }
 }
@@ -141,7 +115,7 @@ impl Peaks {
         requires { AreSmall self.now }
         ensures { result ≡ score plan.now self.now task }
     {
-        match self.home(task) {
+        match self.seating.home(task) {
             None => 0,
             Some(_) => {
                 if plan.is_clean(TaskId(task)) {

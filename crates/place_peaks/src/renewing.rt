@@ -1,6 +1,6 @@
 //! A fresh order takes the place of the one that is kept.
 
-ghost use Rattle.std.specs.Prelude.{◌≡◌, ◌<◌, ◌≤◌, ◌+◌, ◌++◌, ◌∷◌, ◌^◌, ◌&&◌, ◌==◌, ℕ, [], true, false, cond, not, map, length, take, get_or, None, Some, vec_capacity};
+ghost use Rattle.std.specs.Prelude.{filter, ◌≡◌, ◌<◌, ◌≤◌, ◌+◌, ◌++◌, ◌∷◌, ◌^◌, ◌&&◌, ◌==◌, ℕ, [], true, false, cond, not, map, length, take, get_or, None, Some, vec_capacity};
 ghost use Rattle.std.specs.List.{list_any};
 ghost use Rattle.values.specs.declared.numbers.TaskId.{TaskId};
 ghost use Rattle.lease_rules.specs.Legal.{Allowed};
@@ -17,16 +17,14 @@ ghost use Rattle.storage_simulation.specs.Law.{KeepsGoods};
 ghost use Rattle.storage_simulation.specs.Standings.{IsStanding, held_of, phase_of, sizes, waits};
 ghost use Rattle.storage_simulation.specs.Usage.{usage};
 ghost use Rattle.place_peaks.specs.Entries.{AreTied};
-ghost use Rattle.place_peaks.specs.Opening.{AreSeats, all_left};
-ghost use Rattle.place_peaks.specs.Peaks.{is_left};
+ghost use Rattle.place_peaks.specs.Values.{all_left};
+ghost use Rattle.place_peaks.specs.Peaks.{IsSeating, is_left, left_of};
 ghost use Rattle.place_peaks.specs.Places.{ChangesOnePlace, brings, held_by, is_place, there};
-ghost use Rattle.place_peaks.specs.Renewing.{CanRenew, CanWalk, IsLevel, IsShown, renewed_values};
-ghost use Rattle.place_peaks.specs.Settling.{IsKept};
+ghost use Rattle.place_peaks.specs.Renewing.{CanRenew, CanWalk, IsLaid, IsLevel, IsShown, renewed_values};
 ghost use Rattle.place_peaks.specs.Values.{values};
 
 use crate::choosing::task_at;
 use crate::granting::add_base;
-use crate::opening::seat_next;
 use crate::peaks::Peaks;
 use crate::tree::refill;
 use peak_tree::PeakTree;
@@ -185,37 +183,6 @@ fn mark_only(left: &mut Vec<bool>, tasks: &[TaskId])
     }
 }
 
-/// The tasks of a line take their seats anew.
-fn seat_all(plan: &Plan, line: &[TaskId], seats: &mut Vec<usize>, widths: &mut Vec<usize>)
-    requires limits { IsWithinLimits plan.now }
-    requires once { AreOnce (task_numbers line.now) }
-    requires tasks { (t : ℕ) → has (task_numbers line.now) t ≡ true → t < count_tasks plan.now }
-    requires one { ChangesOnePlace plan.now }
-    requires seats { length seats.old.items ≡ count_tasks plan.now }
-    requires widths { length widths.old.items ≡ places plan.now }
-    ensures { AreSeats plan.now (task_numbers line.now) seats.new.items widths.new.items
-        (length (task_numbers line.now)) }
-{
-    widths.fill(0);
-    for k in 0..line.len() {
-        seat_next(plan, line, seats, widths, k);
-    }
-}
-
-/// What a task brings is held at its place.
-fn add_need(base: &mut Vec<u64>, home: Option<u32>, need: u64)
-    requires { (q : ℕ) → home ≡ Some q
-        → (q < length base.old.items) × (get_or base.old.items q 0 + need ≤ 2 ^ 62) }
-    ensures long { length base.new.items ≡ length base.old.items }
-    ensures each { (q : ℕ) → get_or base.new.items q 0
-        ≡ cond (is_place q home) (get_or base.old.items q 0 + need) (get_or base.old.items q 0) }
-{
-    match home {
-        None => {}
-        Some(place) => add_base(base, place, need),
-    }
-}
-
 /// The first positions of the tree of a place have these numbers, and the others aren't live.
 #[tactic(auto, using(crate::proofs::SetLemmas::get_set))]
 fn refill_at(trees: &mut Vec<PeakTree>, place: u32, levels: &[u64])
@@ -232,9 +199,9 @@ fn refill_at(trees: &mut Vec<PeakTree>, place: u32, levels: &[u64])
 impl Peaks {
     /// Whether a task changes a place.
     fn is_there(&self, place: u32, task: u32) -> bool
-        ensures { result ≡ is_place place (get_or self.now.homes.items task None) }
+        ensures { result ≡ is_place place (get_or self.now.seating.homes.items task None) }
     {
-        match self.home(task) {
+        match self.seating.home(task) {
             None => false,
             Some(home) => home == place,
         }
@@ -251,7 +218,8 @@ impl Peaks {
         level: u64,
         levels: &mut Vec<u64>,
     ) -> u64
-        requires walk { CanWalk plan.now self.now standing.now (task_numbers tasks.now) }
+        requires walk { CanWalk plan.now self.now.seating.homes.items self.now.needs.items self.now.base.items
+            standing.now (task_numbers tasks.now) }
         requires place { at < places plan.now }
         requires within { k < length tasks.now }
         requires so_far { IsLevel plan.now (sizes (held_of standing.now))
@@ -271,7 +239,7 @@ impl Peaks {
     }
 
     /// What a place holds after each task of a fresh order that changes it.
-    fn find_levels(
+    pub(crate) fn find_levels(
         &self,
         plan: &Plan,
         standing: &Standing,
@@ -279,7 +247,8 @@ impl Peaks {
         at: u32,
         levels: &mut Vec<u64>,
     )
-        requires walk { CanWalk plan.now self.now standing.now (task_numbers tasks.now) }
+        requires walk { CanWalk plan.now self.now.seating.homes.items self.now.needs.items self.now.base.items
+            standing.now (task_numbers tasks.now) }
         requires place { at < places plan.now }
         requires room { length tasks.now ≤ vec_capacity levels.old }
         ensures levels { map Some levels.new.items
@@ -302,10 +271,15 @@ impl Peaks {
         tasks: &[TaskId],
         levels: &mut Vec<u64>,
     )
-        requires walk { CanWalk plan.now self.old standing.now (task_numbers tasks.now) }
+        requires walk { CanWalk plan.now self.old.seating.homes.items self.old.needs.items self.old.base.items
+            standing.now (task_numbers tasks.now) }
+        requires long { length self.old.trees.items ≡ places plan.now }
+        requires wide { (q : ℕ) → q < places plan.now
+            → length (filter (there plan.now q) (task_numbers tasks.now))
+            ≤ length (get_or self.old.trees.items q []) }
         requires room { length tasks.now ≤ vec_capacity levels.old }
-        ensures kept { IsKept self.old self.new }
-        ensures base { self.new.base.items ≡ self.old.base.items }
+        ensures same { self.new ≡ record self.old { trees = self.new.trees } }
+        ensures long { length self.new.trees.items ≡ length self.old.trees.items }
         ensures trees { (q : ℕ) → q < places plan.now
             → get_or self.new.trees.items q []
             ≡ renewed_values plan.now (sizes (held_of standing.now)) (task_numbers tasks.now) q
@@ -316,6 +290,30 @@ impl Peaks {
             self.find_levels(plan, standing, tasks, at as u32, levels);
             refill_at(&mut self.trees, at as u32, levels.as_slice());
         }
+    }
+
+    /// A fresh order is laid out: its tasks are left, and stand in the line before all others.
+    fn lay(&mut self, plan: &Plan, tasks: &[TaskId])
+        requires limits { IsWithinLimits plan.now }
+        requires one { ChangesOnePlace plan.now }
+        requires once { AreOnce (task_numbers tasks.now) }
+        requires low { (u : ℕ) → has (task_numbers tasks.now) u ≡ true → u < count_tasks plan.now }
+        requires marks { length self.old.left.items ≡ count_tasks plan.now }
+        requires seated { IsSeating plan.now self.old.seating }
+        ensures same { self.new ≡ record self.old {
+          seating = self.new.seating;
+          left = self.new.left;
+          first = 0;
+        } }
+        ensures laid { IsLaid plan.now self.old.seating self.new.seating (task_numbers tasks.now) }
+        ensures left { (u : ℕ) → left_of self.new u ≡ has (task_numbers tasks.now) u }
+        ensures marks { length self.new.left.items ≡ count_tasks plan.now }
+    {
+        self.first = 0;
+        mark_only(&mut self.left, tasks);
+        overwrite(&mut self.seating.line, tasks);
+        add_others(&mut self.seating.line, self.left.as_slice());
+        self.seating.seat_all(plan);
     }
 
     /// A task begins with a fresh order of all that wait then.
@@ -340,22 +338,11 @@ impl Peaks {
     {
         proper_plans_keep_goods();
         sums_are_small();
-        let home = self.home(task);
         let need = self.need(task);
-        add_need(&mut self.base, home, need);
-        self.first = 0;
-        mark_only(&mut self.left, tasks);
-        overwrite(&mut self.line, tasks);
-        add_others(&mut self.line, self.left.as_slice());
-        seat_all(
-            plan,
-            self.line.as_slice(),
-            &mut self.seats,
-            &mut self.widths,
-        );
+        add_base(&mut self.base, &self.seating, task, need);
+        self.lay(plan, tasks);
         self.refill_all(plan, standing, tasks, levels);
-        self.ready
-            .renew(plan, self.line.as_slice(), self.homes.as_slice());
+        self.ready.renew(plan, &self.seating);
         self.refresh_all(plan);
     }
 }

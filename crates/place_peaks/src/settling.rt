@@ -6,7 +6,7 @@ ghost use Rattle.place_peaks.specs.Links.{AreLinks};
 ghost use Rattle.place_peaks.specs.Settling.{AreLowered, CanSettle, CanSettleOne, IsKept, IsSettled, count_at, count_by, lowered, settled};
 ghost use Rattle.place_peaks.specs.Tree.{AllFirst, CanFall, front_changed};
 
-use crate::cleaning::{end_for_children, take_base};
+use crate::cleaning::{end_for_children, take_at};
 use crate::goods::{count_made, made_at};
 use crate::links::Links;
 use crate::peaks::Peaks;
@@ -32,27 +32,17 @@ fn lower_at(trees: &mut Vec<PeakTree>, place: u32, count: usize, less: u64)
 }
 
 impl Peaks {
-    /// How many tasks of the line change a place.
-    fn width(&self, place: u32) -> usize
-        ensures { result ≡ get_or self.now.widths.items place 0 }
-    {
-        match self.widths.get(place as usize) {
-            Some(width) => *width,
-            None => 0,
-        }
-    }
-
     /// Up to where the values of a good with this Clean are lowered.
     fn count_by(&self, place: u32, clean: Option<u32>) -> usize
         ensures { result ≡ count_by self.now place clean }
     {
         match clean {
-            None => self.width(place),
+            None => self.seating.width(place),
             Some(clean) => {
                 if self.is_left(clean) {
-                    self.seat(clean)
+                    self.seating.seat(clean)
                 } else {
-                    self.width(place)
+                    self.seating.width(place)
                 }
             }
         }
@@ -76,7 +66,7 @@ impl Peaks {
         if lies_at(plan, good, place) {
             let less = good_size(plan, good) - size;
             let count = self.count_by(place, links.cleaner_of(good));
-            take_base(&mut self.base, place, less);
+            take_at(&mut self.base, place, less);
             lower_at(&mut self.trees, place, count, less);
         }
     }
@@ -129,7 +119,7 @@ impl Peaks {
         ensures lowered { AreLowered plan.now links.now self.old self.new (makes plan.now task)
             (replicate (length (makes plan.now task)) size) }
     {
-        match self.home(task) {
+        match self.seating.home(task) {
             None => {}
             Some(at) => self.settle_all(plan, links, at, task, size),
         }
@@ -143,7 +133,7 @@ impl Peaks {
         ensures kept { IsKept self.old self.new }
         ensures lowered { AreLowered plan.now links.now self.old self.new (makes plan.now task) sizes.now }
     {
-        match self.home(task) {
+        match self.seating.home(task) {
             None => {}
             Some(at) => self.settle_each(plan, links, at, task, sizes),
         }

@@ -2,7 +2,7 @@
 
 ghost use Rattle.std.specs.Prelude.{◌≡◌, ◌<◌, ◌∷◌, ◌==◌, ℕ, [], cond, length, get_or, set, None, Some, vec_capacity};
 ghost use Rattle.place_peaks.specs.Peaks.{stack_of};
-ghost use Rattle.place_peaks.specs.Waiting.{CanFree, IsAgain, IsMoved};
+ghost use Rattle.place_peaks.specs.Waiting.{CanSweepAt, IsAgain, IsMoved};
 
 use crate::cleaning::sweep_at;
 use crate::granting::unmark;
@@ -34,8 +34,8 @@ impl Peaks {
     /// A Clean of the line, which frees so much, waits again.
     pub(crate) fn move_again(&mut self, task: u32, frees: u64)
         requires task { task < length self.old.left.items }
-        requires frees { (q : ℕ) → get_or self.old.homes.items task None ≡ Some q
-            → CanFree self.old task q frees }
+        requires frees { (q : ℕ) → get_or self.old.seating.homes.items task None ≡ Some q
+            → CanSweepAt self.old.trees.items q (get_or self.old.seating.seats.items task 0) frees }
         requires room { length self.old.again.items < vec_capacity self.old.again }
         ensures moved { IsMoved self.old self.new task frees }
         ensures stack { stack_of self.new ≡ task ∷ stack_of self.old }
@@ -44,12 +44,6 @@ impl Peaks {
         unmark(&mut self.left, task);
         self.first = self.next_front();
         push(&mut self.again, task);
-        match self.home(task) {
-            None => {}
-            Some(place) => {
-                let seat = self.seat(task);
-                sweep_at(&mut self.trees, place, seat, frees);
-            }
-        }
+        sweep_at(&mut self.trees, &self.seating, task, frees);
     }
 }

@@ -12,6 +12,7 @@ use Rattle.values.proofs.numbers.TaskId.TheSendSync as TaskId
 use Rattle.place_peaks.specs.contracts.peaks.Peaks as Peaks
 use Rattle.place_peaks.proofs.links.Links.TheSendSync as Links
 use Rattle.place_peaks.proofs.ready.Ready.TheSendSync as Ready
+use Rattle.place_peaks.proofs.seating.Seating.TheSendSync as Seating
 use Rattle.storage_simulation.proofs.standing.Standing.TheSendSync as Standing
 use Rattle.peak_tree.specs.contracts.tree.PeakTree as PeakTree
 use Rattle.lease_book.specs.contracts.state.RunState as RunState
@@ -34,7 +35,7 @@ tree_send = search (sendable, crosses, Tree.crosses) depth 30
 
 pub peaks_send : IsSend Peaks.the_row
 peaks_send = declared_send Peaks.the_type (
-  search (sendable, crosses, TaskId.the_send) depth 30,
+  search (sendable, crosses, Seating.the_send) depth 30,
   (
     search (sendable, crosses) depth 30,
     (
@@ -42,23 +43,14 @@ peaks_send = declared_send Peaks.the_type (
       (
         search (sendable, crosses) depth 30,
         (
-          search (sendable, crosses) depth 30,
+          search (sendable, crosses, TaskId.the_send) depth 30,
           (
             search (sendable, crosses) depth 30,
             (
-              search (sendable, crosses, TaskId.the_send) depth 30,
+              search (sendable, crosses, tree_send) depth 30,
               (
                 search (sendable, crosses) depth 30,
-                (
-                  search (sendable, crosses) depth 30,
-                  (
-                    search (sendable, crosses, tree_send) depth 30,
-                    (
-                      search (sendable, crosses) depth 30,
-                      (search (sendable, Ready.the_send) depth 30, tt),
-                    ),
-                  ),
-                ),
+                (search (sendable, Ready.the_send) depth 30, tt),
               ),
             ),
           ),

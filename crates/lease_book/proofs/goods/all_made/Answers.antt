@@ -1,7 +1,6 @@
 use Rattle.std.proofs.Common.{◌+◌, ap, arith, length}
 use Rattle.storage_simulation.specs.Goods.{makes}
-use Rattle.lease_rules.proofs.GoodsLemmas.{made_so_far}
-use Rattle.lease_rules.proofs.TotalLemmas.{total_more}
+use Rattle.place_peaks.proofs.Offered.{made_so_far, total_more}
 use Rattle.lease_book.proofs.goods.all_made.Goals as goal
 
 pub overflow_add-sum : goal.overflow_add-sum

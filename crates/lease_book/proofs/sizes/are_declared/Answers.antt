@@ -1,7 +1,7 @@
 use Rattle.std.proofs.Common.{arith}
 use Rattle.storage_simulation.specs.Goods.{makes}
 use Rattle.lease_book.proofs.SizeLemmas.{declared_of, first_of_declared}
-use Rattle.lease_rules.proofs.SoundLemmas.{declared_long}
+use Rattle.place_peaks.proofs.Offered.{declared_long}
 use Rattle.lease_book.proofs.sizes.are_declared.Goals as goal
 
 pub returns-then-sizes-count_made : goal.returns-then-sizes-count_made

@@ -5,7 +5,7 @@ pub returns-clause-seated : goal.returns-clause-seated
 returns-clause-seated c = seated
 
 pub returns-clause-passed : goal.returns-clause-passed
-returns-clause-passed c = λ p s b tied. tied.whole.passed
+returns-clause-passed c = λ p s b tied. tied.whole.1
 
 pub returns-clause-indexed : goal.returns-clause-indexed
 returns-clause-indexed c = λ p s b tied. tied.indexed

@@ -1,5 +1,5 @@
 use Rattle.std.proofs.Common.{◌∙◌, arith}
-use Rattle.storage_simulation.proofs.FollowingLemmas.{is_itself}
+use Rattle.place_peaks.proofs.Offered.{is_itself}
 use Rattle.place_peaks.proofs.LinksLemmas.{one_cleaned}
 use Rattle.place_peaks.proofs.links.note_clean.Goals as goal
 

@@ -7,5 +7,5 @@ use Rattle.place_peaks.proofs.ready.group_all.Given as goal
 abbrev pub invariant-loop-k : goal.invariant-loop-k
 invariant-loop-k l = record {
   long : length l.groups.items ≡ length l.initial.groups.items;
-  each : (j : ℕ) → j < l.k → get_or l.groups.items j 0 ≡ group_of (places l.plan) (get_or l.homes (get_or (task_numbers l.line) j 0) None);
+  each : (j : ℕ) → j < l.k → get_or l.groups.items j 0 ≡ group_of (places l.plan) (get_or l.seating.homes.items (get_or (task_numbers l.seating.line.items) j 0) None);
 }

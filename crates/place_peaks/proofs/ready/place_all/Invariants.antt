@@ -5,5 +5,5 @@ use Rattle.place_peaks.proofs.ready.place_all.Given as goal
 abbrev pub invariant-loop-k : goal.invariant-loop-k
 invariant-loop-k l = record {
   long : length l.positions.items ≡ length l.initial.positions.items;
-  placed : (j : ℕ) → j < l.k → get_or l.positions.items (get_or (task_numbers l.line) j 0) 0 ≡ j;
+  placed : (j : ℕ) → j < l.k → get_or l.positions.items (get_or (task_numbers l.seating.line.items) j 0) 0 ≡ j;
 }

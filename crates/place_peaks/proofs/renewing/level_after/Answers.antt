@@ -1,5 +1,5 @@
 use Rattle.std.proofs.Common.{◌≡◌, false, ◌+◌, ◌<◌, ℕ, length, get_or, take, sym, ap, ◌∙◌, arith}
-use Rattle.lease_rules.proofs.NumbersLemmas.{count_tasks_in}
+use Rattle.place_peaks.proofs.Offered.{count_tasks_in}
 use Rattle.plan_core.specs.Words.{cleans, task_numbers}
 use Rattle.storage_simulation.specs.Change.{cleaned_part}
 use Rattle.storage_simulation.specs.Standings.{held_of, phase_of, sizes}

@@ -1,10 +1,9 @@
 use Rattle.std.proofs.Common.{◌≡◌, ◌<◌, ◌∙◌, true, false, length, refl, ap, arith}
 use Rattle.std.specs.Prelude.{replicate, vec_len}
 use Rattle.std.proofs.lemmas.List.{length-set}
-use Rattle.lease_rules.proofs.NumbersLemmas.{count_tasks_in}
+use Rattle.place_peaks.proofs.Offered.{at_place, count_tasks_in}
 use Rattle.plan_core.specs.Numbers.{has}
 use Rattle.plan_core.specs.Words.{task_numbers}
-use Rattle.storage_simulation.proofs.FollowingLemmas.{at_place}
 use Rattle.place_peaks.proofs.RenewingLemmas.{marked_first, marked_last, marked_more}
 use Rattle.place_peaks.proofs.renewing.mark_only.Goals as goal
 

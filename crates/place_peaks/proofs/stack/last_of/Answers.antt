@@ -1,7 +1,7 @@
 use Rattle.std.proofs.Common.{◌≡◌, ◌-◌, ◌<◌, ℕ, suc, zero, List, [], ◌∷◌, Some, length, get_or, refl, sym, ap, ◌∙◌, arith}
 use Rattle.std.specs.Prelude.{slice_get}
 use Rattle.std.proofs.lemmas.Bool.{eqb-false}
-use Rattle.lease_rules.proofs.NumbersLemmas.{count_tasks_in}
+use Rattle.place_peaks.proofs.Offered.{count_tasks_in}
 use Rattle.plan_core.specs.Words.{task_numbers}
 use Rattle.place_peaks.proofs.stack.last_of.Goals as goal
 

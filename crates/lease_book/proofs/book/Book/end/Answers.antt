@@ -1,5 +1,5 @@
 use Rattle.storage_simulation.specs.Goods.{makes}
-use Rattle.lease_rules.proofs.SoundLemmas.{declared_long}
+use Rattle.place_peaks.proofs.Offered.{declared_long}
 use Rattle.run_record.specs.Events.{End}
 use Rattle.lease_book.proofs.BookLemmas.{allowed_in, has_room, has_sizes, kept_more}
 use Rattle.lease_book.proofs.book.Book.end.Goals as goal

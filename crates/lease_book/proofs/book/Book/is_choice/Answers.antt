@@ -4,7 +4,7 @@ use Rattle.lease_rules.specs.Choice.{IsChoice}
 use Rattle.lease_book.specs.RunState.{state_of}
 use Rattle.lease_rules.specs.State.{State}
 use Rattle.lease_book.proofs.BookLemmas.{seen}
-use Rattle.lease_rules.proofs.OneLemmas.{is_found, is_none, is_stopped}
+use Rattle.place_peaks.proofs.Offered.{is_found, is_none, is_stopped}
 use Rattle.lease_book.proofs.book.Book.is_choice.Goals as goal
 
 pub returns-in-Some : goal.returns-in-Some

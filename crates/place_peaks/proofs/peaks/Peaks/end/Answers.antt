@@ -1,4 +1,5 @@
-use Rattle.std.proofs.Common.{ℕ, List, length, get_or, ap, ◌∙◌}
+use Rattle.std.proofs.Common.{length, get_or, ap, ◌∙◌}
+use Rattle.place_peaks.specs.declared.peaks.Peaks.{Peaks}
 use Rattle.place_peaks.proofs.EndingLemmas.{can_end_then}
 use Rattle.place_peaks.proofs.peaks.Peaks.end.Goals as goal
 
@@ -7,18 +8,10 @@ end_for_children-requires-clause-ends c = can_end_then c.args.plan.now c.args.li
 
 pub returns : goal.returns
 returns c = record {
-  line = c.settle_sizes.ensures.kept.line;
-  left = c.settle_sizes.ensures.kept.left;
-  homes = c.settle_sizes.ensures.kept.homes;
-  widths = c.settle_sizes.ensures.kept.widths;
-  seats = c.settle_sizes.ensures.kept.seats;
-  needs = c.settle_sizes.ensures.kept.needs;
-  again = c.settle_sizes.ensures.kept.again;
-  missing_long = c.end_for_children.ensures.long ∙ ap length c.settle_sizes.ensures.kept.missing;
-  missing = λ u l. c.end_for_children.ensures.each u l ∙ ap (λ (v : List ℕ). get_or v u 1) c.settle_sizes.ensures.kept.missing;
+  same = ap (λ (b : Peaks). record b { missing = c.end_for_children.new.missing }) c.settle_sizes.ensures.kept.same;
+  missing_long = c.end_for_children.ensures.long ∙ ap (λ (b : Peaks). length b.missing.items) c.settle_sizes.ensures.kept.same;
+  missing = λ u l. c.end_for_children.ensures.each u l ∙ ap (λ (b : Peaks). get_or b.missing.items u 1) c.settle_sizes.ensures.kept.same;
   bases_long = c.settle_sizes.ensures.kept.bases_long;
   trees_long = c.settle_sizes.ensures.kept.trees_long;
   lowered = c.settle_sizes.ensures.lowered;
-  ready = c.settle_sizes.ensures.kept.ready;
-  passed = c.settle_sizes.ensures.kept.passed;
 }

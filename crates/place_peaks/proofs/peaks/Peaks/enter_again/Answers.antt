@@ -1,8 +1,10 @@
-use Rattle.std.proofs.Common.{nat_eq, sym, ◌∙◌}
+use Rattle.std.proofs.Common.{nat_eq, sym, ◌∙◌, subst, ap}
 use Rattle.lease_rules.specs.State.{after}
 use Rattle.run_record.specs.Events.{Again}
-use Rattle.place_peaks.proofs.ReadyLemmas.{again_but, again_small, groups_after, one_indexed, rising_after, tied_with}
+use Rattle.place_peaks.proofs.ReadyLemmas.{again_but, again_small, one_indexed, rising_after, tied_with}
 use Rattle.place_peaks.proofs.EntryLemmas.{again_room, again_tied}
+use Rattle.place_peaks.specs.declared.peaks.Peaks.{Peaks}
+use Rattle.place_peaks.specs.Ready.{HasGroups}
 use Rattle.place_peaks.proofs.peaks.Peaks.enter_again.Goals as goal
 
 pub wait_again-requires : goal.wait_again-requires
@@ -12,7 +14,7 @@ wait_again-requires c =
     }
 
 pub refresh-requires-clause-groups : goal.refresh-requires-clause-groups
-refresh-requires-clause-groups c = let is = c.wait_again.ensures.waits in groups_after c.args.plan.now c.args.self.now c.wait_again.new.self is.line is.homes is.ready c.requires.can.enters.tied.indexed.grouped
+refresh-requires-clause-groups c = subst (HasGroups c.args.plan.now) (sym c.wait_again.ensures.waits.same) c.requires.can.enters.tied.indexed.grouped
 
 pub refresh-requires-clause-small : goal.refresh-requires-clause-small
 refresh-requires-clause-small c = again_small c.args.self.now c.wait_again.new.self c.args.task c.requires.can.enters.tied.indexed.small c.wait_again.ensures.waits
@@ -22,5 +24,5 @@ returns-else-is_clean c = λ s w cause ns tied allowed frees.
     let is = c.wait_again.ensures.waits in
     tied_with c.args.plan.now (after c.args.plan.now s (Again w c.args.task cause ns)) c.wait_again.new.self c.refresh.new.self
     (again_tied c.args.plan.now s c.args.self.now c.wait_again.new.self w c.args.task cause ns tied (sym c.is_clean.ensures ∙ c.if-is_clean.false) allowed is c.wait_again.ensures.stack c.wait_again.ensures.room) c.refresh.ensures.same
-    (one_indexed c.args.plan.now c.wait_again.new.self c.refresh.new.self c.args.task (again_small c.args.self.now c.wait_again.new.self c.args.task tied.indexed.small is) (rising_after c.args.self.now c.wait_again.new.self is.line is.homes is.seats tied.indexed.rising)
+    (one_indexed c.args.plan.now c.wait_again.new.self c.refresh.new.self c.args.task (again_small c.args.self.now c.wait_again.new.self c.args.task tied.indexed.small is) (rising_after c.args.self.now c.wait_again.new.self (ap (λ (b : Peaks). b.seating) is.same) tied.indexed.rising)
     c.refresh.ensures.same c.refresh.ensures.groups (c.refresh.ensures.indexed (λ u. nat_eq u c.args.task) (again_but c.args.plan.now c.args.self.now c.wait_again.new.self c.args.task tied.indexed is)))

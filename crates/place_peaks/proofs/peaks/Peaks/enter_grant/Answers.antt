@@ -1,10 +1,12 @@
-use Rattle.std.proofs.Common.{nat_eq}
+use Rattle.std.proofs.Common.{nat_eq, sym, subst, ap}
 use Rattle.lease_rules.specs.State.{after}
 use Rattle.run_record.specs.Events.{Grant}
-use Rattle.place_peaks.proofs.ReadyLemmas.{granted_again_indexed, granted_but, groups_after, one_indexed, rising_after, small_after, tied_with}
+use Rattle.place_peaks.proofs.ReadyLemmas.{granted_again_indexed, granted_but, one_indexed, rising_after, tied_with}
 use Rattle.place_peaks.proofs.ChoosingLemmas.{behind_none}
 use Rattle.place_peaks.proofs.EntryLemmas.{choice_marked, first_only, grant_again_tied, grant_room, grant_tied}
 use Rattle.place_peaks.proofs.PossibleLemmas.{can_hold_first}
+use Rattle.place_peaks.specs.declared.peaks.Peaks.{Peaks}
+use Rattle.place_peaks.specs.Ready.{AreSmall, HasGroups}
 use Rattle.place_peaks.proofs.peaks.Peaks.enter_grant.Goals as goal
 
 pub grant-requires-clause-task : goal.grant-requires-clause-task
@@ -24,16 +26,16 @@ grant_again-requires-clause-room c = λ q home.
     (first_only c.args.plan.now c.requires.can.state c.args.self.now c.args.task c.in-Some.field-0 c.requires.can.tied.behind c.in-Some.ensures c.requires.can.allowed.2) c.requires.can.allowed.1 home
 
 pub refresh-requires-clause-groups : goal.refresh-requires-clause-groups
-refresh-requires-clause-groups c = let is = c.grant.ensures in groups_after c.args.plan.now c.args.self.now c.grant.new.self is.line is.homes is.ready c.requires.can.tied.indexed.grouped
+refresh-requires-clause-groups c = subst (HasGroups c.args.plan.now) (sym c.grant.ensures.same) c.requires.can.tied.indexed.grouped
 
 pub refresh-requires-clause-small : goal.refresh-requires-clause-small
-refresh-requires-clause-small c = small_after c.args.self.now c.grant.new.self c.grant.ensures.needs c.requires.can.tied.indexed.small
+refresh-requires-clause-small c = subst AreSmall (sym c.grant.ensures.same) (λ u. c.requires.can.tied.indexed.small u)
 
 pub returns-in-None : goal.returns-in-None
 returns-in-None c = λ s w tied allowed.
     let is = c.grant.ensures in
     tied_with c.args.plan.now (after c.args.plan.now s (Grant w c.args.task)) c.grant.new.self c.refresh.new.self (grant_tied c.args.plan.now s c.args.self.now c.grant.new.self w c.args.task tied c.in-None.ensures allowed is) c.refresh.ensures.same
-    (one_indexed c.args.plan.now c.grant.new.self c.refresh.new.self c.args.task (small_after c.args.self.now c.grant.new.self is.needs tied.indexed.small) (rising_after c.args.self.now c.grant.new.self is.line is.homes is.seats tied.indexed.rising)
+    (one_indexed c.args.plan.now c.grant.new.self c.refresh.new.self c.args.task (subst AreSmall (sym is.same) (λ u. tied.indexed.small u)) (rising_after c.args.self.now c.grant.new.self (ap (λ (b : Peaks). b.seating) is.same) tied.indexed.rising)
     c.refresh.ensures.same c.refresh.ensures.groups (c.refresh.ensures.indexed (λ u. nat_eq u c.args.task) (granted_but c.args.plan.now c.args.self.now c.grant.new.self c.args.task tied.indexed is)))
 
 pub returns-in-Some : goal.returns-in-Some

@@ -1,80 +1,58 @@
-use Rattle.std.proofs.Common.{◌≡◌, ◌<◌, ◌≤◌, ◌+◌, ◌^◌, ◌∙◌, ℕ, List, Bool, false, length, get_or, refl, sym, ap, subst, arith}
-use Rattle.lease_rules.proofs.ListLemmas.{few_once}
+use Rattle.std.proofs.Common.{◌≡◌, ◌+◌, ◌∙◌, ℕ, List, Option, [], None, cond, false, length, get_or, refl, sym, ap, subst, arith}
+use Rattle.place_peaks.proofs.Offered.{count_tasks_in, few_once}
 use Rattle.lease_rules.specs.State.{after}
-use Rattle.run_record.specs.Events.{Regrant}
-use Rattle.place_peaks.proofs.ReadyLemmas.{indexed_with, rising_of, small_after, tied_with}
-use Rattle.lease_rules.proofs.NumbersLemmas.{count_tasks_in}
-use Rattle.plan_core.specs.Numbers.{has}
 use Rattle.plan_core.specs.Words.{count_tasks, task_numbers}
-use Rattle.storage_simulation.specs.Following.{AreOnce}
-use Rattle.place_peaks.specs.Opening.{AreSeats}
-use Rattle.place_peaks.specs.Peaks.{is_left, line_of, stack_of}
-use Rattle.place_peaks.proofs.FrontLemmas.{none_passed}
-use Rattle.place_peaks.proofs.RefreshLemmas.{counts_line}
-use Rattle.place_peaks.specs.Renewing.{renewed_line}
-use Rattle.place_peaks.specs.declared.ready.Ready.{Ready}
-use Rattle.place_peaks.proofs.RenewingLemmas.{base_begun, line_as_long, renewed_many, begun_room, line_long, line_low, line_once, new_line, new_room, order_once, renewed_tied, walk_of}
+use Rattle.run_record.specs.Events.{Regrant}
+use Rattle.place_peaks.specs.declared.peaks.Peaks.{Peaks}
+use Rattle.place_peaks.specs.Granting.{CanHold}
+use Rattle.place_peaks.specs.Places.{is_place}
+use Rattle.place_peaks.specs.declared.seating.Seating.{Seating}
+use Rattle.place_peaks.specs.Peaks.{IsSeating, left_of, stack_of}
+use Rattle.place_peaks.specs.Ready.{AreSmall, WasGrouped}
+use Rattle.place_peaks.specs.Renewing.{CanWalk, IsLaid, renewed_values}
+use Rattle.storage_simulation.specs.Standings.{held_of, sizes}
+use Rattle.place_peaks.proofs.ReadyLemmas.{indexed_with, rising_of, tied_with}
+use Rattle.place_peaks.proofs.RenewingLemmas.{begun_room, order_once, renewed_tied, walk_of, wide_of}
 use Rattle.place_peaks.proofs.peaks.Peaks.enter_regrant.Goals as goal
 
-pub add_need-requires : goal.add_need-requires
-add_need-requires c = λ q home.
+pub add_base-requires : goal.add_base-requires
+add_base-requires c = λ q home.
     let can = c.requires.can in
-    subst (λ (n : ℕ). (q < length c.args.self.now.base.items) × (get_or c.args.self.now.base.items q 0 + n ≤ 2 ^ 62)) (sym c.need-need.ensures)
-    (begun_room c.args.plan.now can.state c.args.self.now can.worker c.args.task q c.requires.limits (λ size front place small. c.sums_are_small.ensures c.args.plan.now size front place c.requires.limits small) can.tied can.allowed (sym c.home-home.ensures ∙ home))
+    subst (CanHold c.args.self.now.base.items q) (sym c.need-need.ensures)
+    (begun_room c.args.plan.now can.state c.args.self.now can.worker c.args.task q c.requires.limits (λ size front place small. c.sums_are_small.ensures c.args.plan.now size front place c.requires.limits small) can.tied can.allowed home)
 
-pub mark_only-requires : goal.mark_only-requires
-mark_only-requires c = λ u m.
-    let low = (order_once c.args.plan.now c.args.self.now c.args.standing.now c.args.task (task_numbers c.args.tasks.now) c.requires.can).1 u m in
-    let long = c.requires.can.tied.behind.marks_long in
-    omega (arith, low, long)
+pub lay-requires-clause-one : goal.lay-requires-clause-one
+lay-requires-clause-one c = c.requires.can.tied.behind.rules.one
 
-pub overwrite-requires : goal.overwrite-requires
-overwrite-requires c =
-    let once = order_once c.args.plan.now c.args.self.now c.args.standing.now c.args.task (task_numbers c.args.tasks.now) c.requires.can in
-    let few = few_once (count_tasks c.args.plan.now) (task_numbers c.args.tasks.now) once.0 once.1 in
-    let count = count_tasks_in c.args.tasks.now in
-    let long = line_long c.args.plan.now c.requires.can.state c.args.self.now c.requires.can.tied in
-    let line = count_tasks_in c.args.self.now.line.items in
-    omega (arith, few, count, long, line, c.args.self.now.line.ok)
+pub lay-requires-clause-once : goal.lay-requires-clause-once
+lay-requires-clause-once c = (order_once c.args.plan.now c.args.self.now c.args.standing.now c.args.task (task_numbers c.args.tasks.now) c.requires.can).0
 
-pub add_others-requires-clause-few : goal.add_others-requires-clause-few
-add_others-requires-clause-few c =
-    let long = c.requires.can.tied.behind.marks_long in
-    let same = ap length c.as_slice.ensures.value in
-    omega (arith, long, same, c.mark_only.ensures.long, c.requires.limits.tasks)
+pub lay-requires-clause-low : goal.lay-requires-clause-low
+lay-requires-clause-low c = (order_once c.args.plan.now c.args.self.now c.args.standing.now c.args.task (task_numbers c.args.tasks.now) c.requires.can).1
 
-pub add_others-requires-clause-room : goal.add_others-requires-clause-room
-add_others-requires-clause-room c =
-    let once = order_once c.args.plan.now c.args.self.now c.args.standing.now c.args.task (task_numbers c.args.tasks.now) c.requires.can in
-    let room = new_room (count_tasks c.args.plan.now) c.mark_only.new.left.items c.as_slice.result.now c.args.tasks.now c.overwrite.new.line.items (c.mark_only.ensures.long ∙ c.requires.can.tied.behind.marks_long) c.mark_only.ensures.each c.as_slice.ensures.value c.overwrite.ensures.items once.0 once.1 in
-    let long = line_long c.args.plan.now c.requires.can.state c.args.self.now c.requires.can.tied in
-    let line = count_tasks_in c.args.self.now.line.items in
-    omega (arith, room, long, line, c.args.self.now.line.ok, c.overwrite.ensures.room)
+pub lay-requires-clause-marks : goal.lay-requires-clause-marks
+lay-requires-clause-marks c = c.requires.can.tied.behind.marks_long
 
-pub seat_all-requires-clause-once : goal.seat_all-requires-clause-once
-seat_all-requires-clause-once c =
-    let once = order_once c.args.plan.now c.args.self.now c.args.standing.now c.args.task (task_numbers c.args.tasks.now) c.requires.can in
-    let is = new_line (count_tasks c.args.plan.now) c.mark_only.new.left.items c.as_slice.result.now c.args.tasks.now c.overwrite.new.line.items c.add_others.new.line.items (c.mark_only.ensures.long ∙ c.requires.can.tied.behind.marks_long) c.mark_only.ensures.each c.as_slice.ensures.value c.overwrite.ensures.items c.add_others.ensures in
-    subst AreOnce (sym (ap task_numbers c.as_slice-2.ensures.value ∙ is)) (line_once (count_tasks c.args.plan.now) (task_numbers c.args.tasks.now) once.0)
-
-pub seat_all-requires-clause-tasks : goal.seat_all-requires-clause-tasks
-seat_all-requires-clause-tasks c =
-    let once = order_once c.args.plan.now c.args.self.now c.args.standing.now c.args.task (task_numbers c.args.tasks.now) c.requires.can in
-    let is = new_line (count_tasks c.args.plan.now) c.mark_only.new.left.items c.as_slice.result.now c.args.tasks.now c.overwrite.new.line.items c.add_others.new.line.items (c.mark_only.ensures.long ∙ c.requires.can.tied.behind.marks_long) c.mark_only.ensures.each c.as_slice.ensures.value c.overwrite.ensures.items c.add_others.ensures in
-    λ u m. line_low (count_tasks c.args.plan.now) (task_numbers c.args.tasks.now) once.1 u (ap (λ (xs : List ℕ). has xs u) (sym (ap task_numbers c.as_slice-2.ensures.value ∙ is)) ∙ m)
-
-pub seat_all-requires-clause-one : goal.seat_all-requires-clause-one
-seat_all-requires-clause-one c = c.requires.can.tied.behind.one
-
-pub seat_all-requires-clause-seats : goal.seat_all-requires-clause-seats
-seat_all-requires-clause-seats c = c.requires.can.tied.whole.seats_long
-
-pub seat_all-requires-clause-widths : goal.seat_all-requires-clause-widths
-seat_all-requires-clause-widths c = c.requires.can.tied.whole.widths_long
+pub lay-requires-clause-seated : goal.lay-requires-clause-seated
+lay-requires-clause-seated c = c.requires.can.tied.behind.seated
 
 pub refill_all-requires-clause-walk : goal.refill_all-requires-clause-walk
-refill_all-requires-clause-walk c = walk_of c.args.plan.now c.args.self.now _ c.args.standing.now c.args.task (task_numbers c.args.tasks.now) c.requires.limits c.requires.can refl refl refl
-    (λ q. c.add_need.ensures.each q ∙ base_begun c.args.self.now.base.items q c.need-need.result c.home-home.result _ _ c.home-home.ensures c.need-need.ensures)
+refill_all-requires-clause-walk c =
+    let b : Peaks = c.args.self.now in
+    let t : ℕ = c.args.task in
+    subst (λ (x : Peaks). CanWalk c.args.plan.now x.seating.homes.items x.needs.items x.base.items c.args.standing.now (task_numbers c.args.tasks.now)) (sym c.lay.ensures.same)
+    (subst (λ (homes : List (Option ℕ)). CanWalk c.args.plan.now homes b.needs.items c.add_base.new.base.items c.args.standing.now (task_numbers c.args.tasks.now)) (sym c.lay.ensures.laid.homes)
+    (walk_of c.args.plan.now b c.add_base.new.base.items c.args.standing.now t (task_numbers c.args.tasks.now) c.requires.limits c.requires.can
+    (λ q. c.add_base.ensures.each q ∙ ap (λ (n : ℕ). cond (is_place q (get_or b.seating.homes.items t None)) (get_or b.base.items q 0 + n) (get_or b.base.items q 0)) c.need-need.ensures)))
+
+pub refill_all-requires-clause-long : goal.refill_all-requires-clause-long
+refill_all-requires-clause-long c = ap (λ (x : Peaks). length x.trees.items) c.lay.ensures.same ∙ c.requires.can.tied.behind.trees_long
+
+pub refill_all-requires-clause-wide : goal.refill_all-requires-clause-wide
+refill_all-requires-clause-wide c = λ q l.
+    let wide = wide_of c.args.plan.now c.args.self.now c.args.standing.now c.args.task (task_numbers c.args.tasks.now) c.requires.can q l in
+    let same = ap (λ (x : Peaks). length (get_or x.trees.items q [])) c.lay.ensures.same in
+    omega (arith, wide, same)
 
 pub refill_all-requires-clause-room : goal.refill_all-requires-clause-room
 refill_all-requires-clause-room c =
@@ -83,96 +61,42 @@ refill_all-requires-clause-room c =
     let count = count_tasks_in c.args.tasks.now in
     omega (arith, few, count, c.requires.room)
 
-pub renew-requires-clause-once : goal.renew-requires-clause-once
-renew-requires-clause-once c =
-    let kept = c.refill_all.ensures.kept in
-    let can = c.requires.can in
-    let once = order_once c.args.plan.now c.args.self.now c.args.standing.now c.args.task (task_numbers c.args.tasks.now) can in
-    let is = new_line (count_tasks c.args.plan.now) c.mark_only.new.left.items c.as_slice.result.now c.args.tasks.now c.overwrite.new.line.items c.add_others.new.line.items (c.mark_only.ensures.long ∙ can.tied.behind.marks_long) c.mark_only.ensures.each c.as_slice.ensures.value c.overwrite.ensures.items c.add_others.ensures in
-    let line : task_numbers c.as_slice-3.result.now ≡ renewed_line (count_tasks c.args.plan.now) (task_numbers c.args.tasks.now) = ap task_numbers (c.as_slice-3.ensures.value ∙ kept.line) ∙ is in
-    subst AreOnce (sym line) (line_once (count_tasks c.args.plan.now) (task_numbers c.args.tasks.now) once.0)
+pub renew-requires-clause-one : goal.renew-requires-clause-one
+renew-requires-clause-one c = c.requires.can.tied.behind.rules.one
 
-pub renew-requires-clause-tasks : goal.renew-requires-clause-tasks
-renew-requires-clause-tasks c =
-    let kept = c.refill_all.ensures.kept in
-    let can = c.requires.can in
-    let once = order_once c.args.plan.now c.args.self.now c.args.standing.now c.args.task (task_numbers c.args.tasks.now) can in
-    let is = new_line (count_tasks c.args.plan.now) c.mark_only.new.left.items c.as_slice.result.now c.args.tasks.now c.overwrite.new.line.items c.add_others.new.line.items (c.mark_only.ensures.long ∙ can.tied.behind.marks_long) c.mark_only.ensures.each c.as_slice.ensures.value c.overwrite.ensures.items c.add_others.ensures in
-    let line : task_numbers c.as_slice-3.result.now ≡ renewed_line (count_tasks c.args.plan.now) (task_numbers c.args.tasks.now) = ap task_numbers (c.as_slice-3.ensures.value ∙ kept.line) ∙ is in
-    λ u m. line_low (count_tasks c.args.plan.now) (task_numbers c.args.tasks.now) once.1 u (ap (λ (xs : List ℕ). has xs u) (sym line) ∙ m)
+pub renew-requires-clause-seated : goal.renew-requires-clause-seated
+renew-requires-clause-seated c = subst (λ (x : Peaks). IsSeating c.args.plan.now x.seating) (sym c.refill_all.ensures.same) c.lay.ensures.laid.seated
 
-pub renew-requires-clause-few : goal.renew-requires-clause-few
-renew-requires-clause-few c =
-    let kept = c.refill_all.ensures.kept in
-    let can = c.requires.can in
-    let once = order_once c.args.plan.now c.args.self.now c.args.standing.now c.args.task (task_numbers c.args.tasks.now) can in
-    let is = new_line (count_tasks c.args.plan.now) c.mark_only.new.left.items c.as_slice.result.now c.args.tasks.now c.overwrite.new.line.items c.add_others.new.line.items (c.mark_only.ensures.long ∙ can.tied.behind.marks_long) c.mark_only.ensures.each c.as_slice.ensures.value c.overwrite.ensures.items c.add_others.ensures in
-    let line : task_numbers c.as_slice-3.result.now ≡ renewed_line (count_tasks c.args.plan.now) (task_numbers c.args.tasks.now) = ap task_numbers (c.as_slice-3.ensures.value ∙ kept.line) ∙ is in
-    let long = line_as_long c.args.plan.now can.state c.args.self.now (task_numbers c.args.tasks.now) (task_numbers c.as_slice-3.result.now) can.tied once.0 once.1 line in
-    let now = long.0 in
-    let before = long.1 in
-    let count = count_tasks_in c.as_slice-3.result.now in
-    omega (arith, now, count, c.requires.limits.tasks)
+pub renew-requires-clause-grouped : goal.renew-requires-clause-grouped
+renew-requires-clause-grouped c =
+    let tied = c.requires.can.tied in
+    subst (λ (x : Peaks). WasGrouped c.args.plan.now x.seating x.ready) (sym c.refill_all.ensures.same)
+    (subst (WasGrouped c.args.plan.now c.lay.new.self.seating) (sym (ap (λ (x : Peaks). x.ready) c.lay.ensures.same))
+    (record { before = c.args.self.now.seating; seated = tied.behind.seated; homes = c.lay.ensures.laid.homes; grouped = tied.indexed.grouped }))
 
-pub renew-requires-clause-groups : goal.renew-requires-clause-groups
-renew-requires-clause-groups c =
-    let kept = c.refill_all.ensures.kept in
-    let can = c.requires.can in
-    let once = order_once c.args.plan.now c.args.self.now c.args.standing.now c.args.task (task_numbers c.args.tasks.now) can in
-    let is = new_line (count_tasks c.args.plan.now) c.mark_only.new.left.items c.as_slice.result.now c.args.tasks.now c.overwrite.new.line.items c.add_others.new.line.items (c.mark_only.ensures.long ∙ can.tied.behind.marks_long) c.mark_only.ensures.each c.as_slice.ensures.value c.overwrite.ensures.items c.add_others.ensures in
-    let line : task_numbers c.as_slice-3.result.now ≡ renewed_line (count_tasks c.args.plan.now) (task_numbers c.args.tasks.now) = ap task_numbers (c.as_slice-3.ensures.value ∙ kept.line) ∙ is in
-    let long = line_as_long c.args.plan.now can.state c.args.self.now (task_numbers c.args.tasks.now) (task_numbers c.as_slice-3.result.now) can.tied once.0 once.1 line in
-    let now = long.0 in
-    let before = long.1 in
-    let count = count_tasks_in c.as_slice-3.result.now in
-    let had = ap (λ (r : Ready). length r.groups.items) kept.ready ∙ can.tied.indexed.grouped.groups_long in
-    omega (arith, now, before, count, had)
+pub refresh_all-requires-clause-groups : goal.refresh_all-requires-clause-groups
+refresh_all-requires-clause-groups c = c.renew.ensures
 
-pub renew-requires-clause-long : goal.renew-requires-clause-long
-renew-requires-clause-long c =
-    let kept = c.refill_all.ensures.kept in
-    let can = c.requires.can in
-    let once = order_once c.args.plan.now c.args.self.now c.args.standing.now c.args.task (task_numbers c.args.tasks.now) can in
-    let is = new_line (count_tasks c.args.plan.now) c.mark_only.new.left.items c.as_slice.result.now c.args.tasks.now c.overwrite.new.line.items c.add_others.new.line.items (c.mark_only.ensures.long ∙ can.tied.behind.marks_long) c.mark_only.ensures.each c.as_slice.ensures.value c.overwrite.ensures.items c.add_others.ensures in
-    let line : task_numbers c.as_slice-3.result.now ≡ renewed_line (count_tasks c.args.plan.now) (task_numbers c.args.tasks.now) = ap task_numbers (c.as_slice-3.ensures.value ∙ kept.line) ∙ is in
-    let long = line_as_long c.args.plan.now can.state c.args.self.now (task_numbers c.args.tasks.now) (task_numbers c.as_slice-3.result.now) can.tied once.0 once.1 line in
-    let now = long.0 in
-    let before = long.1 in
-    let count = count_tasks_in c.as_slice-3.result.now in
-    let had = ap (λ (r : Ready). length r.index.groups.items) kept.ready ∙ counts_line c.args.plan.now c.args.self.now can.tied.indexed.grouped in
-    omega (arith, now, before, count, had)
-
-pub renew-requires-clause-as_many : goal.renew-requires-clause-as_many
-renew-requires-clause-as_many c =
-    let kept = c.refill_all.ensures.kept in
-    let can = c.requires.can in
-    let once = order_once c.args.plan.now c.args.self.now c.args.standing.now c.args.task (task_numbers c.args.tasks.now) can in
-    let is = new_line (count_tasks c.args.plan.now) c.mark_only.new.left.items c.as_slice.result.now c.args.tasks.now c.overwrite.new.line.items c.add_others.new.line.items (c.mark_only.ensures.long ∙ can.tied.behind.marks_long) c.mark_only.ensures.each c.as_slice.ensures.value c.overwrite.ensures.items c.add_others.ensures in
-    let line : task_numbers c.as_slice-3.result.now ≡ renewed_line (count_tasks c.args.plan.now) (task_numbers c.args.tasks.now) = ap task_numbers (c.as_slice-3.ensures.value ∙ kept.line) ∙ is in
-    renewed_many c.args.plan.now can.state c.args.self.now (task_numbers c.args.tasks.now) (task_numbers c.as_slice-3.result.now) c.as_slice-4.result.now c.refill_all.new.self.ready can.tied once.0 once.1 line (c.as_slice-4.ensures.value ∙ kept.homes) kept.ready
+pub refresh_all-requires-clause-small : goal.refresh_all-requires-clause-small
+refresh_all-requires-clause-small c = subst AreSmall (sym (c.refill_all.ensures.same ∙ ap (λ (x : Peaks). record x { trees = c.refill_all.new.self.trees }) c.lay.ensures.same)) (λ u. c.requires.can.tied.indexed.small u)
 
 pub returns-clause-tied : goal.returns-clause-tied
 returns-clause-tied c = λ s w tied allowed order shown.
-    let kept = c.refill_all.ensures.kept in
-    let is = new_line (count_tasks c.args.plan.now) c.mark_only.new.left.items c.as_slice.result.now c.args.tasks.now c.overwrite.new.line.items c.add_others.new.line.items (c.mark_only.ensures.long ∙ tied.behind.marks_long) c.mark_only.ensures.each c.as_slice.ensures.value c.overwrite.ensures.items c.add_others.ensures in
-    let same : task_numbers c.as_slice-2.result.now ≡ line_of c.refill_all.new.self = ap task_numbers (c.as_slice-2.ensures.value ∙ sym kept.line) in
-    let trees = renewed_tied c.args.plan.now s c.args.self.now c.refill_all.new.self c.args.standing.now w c.args.task (task_numbers c.args.tasks.now) tied allowed order shown (record {
-      line = ap task_numbers kept.line ∙ is;
-      marks_long = ap length kept.left ∙ c.mark_only.ensures.long;
-      left = λ u. ap (λ (marks : List Bool). is_left marks u) kept.left ∙ c.mark_only.ensures.each u;
-      homes = kept.homes;
-      needs = kept.needs;
-      missing = kept.missing;
-      again = kept.again;
-      seats = subst (λ (ws : List ℕ). AreSeats c.args.plan.now (line_of c.refill_all.new.self) c.refill_all.new.self.seats.items ws (length (line_of c.refill_all.new.self))) (sym kept.widths)
-          (subst (λ (ns : List ℕ). AreSeats c.args.plan.now (line_of c.refill_all.new.self) ns c.seat_all.new.widths.items (length (line_of c.refill_all.new.self))) (sym kept.seats)
-          (subst (λ (xs : List ℕ). AreSeats c.args.plan.now xs c.seat_all.new.seats.items c.seat_all.new.widths.items (length xs)) same c.seat_all.ensures));
-      bases_long = ap length c.refill_all.ensures.base ∙ c.add_need.ensures.long;
-      base = λ q. ap (λ (v : List ℕ). get_or v q 0) c.refill_all.ensures.base ∙ c.add_need.ensures.each q ∙ base_begun c.args.self.now.base.items q c.need-need.result c.home-home.result _ _ c.home-home.ensures c.need-need.ensures;
-      trees_long = kept.trees_long;
-      trees = c.refill_all.ensures.trees;
-      passed = kept.passed (none_passed (is_left c.mark_only.new.left.items) (task_numbers c.add_others.new.line.items));
+    let b : Peaks = c.args.self.now in
+    let t : ℕ = c.args.task in
+    let mid : Peaks = c.refill_all.new.self in
+    let same = c.refill_all.ensures.same ∙ ap (λ (x : Peaks). record x { trees = mid.trees }) c.lay.ensures.same in
+    let seating = ap (λ (x : Peaks). x.seating) c.refill_all.ensures.same in
+    let trees = renewed_tied c.args.plan.now s b mid c.args.standing.now w t (task_numbers c.args.tasks.now) tied allowed order shown (record {
+      same = subst (λ (x : Peaks). x ≡ record b { seating = x.seating; left = x.left; first = 0; base = x.base; trees = x.trees }) (sym same) refl;
+      laid = subst (λ (x : Seating). IsLaid c.args.plan.now b.seating x (task_numbers c.args.tasks.now)) (sym seating) c.lay.ensures.laid;
+      marks_long = ap (λ (x : Peaks). length x.left.items) c.refill_all.ensures.same ∙ c.lay.ensures.marks;
+      left = λ u. ap (λ (x : Peaks). left_of x u) c.refill_all.ensures.same ∙ c.lay.ensures.left u;
+      bases_long = ap (λ (x : Peaks). length x.base.items) same ∙ c.add_base.ensures.long;
+      base = λ q. ap (λ (x : Peaks). get_or x.base.items q 0) same ∙ c.add_base.ensures.each q ∙ ap (λ (n : ℕ). cond (is_place q (get_or b.seating.homes.items t None)) (get_or b.base.items q 0 + n) (get_or b.base.items q 0)) c.need-need.ensures;
+      trees_long = c.refill_all.ensures.long ∙ ap (λ (x : Peaks). length x.trees.items) c.lay.ensures.same;
+      trees = λ q l. c.refill_all.ensures.trees q l ∙ ap (λ (x : Peaks). renewed_values c.args.plan.now (sizes (held_of c.args.standing.now)) (task_numbers c.args.tasks.now) q (get_or x.trees.items q [])) c.lay.ensures.same;
     }) in
-    tied_with c.args.plan.now (after c.args.plan.now s (Regrant w c.args.task)) c.refill_all.new.self c.refresh_all.new.self trees c.refresh_all.ensures.same
-    (indexed_with c.args.plan.now c.refill_all.new.self c.refresh_all.new.self (λ t. false) (small_after c.args.self.now c.refill_all.new.self kept.needs tied.indexed.small) (rising_of c.args.plan.now (after c.args.plan.now s (Regrant w c.args.task)) c.refill_all.new.self (stack_of c.refill_all.new.self) trees.behind)
-    c.refresh_all.ensures.same c.refresh_all.ensures.groups c.refresh_all.ensures.indexed (λ u. refl))
+    tied_with c.args.plan.now (after c.args.plan.now s (Regrant w t)) mid c.refresh_all.new.self trees c.refresh_all.ensures.same
+    (indexed_with c.args.plan.now mid c.refresh_all.new.self (λ u. false) (subst AreSmall (sym same) (λ u. tied.indexed.small u))
+    (rising_of c.args.plan.now (after c.args.plan.now s (Regrant w t)) mid (stack_of mid) trees.behind) c.refresh_all.ensures.same c.refresh_all.ensures.groups c.refresh_all.ensures.indexed (λ u. refl))

@@ -1,5 +1,5 @@
 use Rattle.std.proofs.Common.{refl, ◌∙◌, arith}
-use Rattle.lease_rules.proofs.NumbersLemmas.{count_tasks_in}
+use Rattle.place_peaks.proofs.Offered.{count_tasks_in}
 use Rattle.plan_core.specs.Words.{task_numbers}
 use Rattle.storage_simulation.specs.Standings.{held_of, sizes}
 use Rattle.place_peaks.proofs.RenewingLemmas.{level_first, level_last}

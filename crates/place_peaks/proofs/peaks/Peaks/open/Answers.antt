@@ -1,5 +1,4 @@
-use Rattle.std.proofs.Common.{List, [], ℕ, false, ap, ◌∙◌, refl}
-use Rattle.plan_core.specs.Numbers.{has}
+use Rattle.std.proofs.Common.{[], false, refl}
 use Rattle.plan_core.specs.Words.{task_numbers}
 use Rattle.lease_rules.specs.State.{opened}
 use Rattle.place_peaks.proofs.EntryLemmas.{tied_none}
@@ -8,13 +7,7 @@ use Rattle.place_peaks.proofs.peaks.Peaks.open.Goals as goal
 
 pub returns-clause-tied : goal.returns-clause-tied
 returns-clause-tied c = tied_with c.args.plan.now (opened (task_numbers c.args.order.now)) c.in_ok-peaks.peaks c.refresh_all.new.self
-    (tied_none c.args.plan.now (opened (task_numbers c.args.order.now)) c.in_ok-peaks.peaks c.in_ok-peaks.ensures.stack c.in_ok-peaks.ensures.tied (record {
-      all = λ t l. ap (λ (zs : List ℕ). has zs t) c.in_ok-peaks.ensures.line ∙ c.requires.fits.all t l;
-      seats_long = c.in_ok-peaks.ensures.seats;
-      widths_long = c.in_ok-peaks.ensures.widths;
-      room = c.in_ok-peaks.ensures.room;
-      passed = c.in_ok-peaks.ensures.passed;
-    }))
+    (tied_none c.args.plan.now (opened (task_numbers c.args.order.now)) c.in_ok-peaks.peaks c.in_ok-peaks.ensures.stack c.in_ok-peaks.ensures.tied c.in_ok-peaks.ensures.whole)
     c.refresh_all.ensures.same
     (indexed_with c.args.plan.now c.in_ok-peaks.peaks c.refresh_all.new.self (λ t. false) c.in_ok-peaks.ensures.small (rising_of c.args.plan.now (opened (task_numbers c.args.order.now)) c.in_ok-peaks.peaks [] c.in_ok-peaks.ensures.tied)
     c.refresh_all.ensures.same c.refresh_all.ensures.groups c.refresh_all.ensures.indexed (λ u. refl))

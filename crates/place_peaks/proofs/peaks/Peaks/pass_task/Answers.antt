@@ -1,5 +1,5 @@
 use Rattle.std.proofs.Common.{◌<◌, ◌+◌, ◌∙◌, length, sym, subst, arith, ℕ, List}
-use Rattle.lease_rules.proofs.NumbersLemmas.{count_tasks_in}
+use Rattle.place_peaks.proofs.Offered.{count_tasks_in}
 use Rattle.plan_core.specs.Words.{task_numbers}
 use Rattle.storage_simulation.specs.Standings.{held_of, sizes}
 use Rattle.place_peaks.specs.Renewing.{IsLevel}
@@ -10,14 +10,14 @@ pub returns-then-not-is_there-clause-next : goal.returns-then-not-is_there-claus
 returns-then-not-is_there-clause-next c =
     let count = count_tasks_in c.args.tasks.now in
     let below : c.args.k < length (task_numbers c.args.tasks.now) = omega (arith, count, c.requires.within) in
-    level_passed c.args.plan.now (sizes (held_of c.args.standing.now)) (task_numbers c.args.tasks.now) c.args.at c.args.k c.args.level c.args.levels.now.items c.requires.walk.one below c.requires.place
-    (sym (there_same c.args.plan.now c.args.self.now c.args.standing.now (task_numbers c.args.tasks.now) c.args.k c.args.at c.task_at-task.result c.requires.walk below c.task_at-task.ensures) ∙ sym c.is_there.ensures ∙ c.if-not-is_there.true) c.requires.so_far
+    level_passed c.args.plan.now (sizes (held_of c.args.standing.now)) (task_numbers c.args.tasks.now) c.args.at c.args.k c.args.level c.args.levels.now.items c.requires.walk.rules.one below c.requires.place
+    (sym (there_same c.args.plan.now c.args.self.now.seating.homes.items c.args.self.now.needs.items c.args.self.now.base.items c.args.standing.now (task_numbers c.args.tasks.now) c.args.k c.args.at c.task_at-task.result c.requires.walk below c.task_at-task.ensures) ∙ sym c.is_there.ensures ∙ c.if-not-is_there.true) c.requires.so_far
 
 pub level_after-after-requires-clause-limits : goal.level_after-after-requires-clause-limits
 level_after-after-requires-clause-limits c = c.requires.walk.limits
 
 pub level_after-after-requires-clause-goods : goal.level_after-after-requires-clause-goods
-level_after-after-requires-clause-goods c = c.requires.walk.keeps
+level_after-after-requires-clause-goods c = c.requires.walk.rules.keeps
 
 pub level_after-after-requires-clause-standing : goal.level_after-after-requires-clause-standing
 level_after-after-requires-clause-standing c = c.requires.walk.standing
@@ -35,7 +35,7 @@ pub level_after-after-requires-clause-need : goal.level_after-after-requires-cla
 level_after-after-requires-clause-need c = λ kind.
     let count = count_tasks_in c.args.tasks.now in
     let below : c.args.k < length (task_numbers c.args.tasks.now) = omega (arith, count, c.requires.within) in
-    c.need.ensures ∙ walk_need c.args.plan.now c.args.self.now c.args.standing.now (task_numbers c.args.tasks.now) c.args.k c.args.at c.task_at-task.result c.requires.walk below c.task_at-task.ensures (sym c.is_there.ensures ∙ c.if-not-is_there.false) kind
+    c.need.ensures ∙ walk_need c.args.plan.now c.args.self.now.seating.homes.items c.args.self.now.needs.items c.args.self.now.base.items c.args.standing.now (task_numbers c.args.tasks.now) c.args.k c.args.at c.task_at-task.result c.requires.walk below c.task_at-task.ensures (sym c.is_there.ensures ∙ c.if-not-is_there.false) kind
 
 pub push_reserved-requires : goal.push_reserved-requires
 push_reserved-requires c =
@@ -48,4 +48,4 @@ returns-clause-next c =
     let below : c.args.k < length (task_numbers c.args.tasks.now) = omega (arith, count, c.requires.within) in
     subst (λ (xs : List ℕ). IsLevel c.args.plan.now (sizes (held_of c.args.standing.now)) (task_numbers c.args.tasks.now) c.args.at (c.args.k + 1) c.level_after-after.result xs) (sym c.push_reserved.ensures.items)
     (level_added c.args.plan.now (sizes (held_of c.args.standing.now)) (task_numbers c.args.tasks.now) c.args.at c.args.k c.args.level c.level_after-after.result c.args.levels.now.items below
-    (sym (there_same c.args.plan.now c.args.self.now c.args.standing.now (task_numbers c.args.tasks.now) c.args.k c.args.at c.task_at-task.result c.requires.walk below c.task_at-task.ensures) ∙ sym c.is_there.ensures ∙ c.if-not-is_there.false) c.level_after-after.ensures c.requires.so_far)
+    (sym (there_same c.args.plan.now c.args.self.now.seating.homes.items c.args.self.now.needs.items c.args.self.now.base.items c.args.standing.now (task_numbers c.args.tasks.now) c.args.k c.args.at c.task_at-task.result c.requires.walk below c.task_at-task.ensures) ∙ sym c.is_there.ensures ∙ c.if-not-is_there.false) c.level_after-after.ensures c.requires.so_far)

@@ -1,10 +1,12 @@
-use Rattle.std.proofs.Common.{nat_eq}
+use Rattle.std.proofs.Common.{nat_eq, sym, subst, ap}
 use Rattle.lease_rules.specs.State.{after}
 use Rattle.run_record.specs.Events.{Again}
-use Rattle.place_peaks.proofs.ReadyLemmas.{groups_after, moved_but, one_indexed, rising_after, small_after, tied_with}
+use Rattle.place_peaks.proofs.ReadyLemmas.{moved_but, one_indexed, rising_after, tied_with}
 use Rattle.place_peaks.proofs.ChoosingLemmas.{behind_none}
 use Rattle.place_peaks.proofs.EntryLemmas.{choice_marked, clean_room, move_room, move_tied, stay_tied}
 use Rattle.place_peaks.proofs.WaitingLemmas.{clean_choice}
+use Rattle.place_peaks.specs.declared.peaks.Peaks.{Peaks}
+use Rattle.place_peaks.specs.Ready.{AreSmall, HasGroups}
 use Rattle.place_peaks.proofs.peaks.Peaks.put_back.Goals as goal
 
 pub move_again-requires-clause-task : goal.move_again-requires-clause-task
@@ -15,8 +17,8 @@ move_again-requires-clause-task c =
 pub move_again-requires-clause-frees : goal.move_again-requires-clause-frees
 move_again-requires-clause-frees c = λ q home.
     let can = c.requires.can.enters in
-    clean_room c.args.plan.now can.state c.args.self.now c.args.task q c.args.frees c.requires.limits (λ size front place small. c.sums_are_small.ensures c.args.plan.now size front place c.requires.limits small)
-    (behind_none c.args.plan.now can.state c.args.self.now c.in-None.ensures can.tied.behind) c.requires.kind (clean_choice c.args.plan.now can.state can.worker c.args.task can.tied.behind.sound c.requires.kind can.allowed.1) c.requires.can.frees home
+    (clean_room c.args.plan.now can.state c.args.self.now c.args.task q c.args.frees c.requires.limits (λ size front place small. c.sums_are_small.ensures c.args.plan.now size front place c.requires.limits small)
+    (behind_none c.args.plan.now can.state c.args.self.now c.in-None.ensures can.tied.behind) c.requires.kind (clean_choice c.args.plan.now can.state can.worker c.args.task can.tied.behind.sound c.requires.kind can.allowed.1) c.requires.can.frees home).sweeps
 
 pub move_again-requires-clause-room : goal.move_again-requires-clause-room
 move_again-requires-clause-room c =
@@ -24,17 +26,17 @@ move_again-requires-clause-room c =
     move_room c.args.plan.now can.state c.args.self.now c.args.task can.tied c.in-None.ensures (clean_choice c.args.plan.now can.state can.worker c.args.task can.tied.behind.sound c.requires.kind can.allowed.1)
 
 pub refresh-requires-clause-groups : goal.refresh-requires-clause-groups
-refresh-requires-clause-groups c = let is = c.move_again.ensures.moved in groups_after c.args.plan.now c.args.self.now c.move_again.new.self is.line is.homes is.ready c.requires.can.enters.tied.indexed.grouped
+refresh-requires-clause-groups c = subst (HasGroups c.args.plan.now) (sym c.move_again.ensures.moved.same) c.requires.can.enters.tied.indexed.grouped
 
 pub refresh-requires-clause-small : goal.refresh-requires-clause-small
-refresh-requires-clause-small c = small_after c.args.self.now c.move_again.new.self c.move_again.ensures.moved.needs c.requires.can.enters.tied.indexed.small
+refresh-requires-clause-small c = subst AreSmall (sym c.move_again.ensures.moved.same) (λ u. c.requires.can.enters.tied.indexed.small u)
 
 pub returns-in-None : goal.returns-in-None
 returns-in-None c = λ s w cause ns tied allowed frees.
     let is = c.move_again.ensures.moved in
     tied_with c.args.plan.now (after c.args.plan.now s (Again w c.args.task cause ns)) c.move_again.new.self c.refresh.new.self
     (move_tied c.args.plan.now s c.args.self.now c.move_again.new.self w c.args.task c.args.frees cause ns tied c.in-None.ensures c.requires.kind allowed frees is c.move_again.ensures.stack c.move_again.ensures.room) c.refresh.ensures.same
-    (one_indexed c.args.plan.now c.move_again.new.self c.refresh.new.self c.args.task (small_after c.args.self.now c.move_again.new.self is.needs tied.indexed.small) (rising_after c.args.self.now c.move_again.new.self is.line is.homes is.seats tied.indexed.rising)
+    (one_indexed c.args.plan.now c.move_again.new.self c.refresh.new.self c.args.task (subst AreSmall (sym is.same) (λ u. tied.indexed.small u)) (rising_after c.args.self.now c.move_again.new.self (ap (λ (b : Peaks). b.seating) is.same) tied.indexed.rising)
     c.refresh.ensures.same c.refresh.ensures.groups (c.refresh.ensures.indexed (λ u. nat_eq u c.args.task) (moved_but c.args.plan.now c.args.self.now c.move_again.new.self c.args.task c.args.frees tied.indexed is)))
 
 pub returns-in-Some : goal.returns-in-Some

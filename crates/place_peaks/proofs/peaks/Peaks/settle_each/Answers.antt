@@ -1,5 +1,5 @@
 use Rattle.std.proofs.Common.{◌≡◌, ◌<◌, ◌-◌, suc, refl, arith, length}
-use Rattle.lease_rules.proofs.SoundLemmas.{declared_long}
+use Rattle.place_peaks.proofs.Offered.{declared_long}
 use Rattle.storage_simulation.specs.Goods.{makes}
 use Rattle.place_peaks.proofs.EndingLemmas.{kept_more, kept_none, step_fits, step_more, step_only, steps_first, steps_last}
 use Rattle.place_peaks.proofs.peaks.Peaks.settle_each.Goals as goal

@@ -1,11 +1,10 @@
 use Rattle.std.proofs.Common.{◌<◌, length, sym, ap, ◌∙◌, arith}
 use Rattle.std.proofs.lemmas.List.{get_or_default}
-use Rattle.lease_rules.proofs.NumbersLemmas.{count_tasks_in}
+use Rattle.place_peaks.proofs.Offered.{at_place, count_tasks_in}
 use Rattle.plan_core.specs.Numbers.{has}
 use Rattle.plan_core.specs.Words.{task_numbers}
-use Rattle.storage_simulation.proofs.FollowingLemmas.{at_place}
 use Rattle.place_peaks.proofs.OpeningLemmas.{seats_some, width_few}
-use Rattle.place_peaks.proofs.opening.seat_next.Goals as goal
+use Rattle.place_peaks.proofs.seating.seat_next.Goals as goal
 
 pub index_mut-requires : goal.index_mut-requires
 index_mut-requires c =

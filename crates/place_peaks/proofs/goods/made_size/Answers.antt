@@ -3,7 +3,7 @@ use Rattle.storage_simulation.specs.Change.{size_part}
 use Rattle.storage_simulation.specs.Goods.{makes}
 use Rattle.storage_simulation.specs.Usage.{sum_of}
 use Rattle.place_peaks.proofs.SizingLemmas.{sum_take, sum_take_less}
-use Rattle.place_peaks.proofs.sizing.made_size.Goals as goal
+use Rattle.place_peaks.proofs.goods.made_size.Goals as goal
 
 pub overflow_add-sum : goal.overflow_add-sum
 overflow_add-sum c =
