@@ -1,6 +1,6 @@
 -- What jobs are clustered by, and which of them are a group.
-use Rattle.std.specs.Prelude.{ℕ, ◌&&◌, Bool, List, [], ◌∷◌, nat_eq, Option, Some, None, slice_get}
-use Rattle.std.specs.Option.{option_eq}
+use Rattle.std.specs.Prelude.{ℕ, ◌&&◌, Bool, List, [], ◌∷◌, nat_eq, Option, None, option_and_then, option_map, slice_get, slice_index_or, unwrap_or}
+use Rattle.std.specs.Option.{option_eq, option_or}
 use Rattle.values.specs.declared.numbers.JobId.{JobId}
 use Rattle.values.specs.declared.numbers.SiteId.{SiteId}
 use Rattle.workflow_core.specs.declared.workflow.Job.{Job}
@@ -23,21 +23,12 @@ pub record Basis : Type 0 where
 abbrev pub basis : Workflow → List ℕ → List (Option SiteId) → TransformationCatalog → Basis
 basis w levels sites t = record { jobs = w.jobs; levels = levels; sites = sites; entries = t.entries }
 
-abbrev pub transformation_in : Option Job → Option Transformation
-transformation_in None = None
-transformation_in (Some j) = Some j.transformation
-
-abbrev pub site_in : Option (Option SiteId) → Option ℕ
-site_in None = None
-site_in (Some None) = None
-site_in (Some (Some s)) = Some s.0
-
 -- the number of a job's site, and its transformation
 abbrev pub site_at : Basis → ℕ → Option ℕ
-site_at c a = site_in (slice_get c.sites a)
+site_at c a = option_map (λ (s : SiteId). s.0) (slice_index_or c.sites a None)
 
 abbrev pub transformation_at : Basis → ℕ → Option Transformation
-transformation_at c a = transformation_in (slice_get c.jobs a)
+transformation_at c a = option_map (λ (j : Job). j.transformation) (slice_get c.jobs a)
 
 abbrev pub Group : Type 0
 Group = ℕ × Option ℕ × Option Transformation
@@ -55,26 +46,16 @@ same_group c i j =
 abbrev pub no_numbers : Numbers
 no_numbers = record { num = None; size = None }
 
-abbrev pub numbers_in : List TransformationEntry → Option Job → Numbers
-numbers_in es None = no_numbers
-numbers_in es (Some j) = numbers_of es j
-
-abbrev pub numbers_at : Basis → Option JobId → Numbers
-numbers_at c None = no_numbers
-numbers_at c (Some j) = numbers_in c.entries (slice_get c.jobs j.0)
+abbrev pub numbers_at : Basis → JobId → Numbers
+numbers_at c j = unwrap_or (option_map (numbers_of c.entries) (slice_get c.jobs j.0)) no_numbers
 
 abbrev pub group_numbers : Basis → List JobId → Numbers
-group_numbers c js = numbers_at c (slice_get js 0)
+group_numbers c js = unwrap_or (option_map (numbers_at c) (slice_get js 0)) no_numbers
 
--- a job's first bad number, and the first job that has one
-abbrev pub bad_in : List TransformationEntry → Option Job → Option (List ℕ)
-bad_in es None = None
-bad_in es (Some j) = bad_key es j
-
-abbrev pub or_later : JobId → Option (List ℕ) → Option (JobId × List ℕ) → Option (JobId × List ℕ)
-or_later j None later = later
-or_later j (Some key) later = Some (j, key)
+-- the key of a job's first bad number, and the first job that has one
+abbrev pub bad_at : Basis → JobId → Option (List ℕ)
+bad_at c j = option_and_then (bad_key c.entries) (slice_get c.jobs j.0)
 
 unfoldable pub first_bad : Basis → List JobId → Option (JobId × List ℕ)
 first_bad c [] = None
-first_bad c (j ∷ js) = or_later j (bad_in c.entries (slice_get c.jobs j.0)) (first_bad c js)
+first_bad c (j ∷ js) = option_or (option_map (λ (key : List ℕ). (j, key)) (bad_at c j)) (first_bad c js)

@@ -1,7 +1,7 @@
 -- Jobs of one label, and the first that is at another site than the first job with its label.
-use Rattle.std.specs.Prelude.{ℕ, suc, ◌&&◌, Bool, if◌then◌else◌, List, [], ◌∷◌, nat_eq, Option, Some, None, slice_get, slice_index_or}
+use Rattle.std.specs.Prelude.{ℕ, suc, ◌&&◌, Bool, if◌then◌else◌, List, [], ◌∷◌, nat_eq, Option, Some, None, option_and_then, option_map, slice_get, slice_index_or}
 use Rattle.std.specs.List.{list_any}
-use Rattle.std.specs.Option.{option_eq}
+use Rattle.std.specs.Option.{option_eq, option_or}
 use Rattle.std.specs.Str.{bytes_eq}
 use Rattle.values.specs.declared.numbers.JobId.{JobId}
 use Rattle.workflow_core.specs.declared.workflow.Job.{Job}
@@ -9,12 +9,8 @@ use Rattle.clustering.specs.Basis.{Basis, site_at}
 use Rattle.clustering.specs.Gathering.{gathered}
 use Rattle.clustering.specs.Runs.{is_job}
 
-abbrev pub label_in : Option Job → Option (List ℕ)
-label_in None = None
-label_in (Some j) = j.label
-
 abbrev pub label_at : Basis → ℕ → Option (List ℕ)
-label_at b a = label_in (slice_get b.jobs a)
+label_at b a = option_and_then (λ (j : Job). j.label) (slice_get b.jobs a)
 
 -- the number of a job without a label
 abbrev pub number_without : Option (List ℕ) → ℕ → Option ℕ
@@ -54,8 +50,7 @@ holder_in table j = slice_index_or table j.0 None
 
 -- the first job of a part
 abbrev pub first_of : List (List JobId) → Option ℕ → Option JobId
-first_of ps None = None
-first_of ps (Some c) = slice_get (slice_index_or ps c []) 0
+first_of ps part = option_and_then (λ c. slice_get (slice_index_or ps c []) 0) part
 
 -- a job's label, and the first job with it, where that one is at another site
 abbrev pub apart_by : Basis → JobId → Option (List ℕ) → Option JobId → Option (List ℕ × JobId)
@@ -67,12 +62,8 @@ apart_by b j (Some label) (Some first) = if option_eq nat_eq (site_at b first.0)
 abbrev pub apart : Basis → List (List JobId) → JobId → Option (List ℕ × JobId)
 apart b ps j = apart_by b j (label_at b j.0) (first_of ps (holder ps j))
 
-abbrev pub or_further : JobId → Option (List ℕ × JobId) → Option (List ℕ × JobId × JobId)
-    → Option (List ℕ × JobId × JobId)
-or_further j None later = later
-or_further j (Some found) later = Some (found.0, found.1, j)
-
 -- the first of some jobs at another site than the first job with its label: the label, that first job, and the job
 unfoldable pub first_apart : Basis → List (List JobId) → List JobId → Option (List ℕ × JobId × JobId)
 first_apart b ps [] = None
-first_apart b ps (j ∷ js) = or_further j (apart b ps j) (first_apart b ps js)
+first_apart b ps (j ∷ js) = option_or
+    (option_map (λ (found : List ℕ × JobId). (found.0, found.1, j)) (apart b ps j)) (first_apart b ps js)

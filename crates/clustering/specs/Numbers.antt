@@ -28,27 +28,15 @@ number_in s = if nat_le 1 (length s) && nat_le (length s) 5 then not_zero (value
 
 -- ---- a job's numbers
 
-abbrev pub entry_at : List TransformationEntry → Option ℕ → Option TransformationEntry
-entry_at es None = None
-entry_at es (Some i) = slice_get es i
-
 abbrev pub entry_of : List TransformationEntry → Transformation → Option TransformationEntry
-entry_of es t = entry_at es (place_of es t)
-
-abbrev pub num_in : Option TransformationEntry → Option (List ℕ)
-num_in None = None
-num_in (Some e) = e.cluster_num
-
-abbrev pub size_in : Option TransformationEntry → Option (List ℕ)
-size_in None = None
-size_in (Some e) = e.cluster_size
+entry_of es t = option_and_then (slice_get es) (place_of es t)
 
 -- a job's own, else that of its transformation's entry
 abbrev pub num_by : Option TransformationEntry → Job → Option (List ℕ)
-num_by e j = option_or j.cluster_num (num_in e)
+num_by e j = option_or j.cluster_num (option_and_then (λ (x : TransformationEntry). x.cluster_num) e)
 
 abbrev pub size_by : Option TransformationEntry → Job → Option (List ℕ)
-size_by e j = option_or j.cluster_size (size_in e)
+size_by e j = option_or j.cluster_size (option_and_then (λ (x : TransformationEntry). x.cluster_size) e)
 
 abbrev pub numbers_by : Option TransformationEntry → Job → Numbers
 numbers_by e j = record {

@@ -1,8 +1,8 @@
 //! What jobs are clustered by.
 
-ghost use Rattle.std.specs.Prelude.{◌≡◌, ◌<◌, IfOk, IfSome, option_map, slice_get};
+ghost use Rattle.std.specs.Prelude.{◌≡◌, ◌<◌, IfOk, IfSome, option_map};
 ghost use Rattle.dependency_graph.specs.Levels.{level};
-ghost use Rattle.clustering.specs.Basis.{bad_in, basis, group_numbers, group_of, numbers_in, site_at};
+ghost use Rattle.clustering.specs.Basis.{bad_at, basis, group_numbers, group_of, numbers_at, site_at};
 ghost use Rattle.clustering.specs.Labels.{label_at, label_key};
 ghost use Rattle.clustering.specs.Numbers.{entry_of};
 
@@ -122,7 +122,7 @@ impl<'a> Basis<'a> {
     }
 
     fn numbers_at(&self, job: JobId) -> Numbers
-        ensures numbers { result ≡ numbers_in self.now.entries (slice_get self.now.jobs job.0) }
+        ensures numbers { result ≡ numbers_at self.now job }
         ensures positive { IfSome result.num (λ n. 0 < n) }
     {
         match self.jobs.get(job.0 as usize) {
@@ -150,7 +150,7 @@ impl<'a> Basis<'a> {
 
     /// The key of a job's first bad number.
     pub fn bad_key(&self, job: JobId) -> Option<&'static str>
-        ensures { option_map (λ k. k.now) result ≡ bad_in self.now.entries (slice_get self.now.jobs job.0) }
+        ensures { option_map (λ k. k.now) result ≡ bad_at self.now job }
     {
         match self.jobs.get(job.0 as usize) {
             Some(found) => bad_key(found, self.entry_of(found)),

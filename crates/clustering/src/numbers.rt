@@ -2,7 +2,7 @@
 
 ghost use Rattle.std.specs.Prelude.{◌≡◌, ◌<◌, ◌≤◌, length, IfSome, option_and_then, option_map};
 ghost use Rattle.std.specs.Option.{option_or};
-ghost use Rattle.clustering.specs.Numbers.{bad_key_by, is_bad, number_in, num_in, numbers_by, size_in, value_from};
+ghost use Rattle.clustering.specs.Numbers.{bad_key_by, is_bad, num_by, number_in, numbers_by, size_by, value_from};
 
 use transformation_catalog::TransformationEntry;
 use values::Text;
@@ -75,8 +75,7 @@ fn own_or<'a>(own: &'a Option<Text>, other: Option<&'a Text>) -> Option<&'a Text
 }
 
 fn num_of<'a>(job: &'a Job, found: Option<&'a TransformationEntry>) -> Option<&'a Text>
-    ensures { option_map (λ t. t.now) result
-        ≡ option_or job.now.cluster_num (num_in (option_map (λ e. e.now) found.entry)) }
+    ensures { option_map (λ t. t.now) result ≡ num_by (option_map (λ e. e.now) found.entry) job.now }
 {
     match found {
         Some(entry) => own_or(&job.cluster_num, entry.cluster_num.as_ref()),
@@ -85,8 +84,7 @@ fn num_of<'a>(job: &'a Job, found: Option<&'a TransformationEntry>) -> Option<&'
 }
 
 fn size_of<'a>(job: &'a Job, found: Option<&'a TransformationEntry>) -> Option<&'a Text>
-    ensures { option_map (λ t. t.now) result
-        ≡ option_or job.now.cluster_size (size_in (option_map (λ e. e.now) found.entry)) }
+    ensures { option_map (λ t. t.now) result ≡ size_by (option_map (λ e. e.now) found.entry) job.now }
 {
     match found {
         Some(entry) => own_or(&job.cluster_size, entry.cluster_size.as_ref()),

@@ -19,7 +19,8 @@ use Rattle.dependency_graph.specs.Edges.{producer}
 use Rattle.dependency_graph.specs.Graph.{IsSound}
 use Rattle.dependency_graph.specs.Value.{Basis, IsValuation, base_at, by_producer, made_for, tool_for, value}
 use Rattle.values.specs.Apply.{Apply}
-use Rattle.planner.specs.Meaning.{AreHonest, IsHonest, Told, base, basis_of, entry_named, entry_of, first_told, value_of}
+use Rattle.transfer_refiner.specs.Draft.{entry_in as entry_named}
+use Rattle.planner.specs.Meaning.{AreHonest, IsHonest, Told, base, basis_of, entry_of, first_told, value_of}
 use Rattle.planner.specs.declared.surveyed.Surveyed.{Surveyed}
 use Rattle.ensemble.specs.declared.member.Member.{Member}
 use Rattle.ensemble.specs.Entries.{replica_of}

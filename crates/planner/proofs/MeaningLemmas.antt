@@ -40,7 +40,7 @@ use Rattle.transfer_refiner.proofs.MeaningLemmas.{writes_at}
 use Rattle.transfer_refiner.proofs.SliceLemmas.{place_of_any}
 use Rattle.cleanup_refiner.specs.Cleans.{cleaned, with_cleans}
 use Rattle.planner.specs.declared.inputs.Survey.{Survey}
-use Rattle.planner.specs.Meaning.{AreHonest, IsHonest, Told, basis_of, entry_named, value_of}
+use Rattle.planner.specs.Meaning.{AreHonest, IsHonest, Told, basis_of, value_of}
 use Rattle.planner.specs.Planning.{draft}
 use Rattle.planner.specs.Sites.{AreLeveled}
 
@@ -129,14 +129,10 @@ held_in told v (Some e) h = of_pfns e.pfns refl
     of_pfns [] is = subst (AllByRecursion (λ (x : Pfn). told x.pfn ≡ v)) (sym is) tt
     of_pfns (x ∷ xs) is = (h x xs is).held
 
-same_entry : (es : List Replica) (o : Option (List ℕ)) → entry_named es o ≡ entry_in es o
-same_entry es None = refl
-same_entry es (Some n) = refl
-
 pub replicas_hold : (apply : Apply) (told : Told) (r : PlanRequest) (s : Survey) (sites : List (Option SiteId)) (clusters : Clusters) → AreHonest apply told r s → AreHeld (draft r s sites clusters) told (value_of apply told r s)
 replicas_hold apply told r s sites clusters honest f =
     held_in told (value_of apply told r s f) (entry_in s.replicas.entries (slice_get s.workflow.files f))
-    (subst (λ (o : Option Replica). IfSome o (IsHonest told (value_of apply told r s f))) (same_entry s.replicas.entries (slice_get s.workflow.files f)) (honest f))
+    (honest f)
 
 -- ---- Cleans
 

@@ -13,20 +13,16 @@ use Rattle.plan_request.specs.JobTools.{tool_of}
 use Rattle.plan_core.specs.declared.plan.Plan.{Plan}
 use Rattle.plan_core.specs.Carried.{carried}
 use Rattle.plan_core.specs.Kinds.{carries}
+use Rattle.transfer_refiner.specs.Draft.{entry_in}
 use Rattle.planner.specs.declared.inputs.Survey.{Survey}
 
 -- what stands at each pfn
 abbrev pub Told : Type 0
 Told = List ℕ → Option (List ℕ)
 
--- the entry of a name
-abbrev pub entry_named : List Replica → Option (List ℕ) → Option Replica
-entry_named es None = None
-entry_named es (Some lfn) = find (is_of lfn) es
-
 -- the entry that registers a file
 abbrev pub entry_of : Survey → ℕ → Option Replica
-entry_of s f = entry_named s.replicas.entries (slice_get s.workflow.files f)
+entry_of s f = entry_in s.replicas.entries (slice_get s.workflow.files f)
 
 -- the bytes at the first of some pfns
 abbrev pub first_told : Told → List Pfn → Option (List ℕ)
@@ -35,7 +31,7 @@ first_told told (x ∷ xs) = told x.pfn
 
 -- the base of the file with a name: the bytes at its first registered pfn
 abbrev pub base : Told → List Replica → List ℕ → Option (List ℕ)
-base told es lfn = first_told told (pfns_in (entry_named es (Some lfn)))
+base told es lfn = first_told told (pfns_in (find (is_of lfn) es))
 
 -- the tools that the request states for the jobs, and the bases that are registered
 abbrev pub basis_of : Apply → Told → PlanRequest → Survey → Basis
