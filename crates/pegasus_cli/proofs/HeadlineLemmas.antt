@@ -1,6 +1,6 @@
 -- What the clause of a call comes to for a run that ended Done.
 use Rattle.std.proofs.Common.{◌≡◌, ◌⊎◌, ℕ, ◌++◌, List, refl, sym, ap, subst, ◌∙◌, inl, inr}
-use Rattle.std.proofs.Math.Logic.{∥∥₁_map}
+use Rattle.std.proofs.Math.Logic.{∥∥₁_map, ∥∥₁_map₂}
 use Rattle.std.specs.Prelude.{None, Some, codes}
 use Rattle.std.specs.Io.KnownBytes.{Appends}
 use Rattle.plan_core.specs.Words.{task_numbers}
@@ -13,15 +13,15 @@ use Rattle.site_yard.specs.Trace.{trace_of}
 use Rattle.plan_run.specs.Moments.{Tools, Work}
 use Rattle.plan_run.specs.Running.{IsRunText}
 use Rattle.pegasus_commands.specs.Commands.{has_line, spec_of, threaded_spec}
-use Rattle.pegasus_commands.specs.Commands.EnsembleRun.{RunsJoint}
+use Rattle.pegasus_commands.specs.Commands.EnsembleRun.{DeliversMembers, RunsJoint, ensemble_by}
 use Rattle.pegasus_commands.specs.Commands.Plan.{task_limit}
 use Rattle.pegasus_commands.specs.Commands.Run.{RunsMany, run}
 use Rattle.pegasus_commands.specs.CommandSpec.{Does}
-use Rattle.pegasus_commands.specs.Ensembles.{Joined}
+use Rattle.pegasus_commands.specs.Ensembles.{GoesOn as GoesOnJointly, Joined, joined}
 use Rattle.pegasus_commands.specs.Fault.{done}
 use Rattle.pegasus_commands.specs.Moments.{DocsMoment}
-use Rattle.pegasus_commands.specs.PlanRun.{AreHonestIn, AreSet, DeliversRequested, HasRunPlan, IsUnrun, value_in}
-use Rattle.command_words.specs.Words.{Command, InThreads, Run, Threaded, command as command_of, threaded_command}
+use Rattle.pegasus_commands.specs.PlanRun.{AreHonestIn, AreSet, DeliversRequested, HasRunPlan, IsUnrun, ShownBy, value_in}
+use Rattle.command_words.specs.Words.{Command, EnsembleBy, InThreads, Run, Threaded, command as command_of, threaded_command}
 use Rattle.pegasus_commands.proofs.DeliveryLemmas.{set_carried, set_valued, told_so}
 use Rattle.pegasus_commands.proofs.FaultLemmas.{no_fault_is_done}
 use Rattle.pegasus_commands.proofs.PlanRunLemmas.{ended_reports, ended_tells}
@@ -29,6 +29,7 @@ use Rattle.pegasus_cli.specs.declared.outcome.Outcome.{Outcome}
 use Rattle.pegasus_cli.specs.declared.outcome.Outcome.TheVariants as outcomes
 use Rattle.pegasus_cli.specs.Call.{Ends, IsAnswered, IsDoneBy, IsUsage, doing_of}
 use Rattle.pegasus_cli.specs.Headline.{EndsSo, Headline, HoldsOf}
+use Rattle.pegasus_cli.specs.Joint.{JointEndsSo, JointHoldsOf}
 use Rattle.pegasus_cli.specs.Moments.{Call}
 use Rattle.pegasus_cli.specs.Outcome.{closing, line_of}
 use Rattle.pegasus_cli.specs.Read.{IsRead}
@@ -114,3 +115,18 @@ holds c outcome answered n request is ended = by known.does
     by (inl h) = absurd (no_fault_is_done h.fault h.answers)
     by (inr h) = ∥∥₁_map (headlined n c.work c.tools h.inputs known.text h.works) (λ (k : Headline c.work c.tools n h.inputs known.text).
         ends_so c (λ before after. IsRead before.told request) n h.inputs known.text (read_so request c.asked.before c.asked.after h.inputs h.comes) known.written k)
+
+-- what holds of an ensemble that ended Done
+pub joint_holds : (c : Call) (outcome : Outcome) → IsAnswered c outcome → JointHoldsOf c outcome
+joint_holds c outcome answered n name is ended = by known.does
+  where
+    known : IsDone c (EnsembleBy name n)
+    known = done_by c outcome answered (EnsembleBy name n) is ended
+
+    by : Does (ensemble_by name n) (doing_of c) known.text done → ∥ JointEndsSo c name n ∥₁
+    by (inl h) = absurd (no_fault_is_done h.fault h.answers)
+    by (inr h) = ∥∥₁_map₂ (joint_so n c.work c.tools h.inputs known.text h.works) (h.works.delivers refl) (λ (k : Headline c.work c.tools n h.inputs.surveyed known.text) (delivers : ShownBy c.work (DeliversMembers c.work h.inputs.members)). record {
+      members = h.inputs.members;
+      ends = ends_so c (λ before after s. GoesOnJointly name before after (joined h.inputs.members s)) n h.inputs.surveyed known.text h.comes known.written k;
+      delivers = delivers;
+    })

@@ -2,6 +2,7 @@
 pub mod Headline
 pub mod Read
 pub mod Plan
+pub mod Joint
 pub mod Call
 pub mod Moments
 -- How a call ends: its outcome, the line of that and its status.
