@@ -1,4 +1,9 @@
 pub mod OutcomeLemmas
 pub mod EnsembleLineLemmas
 pub mod CallLemmas
+pub mod OrderLemmas
+pub mod PlanLemmas
+pub mod SaidLemmas
+pub mod ReadLemmas
+pub mod ThreadedWordsLemmas
 pub mod HeadlineLemmas

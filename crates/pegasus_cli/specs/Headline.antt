@@ -1,12 +1,12 @@
 -- What a run by several workers comes to that ended Done, in whatever order they worked.
-use Rattle.std.specs.Prelude.{◌≡◌, ℕ, ◌+◌, ◌≤◌, ◌<◌, ◌++◌, List, take, Some, None}
+use Rattle.std.specs.Prelude.{◌≡◌, ℕ, ◌+◌, ◌≤◌, ◌<◌, ◌++◌, List, codes, take, Some, None}
 use Rattle.std.specs.Io.KnownBytes.{Appends}
 use Rattle.values.specs.declared.numbers.TaskId.{TaskId}
 use Rattle.plan_core.specs.declared.plan.Plan.{Plan}
 use Rattle.plan_core.specs.Words.{task_numbers}
 use Rattle.storage_simulation.specs.Goods.{place_bound, places}
-use Rattle.storage_simulation.specs.Ordering.{IsOrder, at_start}
-use Rattle.planner.specs.Planning.{IsPlanOf}
+use Rattle.storage_simulation.specs.Ordering.{at_start}
+use Rattle.storage_simulation.specs.OrderLaw.{stated_order}
 use Rattle.run_record.specs.Events.{Event}
 use Rattle.lease_rules.specs.Choice.{Safe}
 use Rattle.lease_rules.specs.Law.{reserved_at, stored_at}
@@ -21,12 +21,12 @@ use Rattle.planner.specs.declared.surveyed.Surveyed.{Surveyed}
 use Rattle.worker_gate.specs.Telling.{placed_by}
 use Rattle.plan_run.specs.Moments.{Tools, Work, told_of}
 use Rattle.plan_run.specs.Running.{AreWithinOutput, IsRunText}
-use Rattle.pegasus_commands.specs.Commands.Plan.{task_limit}
 use Rattle.pegasus_commands.specs.PlanRun.{AreHonestIn, AreSet, ShownBy, value_in}
-use Rattle.pegasus_commands.specs.Survey.{GoesOn}
-use Rattle.command_words.specs.Words.{InThreads, Run, command}
+use Rattle.pegasus_commands.specs.Moments.{DocsMoment}
+use Rattle.command_words.specs.Words.{Run, threaded_command}
 use Rattle.pegasus_cli.specs.Moments.{Call}
-use Rattle.pegasus_cli.specs.Outcome.{line_of}
+use Rattle.pegasus_cli.specs.Plan.{IsStatedPlan}
+use Rattle.pegasus_cli.specs.Read.{IsRead}
 use Rattle.pegasus_cli.specs.declared.outcome.Outcome.{Outcome}
 use Rattle.pegasus_cli.specs.declared.outcome.Outcome.TheVariants.{Done}
 
@@ -36,8 +36,8 @@ pub record Headline (w : Work) (t : Tools) (workers : ℕ) (s : Surveyed) (text 
   pub plan : Plan
   pub order : List TaskId
   pub history : List Event
-  pub planned : IsPlanOf s.request s.survey task_limit plan
-  pub ordered : IsOrder plan at_start (task_numbers order)
+  pub planned : IsStatedPlan s.request s.survey plan
+  pub ordered : stated_order plan at_start ≡ Some (task_numbers order)
   -- each entry is allowed after those before it, and by one of the workers; in the end all tasks have ended, and none failed
   pub legal : Legal plan (task_numbers order) history
   pub by_workers : AllBelow workers history
@@ -65,16 +65,17 @@ pub record Headline (w : Work) (t : Tools) (workers : ℕ) (s : Surveyed) (text 
   pub valued : ShownBy w (λ old new. AreHonestIn w s old
       → AreSet s (λ f content. content ≡ value_in w s old f) old.delivered new.delivered)
 
--- The words are a run's by so many workers, and it ended Done: of the documents that were read, and of the text that was
--- written before the line of the answer, all this holds.
-pub record EndsSo (c : Call) (request : List ℕ) (workers : ℕ) : Type 0 where
+-- A run by so many workers that ended Done: of what was read, and of the text that was written before the line of the
+-- answer, all this holds.
+pub record EndsSo (c : Call) (Read : DocsMoment → DocsMoment → Surveyed → Type 0) (workers : ℕ) : Type 0 where
   pub surveyed : Surveyed
-  pub read : GoesOn request c.asked.before c.asked.after surveyed
+  pub read : Read c.asked.before c.asked.after surveyed
   pub text : List ℕ
-  pub written : Appends c.output.before.written c.output.after.written (text ++ line_of (Done None))
+  pub written : Appends c.output.before.written c.output.after.written (text ++ codes "done\n")
   pub headline : Headline c.work c.tools workers surveyed text
 
+-- So it is where the words are a run's of a request by so many workers.
 abbrev pub HoldsOf : Call → Outcome → Type 0
 HoldsOf c outcome = (workers : ℕ) (request : List ℕ)
-    → command c.asked.words ≡ Some (InThreads (Run request workers)) → outcome ≡ Done None
-    → ∥ EndsSo c request workers ∥₁
+    → threaded_command c.asked.words ≡ Some (Run request workers) → outcome ≡ Done None
+    → ∥ EndsSo c (λ before after. IsRead before.told request) workers ∥₁

@@ -5,6 +5,7 @@ ghost use Rattle.craft.specs.declared.crew.Crew.{Crew};
 ghost use Rattle.command_words.specs.Words.{command, is_threaded, members_of};
 ghost use Rattle.pegasus_cli.specs.Call.{IsAnswered};
 ghost use Rattle.pegasus_cli.specs.Headline.{HoldsOf};
+ghost use Rattle.pegasus_cli.specs.Joint.{JointHoldsOf};
 ghost use Rattle.pegasus_cli.specs.Moments.{call_of, objects};
 
 use crate::call::{answer, quick, refuse_words};
@@ -96,6 +97,9 @@ where
         (objects docs.old out.old host crew.items)
         (objects docs.new out.new result.1 result.2.items)) result.0 }
     ensures headline { HoldsOf (call_of D.Docs K.Sink H.Host T.Tool G.Gate (list_map string_bytes words.now)
+        (objects docs.old out.old host crew.items)
+        (objects docs.new out.new result.1 result.2.items)) result.0 }
+    ensures joint { JointHoldsOf (call_of D.Docs K.Sink H.Host T.Tool G.Gate (list_map string_bytes words.now)
         (objects docs.old out.old host crew.items)
         (objects docs.new out.new result.1 result.2.items)) result.0 }
     ensures crew { length result.2.items ≡ 16 }
