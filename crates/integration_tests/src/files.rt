@@ -5,52 +5,58 @@ use outside::{DocFault, Docs, Host, HostFault, Place, ReadPart, Text, WritePart}
 use std::alloc::Global;
 use std::fs;
 use std::os::unix::fs::symlink;
+use std::process::Abort;
 use std::rt::Files;
 use std::test::Fail;
 
 const NAME: &str = "host_files_document.txt";
 
-/// What a fetch gave: the text, or the fault.
-fn told<R: Files>(
+/// The file of the tests of drafts.
+const PARTS: &str = "sites/host_files_parts/x";
+
+/// Whether a fetch gives these bytes, or this fault.
+fn gives<R: Files>(
     alloc: Global,
     docs: &mut FolderDocs<R>,
-    name: &str,
-    limit: u64,
-) -> Result<String, Fail> {
+    (name, limit): (&str, u64),
+    wanted: Result<&[u8], DocFault>,
+) -> bool {
     let mut into = Vec::new(alloc);
-    let answer = docs.fetch(alloc, name, limit, &mut into);
-    let mut line = String::new(alloc);
-    for byte in &into {
-        line.push(char::from(*byte))?;
+    match (docs.fetch(alloc, name, limit, &mut into), wanted) {
+        (Ok(()), Ok(bytes)) => into.as_slice() == bytes,
+        (Err(fault), Err(wanted)) => fault == wanted && into.is_empty(),
+        _ => false,
     }
-    line.push_str(match answer {
-        Ok(()) => "",
-        Err(DocFault::Absent) => "absent",
-        Err(DocFault::Failed) => "failed",
-        Err(DocFault::TooLong(4)) => "longer than 4",
-        Err(DocFault::TooLong(_)) => "longer",
-        Err(DocFault::Memory) => "memory",
-    })?;
-    Ok(line)
+}
+
+fn documents_are_told<R: Files + Abort>(
+    rt: &R,
+    alloc: Global,
+    docs: &mut FolderDocs<R>,
+) -> Result<(), Fail> {
+    let too_long = DocFault::TooLong(4);
+    assert!(rt; gives(alloc, docs, (NAME, 5), Ok(b"hello")));
+    assert!(rt; gives(alloc, docs, (NAME, 4), Err(too_long)));
+    assert!(rt;
+        gives(
+            alloc,
+            docs,
+            ("host_files_nothing.txt", 5),
+            Err(DocFault::Absent)
+        )
+    );
+    assert!(rt; gives(alloc, docs, (".", 5), Err(DocFault::Failed)));
+    assert!(rt; docs.faults() == 1 && docs.misses() == 2);
+    Ok(())
 }
 
 #[test]
 fn documents_of_a_folder(rt: HostRuntime) -> Result<(), Fail> {
-    let alloc = rt.alloc();
     fs::write(&rt, NAME, "hello")?;
     let mut docs = FolderDocs::new(rt);
-    let cases = [
-        ("at the limit", NAME, 5, "hello"),
-        ("too long", NAME, 4, "longer than 4"),
-        ("absent", "host_files_nothing.txt", 5, "absent"),
-        ("a folder", ".", 5, "failed"),
-    ];
-    for (case, name, limit, wanted) in cases {
-        let line = told(alloc, &mut docs, name, limit)?;
-        assert_eq!(rt; line.as_str(), wanted, "{case}");
-    }
-    assert_eq!(rt; docs.faults(), 1);
-    assert_eq!(rt; docs.misses(), 2);
+    let told = documents_are_told(&rt, rt.alloc(), &mut docs);
+    drop(docs);
+    told?;
     fs::remove_file(&rt, NAME)?;
     Ok(())
 }
@@ -68,12 +74,14 @@ where
     Ok(replica.as_slice().len())
 }
 
-#[test]
-fn replicas_of_a_folder(rt: HostRuntime) -> Result<(), Fail> {
-    let alloc = rt.alloc();
-    fs::write(&rt, "host_files_replica", "hello")?;
-    fs::write(&rt, "host_files_long_replica", "hello!")?;
-    let mut host = FolderHost::new(rt);
+fn replicas_are_told<R: Files + Abort + Drop>(
+    rt: &R,
+    alloc: Global,
+    host: &mut FolderHost<R>,
+) -> Result<(), Fail>
+where
+    R::File: Claim,
+{
     for (pfn, wanted) in [
         ("host_files_replica", Ok(5)),
         ("file://host_files_replica", Ok(5)),
@@ -82,10 +90,20 @@ fn replicas_of_a_folder(rt: HostRuntime) -> Result<(), Fail> {
         ("host_files_no_replica", Err(HostFault::Absent)),
         (".", Err(HostFault::Failed)),
     ] {
-        assert!(rt; length_of(alloc, &mut host, pfn) == wanted, "{pfn}");
+        assert!(rt; length_of(alloc, host, pfn) == wanted, "{pfn}");
     }
-    assert_eq!(rt; host.faults(), 1);
-    assert_eq!(rt; host.misses(), 3);
+    assert!(rt; host.faults() == 1 && host.misses() == 3);
+    Ok(())
+}
+
+#[test]
+fn replicas_of_a_folder(rt: HostRuntime) -> Result<(), Fail> {
+    fs::write(&rt, "host_files_replica", "hello")?;
+    fs::write(&rt, "host_files_long_replica", "hello!")?;
+    let mut host = FolderHost::new(rt);
+    let told = replicas_are_told(&rt, rt.alloc(), &mut host);
+    drop(host);
+    told?;
     fs::remove_file(&rt, "host_files_replica")?;
     fs::remove_file(&rt, "host_files_long_replica")?;
     Ok(())
@@ -105,34 +123,40 @@ where
     Ok(bytes.as_slice().len())
 }
 
-#[test]
-fn scratch_of_a_folder(rt: HostRuntime) -> Result<(), Fail> {
-    let alloc = rt.alloc();
-    let mut host = FolderHost::new(rt);
+/// Two files of a site are written, read and removed, and one is delivered.
+fn files_are_kept<R: Files + Abort + Drop>(
+    rt: &R,
+    alloc: Global,
+    host: &mut FolderHost<R>,
+) -> Result<(), Fail>
+where
+    R::File: Claim,
+{
     let site = "host/files";
     assert!(rt; host.scratch_empty(alloc, site) == Ok(true));
     assert!(rt; host.write_scratch(alloc, site, ".x%", b"hello") == Ok(()));
     assert!(rt; host.write_scratch(alloc, site, "long", b"hello!") == Ok(()));
-    assert!(rt; fs::exists(&rt, "sites/host%2Ffiles/%2Ex%25")?);
-    for (name, wanted) in [
-        (".x%", Ok(5)),
-        ("long", Err(HostFault::Over(5, 6))),
-        ("x", Err(HostFault::Absent)),
-    ] {
-        assert!(rt;
-            scratch_at(alloc, &mut host, site, name) == wanted,
-            "{name}"
-        );
-    }
+    assert!(rt; fs::exists(rt, "sites/host%2Ffiles/%2Ex%25")?);
+    assert!(rt; scratch_at(alloc, host, site, ".x%") == Ok(5));
+    assert!(rt; scratch_at(alloc, host, site, "long") == Err(HostFault::Over(5, 6)));
+    assert!(rt; scratch_at(alloc, host, site, "x") == Err(HostFault::Absent));
     assert!(rt; host.scratch_empty(alloc, site) == Ok(false));
     assert!(rt; host.remove(alloc, site, ".x%") == Ok(()));
     assert!(rt; host.remove(alloc, site, ".x%") == Err(HostFault::Absent));
     assert!(rt; host.remove(alloc, site, "long") == Ok(()));
     assert!(rt; host.scratch_empty(alloc, site) == Ok(true));
     assert!(rt; host.deliver(alloc, "host/files", b"hello") == Ok(()));
-    assert!(rt; fs::exists(&rt, "output/host%2Ffiles")?);
-    assert_eq!(rt; host.faults(), 0);
-    assert_eq!(rt; host.misses(), 4);
+    assert!(rt; fs::exists(rt, "output/host%2Ffiles")?);
+    assert!(rt; host.faults() == 0 && host.misses() == 4);
+    Ok(())
+}
+
+#[test]
+fn scratch_of_a_folder(rt: HostRuntime) -> Result<(), Fail> {
+    let mut host = FolderHost::new(rt);
+    let kept = files_are_kept(&rt, rt.alloc(), &mut host);
+    drop(host);
+    kept?;
     fs::remove_dir(&rt, "sites/host%2Ffiles")?;
     fs::remove_file(&rt, "output/host%2Ffiles")?;
     Ok(())
@@ -183,25 +207,39 @@ fn published<H: Host>(
     Ok((past, empty))
 }
 
-#[test]
-fn drafts_of_a_folder(rt: HostRuntime) -> Result<(), Fail> {
-    let alloc = rt.alloc();
-    let mut host = FolderHost::new(rt);
-    let site = "host_files_drafts";
-    let (past, empty) = published(alloc, &mut host, site)?;
-    assert!(rt; past == Err(HostFault::Over(5, 6)));
-    assert!(rt; empty == Ok(true));
-    assert!(rt; !fs::exists(&rt, ".pegasus.part.1")?);
-    assert!(rt; !fs::exists(&rt, ".pegasus.part.2")?);
-    assert_eq!(rt;
-        fs::read_to_string(&rt, "sites/host_files_drafts/x")?.as_str(),
-        "hello"
-    );
+/// The pieces in which the file is read that a site has once its draft was published.
+fn pieces_at<H: Host>(alloc: Global, host: &mut H, site: &str) -> Result<[usize; 3], HostFault> {
     let mut reading = host.open_scratch(alloc, site, "x", 5)?;
     let pieces = pieces_of(&mut reading);
     host.finish(reading);
-    assert!(rt; pieces == Ok([3, 2, 0]));
-    assert_eq!(rt; host.faults(), 0);
+    pieces
+}
+
+fn drafts_are_kept<R: Files + Abort + Drop>(
+    rt: &R,
+    alloc: Global,
+    host: &mut FolderHost<R>,
+) -> Result<(), Fail>
+where
+    R::File: Claim,
+{
+    let site = "host_files_drafts";
+    let (past, empty) = published(alloc, host, site)?;
+    assert!(rt; past == Err(HostFault::Over(5, 6)) && empty == Ok(true));
+    assert!(rt; standing(rt, "sites/host_files_drafts/x") == [Some(5), None, None]);
+    assert!(rt; pieces_at(alloc, host, site) == Ok([3, 2, 0]));
+    assert!(rt; host.faults() == 0);
+    Ok(())
+}
+
+#[test]
+fn drafts_of_a_folder(rt: HostRuntime) -> Result<(), Fail> {
+    let mut host = FolderHost::new(rt);
+    let kept = drafts_are_kept(&rt, rt.alloc(), &mut host);
+    drop(host);
+    kept?;
+    let text = fs::read_to_string(&rt, "sites/host_files_drafts/x")?;
+    assert_eq!(rt; text.as_str(), "hello");
     fs::remove_dir_all(&rt, "sites/host_files_drafts")?;
     Ok(())
 }
@@ -214,10 +252,10 @@ fn length_at<R: Files>(rt: &R, path: &str) -> Option<u64> {
     }
 }
 
-/// What stands in the file `x` of a site, and in two drafts' files: the length of each, if it is there.
-fn standing<R: Files>(rt: &R) -> [Option<u64>; 3] {
+/// What stands at a path, and in two drafts' files: the length of each, if it is there.
+fn standing<R: Files>(rt: &R, path: &str) -> [Option<u64>; 3] {
     [
-        length_at(rt, "sites/host_files_parts/x"),
+        length_at(rt, path),
         length_at(rt, ".pegasus.part.1"),
         length_at(rt, ".pegasus.part.2"),
     ]
@@ -238,60 +276,43 @@ fn published_in_turn<H: Host, R: Files>(
             return Err(fault);
         }
     };
-    let both = standing(rt);
+    let both = standing(rt, PARTS);
     let came = host.publish(alloc, second);
-    let one = standing(rt);
+    let one = standing(rt, PARTS);
     host.publish(alloc, first)?;
     came?;
-    Ok([both, one, standing(rt)])
+    Ok([both, one, standing(rt, PARTS)])
+}
+
+fn drafts_stay_apart<R: Files + Abort + Drop>(
+    rt: &R,
+    alloc: Global,
+    host: &mut FolderHost<R>,
+) -> Result<(), Fail>
+where
+    R::File: Claim,
+{
+    let [both, one, two] = published_in_turn(rt, alloc, host, "host_files_parts")?;
+    assert!(rt; both == [None, Some(3), Some(5)]);
+    assert!(rt; one == [Some(5), Some(3), None]);
+    assert!(rt; two == [Some(3), None, None]);
+    assert!(rt; host.faults() == 0);
+    Ok(())
 }
 
 #[test]
 fn two_drafts_of_one_name(rt: HostRuntime) -> Result<(), Fail> {
-    let alloc = rt.alloc();
     fs::write(&rt, "host_files_elsewhere", "hello")?;
     fs::write(&rt, ".pegasus.part.1", "of an earlier run")?;
     symlink(&rt, "host_files_elsewhere", ".pegasus.part.2")?;
     let mut host = FolderHost::new(rt);
-    let [both, one, two] = published_in_turn(&rt, alloc, &mut host, "host_files_parts")?;
-    assert!(rt; both == [None, Some(3), Some(5)]);
-    assert!(rt; one == [Some(5), Some(3), None]);
-    assert!(rt; two == [Some(3), None, None]);
-    assert_eq!(rt;
-        fs::read_to_string(&rt, "host_files_elsewhere")?.as_str(),
-        "hello"
-    );
-    assert_eq!(rt; host.faults(), 0);
+    let apart = drafts_stay_apart(&rt, rt.alloc(), &mut host);
+    drop(host);
+    apart?;
+    let text = fs::read_to_string(&rt, "host_files_elsewhere")?;
+    assert_eq!(rt; text.as_str(), "hello");
     fs::remove_dir_all(&rt, "sites/host_files_parts")?;
     fs::remove_file(&rt, "host_files_elsewhere")?;
-    Ok(())
-}
-
-/// What stands while a draft is there, and once it was discarded.
-fn discarded<H: Host, R: Files>(
-    rt: &R,
-    alloc: Global,
-    host: &mut H,
-    site: &str,
-) -> Result<[[Option<u64>; 3]; 2], HostFault> {
-    let draft = drafted(alloc, host, site, b"five!")?;
-    let written = standing(rt);
-    host.discard(draft);
-    Ok([written, standing(rt)])
-}
-
-#[test]
-fn draft_that_a_killed_run_left(rt: HostRuntime) -> Result<(), Fail> {
-    let alloc = rt.alloc();
-    fs::write(&rt, ".pegasus.part.2", "left by a run that was killed")?;
-    let mut host = FolderHost::new(rt);
-    let site = "host_files_parts";
-    assert!(rt; host.write_scratch(alloc, site, "x", b"one") == Ok(()));
-    let [written, left] = discarded(&rt, alloc, &mut host, site)?;
-    assert!(rt; written == [Some(3), None, Some(5)]);
-    assert!(rt; left == [Some(3), None, None]);
-    assert_eq!(rt; host.faults(), 0);
-    fs::remove_dir_all(&rt, "sites/host_files_parts")?;
     Ok(())
 }
 
@@ -306,19 +327,32 @@ fn refusal<H: Host>(alloc: Global, host: &mut H, site: &str, name: &str) -> Opti
     }
 }
 
-#[test]
-fn links_are_not_followed(rt: HostRuntime) -> Result<(), Fail> {
-    let alloc = rt.alloc();
-    let mut host = FolderHost::new(rt);
+fn links_are_refused<R: Files + Abort + Drop>(
+    rt: &R,
+    alloc: Global,
+    host: &mut FolderHost<R>,
+) -> Result<(), Fail>
+where
+    R::File: Claim,
+{
     let site = "host_files_links";
     assert!(rt; host.write_scratch(alloc, site, "x", b"hello") == Ok(()));
-    fs::write(&rt, "host_files_outside", "hello")?;
-    symlink(&rt, "../../host_files_outside", "sites/host_files_links/y")?;
-    assert!(rt; scratch_at(alloc, &mut host, site, "x") == Ok(5));
-    assert!(rt; scratch_at(alloc, &mut host, site, "y") == Err(HostFault::Failed));
-    assert!(rt; refusal(alloc, &mut host, site, "y") == Some(HostFault::Failed));
+    symlink(rt, "../../host_files_outside", "sites/host_files_links/y")?;
+    assert!(rt; scratch_at(alloc, host, site, "x") == Ok(5));
+    assert!(rt; scratch_at(alloc, host, site, "y") == Err(HostFault::Failed));
+    assert!(rt; refusal(alloc, host, site, "y") == Some(HostFault::Failed));
     assert!(rt; host.remove(alloc, site, "y") == Err(HostFault::Failed));
-    assert_eq!(rt; host.faults(), 3);
+    assert!(rt; host.faults() == 3);
+    Ok(())
+}
+
+#[test]
+fn links_are_not_followed(rt: HostRuntime) -> Result<(), Fail> {
+    fs::write(&rt, "host_files_outside", "hello")?;
+    let mut host = FolderHost::new(rt);
+    let refused = links_are_refused(&rt, rt.alloc(), &mut host);
+    drop(host);
+    refused?;
     fs::remove_dir_all(&rt, "sites/host_files_links")?;
     fs::remove_file(&rt, "host_files_outside")?;
     Ok(())

@@ -6,15 +6,13 @@
 #![tactic(auto)]
 
 #[cfg(test)]
+mod books;
+#[cfg(test)]
 mod by_hand;
 #[cfg(test)]
 mod files;
 #[cfg(test)]
 mod graphs;
-#[cfg(test)]
-mod leases;
-#[cfg(test)]
-mod orders;
 #[cfg(test)]
 mod peaks;
 #[cfg(test)]

@@ -206,27 +206,3 @@ pub const DIAMOND_CLEANED: Sketch<'static> = Sketch {
         (Does::Clean(5), &[], &[], &[3, 5]),
     ],
 };
-
-/// Two jobs in a chain and a single one, at a site of bound 10. The first file is swept in the middle, deliveries have
-/// scores below 0, and the single job comes last.
-pub const CHAIN_BEFORE_SINGLE: Sketch<'static> = Sketch {
-    workflow: "w",
-    sites: &[("pool", 10)],
-    files: &[("a", Some(2)), ("p", Some(6)), ("t", Some(5))],
-    jobs: &[
-        ("A", Some(0), &[], &[0]),
-        ("B", Some(0), &[0], &[1]),
-        ("C", Some(0), &[], &[2]),
-    ],
-    pairs: &[(0, 0), (0, 1), (0, 2)],
-    tasks: &[
-        (Does::Run(0, &[0]), &[], &[0], &[]),
-        (Does::Run(0, &[2]), &[], &[2], &[]),
-        (Does::Run(0, &[1]), &[0], &[1], &[0]),
-        (Does::Deliver(1, 0), &[1], &[], &[2]),
-        (Does::Deliver(2, 0), &[2], &[], &[1]),
-        (Does::Clean(0), &[], &[], &[0, 2]),
-        (Does::Clean(1), &[], &[], &[2, 3]),
-        (Does::Clean(2), &[], &[], &[1, 4]),
-    ],
-};

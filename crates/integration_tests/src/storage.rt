@@ -194,7 +194,7 @@ fn is_right(alloc: Global, case: &Case) -> Result<bool, Memory> {
     answer
 }
 
-pub const ORDER: &[u32] = &[4, 0, 6, 1, 7, 2, 8, 3, 9, 10, 5, 11];
+const ORDER: &[u32] = &[4, 0, 6, 1, 7, 2, 8, 3, 9, 10, 5, 11];
 
 /// The first pair is stored at 4 bytes, and its task has ended; what the first job makes is reserved, and it runs.
 const UNDER_WAY: Lists = (
