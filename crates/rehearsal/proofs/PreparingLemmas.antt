@@ -33,7 +33,8 @@ use Rattle.workload_maker.specs.Replicas.{image_of, replicas_text}
 use Rattle.workload_maker.specs.Workflow.{workflow_text}
 use Rattle.workload_maker.specs.declared.making.Workload.{Workload}
 use Rattle.planner.specs.Course.{IsSurvey, Refuses}
-use Rattle.planner.specs.Meaning.{AreHonest, HoldsValue, IsHonest, Told, base, basis_of, entry_named, first_told, value_of}
+use Rattle.planner.specs.Meaning.{AreHonest, HoldsValue, IsHonest, Told, base, basis_of, first_told, value_of}
+use Rattle.transfer_refiner.specs.Draft.{entry_in as entry_named}
 use Rattle.planner.specs.PlanFault.{FailsPlan, answered}
 use Rattle.planner.specs.declared.document.Document.TheVariants.{Request}
 use Rattle.planner.specs.declared.inputs.Survey.{Survey}
