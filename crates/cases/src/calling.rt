@@ -2,15 +2,14 @@
 
 ghost use Rattle.std.specs.Prelude.{◌≡◌, length};
 
-use crate::case::{Complaint, items_at, length_of, text_at, words_of};
-use crate::ended::{Ended, Wanted, left_by};
-use crate::preparing::{Prepared, prepare};
+use crate::case::{Complaint, Trial};
+use crate::ended::{Ended, Wanted};
+use crate::preparing::{Given, Held, Member, crew_of, docs_of, held_of, host_of, sink_of};
 use craft::{Crew, Gate};
-use outside::{Docs, Host, Sink, Tool};
+use outside::{Docs, Host, MemoryDocs, MemorySink, Sink, Tool};
 use pegasus_cli::{Outcome, pegasus};
 use std::alloc::Global;
 use std::sync::Wait;
-use std::sync::atomic::Ordering;
 use std::thread::Threads;
 use toml::Table;
 
@@ -48,99 +47,128 @@ where
     (code_of(outcome), host)
 }
 
-/// Makes a call.
-fn call<R: Threads + Wait + Sync>(
+/// Makes a call over these objects; tells what came of it where it doesn't end as the case says, and answers whether it
+/// does.
+fn is_met_by<R: Threads + Wait + Sync>(
     rt: &R,
-    alloc: Global,
-    case: &Table,
+    trial: &mut Trial,
+    given: &Given<'_>,
     words: &[String],
-    given: Prepared,
-) -> Result<Ended, Complaint> {
-    let mut docs = given.docs;
-    let mut sink = given.sink;
-    let (status, host) = status_of(
-        rt, alloc, words, &mut docs, &mut sink, given.host, given.crew,
-    );
-    let held_out = given.is_run_held && given.runs.spent.load(Ordering::SeqCst) != 0
-        || given.gates.spent.load(Ordering::SeqCst) != 0;
-    let left = left_by(alloc, &host, sink.bytes(), case);
-    drop(host);
-    match left {
-        Ok((others, trace)) => Ok(Ended {
-            status,
-            sink,
-            held_out,
-            others,
-            trace,
-        }),
-        Err(complaint) => {
-            drop(sink);
-            Err(complaint)
-        }
+    objects: (&mut MemoryDocs, &mut MemorySink),
+    crew: Vec<Member>,
+    held: &Held,
+) -> bool
+    requires { length crew.items ≡ 16 }
+{
+    let (docs, sink) = objects;
+    let host = host_of(trial, given);
+    if trial.complaint.is_some() {
+        drop(crew);
+        drop(host);
+        return false;
     }
+    let (status, host) = status_of(rt, trial.alloc, words, docs, sink, host, crew);
+    let ended = Ended {
+        status,
+        sink,
+        host: &host,
+        is_held_out: held.is_spent(),
+    };
+    let is_met = ended.tell_unless_met(trial, given, words);
+    drop(host);
+    is_met
 }
 
-/// Whether a call of these words ends as the case says; adds what came of it where it doesn't.
+/// Makes a call of these words over these documents and this sink.
+fn is_met_over<R: Threads + Wait + Sync>(
+    rt: &R,
+    trial: &mut Trial,
+    given: &Given<'_>,
+    words: &[String],
+    objects: (&mut MemoryDocs, &mut MemorySink),
+) -> bool {
+    let Some(held) = held_of(trial, given.case) else {
+        return false;
+    };
+    let is_met = match crew_of(trial, given.case, &held) {
+        Some(crew) => is_met_by(rt, trial, given, words, objects, crew, &held),
+        None => false,
+    };
+    drop(held);
+    is_met
+}
+
+/// Whether a call of these words ends as the case says.
 fn is_met<R: Threads + Wait + Sync>(
     rt: &R,
-    alloc: Global,
-    (file, case): (&Table, &Table),
+    trial: &mut Trial,
+    given: &Given<'_>,
     words: &[String],
-    cut: Option<(&str, usize)>,
-    text: &mut Vec<u8>,
-) -> Result<bool, Complaint> {
-    let wanted = Wanted::of(case)?;
-    let prepared = prepare(alloc, file, case, cut)?;
-    let ended = call(rt, alloc, case, words, prepared)?;
-    let front = cut.map(|(_, end)| end);
-    let is_met = ended.push_unless_met(alloc, text, wanted, words, front);
-    drop(ended);
-    Ok(is_met?)
+) -> bool {
+    let mut docs = docs_of(trial, given);
+    let is_met = match sink_of(trial, given.case) {
+        Some(mut sink) => {
+            let is_met = is_met_over(rt, trial, given, words, (&mut docs, &mut sink));
+            drop(sink);
+            is_met
+        }
+        None => false,
+    };
+    drop(docs);
+    is_met
 }
 
 /// Whether a call ends so over each shorter front, where the case says so, up to the first that doesn't.
 fn is_met_throughout<R: Threads + Wait + Sync>(
     rt: &R,
-    alloc: Global,
-    (file, case): (&Table, &Table),
+    trial: &mut Trial,
+    given: &Given<'_>,
     words: &[String],
-    text: &mut Vec<u8>,
-) -> Result<bool, Complaint> {
-    let Some(front) = text_at(case, "each_front")? else {
-        return is_met(rt, alloc, (file, case), words, None, text);
+) -> bool {
+    let Some(front) = trial.text_at(given.case, "each_front") else {
+        return is_met(rt, trial, given, words);
     };
-    let length = length_of(alloc, file, case, front)?;
+    let length = given.length_of(trial, front);
     if length == 0 {
-        return Err(Complaint::Idle("no document has the fronts"));
+        trial.complain(Complaint::Idle("no document has the fronts"));
     }
     for end in 0..length {
-        if !is_met(rt, alloc, (file, case), words, Some((front, end)), text)? {
-            return Ok(false);
+        let cut = Given {
+            cut: Some((front, end)),
+            ..*given
+        };
+        if !is_met(rt, trial, &cut, words) {
+            return false;
         }
     }
-    Ok(true)
+    true
 }
 
-/// What came of the first of a case's calls that ends otherwise than the case says; nothing where each ends so.
-pub fn difference_of<R: Threads + Wait + Sync>(
+/// Whether each of a case's calls ends as the case says, up to the first that doesn't.
+pub fn is_case_met<R: Threads + Wait + Sync>(
     rt: &R,
-    alloc: Global,
+    trial: &mut Trial,
     file: &Table,
     case: &Table,
-) -> Result<Vec<u8>, Complaint> {
-    let calls = match items_at(case, "calls")? {
-        [] => items_at(file, "calls")?,
+) -> bool {
+    let calls = match trial.items_at(case, "calls") {
+        [] => trial.items_at(file, "calls"),
         own => own,
     };
     if calls.is_empty() {
-        return Err(Complaint::Idle("there are no calls"));
+        trial.complain(Complaint::Idle("there are no calls"));
     }
-    let mut text = Vec::new(alloc);
+    let given = Given {
+        file,
+        case,
+        wanted: Wanted::of(trial, case),
+        cut: None,
+    };
     for call in calls {
-        let words = words_of(alloc, call)?;
-        if !is_met_throughout(rt, alloc, (file, case), &words, &mut text)? {
-            return Ok(text);
+        let words = trial.words_of(call);
+        if !is_met_throughout(rt, trial, &given, &words) {
+            return false;
         }
     }
-    Ok(text)
+    true
 }

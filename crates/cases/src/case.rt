@@ -1,8 +1,8 @@
-//! What stands under the keys of a case, which is a table of TOML.
+//! A case that is tried: what stands under its keys, and what is told of its calls.
 
-use std::alloc::{AllocError, AllocFailed, Global};
+use outside::{Word, push_line};
+use std::alloc::Global;
 use toml::{Table, Value};
-use values::Memory;
 
 /// The keys that a file of cases may have.
 pub const OF_FILE: &str = "calls documents replicas scratch case";
@@ -23,24 +23,6 @@ pub enum Complaint {
     Idle(&'static str),
 }
 
-impl From<Memory> for Complaint {
-    fn from(_e: Memory) -> Complaint {
-        Complaint::Memory
-    }
-}
-
-impl From<AllocError> for Complaint {
-    fn from(_e: AllocError) -> Complaint {
-        Complaint::Memory
-    }
-}
-
-impl<T: Drop> From<AllocFailed<T>> for Complaint {
-    fn from(_e: AllocFailed<T>) -> Complaint {
-        Complaint::Memory
-    }
-}
-
 /// A key of a table that isn't known.
 pub fn unknown_key<'a>(table: &'a Table, known: &str) -> Option<&'a str> {
     for key in table.keys() {
@@ -51,168 +33,245 @@ pub fn unknown_key<'a>(table: &'a Table, known: &str) -> Option<&'a str> {
     None
 }
 
-/// The text that a value under a key is.
-pub fn text_of<'a>(value: &'a Value, key: &'static str) -> Result<&'a str, Complaint> {
-    value.as_str().ok_or(Complaint::Misfit(key))
+/// A case that is tried. The first complaint is kept; what is read after it stands for nothing, and no call is made.
+#[derive(Drop)]
+pub struct Trial {
+    pub alloc: Global,
+    /// What came of the call that didn't end as the case says.
+    pub text: Vec<u8>,
+    pub complaint: Option<Complaint>,
 }
 
-pub fn items_of<'a>(value: &'a Value, key: &'static str) -> Result<&'a [Value], Complaint> {
-    match value {
-        Value::Array(items) => Ok(items.as_slice()),
-        _ => Err(Complaint::Misfit(key)),
-    }
-}
-
-pub fn table_of<'a>(value: &'a Value, key: &'static str) -> Result<&'a Table, Complaint> {
-    value.as_table().ok_or(Complaint::Misfit(key))
-}
-
-/// A number, from 1 on.
-fn number_of(value: &Value, key: &'static str) -> Result<u64, Complaint> {
-    match value {
-        Value::Integer(number) if *number > 0 => Ok(number.unsigned_abs()),
-        _ => Err(Complaint::Misfit(key)),
-    }
-}
-
-pub fn text_at<'a>(table: &'a Table, key: &'static str) -> Result<Option<&'a str>, Complaint> {
-    match table.get(key) {
-        Some(value) => Ok(Some(text_of(value, key)?)),
-        None => Ok(None),
-    }
-}
-
-/// What is listed under a key; nothing where it is absent.
-pub fn items_at<'a>(table: &'a Table, key: &'static str) -> Result<&'a [Value], Complaint> {
-    match table.get(key) {
-        Some(value) => items_of(value, key),
-        None => Ok(&[]),
-    }
-}
-
-pub fn table_at<'a>(table: &'a Table, key: &'static str) -> Result<Option<&'a Table>, Complaint> {
-    match table.get(key) {
-        Some(value) => Ok(Some(table_of(value, key)?)),
-        None => Ok(None),
-    }
-}
-
-pub fn number_at(table: &Table, key: &'static str) -> Result<Option<u64>, Complaint> {
-    match table.get(key) {
-        Some(value) => Ok(Some(number_of(value, key)?)),
-        None => Ok(None),
-    }
-}
-
-/// Whether a flag is set.
-pub fn flag_at(table: &Table, key: &'static str) -> Result<bool, Complaint> {
-    match table.get(key) {
-        Some(Value::Boolean(flag)) => Ok(*flag),
-        Some(_) => Err(Complaint::Misfit(key)),
-        None => Ok(false),
-    }
-}
-
-/// A byte, or a status.
-pub fn byte_of(value: &Value, key: &'static str) -> Result<u8, Complaint> {
-    match value {
-        Value::Integer(byte) if *byte >= 0 && *byte < 256 => Ok(*byte as u8),
-        _ => Err(Complaint::Misfit(key)),
-    }
-}
-
-pub fn numbers_at(alloc: Global, table: &Table, key: &'static str) -> Result<Vec<u64>, Complaint> {
-    let mut numbers = Vec::new(alloc);
-    for item in items_at(table, key)? {
-        numbers.push(number_of(item, key)?)?;
-    }
-    Ok(numbers)
-}
-
-pub fn pairs_at(
-    alloc: Global,
-    table: &Table,
-    key: &'static str,
-) -> Result<Vec<(u64, u64)>, Complaint> {
-    let mut pairs = Vec::new(alloc);
-    for item in items_at(table, key)? {
-        match items_of(item, key)? {
-            [first, second] => pairs.push((number_of(first, key)?, number_of(second, key)?))?,
-            _ => return Err(Complaint::Misfit(key)),
+impl Trial {
+    pub fn new(alloc: Global) -> Trial {
+        Trial {
+            alloc,
+            text: Vec::new(alloc),
+            complaint: None,
         }
     }
-    Ok(pairs)
-}
 
-/// The words of a call.
-pub fn words_of(alloc: Global, call: &Value) -> Result<Vec<String>, Complaint> {
-    let mut words = Vec::new(alloc);
-    for word in items_of(call, "calls")? {
-        words.push(String::from_str(alloc, text_of(word, "calls")?)?)?;
-    }
-    Ok(words)
-}
-
-/// Adds a text so many times; `<n>` in it stands for the number of the time, from 0.
-fn push_repeated(
-    alloc: Global,
-    into: &mut Vec<u8>,
-    repeated: &Table,
-    key: &'static str,
-) -> Result<(), Complaint> {
-    let times = number_at(repeated, "times")?;
-    let (Some(times), Some(text), 2) = (times, text_at(repeated, "text")?, repeated.len()) else {
-        return Err(Complaint::Misfit(key));
-    };
-    let is_numbered = text.contains("<n>");
-    for number in 0..times {
-        if is_numbered {
-            let digits = format!(in alloc; "{number}")?;
-            let one = text.replace(alloc, "<n>", digits.as_str())?;
-            into.extend_from_slice(one.as_bytes())?;
-        } else {
-            into.extend_from_slice(text.as_bytes())?;
+    pub fn complain(&mut self, complaint: Complaint) {
+        if self.complaint.is_none() {
+            self.complaint = Some(complaint);
         }
     }
-    Ok(())
-}
 
-/// The bytes of a document, a replica or a site's file: a text, or an array of texts, arrays of bytes, and texts that stand
-/// there several times.
-pub fn content_of(alloc: Global, content: &Value, key: &'static str) -> Result<Vec<u8>, Complaint> {
-    let mut bytes = Vec::new(alloc);
-    if let Value::String(text) = content {
-        bytes.extend_from_slice(text.as_bytes())?;
-        return Ok(bytes);
+    /// Complains where memory was wanting.
+    pub fn keep<E: Drop>(&mut self, done: Result<(), E>) {
+        if done.is_err() {
+            self.complain(Complaint::Memory);
+        }
     }
-    for piece in items_of(content, key)? {
-        match piece {
-            Value::String(text) => bytes.extend_from_slice(text.as_bytes())?,
-            Value::Array(more) => {
-                for byte in more {
-                    bytes.push(byte_of(byte, key)?)?;
+
+    pub fn misfit(&mut self, key: &'static str) {
+        self.complain(Complaint::Misfit(key));
+    }
+
+    /// The text that a value under a key is.
+    pub fn text_of<'a>(&mut self, value: &'a Value, key: &'static str) -> &'a str {
+        match value {
+            Value::String(text) => text.as_str(),
+            _ => {
+                self.misfit(key);
+                ""
+            }
+        }
+    }
+
+    pub fn items_of<'a>(&mut self, value: &'a Value, key: &'static str) -> &'a [Value] {
+        match value {
+            Value::Array(items) => items.as_slice(),
+            _ => {
+                self.misfit(key);
+                &[]
+            }
+        }
+    }
+
+    pub fn table_of<'a>(&mut self, value: &'a Value, key: &'static str) -> Option<&'a Table> {
+        match value {
+            Value::Table(table) => Some(table),
+            _ => {
+                self.misfit(key);
+                None
+            }
+        }
+    }
+
+    /// A number, from 1 on.
+    fn number_of(&mut self, value: &Value, key: &'static str) -> u64 {
+        match value {
+            Value::Integer(number) if *number > 0 => number.unsigned_abs(),
+            _ => {
+                self.misfit(key);
+                1
+            }
+        }
+    }
+
+    /// A byte, or a status.
+    pub fn byte_of(&mut self, value: &Value, key: &'static str) -> u8 {
+        match value {
+            Value::Integer(byte) if *byte >= 0 && *byte < 256 => *byte as u8,
+            _ => {
+                self.misfit(key);
+                0
+            }
+        }
+    }
+
+    pub fn text_at<'a>(&mut self, table: &'a Table, key: &'static str) -> Option<&'a str> {
+        match table.get(key) {
+            Some(value) => Some(self.text_of(value, key)),
+            None => None,
+        }
+    }
+
+    /// What is listed under a key; nothing where it is absent.
+    pub fn items_at<'a>(&mut self, table: &'a Table, key: &'static str) -> &'a [Value] {
+        match table.get(key) {
+            Some(value) => self.items_of(value, key),
+            None => &[],
+        }
+    }
+
+    pub fn table_at<'a>(&mut self, table: &'a Table, key: &'static str) -> Option<&'a Table> {
+        match table.get(key) {
+            Some(value) => self.table_of(value, key),
+            None => None,
+        }
+    }
+
+    pub fn number_at(&mut self, table: &Table, key: &'static str) -> Option<u64> {
+        match table.get(key) {
+            Some(value) => Some(self.number_of(value, key)),
+            None => None,
+        }
+    }
+
+    /// Whether a flag is set.
+    pub fn flag_at(&mut self, table: &Table, key: &'static str) -> bool {
+        match table.get(key) {
+            Some(Value::Boolean(flag)) => *flag,
+            Some(_) => {
+                self.misfit(key);
+                false
+            }
+            None => false,
+        }
+    }
+
+    pub fn numbers_at(&mut self, table: &Table, key: &'static str) -> Vec<u64> {
+        let mut numbers = Vec::new(self.alloc);
+        for item in self.items_at(table, key) {
+            let number = self.number_of(item, key);
+            self.keep(numbers.push(number));
+        }
+        numbers
+    }
+
+    pub fn pairs_at(&mut self, table: &Table, key: &'static str) -> Vec<(u64, u64)> {
+        let mut pairs = Vec::new(self.alloc);
+        for item in self.items_at(table, key) {
+            if let [first, second] = self.items_of(item, key) {
+                let pair = (self.number_of(first, key), self.number_of(second, key));
+                self.keep(pairs.push(pair));
+            } else {
+                self.misfit(key);
+            }
+        }
+        pairs
+    }
+
+    /// The words of a call.
+    pub fn words_of(&mut self, call: &Value) -> Vec<String> {
+        let mut words = Vec::new(self.alloc);
+        for word in self.items_of(call, "calls") {
+            match String::from_str(self.alloc, self.text_of(word, "calls")) {
+                Ok(word) => self.keep(words.push(word)),
+                Err(_) => self.complain(Complaint::Memory),
+            }
+        }
+        words
+    }
+
+    /// Adds a text, in which `<n>` stands for a number.
+    fn push_numbered(&mut self, into: &mut Vec<u8>, text: &str, number: u64) {
+        let Ok(digits) = format!(in self.alloc; "{number}") else {
+            return self.complain(Complaint::Memory);
+        };
+        match text.replace(self.alloc, "<n>", digits.as_str()) {
+            Ok(one) => self.keep(into.extend_from_slice(one.as_bytes())),
+            Err(_) => self.complain(Complaint::Memory),
+        }
+    }
+
+    /// Adds a text so many times; `<n>` in it stands for the number of the time, from 0.
+    fn push_repeated(&mut self, into: &mut Vec<u8>, repeated: &Table, key: &'static str) {
+        let times = self.number_at(repeated, "times");
+        match (times, self.text_at(repeated, "text"), repeated.len()) {
+            (Some(times), Some(text), 2) => {
+                for number in 0..times {
+                    self.push_numbered(into, text, number);
                 }
             }
-            Value::Table(repeated) => push_repeated(alloc, &mut bytes, repeated, key)?,
-            _ => return Err(Complaint::Misfit(key)),
+            _ => self.misfit(key),
         }
     }
-    Ok(bytes)
-}
 
-/// The number of bytes of a document, that of the case before that of its file; 0 where there is none.
-pub fn length_of(
-    alloc: Global,
-    file: &Table,
-    case: &Table,
-    name: &str,
-) -> Result<usize, Complaint> {
-    for table in [case, file] {
-        if let Some(documents) = table_at(table, "documents")? {
-            if let Some(content) = documents.get(name) {
-                return Ok(content_of(alloc, content, "documents")?.len());
+    /// Adds a text, an array of bytes, or a text that stands there several times.
+    fn push_piece(&mut self, into: &mut Vec<u8>, piece: &Value, key: &'static str) {
+        match piece {
+            Value::Array(bytes) => {
+                for byte in bytes {
+                    let byte = self.byte_of(byte, key);
+                    self.keep(into.push(byte));
+                }
+            }
+            Value::Table(repeated) => self.push_repeated(into, repeated, key),
+            text => {
+                let text = self.text_of(text, key);
+                self.keep(into.extend_from_slice(text.as_bytes()));
             }
         }
     }
-    Ok(0)
+
+    /// The bytes of a document, a replica or a site's file: a text, or an array of pieces.
+    pub fn content_of(&mut self, content: &Value, key: &'static str) -> Vec<u8> {
+        let mut bytes = Vec::new(self.alloc);
+        match content {
+            Value::Array(pieces) => {
+                for piece in pieces {
+                    self.push_piece(&mut bytes, piece, key);
+                }
+            }
+            text => {
+                let text = self.text_of(text, key);
+                self.keep(bytes.extend_from_slice(text.as_bytes()));
+            }
+        }
+        bytes
+    }
+
+    /// Tells a first word and some more in a line.
+    pub fn tell(&mut self, first: &str, words: &[Word<'_>]) {
+        let told = push_line(self.alloc, &mut self.text, first, words);
+        self.keep(told);
+    }
+
+    fn tell_bytes(&mut self, bytes: &[u8]) {
+        let told = self.text.extend_from_slice(bytes);
+        self.keep(told);
+    }
+
+    /// Tells a text, each line after two spaces and a bar.
+    pub fn tell_quoted(&mut self, quoted: &[u8]) {
+        let quoted = quoted.strip_suffix(b"\n").unwrap_or(quoted);
+        for line in quoted.split(|b| *b == b'\n') {
+            self.tell_bytes(b"  | ");
+            self.tell_bytes(line);
+            self.tell_bytes(b"\n");
+        }
+    }
 }

@@ -1,15 +1,16 @@
 //! What a call of a case left, and how that differs from what the case says.
 
-ghost use Rattle.std.specs.Prelude.{◌≡◌, ◌↔◌, IfSome, IsTrue, false, option_map};
+ghost use Rattle.std.specs.Prelude.{◌≡◌, ◌↔◌, IfOk, IfSome, IsTrue, false, option_map};
+ghost use Rattle.outside.specs.MemoryHost.{host_store};
 ghost use Rattle.outside.specs.MemorySink.{sink_bytes};
+ghost use Rattle.cases.specs.Trace.{operation_lines};
 
-use crate::case::{
-    Complaint, byte_of, flag_at, items_at, items_of, table_at, table_of, text_at, text_of,
-};
+use crate::case::{Complaint, Trial};
+use crate::preparing::Given;
 use crate::trace::trace_text;
-use outside::{Memory, MemoryHost, MemorySink, Word, push_line};
+use outside::{Memory, MemoryHost, MemorySink, Word};
 use std::alloc::Global;
-use toml::Table;
+use toml::{Table, Value};
 
 /// What a case says of the end of its calls.
 #[derive(Clone, Copy)]
@@ -22,34 +23,47 @@ pub struct Wanted<'a> {
     trace: Option<&'a str>,
 }
 
+/// The status that a case has to say.
+fn status_at(trial: &mut Trial, case: &Table) -> u8 {
+    match case.get("status") {
+        Some(status) => trial.byte_of(status, "status"),
+        None => {
+            trial.misfit("status");
+            0
+        }
+    }
+}
+
+/// The text that a case has to say.
+fn needed_text_at<'a>(trial: &mut Trial, case: &'a Table) -> &'a str {
+    match trial.text_at(case, "text") {
+        Some(text) => text,
+        None => {
+            trial.misfit("text");
+            ""
+        }
+    }
+}
+
 impl<'a> Wanted<'a> {
-    pub fn of(case: &'a Table) -> Result<Wanted<'a>, Complaint> {
-        let Some(status) = case.get("status") else {
-            return Err(Complaint::Misfit("status"));
-        };
-        let Some(text) = case.get("text") else {
-            return Err(Complaint::Misfit("text"));
-        };
-        Ok(Wanted {
-            status: byte_of(status, "status")?,
-            text: text_of(text, "text")?,
-            after_record: flag_at(case, "after_record")?,
-            trace: text_at(case, "trace")?,
-        })
+    pub fn of(trial: &mut Trial, case: &'a Table) -> Wanted<'a> {
+        Wanted {
+            status: status_at(trial, case),
+            text: needed_text_at(trial, case),
+            after_record: trial.flag_at(case, "after_record"),
+            trace: trial.text_at(case, "trace"),
+        }
     }
 }
 
 /// What a call left.
-#[derive(Drop)]
-pub struct Ended {
+#[derive(Clone, Copy)]
+pub struct Ended<'a> {
     pub status: u8,
-    pub sink: MemorySink,
+    pub sink: &'a MemorySink,
+    pub host: &'a MemoryHost,
     /// Whether the first run of a tool, or the first task at a gate, was held until its limit, where the case holds it.
-    pub held_out: bool,
-    /// The lines and files that are not as the case says, as lines.
-    pub others: Vec<u8>,
-    /// The changes that the host made, as lines.
-    pub trace: Vec<u8>,
+    pub is_held_out: bool,
 }
 
 /// Whether a file is as it has to be: these bytes, or nothing.
@@ -63,170 +77,155 @@ fn holds(found: Option<&[u8]>, wanted: Option<&str>) -> bool
     }
 }
 
-/// Adds a text, each line after two spaces and a bar.
-fn push_quoted(text: &mut Vec<u8>, quoted: &[u8]) -> Result<(), Memory> {
-    let quoted = quoted.strip_suffix(b"\n").unwrap_or(quoted);
-    for line in quoted.split(|b| *b == b'\n') {
-        text.extend_from_slice(b"  | ")?;
-        text.extend_from_slice(line)?;
-        text.extend_from_slice(b"\n")?;
-    }
-    Ok(())
-}
-
-/// Adds what is found under some names, with the word for it or that for nothing, where it isn't what has to be there.
-fn push_other(
-    alloc: Global,
-    text: &mut Vec<u8>,
+/// Tells what is found under some names, with the word for it or that for nothing, where it isn't what has to be there.
+fn tell_other(
+    trial: &mut Trial,
     (there, absent): (&str, &str),
     names: &[Word<'_>],
     (found, wanted): (Option<&[u8]>, Option<&str>),
-) -> Result<(), Memory> {
+) {
     if holds(found, wanted) {
-        return Ok(());
+        return;
     }
     match found {
         Some(bytes) => {
-            push_line(alloc, text, there, names)?;
-            push_quoted(text, bytes)
+            trial.tell(there, names);
+            trial.tell_quoted(bytes);
         }
-        None => push_line(alloc, text, absent, names),
+        None => trial.tell(absent, names),
     }
 }
 
-/// Adds what is delivered under a name, where that isn't as it has to be.
-fn push_delivered(
-    alloc: Global,
-    text: &mut Vec<u8>,
+/// Tells what stands under a name at a site, or is delivered, where that isn't as it has to be.
+fn tell_file(
+    trial: &mut Trial,
     host: &MemoryHost,
+    site: Option<&str>,
     name: &str,
     wanted: Option<&str>,
-) -> Result<(), Memory> {
-    let words = ("  delivered", "  not delivered");
-    let found = (host.delivered(name), wanted);
-    push_other(alloc, text, words, &[Word::Name(name.as_bytes())], found)
-}
-
-/// Adds what stands at a site under a name, where that isn't as it has to be.
-fn push_stored(
-    alloc: Global,
-    text: &mut Vec<u8>,
-    host: &MemoryHost,
-    (site, name): (&str, &str),
-    wanted: Option<&str>,
-) -> Result<(), Memory> {
-    let names = [Word::Name(site.as_bytes()), Word::Name(name.as_bytes())];
-    let found = (host.scratch(site, name), wanted);
-    push_other(alloc, text, ("  stored", "  not stored"), &names, found)
-}
-
-/// Adds the files that are not delivered as a case says.
-fn push_deliveries(
-    alloc: Global,
-    text: &mut Vec<u8>,
-    host: &MemoryHost,
-    case: &Table,
-) -> Result<(), Complaint> {
-    if let Some(files) = table_at(case, "delivered")? {
-        for (name, wanted) in files.iter() {
-            let wanted = text_of(wanted, "delivered")?;
-            push_delivered(alloc, text, host, name.as_str(), Some(wanted))?;
+) {
+    let word = Word::Name(name.as_bytes());
+    match site {
+        Some(site) => {
+            let names = [Word::Name(site.as_bytes()), word];
+            let found = (host.scratch(site, name), wanted);
+            tell_other(trial, ("  stored", "  not stored"), &names, found);
+        }
+        None => {
+            let found = (host.delivered(name), wanted);
+            tell_other(trial, ("  delivered", "  not delivered"), &[word], found);
         }
     }
-    for name in items_at(case, "not_delivered")? {
-        let name = text_of(name, "not_delivered")?;
-        push_delivered(alloc, text, host, name, None)?;
-    }
-    Ok(())
 }
 
-/// Adds the files that don't stand at the sites as a case says.
-fn push_stores(
-    alloc: Global,
-    text: &mut Vec<u8>,
+/// Tells those of some files that aren't as they have to be.
+fn tell_files(
+    trial: &mut Trial,
     host: &MemoryHost,
-    case: &Table,
-) -> Result<(), Complaint> {
-    if let Some(sites) = table_at(case, "stored")? {
+    site: Option<&str>,
+    (files, key): (&Table, &'static str),
+) {
+    for (name, wanted) in files.iter() {
+        let wanted = trial.text_of(wanted, key);
+        tell_file(trial, host, site, name.as_str(), Some(wanted));
+    }
+}
+
+/// Tells those of some files that are there, and have to be absent.
+fn tell_present(
+    trial: &mut Trial,
+    host: &MemoryHost,
+    site: Option<&str>,
+    (names, key): (&[Value], &'static str),
+) {
+    for name in names {
+        let name = trial.text_of(name, key);
+        tell_file(trial, host, site, name, None);
+    }
+}
+
+/// Tells the files that aren't delivered as a case says.
+fn tell_deliveries(trial: &mut Trial, host: &MemoryHost, case: &Table) {
+    if let Some(files) = trial.table_at(case, "delivered") {
+        tell_files(trial, host, None, (files, "delivered"));
+    }
+    let names = trial.items_at(case, "not_delivered");
+    tell_present(trial, host, None, (names, "not_delivered"));
+}
+
+/// Tells the files that don't stand at the sites as a case says.
+fn tell_stored(trial: &mut Trial, host: &MemoryHost, case: &Table) {
+    if let Some(sites) = trial.table_at(case, "stored") {
         for (site, files) in sites.iter() {
-            for (name, wanted) in table_of(files, "stored")?.iter() {
-                let place = (site.as_str(), name.as_str());
-                push_stored(alloc, text, host, place, Some(text_of(wanted, "stored")?))?;
+            if let Some(files) = trial.table_of(files, "stored") {
+                tell_files(trial, host, Some(site.as_str()), (files, "stored"));
             }
         }
     }
-    if let Some(sites) = table_at(case, "not_stored")? {
-        for (site, names) in sites.iter() {
-            for name in items_of(names, "not_stored")? {
-                let place = (site.as_str(), text_of(name, "not_stored")?);
-                push_stored(alloc, text, host, place, None)?;
-            }
-        }
-    }
-    Ok(())
 }
 
-/// Adds the words with which a line of what was written has to begin, and none does.
-fn push_missing(
-    alloc: Global,
-    text: &mut Vec<u8>,
-    written: &[u8],
-    case: &Table,
-) -> Result<(), Complaint> {
-    for word in items_at(case, "has_lines")? {
-        let word = text_of(word, "has_lines")?;
+/// Tells the files that stand at the sites, and mustn't.
+fn tell_not_stored(trial: &mut Trial, host: &MemoryHost, case: &Table) {
+    if let Some(sites) = trial.table_at(case, "not_stored") {
+        for (site, names) in sites.iter() {
+            let names = trial.items_of(names, "not_stored");
+            tell_present(trial, host, Some(site.as_str()), (names, "not_stored"));
+        }
+    }
+}
+
+/// Tells the words with which a line of what was written has to begin, and none does.
+fn tell_missing(trial: &mut Trial, written: &[u8], case: &Table) {
+    for word in trial.items_at(case, "has_lines") {
+        let word = trial.text_of(word, "has_lines");
         let mut lines = written.split(|byte| *byte == b'\n');
         if !lines.any(|line| line.starts_with(word.as_bytes())) {
-            push_line(alloc, text, "  no line", &[Word::Plain(word)])?;
+            trial.tell("  no line", &[Word::Plain(word)]);
         }
     }
-    Ok(())
 }
 
-/// The lines and files that are not as a case says, and the changes that were made, as lines.
-pub fn left_by(
-    alloc: Global,
-    host: &MemoryHost,
-    written: &[u8],
-    case: &Table,
-) -> Result<(Vec<u8>, Vec<u8>), Complaint> {
-    let mut others = Vec::new(alloc);
-    push_missing(alloc, &mut others, written, case)?;
-    push_deliveries(alloc, &mut others, host, case)?;
-    push_stores(alloc, &mut others, host, case)?;
+/// Tells the changes that a host made, where a case says others.
+fn tell_trace(trial: &mut Trial, host: &MemoryHost, wanted: Option<&str>) {
+    let Some(wanted) = wanted else {
+        return;
+    };
+    match trace_text(trial.alloc, host.trace()) {
+        Ok(trace) if trace.as_slice() == wanted.as_bytes() => {}
+        Ok(trace) => {
+            trial.tell("  trace", &[]);
+            trial.tell_quoted(&trace);
+        }
+        Err(Memory) => trial.complain(Complaint::Memory),
+    }
+}
+
+/// Tells the words of a call, and how long the document is that is cut.
+fn tell_call(trial: &mut Trial, words: &[String], cut: Option<(&str, usize)>) {
+    for word in words {
+        trial.tell("  word", &[Word::Name(word.as_bytes())]);
+    }
+    if let Some((_, end)) = cut {
+        trial.tell("  front", &[Word::Number(end as u64)]);
+    }
+}
+
+/// Whether a host made the changes that a case says, if it says any.
+fn is_traced(alloc: Global, host: &MemoryHost, wanted: Option<&str>) -> Result<bool, Memory>
+    ensures { IfOk result (λ met. IsTrue met
+        → IfSome wanted.entry (λ text. operation_lines (host_store host.now).trace ≡ text.now)) }
+{
+    let Some(wanted) = wanted else {
+        return Ok(true);
+    };
     let trace = trace_text(alloc, host.trace())?;
-    Ok((others, trace))
+    Ok(trace.as_slice() == wanted.as_bytes())
 }
 
-impl Ended {
-    /// Whether the call ended as its case says.
-    fn is_met(&self, wanted: Wanted<'_>) -> bool
-        ensures status { IsTrue result → self.now.status ≡ wanted.entry.status }
-        ensures text { IsTrue result → wanted.entry.after_record ≡ false
-            → sink_bytes self.now.sink ≡ wanted.entry.text.now }
-        ensures trace { IsTrue result
-            → IfSome wanted.entry.trace (λ text. self.now.trace.items ≡ text.now) }
-    {
-        self.status == wanted.status
-            && self.is_written(wanted)
-            && !self.held_out
-            && self.others.is_empty()
-            && self.is_traced(wanted)
-    }
-
-    fn is_traced(&self, wanted: Wanted<'_>) -> bool
-        ensures { IsTrue result
-            → IfSome wanted.entry.trace (λ text. self.now.trace.items ≡ text.now) }
-    {
-        match wanted.trace {
-            Some(text) => self.trace.as_slice() == text.as_bytes(),
-            None => true,
-        }
-    }
-
-    fn is_written(&self, wanted: Wanted<'_>) -> bool
-        ensures { IsTrue result → wanted.entry.after_record ≡ false
-            → sink_bytes self.now.sink ≡ wanted.entry.text.now }
+impl Ended<'_> {
+    fn is_written(&self, wanted: &Wanted<'_>) -> bool
+        ensures { IsTrue result → wanted.now.after_record ≡ false
+            → sink_bytes self.now.sink.now ≡ wanted.now.text.now }
     {
         let written = self.sink.bytes();
         if !wanted.after_record {
@@ -238,37 +237,51 @@ impl Ended {
         }
     }
 
-    /// Adds what came of the call of these words, where it didn't end as its case says; tells whether it did.
-    pub fn push_unless_met(
-        &self,
-        alloc: Global,
-        text: &mut Vec<u8>,
-        wanted: Wanted<'_>,
-        words: &[String],
-        front: Option<usize>,
-    ) -> Result<bool, Memory> {
-        if self.is_met(wanted) {
-            return Ok(true);
+    /// Whether the call ended as its case says, but for its lines and files.
+    fn is_met(&self, alloc: Global, wanted: &Wanted<'_>) -> Result<bool, Memory>
+        ensures status { IfOk result (λ met. IsTrue met → self.now.status ≡ wanted.now.status) }
+        ensures text { IfOk result (λ met. IsTrue met → wanted.now.after_record ≡ false
+            → sink_bytes self.now.sink.now ≡ wanted.now.text.now) }
+        ensures trace { IfOk result (λ met. IsTrue met → IfSome wanted.now.trace
+            (λ text. operation_lines (host_store self.now.host.now).trace ≡ text.now)) }
+    {
+        if self.status != wanted.status || !self.is_written(wanted) || self.is_held_out {
+            return Ok(false);
         }
-        let mut names = Vec::new(alloc);
-        for word in words {
-            names.push(Word::Name(word.as_bytes()))?;
+        is_traced(alloc, self.host, wanted.trace)
+    }
+
+    /// Tells what the call left that isn't as its case says.
+    fn tell_others(&self, trial: &mut Trial, given: &Given<'_>) {
+        if self.is_held_out {
+            trial.tell("  held to its limit", &[]);
         }
-        push_line(alloc, text, "  words", &names)?;
-        if let Some(front) = front {
-            push_line(alloc, text, "  front", &[Word::Number(front as u64)])?;
+        tell_missing(trial, self.sink.bytes(), given.case);
+        tell_deliveries(trial, self.host, given.case);
+        tell_stored(trial, self.host, given.case);
+        tell_not_stored(trial, self.host, given.case);
+        tell_trace(trial, self.host, given.wanted.trace);
+    }
+
+    /// Tells what came of the call of these words, where it didn't end as its case says; answers whether it did.
+    pub fn tell_unless_met(&self, trial: &mut Trial, given: &Given<'_>, words: &[String]) -> bool {
+        tell_call(trial, words, given.cut);
+        trial.tell("  status", &[Word::Number(u64::from(self.status))]);
+        trial.tell_quoted(self.sink.bytes());
+        let told = trial.text.len();
+        self.tell_others(trial, given);
+        match self.is_met(trial.alloc, &given.wanted) {
+            Ok(is_met) => {
+                let is_met = is_met && trial.text.len() == told;
+                if is_met {
+                    trial.text.clear();
+                }
+                is_met
+            }
+            Err(Memory) => {
+                trial.complain(Complaint::Memory);
+                false
+            }
         }
-        let status = Word::Number(u64::from(self.status));
-        push_line(alloc, text, "  status", &[status])?;
-        push_quoted(text, self.sink.bytes())?;
-        if self.held_out {
-            push_line(alloc, text, "  held to its limit", &[])?;
-        }
-        text.extend_from_slice(&self.others)?;
-        if !self.is_traced(wanted) {
-            push_line(alloc, text, "  trace", &[])?;
-            push_quoted(text, &self.trace)?;
-        }
-        Ok(false)
     }
 }

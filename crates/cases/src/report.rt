@@ -1,12 +1,13 @@
 //! The lines that tell how the cases went.
 
-use crate::calling::difference_of;
-use crate::case::{Complaint, OF_CASE, OF_FILE, table_at, table_of, unknown_key};
-use outside::{Memory, Word, push_line};
+use crate::calling::is_case_met;
+use crate::case::{Complaint, OF_CASE, OF_FILE, Trial, unknown_key};
+use outside::Memory;
 use std::alloc::Global;
 use std::collections::BTreeSet;
 use std::sync::Wait;
 use std::thread::Threads;
+use toml::de::Error;
 use toml::{Table, Value};
 
 /// What has been told so far.
@@ -30,6 +31,28 @@ impl Report {
         }
     }
 
+    fn add(&mut self, pieces: &[&str]) -> Result<(), Memory> {
+        for piece in pieces {
+            self.text.extend_from_slice(piece.as_bytes())?;
+        }
+        Ok(())
+    }
+
+    /// Tells that something can't be read.
+    pub fn add_unread(&mut self, pieces: &[&str]) -> Result<(), Memory> {
+        self.unread = self.unread.saturating_add(1);
+        self.add(&["unread "])?;
+        self.add(pieces)?;
+        self.add(&["\n"])
+    }
+
+    /// Tells in a line that a file is no TOML.
+    fn add_fault(&mut self, alloc: Global, file: &str, fault: &Error) -> Result<(), Memory> {
+        let lines = format!(in alloc; "{fault}")?;
+        let line = lines.as_str().trim_end().replace(alloc, "\n", " ")?;
+        self.add_unread(&[file, ": ", line.as_str()])
+    }
+
     /// Tells the cases of a file, and what of it can't be read.
     pub fn add_file<R: Threads + Wait + Sync>(
         &mut self,
@@ -45,47 +68,28 @@ impl Report {
                 told
             }
             Err(fault) => {
-                let lines = format!(in alloc; "{fault}")?;
-                let line = lines.as_str().trim_end().replace(alloc, "\n", " ")?;
-                self.add_unread(alloc, name, line.as_str())
+                let told = self.add_fault(alloc, name, &fault);
+                drop(fault);
+                told
             }
         }
-    }
-
-    /// Tells that something can't be read.
-    pub fn add_unread(&mut self, alloc: Global, place: &str, why: &str) -> Result<(), Memory> {
-        self.unread = self.unread.saturating_add(1);
-        let line = format!(in alloc; "unread {place}: {why}\n")?;
-        self.text.extend_from_slice(line.as_bytes())?;
-        Ok(())
     }
 
     fn add_cases<R: Threads + Wait + Sync>(
         &mut self,
         rt: &R,
         alloc: Global,
-        file_name: &str,
+        place: &str,
         file: &Table,
     ) -> Result<(), Memory> {
         if let Some(key) = unknown_key(file, OF_FILE) {
-            let why = format!(in alloc; "unknown key {key}")?;
-            return self.add_unread(alloc, file_name, why.as_str());
+            return self.add_unread(&[place, ": unknown key ", key]);
         }
-        let Ok(Some(cases)) = table_at(file, "case") else {
-            return self.add_unread(alloc, file_name, "there are no cases");
+        let Some(Value::Table(cases)) = file.get("case") else {
+            return self.add_unread(&[place, ": there are no cases"]);
         };
         for (name, case) in cases.iter() {
-            let name = name.as_str();
-            let place = format!(in alloc; "{file_name}: {name}")?;
-            match self.add_case(rt, alloc, file, place.as_str(), name, case) {
-                Ok(()) => {}
-                Err(Complaint::Memory) => return Err(Memory),
-                Err(Complaint::Misfit(key)) => {
-                    let why = format!(in alloc; "nothing, or nothing that fits, at {key}")?;
-                    self.add_unread(alloc, place.as_str(), why.as_str())?
-                }
-                Err(Complaint::Idle(why)) => self.add_unread(alloc, place.as_str(), why)?,
-            }
+            self.add_case(rt, alloc, file, (place, name.as_str()), case)?;
         }
         Ok(())
     }
@@ -96,39 +100,80 @@ impl Report {
         rt: &R,
         alloc: Global,
         file: &Table,
-        place: &str,
-        name: &str,
+        (place, name): (&str, &str),
         case: &Value,
-    ) -> Result<(), Complaint> {
-        let case = table_of(case, "case")?;
-        if let Some(key) = unknown_key(case, OF_CASE) {
-            let why = format!(in alloc; "unknown key {key}")?;
-            self.add_unread(alloc, place, why.as_str())?;
-            return Ok(());
-        }
-        if name.is_empty() || name.contains(' ') {
-            return Err(Complaint::Idle("a name is one word"));
-        }
-        if !self.names.insert(String::from_str(alloc, name)?)? {
-            return Err(Complaint::Idle("another case has this name"));
-        }
-        let difference = difference_of(rt, alloc, file, case)?;
-        self.cases = self.cases.saturating_add(1);
-        let verdict = if difference.is_empty() {
-            "ok"
-        } else {
-            self.differing = self.differing.saturating_add(1);
-            "differs"
+    ) -> Result<(), Memory> {
+        let Value::Table(case) = case else {
+            return self.add_unread(&[place, ": ", name, ": no table"]);
         };
-        push_line(alloc, &mut self.text, verdict, &[Word::Plain(name)])?;
-        self.text.extend_from_slice(&difference)?;
+        if let Some(key) = unknown_key(case, OF_CASE) {
+            return self.add_unread(&[place, ": ", name, ": unknown key ", key]);
+        }
+        let mut trial = Trial::new(alloc);
+        self.enter_name(&mut trial, name);
+        let is_met = trial.complaint.is_none() && is_case_met(rt, &mut trial, file, case);
+        let told = self.add_trial(&trial, is_met, (place, name));
+        drop(trial);
+        told
+    }
+
+    /// Keeps a case's name, which is one word, and its own.
+    fn enter_name(&mut self, trial: &mut Trial, name: &str) {
+        if name.is_empty() || name.contains(' ') {
+            trial.complain(Complaint::Idle("a name is one word"));
+        }
+        match String::from_str(trial.alloc, name) {
+            Ok(name) => match self.names.insert(name) {
+                Ok(true) => {}
+                Ok(false) => trial.complain(Complaint::Idle("another case has this name")),
+                Err(_) => trial.complain(Complaint::Memory),
+            },
+            Err(_) => trial.complain(Complaint::Memory),
+        }
+    }
+
+    /// Tells why a case of a file isn't tried.
+    fn add_complaint<'a>(
+        &mut self,
+        (place, name): (&'a str, &'a str),
+        why: &'a str,
+        key: &'a str,
+    ) -> Result<(), Memory> {
+        self.add_unread(&[place, ": ", name, ": ", why, key])
+    }
+
+    fn add_trial(
+        &mut self,
+        trial: &Trial,
+        is_met: bool,
+        (place, name): (&str, &str),
+    ) -> Result<(), Memory> {
+        match trial.complaint {
+            Some(Complaint::Memory) => Err(Memory),
+            Some(Complaint::Misfit(key)) => {
+                let why = "nothing, or nothing that fits, at ";
+                self.add_complaint((place, name), why, key)
+            }
+            Some(Complaint::Idle(why)) => self.add_complaint((place, name), why, ""),
+            None => self.add_verdict(name, is_met, &trial.text),
+        }
+    }
+
+    fn add_verdict(&mut self, name: &str, is_met: bool, text: &[u8]) -> Result<(), Memory> {
+        self.cases = self.cases.saturating_add(1);
+        if !is_met {
+            self.differing = self.differing.saturating_add(1);
+        }
+        let verdict = if is_met { "ok " } else { "differs " };
+        self.add(&[verdict, name, "\n"])?;
+        self.text.extend_from_slice(text)?;
         Ok(())
     }
 
     /// All that was told, with the line that counts the cases.
     pub fn finish(&mut self, alloc: Global) -> Result<&[u8], Memory> {
         let last = format!(in alloc; "{} cases, {} differ\n", self.cases, self.differing)?;
-        self.text.extend_from_slice(last.as_bytes())?;
+        self.add(&[last.as_str()])?;
         Ok(&self.text)
     }
 

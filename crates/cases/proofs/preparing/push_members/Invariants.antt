@@ -1,5 +1,5 @@
 use Rattle.std.proofs.Common.{◌≡◌, length}
-use Rattle.cases.proofs.preparing.crew_of.Given as goal
+use Rattle.cases.proofs.preparing.push_members.Given as goal
 
 abbrev pub invariant-loop-member : goal.invariant-loop-member
 invariant-loop-member l = length l.crew.items ≡ l.member
