@@ -225,6 +225,16 @@ def refused_files(work):
         assert (place / KEPT).read_text() == text
 
 
+def of_a_refused_request(work):
+    """Why a request has no plan is told in the program's own line."""
+    place, _ = diamond(work, "emptied")
+    (place / "request.json").write_text("{}")
+    (place / KEPT).write_text("word alone\nword request.json\ngrant 0 0\n")
+    told = subprocess.run([sys.executable, SALVAGE], cwd=place, capture_output=True, text=True)
+    wanted = "salvage: the plan of request.json can't be had: refused request missing /workflow\n"
+    assert (told.returncode, told.stdout, told.stderr) == (1, "", wanted), told
+
+
 def while_it_builds(work):
     """Where no program is built salvage has the script build it, and what that tells is seen."""
     place, request = diamond(work, "unbuilt")
@@ -234,7 +244,8 @@ def while_it_builds(work):
     (top / "pegasus").chmod(0o755)
     (place / KEPT).write_text(f"word alone\nword {request}\ngrant 0 0\n")
     told = subprocess.run([sys.executable, top / "tools" / "salvage"], cwd=place, capture_output=True, text=True)
-    assert (told.returncode, told.stdout) == (1, "") and told.stderr.startswith("pegasus: building\n"), told
+    wanted = f"pegasus: building\nsalvage: the plan of {request} can't be had: the call ended with 70\n"
+    assert (told.returncode, told.stdout, told.stderr) == (1, "", wanted), told
 
 
 def main(words):
@@ -250,6 +261,7 @@ def main(words):
         kept_as_printed(library, work)
         without_a_file(work)
         refused_files(work)
+        of_a_refused_request(work)
         while_it_builds(work)
         print(f"killed runs: seed {asked.seed}", flush=True)
         came = kill_random_workflows(asked.seed, asked.seconds, library, work)

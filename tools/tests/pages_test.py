@@ -120,8 +120,8 @@ def number(text, pattern):
 LIMITS = (
     (r"at most ([\d,]+) jobs", "workflow_reader/specs/Linking.antt", r"few Jobs (\d+)"),
     (r"([\d,]+) files and", "workflow_reader/specs/Linking.antt", r"few Files (\d+)"),
-    (r"(\d+) sites, its plan", "peg_json/specs/Sites.antt", r"few Sites (\d+)"),
-    (r"its plan ([\d,]+) tasks", "pegasus_commands/specs/Commands/Plan.antt", r"task_limit = (\d+)"),
+    (r"(\d+) sites, its plan", "peg_json/specs/Elements.antt", r"few Sites (\d+)"),
+    (r"its plan ([\d,]+) tasks", "pegasus_commands/specs/code/Commands/Plan.antt", r"task_limit = (\d+)"),
     (r"a document ([\d,]+) bytes", "pegasus_commands/specs/Course.antt", r"document_limit = (\d+)"),
 )
 

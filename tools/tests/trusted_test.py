@@ -1,9 +1,14 @@
-"""Tests of tools/trusted: README says what it counts, and it follows names over small definitions."""
+"""Tests of tools/trusted: README says what it counts, it follows names over small definitions, and what the headline reaches is
+what stands outside specs/code in the crates that it reaches."""
+import collections
 import pathlib
 import re
 import shutil
 import subprocess
 import sys
+
+sys.path.insert(0, "tools")
+import beside
 
 work = pathlib.Path(sys.argv[1])
 COUNTED = r"([\d,]+) lines, ([\d,]+) definitions, ([\d,]+) files"
@@ -23,7 +28,17 @@ assert status == 0 and len(lines) > 10, lines
 told, counted = figures(pathlib.Path("README.md").read_text(encoding="utf-8")), figures(lines[-1])
 assert told == counted, f"README says {told} lines, definitions and files, and tools/trusted counts {counted}"
 assert sum(int(line.split()[0]) for line in lines[:-1]) == counted[0]
+listed = [line.split() for line in call("tools/trusted", "--list")[1][:counted[1]]]
 assert len(call("tools/trusted", "--list")[1]) == counted[1] + len(lines)
+reached = {(path, name) for _, path, name in listed}
+names = collections.Counter(name for _, name in reached)
+assert max(names.values()) == 1, f"two definitions that the headline reaches are named {names.most_common(1)[0][0]}"
+trusted = beside.load("trusted")
+for crate in {pathlib.Path(path).parts[1] for path, _ in reached}:
+    for file in pathlib.Path("crates", crate, "specs").rglob("*.antt"):
+        for name in trusted.read(str(file)).definitions:
+            is_code = "code" in (*file.parts[3:-1], file.stem)
+            assert is_code != ((str(file), name) in reached), f"{file}: {name} {'is' if is_code else 'is not'} reached by the headline"
 assert call("tools/trusted", "pegasus_cli.specs.Headline", "Nowhere")[0] == 2
 assert call("tools/trusted", "pegasus_cli.specs.Headline")[0] == 2
 

@@ -1,8 +1,8 @@
 //! What a call of a case left, and how that differs from what the case says.
 
 ghost use Rattle.std.specs.Prelude.{◌≡◌, ◌↔◌, IfOk, IfSome, IsTrue, false, option_map};
-ghost use Rattle.outside.specs.MemoryHost.{host_store};
-ghost use Rattle.outside.specs.MemorySink.{sink_bytes};
+ghost use Rattle.outside.specs.code.MemoryHost.{host_store};
+ghost use Rattle.outside.specs.code.MemorySink.{sink_bytes};
 ghost use Rattle.cases.specs.Trace.{operation_lines};
 
 use crate::case::{Complaint, Trial};

@@ -13,13 +13,16 @@ use Rattle.plan_core.specs.declared.plan.Pair.{Pair}
 use Rattle.plan_core.specs.declared.plan.Task.{Task}
 use Rattle.plan_core.specs.declared.plan.TaskKind.{TaskKind}
 use Rattle.plan_core.specs.declared.plan.TaskKind.TheVariants.{Transfer, Run, Clean}
-use Rattle.plan_core.specs.Carried.{Bytes, IsCarrying, carried, carried_by, read, stored, writer}
-use Rattle.plan_core.specs.Grounded.{Grounded, ground}
-use Rattle.plan_core.specs.Kinds.{carries, kind_carries, kind_reads, kind_writes, on_pair, reads_file, writes_file, waits_for}
+use Rattle.plan_core.specs.Carried.{Bytes, carried, carried_by, read, stored, writer}
+use Rattle.plan_core.specs.code.Carried.{IsCarrying}
+use Rattle.plan_core.specs.code.Grounded.{Grounded, ground}
+use Rattle.plan_core.specs.code.Kinds.{carries, kind_carries}
+use Rattle.plan_core.specs.Kinds.{kind_reads, kind_writes, on_pair, reads_file, writes_file, waits_for}
 use Rattle.plan_core.specs.Numbers.{below, has}
-use Rattle.plan_core.specs.Proper.{AreParents, HasFlow, HasTables, IsInRange, IsProper, IsTask, is_kind_in_range, is_parent}
+use Rattle.plan_core.specs.code.Proper.{AreParents, HasFlow, HasTables, IsInRange, IsProper, IsTask, is_kind_in_range, is_parent}
 use Rattle.plan_core.specs.Words.{cleans, count_pairs, count_tasks, declared, delivers, is_clean, is_clean_kind, is_run, is_run_kind, kind, kind_cleans, kind_delivers, kind_in, pair_numbers, parents}
-use Rattle.cleanup_refiner.specs.Cleans.{HasNoClean, clean_of, cleans_of, touches, with_cleans}
+use Rattle.cleanup_refiner.specs.code.Cleans.{HasNoClean}
+use Rattle.cleanup_refiner.specs.Cleans.{clean_of, cleans_of, touches, with_cleans}
 use Rattle.cleanup_refiner.proofs.NumbersLemmas.{below_has, has_below, least_beyond, same_least}
 use Rattle.cleanup_refiner.proofs.CleanTaskLemmas.{Standing, Old, New, Past, clean_parents, clean_waits, listed_is, longer, many_tasks, nothing_below, old_kind, old_parents, old_waits, old_writes, past_parents, past_waits, standing, waits_for_old, writer_is_old}
 

@@ -8,9 +8,11 @@ use Rattle.std.proofs.lemmas.Option.{slice_get_past}
 use Rattle.std.proofs.lemmas.List.Folds.{list_any_at}
 use Rattle.std.proofs.lemmas.List.Elements.{All-from_get_or}
 use Rattle.std.proofs.Math.Nat.{le-max_left, le-max_right}
-use Rattle.digraph.specs.Adjacency.{AreNeighbours, IsRising, lists_of, neighbours}
+use Rattle.digraph.specs.Adjacency.{AreNeighbours, IsRising, neighbours}
+use Rattle.digraph.specs.code.Adjacency.{lists_of}
 use Rattle.plan_core.specs.declared.plan.Plan.{Plan}
-use Rattle.plan_core.specs.Numbers.{RisesFrom, below, has}
+use Rattle.plan_core.specs.code.Numbers.{RisesFrom}
+use Rattle.plan_core.specs.Numbers.{below, has}
 use Rattle.plan_core.specs.Words.{count_pairs, count_tasks, reads, reads_in, writes, writes_in}
 use Rattle.cleanup_refiner.specs.Cleans.{clean_of, touched, touches}
 use Rattle.cleanup_refiner.proofs.NumbersLemmas.{has_append}

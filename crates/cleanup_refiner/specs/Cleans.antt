@@ -1,13 +1,13 @@
 -- A plan with a Clean for each of its pairs.
-use Rattle.std.specs.Prelude.{◌≡◌, ℕ, ◌++◌, Bool, true, false, List, [], map}
+use Rattle.std.specs.Prelude.{ℕ, ◌++◌, Bool, true, List, [], map}
 use Rattle.values.specs.declared.numbers.TaskId.{TaskId}
+use Rattle.plan_request.specs.declared.request.Cleanup.{Cleanup}
+use Rattle.plan_request.specs.declared.request.Cleanup.TheVariants.{None, Inplace, Constraint}
 use Rattle.plan_core.specs.declared.plan.Plan.{Plan}
 use Rattle.plan_core.specs.declared.plan.Task.{Task}
 use Rattle.plan_core.specs.declared.plan.TaskKind.TheVariants.{Clean}
 use Rattle.plan_core.specs.Numbers.{below, has}
-use Rattle.plan_core.specs.Words.{count_pairs, count_tasks, is_clean, reads, writes}
-use Rattle.plan_request.specs.declared.request.Cleanup.{Cleanup}
-use Rattle.plan_request.specs.declared.request.Cleanup.TheVariants.{None, Inplace, Constraint}
+use Rattle.plan_core.specs.Words.{count_pairs, count_tasks, reads, writes}
 
 -- what a task writes and reads
 abbrev pub touched : Plan → ℕ → List ℕ
@@ -37,11 +37,7 @@ abbrev pub with_cleans : Plan → Plan
 with_cleans p = record p { tasks = p.tasks ++ cleans_of p }
 
 -- the plan with the Cleans that a strategy adds
-abbrev pub cleaned : Cleanup → Plan → Plan
-cleaned None p = p
-cleaned Inplace p = with_cleans p
-cleaned Constraint p = with_cleans p
-
--- no task is a Clean
-abbrev pub HasNoClean : Plan → Type 0
-HasNoClean p = (t : ℕ) → is_clean p t ≡ false
+abbrev pub with_cleanup : Cleanup → Plan → Plan
+with_cleanup None p = p
+with_cleanup Inplace p = with_cleans p
+with_cleanup Constraint p = with_cleans p

@@ -1,1 +1,3 @@
 pub mod Cleans
+-- What only the code's own contracts say.
+pub mod code

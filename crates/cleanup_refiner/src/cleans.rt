@@ -1,12 +1,12 @@
 //! The Cleans of a plan.
 
 ghost use Rattle.std.specs.Prelude.{◌≡◌, ◌≤◌, ◌+◌, ◌<◌, ℕ, [], map, length, max, IfOk, IfErr, ◌++◌};
-ghost use Rattle.digraph.specs.Digraph.{count, edge};
+ghost use Rattle.digraph.specs.code.Digraph.{count, edge};
 ghost use Rattle.values.specs.declared.numbers.PairId.{PairId as Pair};
 ghost use Rattle.plan_core.specs.declared.plan.TaskKind.TheVariants.{Clean};
-ghost use Rattle.plan_core.specs.Proper.{IsProper};
+ghost use Rattle.plan_core.specs.code.Proper.{IsProper};
 ghost use Rattle.plan_core.specs.Words.{count_pairs, count_tasks};
-ghost use Rattle.cleanup_refiner.specs.Cleans.{cleaned, cleans_of, task, touches};
+ghost use Rattle.cleanup_refiner.specs.Cleans.{with_cleanup, cleans_of, task, touches};
 
 use crate::touching::touching;
 use digraph::Digraph;
@@ -77,7 +77,7 @@ fn cleans(alloc: Global, plan: &Plan) -> Result<Vec<Task>, Memory>
 /// Adds the Cleans that a strategy asks for, in n log n of the plan's size.
 pub fn add_cleans(alloc: Global, plan: Plan, strategy: Cleanup) -> Result<Plan, CleanRefused>
     requires { IsProper plan }
-    ensures ok { IfOk result (λ p. p ≡ cleaned strategy plan) }
+    ensures ok { IfOk result (λ p. p ≡ with_cleanup strategy plan) }
     ensures err { IfErr result (λ r. r.plan ≡ plan) }
 {
     if let Cleanup::None = strategy {

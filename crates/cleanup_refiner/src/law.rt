@@ -3,11 +3,12 @@
 ghost use Rattle.std.specs.Prelude.{◌≡◌, ◌<◌, ◌≤◌, ◌+◌, ◌^◌, ℕ, Option, false, true};
 ghost use Rattle.values.specs.Apply.{Apply};
 ghost use Rattle.plan_core.specs.declared.plan.Plan.{Plan};
-ghost use Rattle.plan_core.specs.Kinds.{carries};
+ghost use Rattle.plan_core.specs.code.Kinds.{carries};
 ghost use Rattle.plan_core.specs.Words.{count_pairs, count_tasks};
-ghost use Rattle.plan_core.specs.Proper.{IsProper};
+ghost use Rattle.plan_core.specs.code.Proper.{IsProper};
 ghost use Rattle.plan_core.specs.Carried.{Bytes, carried};
-ghost use Rattle.cleanup_refiner.specs.Cleans.{HasNoClean, with_cleans};
+ghost use Rattle.cleanup_refiner.specs.code.Cleans.{HasNoClean};
+ghost use Rattle.cleanup_refiner.specs.Cleans.{with_cleans};
 
 use plan_core::{carried_is_carried_along, ways_back_end};
 

@@ -1,9 +1,10 @@
 //! Which tasks write or read each pair.
 
 ghost use Rattle.std.specs.Prelude.{◌≡◌, ◌<◌, ◌^◌, ◌++◌, ℕ, length, max, IfOk, OnOk};
-ghost use Rattle.digraph.specs.Adjacency.{lists_of, neighbours};
-ghost use Rattle.digraph.specs.Digraph.{count, edge};
-ghost use Rattle.plan_core.specs.Proper.{IsProper};
+ghost use Rattle.digraph.specs.code.Adjacency.{lists_of};
+ghost use Rattle.digraph.specs.Adjacency.{neighbours};
+ghost use Rattle.digraph.specs.code.Digraph.{count, edge};
+ghost use Rattle.plan_core.specs.code.Proper.{IsProper};
 ghost use Rattle.plan_core.specs.Words.{count_pairs, count_tasks, pair_numbers};
 ghost use Rattle.cleanup_refiner.specs.Cleans.{touched, touches};
 

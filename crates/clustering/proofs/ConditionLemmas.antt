@@ -15,13 +15,13 @@ use Rattle.digraph.specs.Distances.{Walk}
 use Rattle.dependency_graph.specs.Edges.{edge, is_among, is_paired, passes_file, read_by, written_by}
 use Rattle.dependency_graph.specs.Graph.{IsGraphOf, Links, jobs_at, numbers}
 use Rattle.dependency_graph.specs.Levels.{AreLevels, above, above_all, is_kept, level}
-use Rattle.dependency_graph.specs.Ranking.{AreOnce, IsRanked, comes_before}
+use Rattle.dependency_graph.specs.Ranking.{HasNoRepeats, IsRanked, comes_before}
 use Rattle.dependency_graph.proofs.ValueLemmas.{any_in}
 use Rattle.dependency_graph.proofs.TestLemmas.{by_bool, has_at, itself, or_case, or_left, or_right}
-use Rattle.clustering.specs.Singles.{job_numbers}
+use Rattle.dependency_graph.specs.Graph.{numbers as job_numbers}
 use Rattle.clustering.specs.Gathering.{gathered, is_of_part}
-use Rattle.clustering.specs.Runs.{IsGroup}
-use Rattle.clustering.specs.Condition.{AreParts, BeginsKept, IsOnce, IsOrdered, leads, part_of, writes}
+use Rattle.clustering.specs.code.Runs.{IsGroup}
+use Rattle.clustering.specs.code.Condition.{AreParts, BeginsKept, IsOnce, IsOrdered, leads, part_of, writes}
 use Rattle.clustering.proofs.SinglesLemmas.{any_turned, distinct, ranked_few}
 use Rattle.clustering.proofs.GatheredLemmas.{Every, IsPart, Rises, every_as, every_at, gathered_apart, gathered_few, gathered_parts, goes_with, one_part, part_at, rises_after, rises_once}
 
@@ -122,7 +122,7 @@ rising_ordered w kept levels p up rises keeps done later j e f r made =
     let all : (list_any (writes w f) done || list_any (writes w f) (j ∷ later)) ≡ true = sym (list_any-append (writes w f) done (j ∷ later)) ∙ (ap (list_any (writes w f)) (sym e) ∙ made) in
     or_case (list_any (writes w f) done) (list_any (writes w f) (j ∷ later)) all (λ k. k) (λ k. absurd (let x : true ≡ false = sym k ∙ none in cc))
 
-once_split : (js : List JobId) → AreOnce (job_numbers js) → IsOnce js
+once_split : (js : List JobId) → HasNoRepeats (job_numbers js) → IsOnce js
 once_split [] once [] later j e = absurd cc
 once_split [] once (x ∷ done) later j e = absurd cc
 once_split (x ∷ js) once [] later j e =
@@ -184,7 +184,7 @@ level_acyclic w kept levels goes ps same h c r = let less = walks_up w kept leve
 
 -- ---- the condition
 
-part_once : (goes : JobId → JobId → Bool) (levels : List ℕ) (kept : List Bool) (p : List JobId) → IsPart goes (before levels) (Kept kept) [] p → AreOnce (job_numbers p)
+part_once : (goes : JobId → JobId → Bool) (levels : List ℕ) (kept : List Bool) (p : List JobId) → IsPart goes (before levels) (Kept kept) [] p → HasNoRepeats (job_numbers p)
 part_once goes levels kept [] h = absurd h
 part_once goes levels kept (f ∷ js) h = rises_once (before levels) (not_itself levels) (f ∷ js) (subst (Rises (before levels)) (ap (λ (xs : List JobId). f ∷ xs) (append-nil js)) h.1)
 
@@ -236,12 +236,12 @@ every_get P [] i d h l = absurd (omega (arith, l))
 every_get P (j ∷ js) zero d h l = h.0
 every_get P (j ∷ js) (suc i) d h l = every_get P js i d h.1 (omega (arith, l))
 
-few_once : (n : ℕ) (js : List JobId) → AreOnce (job_numbers js) → Every (λ (j : JobId). j.0 < n) js → length js ≤ n
+few_once : (n : ℕ) (js : List JobId) → HasNoRepeats (job_numbers js) → Every (λ (j : JobId). j.0 < n) js → length js ≤ n
 few_once n js once below =
     subst (λ (m : ℕ). m ≤ n) (length-map js (λ (j : JobId). j.0))
     (length-le_from_distinct_below (job_numbers js) n (distinct (job_numbers js) once) (λ q h. every_at (λ (j : JobId). j.0 < n) js q below (sym (any_turned q (job_numbers js)) ∙ h)))
 
-group_is : (n : ℕ) (js : List JobId) → n ≤ 10000 → AreOnce (job_numbers js) → Every (λ (j : JobId). j.0 < n) js → IsGroup n js
+group_is : (n : ℕ) (js : List JobId) → n ≤ 10000 → HasNoRepeats (job_numbers js) → Every (λ (j : JobId). j.0 < n) js → IsGroup n js
 group_is n js small once below = record {
   few = let few = few_once n js once below in omega (arith, few, small);
   once = once;

@@ -9,19 +9,21 @@ use Rattle.std.proofs.lemmas.List.{drop_more, length-map}
 use Rattle.std.proofs.lemmas.List.Folds.{list_any-append}
 use Rattle.values.specs.declared.numbers.JobId.{JobId}
 use Rattle.workflow_core.specs.declared.workflow.Workflow.{Workflow}
-use Rattle.digraph.specs.Adjacency.{has, neighbours}
+use Rattle.digraph.specs.Adjacency.{has_node as has, neighbours}
 use Rattle.dependency_graph.specs.Edges.{edge, is_among}
 use Rattle.dependency_graph.specs.Graph.{IsGraphOf, Links, jobs_at, numbers}
 use Rattle.dependency_graph.specs.Ranking.{IsRanked}
 use Rattle.dependency_graph.proofs.TestLemmas.{by_bool, itself, or_case, or_left, or_right}
 use Rattle.dependency_graph.proofs.ValueLemmas.{any_in}
-use Rattle.clustering.specs.Basis.{Basis}
-use Rattle.clustering.specs.Singles.{job_numbers}
-use Rattle.clustering.specs.Runs.{IsGroup, is_job}
-use Rattle.clustering.specs.Condition.{leads, part_of}
+use Rattle.clustering.specs.Basis.{ClusteringInput}
+use Rattle.dependency_graph.specs.Graph.{numbers as job_numbers}
+use Rattle.clustering.specs.code.Runs.{IsGroup}
+use Rattle.clustering.specs.Runs.{is_job}
+use Rattle.clustering.specs.code.Condition.{leads, part_of}
 use Rattle.clustering.specs.Gathering.{gathered}
-use Rattle.clustering.specs.Labels.{holder, holder_from, holder_in, label_at, labels_of, number_without, same_label}
-use Rattle.clustering.specs.Cycles.{other_parts, part_sources, sources_from, unless_part}
+use Rattle.clustering.specs.code.Labels.{holder, holder_from, holder_in}
+use Rattle.clustering.specs.Labels.{label_at, labels_of, number_without, same_label}
+use Rattle.clustering.specs.code.Cycles.{other_parts, part_sources, sources_from, unless_part}
 use Rattle.clustering.proofs.ConditionLemmas.{Kept, are_groups, before, parents_are, ranked_keeps, ranked_rises, some_of}
 use Rattle.clustering.proofs.GatheredLemmas.{gathered_apart, gathered_few, gathered_parts, one_part}
 use Rattle.clustering.proofs.SinglesLemmas.{ranked_few}
@@ -213,13 +215,13 @@ sources_step table parents n i ps p done all one l is made h = append_assoc done
 
 -- ---- the graph of the parts of each label
 
-pub label_equal : (b : Basis) → IsEquivalence (same_label b)
+pub label_equal : (b : ClusteringInput) → IsEquivalence (same_label b)
 label_equal b =
     and_equiv
     (on_equiv (λ (j : JobId). label_at b j.0) (options_equiv nat_list_eq_equiv))
     (on_equiv (λ (j : JobId). number_without (label_at b j.0) j.0) (options_equiv nat_eq_equiv))
 
-one_label : (b : Basis) (kept : List Bool) (jobs : List JobId) → IsRanked kept b.levels (job_numbers jobs)
+one_label : (b : ClusteringInput) (kept : List Bool) (jobs : List JobId) → IsRanked kept b.levels (job_numbers jobs)
     → (x y n : ℕ) → is_among n (job_numbers (part_of (labels_of b jobs) x)) ≡ true → is_among n (job_numbers (part_of (labels_of b jobs) y)) ≡ true → x ≡ y
 unfolding labels_of
 one_label b kept jobs ranked =
@@ -227,7 +229,7 @@ one_label b kept jobs ranked =
     (gathered_parts (same_label b) (before b.levels) (Kept kept) jobs (ranked_keeps kept b.levels jobs ranked) (ranked_rises kept b.levels jobs ranked))
     (gathered_apart (same_label b) jobs)
 
-pub label_edges : (w : Workflow) (g : Links) (b : Basis) (kept : List Bool) (jobs : List JobId) (table : List (Option ℕ)) → IsGraphOf w g → IsRanked kept b.levels (job_numbers jobs)
+pub label_edges : (w : Workflow) (g : Links) (b : ClusteringInput) (kept : List Bool) (jobs : List JobId) (table : List (Option ℕ)) → IsGraphOf w g → IsRanked kept b.levels (job_numbers jobs)
     → ((j : JobId) → holder_in table j ≡ holder (labels_of b jobs) j) → (x y : ℕ) → has x (neighbours (sources_from table g.parents 0 (labels_of b jobs)) y) ≡ leads w (labels_of b jobs) x y
 label_edges w g b kept jobs table graph ranked same x y =
     ap (has x) (sources_at table g.parents 0 (labels_of b jobs) y)
@@ -252,7 +254,7 @@ pub record AreSources (w : Workflow) (ps : List (List JobId)) (lists : List (Lis
   pub edges : (a b : ℕ) → has a (neighbours lists b) ≡ leads w ps a b
   pub in_range : (k : ℕ) → All (λ n. n < length ps) (neighbours lists k)
 
-pub label_sources : (w : Workflow) (g : Links) (b : Basis) (kept : List Bool) (jobs : List JobId) (table : List (Option ℕ)) (lists : List (List ℕ)) → IsGraphOf w g → IsRanked kept b.levels (job_numbers jobs)
+pub label_sources : (w : Workflow) (g : Links) (b : ClusteringInput) (kept : List Bool) (jobs : List JobId) (table : List (Option ℕ)) (lists : List (List ℕ)) → IsGraphOf w g → IsRanked kept b.levels (job_numbers jobs)
     → ((j : JobId) → holder_in table j ≡ holder (labels_of b jobs) j) → lists ≡ sources_from table g.parents 0 (labels_of b jobs) → AreSources w (labels_of b jobs) lists
 label_sources w g b kept jobs table lists graph ranked same are = record {
   long = ap length are ∙ sources_long table g.parents 0 (labels_of b jobs);
@@ -263,15 +265,15 @@ label_sources w g b kept jobs table lists graph ranked same are = record {
     leads_ : (x y : ℕ) → has x (neighbours lists y) ≡ leads w (labels_of b jobs) x y
     leads_ x y = ap (λ (ls : List (List ℕ)). has x (neighbours ls y)) are ∙ label_edges w g b kept jobs table graph ranked same x y
 
-pub label_groups : (b : Basis) (kept : List Bool) (jobs : List JobId) → length kept ≤ 10000 → IsRanked kept b.levels (job_numbers jobs) → (k : ℕ) → IsGroup (length kept) (part_of (labels_of b jobs) k)
+pub label_groups : (b : ClusteringInput) (kept : List Bool) (jobs : List JobId) → length kept ≤ 10000 → IsRanked kept b.levels (job_numbers jobs) → (k : ℕ) → IsGroup (length kept) (part_of (labels_of b jobs) k)
 unfolding labels_of
 label_groups b kept jobs small ranked = are_groups kept b.levels (same_label b) jobs small ranked
 
-pub label_few : (b : Basis) (kept : List Bool) (jobs : List JobId) → length kept ≤ 10000 → IsRanked kept b.levels (job_numbers jobs) → length (labels_of b jobs) ≤ 10000
+pub label_few : (b : ClusteringInput) (kept : List Bool) (jobs : List JobId) → length kept ≤ 10000 → IsRanked kept b.levels (job_numbers jobs) → length (labels_of b jobs) ≤ 10000
 unfolding labels_of
 label_few b kept jobs small ranked = let one = gathered_few (same_label b) jobs in let two = ranked_few kept b.levels jobs ranked in omega (arith, one, two, small)
 
-pub label_jobs : (w : Workflow) (g : Links) (b : Basis) (kept : List Bool) (jobs : List JobId) → IsGraphOf w g → length kept ≤ 10000 → length kept ≡ length w.jobs → IsRanked kept b.levels (job_numbers jobs)
+pub label_jobs : (w : Workflow) (g : Links) (b : ClusteringInput) (kept : List Bool) (jobs : List JobId) → IsGraphOf w g → length kept ≤ 10000 → length kept ≡ length w.jobs → IsRanked kept b.levels (job_numbers jobs)
     → (k : ℕ) → All (λ (j : JobId). j.0 < length g.parents) (part_of (labels_of b jobs) k)
 label_jobs w g b kept jobs graph small long ranked k =
     subst (λ (n : ℕ). All (λ (j : JobId). j.0 < n) (part_of (labels_of b jobs) k))

@@ -4,9 +4,9 @@ use Rattle.std.specs.Prelude.{slice_index_or}
 use Rattle.std.specs.Cmp.{IsEquivalence}
 use Rattle.values.specs.declared.numbers.JobId.{JobId}
 use Rattle.dependency_graph.specs.Edges.{is_among}
-use Rattle.dependency_graph.specs.Ranking.{AreOnce}
+use Rattle.dependency_graph.specs.Ranking.{HasNoRepeats}
 use Rattle.dependency_graph.proofs.TestLemmas.{by_bool}
-use Rattle.clustering.specs.Singles.{job_numbers}
+use Rattle.dependency_graph.specs.Graph.{numbers as job_numbers}
 use Rattle.clustering.specs.Gathering.{gathered, is_of_part, with_job, with_jobs}
 
 abbrev pub Every : {X : Type 0} → (X → Type 0) → List X → Type 0
@@ -49,7 +49,7 @@ pub rises_after : (lt : JobId → JobId → Bool) (done : List JobId) (j : JobId
 rises_after lt [] j later h = h.0
 rises_after lt (i ∷ done) j later h = rises_after lt done j later h.1
 
-pub rises_once : (lt : JobId → JobId → Bool) → ((j : JobId) → lt j j ≡ false) → (js : List JobId) → Rises lt js → AreOnce (job_numbers js)
+pub rises_once : (lt : JobId → JobId → Bool) → ((j : JobId) → lt j j ≡ false) → (js : List JobId) → Rises lt js → HasNoRepeats (job_numbers js)
 rises_once lt never [] h = tt
 rises_once lt never (j ∷ js) h = (
   by_bool (is_among j.0 (job_numbers js))

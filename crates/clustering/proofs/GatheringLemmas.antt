@@ -5,8 +5,9 @@ use Rattle.std.specs.List.{list_any, position_or_len}
 use Rattle.std.specs.declared.alloc.Global.{Global}
 use Rattle.indexmap.specs.IndexSet.{insert_key}
 use Rattle.values.specs.declared.numbers.JobId.{JobId}
-use Rattle.dependency_graph.specs.Graph.{job_lists}
-use Rattle.clustering.specs.Gathering.{gathered, with_at, with_job, with_jobs}
+use Rattle.dependency_graph.specs.code.Graph.{job_lists}
+use Rattle.clustering.specs.Gathering.{gathered, with_job, with_jobs}
+use Rattle.clustering.specs.code.Gathering.{with_at}
 
 -- the keys are those of the parts' first jobs
 abbrev pub AreFirstKeys : {K : Type 0} → (JobId → K) → List K → List (List JobId) → Type 0

@@ -10,12 +10,14 @@ use Rattle.plan_request.specs.declared.request.ClusterMode.TheVariants as mode
 use Rattle.dependency_graph.specs.Edges.{is_among}
 use Rattle.dependency_graph.specs.Levels.{is_kept}
 use Rattle.dependency_graph.proofs.TestLemmas.{itself, or_case, or_left, or_right}
-use Rattle.clustering.specs.Basis.{Basis}
-use Rattle.clustering.specs.Clusters.{ClustersAre}
+use Rattle.clustering.specs.Basis.{ClusteringInput}
+use Rattle.clustering.specs.code.Clusters.{ClustersAre}
 use Rattle.clustering.specs.Gathering.{gathered, is_of_part, with_job, with_jobs}
 use Rattle.clustering.specs.Labels.{labels_of, same_label}
 use Rattle.clustering.specs.Runs.{runs_of, same_run}
-use Rattle.clustering.specs.Singles.{AreSingles, job_numbers, single, singles}
+use Rattle.clustering.specs.code.Singles.{AreSingles}
+use Rattle.clustering.specs.Singles.{single, singles}
+use Rattle.dependency_graph.specs.Graph.{numbers as job_numbers}
 
 -- a job is in one of the parts
 abbrev pub is_in : ℕ → List (List JobId) → Bool
@@ -71,18 +73,18 @@ in_gathered : (goes : JobId → JobId → Bool) (a : ℕ) (js : List JobId) → 
 unfolding gathered
 in_gathered goes a js h = all_come goes a js [] h
 
-in_run : (b : Basis) (a : ℕ) (js : List JobId) → is_among a (job_numbers js) ≡ true → is_in a (runs_of b js) ≡ true
+in_run : (b : ClusteringInput) (a : ℕ) (js : List JobId) → is_among a (job_numbers js) ≡ true → is_in a (runs_of b js) ≡ true
 unfolding runs_of
 in_run b a js h = in_gathered (same_run b js) a js h
 
-in_label : (b : Basis) (a : ℕ) (js : List JobId) → is_among a (job_numbers js) ≡ true → is_in a (labels_of b js) ≡ true
+in_label : (b : ClusteringInput) (a : ℕ) (js : List JobId) → is_among a (job_numbers js) ≡ true → is_in a (labels_of b js) ≡ true
 unfolding labels_of
 in_label b a js h = in_gathered (same_label b) a js h
 
 single_in : (kept : List Bool) (levels : List ℕ) (c : Clusters) → AreSingles kept levels c → (a : ℕ) → is_kept kept a ≡ true → is_in a c.parts ≡ true
 single_in kept levels c are a h = ap (is_in a) are.parts ∙ in_single a are.jobs (are.ranked.kept_ones a ∙ h)
 
-pub kept_clustered : (m : ClusterMode) (w : Workflow) (b : Basis) (kept : List Bool) (c : Clusters) → ClustersAre m w b kept (Ok c) → (a : ℕ) → is_kept kept a ≡ true → is_in a c.parts ≡ true
+pub kept_clustered : (m : ClusterMode) (w : Workflow) (b : ClusteringInput) (kept : List Bool) (c : Clusters) → ClustersAre m w b kept (Ok c) → (a : ℕ) → is_kept kept a ≡ true → is_in a c.parts ≡ true
 kept_clustered mode.Horizontal w b kept c are a h = ap (is_in a) are.parts ∙ in_run b a are.jobs (are.ranked.kept_ones a ∙ h)
 kept_clustered mode.Label w b kept c are a h = ap (is_in a) are.parts ∙ in_label b a are.jobs (are.ranked.kept_ones a ∙ h)
 kept_clustered m w b kept c are a h = single_in kept b.levels c are a h

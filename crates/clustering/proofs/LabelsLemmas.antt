@@ -6,7 +6,7 @@ use Rattle.std.proofs.lemmas.Grind.{get_or-set_at}
 use Rattle.std.proofs.lemmas.List.{drop_more, get_or-set_other, take_more}
 use Rattle.values.specs.declared.numbers.JobId.{JobId}
 use Rattle.dependency_graph.proofs.TestLemmas.{any_more, by_bool, itself}
-use Rattle.clustering.specs.Labels.{holder_from, holder_in}
+use Rattle.clustering.specs.code.Labels.{holder_from, holder_in}
 use Rattle.clustering.specs.Runs.{is_job}
 use Rattle.clustering.proofs.RunsLemmas.{no_job}
 

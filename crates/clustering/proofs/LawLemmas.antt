@@ -11,38 +11,41 @@ use Rattle.values.specs.declared.numbers.SiteId.{SiteId}
 use Rattle.workflow_core.specs.declared.clusters.Clusters.{Clusters}
 use Rattle.workflow_core.specs.declared.workflow.Workflow.{Workflow}
 use Rattle.transformation_catalog.specs.declared.catalog.TransformationCatalog.{TransformationCatalog}
-use Rattle.transformation_catalog.specs.Key.{same_transformation, sameness}
+use Rattle.transformation_catalog.specs.Catalog.{same_transformation}
+use Rattle.transformation_catalog.specs.code.Key.{sameness}
 use Rattle.plan_request.specs.declared.request.ClusterMode.{ClusterMode}
 use Rattle.plan_request.specs.declared.request.ClusterMode.TheVariants as modes
 use Rattle.digraph.specs.Cycle.{Returns}
 use Rattle.dependency_graph.specs.Edges.{is_among}
 use Rattle.dependency_graph.specs.Graph.{IsGraphOf, Links}
 use Rattle.dependency_graph.specs.Levels.{AreLevels, level}
-use Rattle.dependency_graph.specs.Ranking.{AreOnce, IsRanked}
-use Rattle.clustering.specs.Basis.{Basis, basis, same_group, site_at, transformation_at}
-use Rattle.clustering.specs.Clusters.{ClustersAre}
-use Rattle.clustering.specs.Condition.{AreParts, leads}
+use Rattle.dependency_graph.specs.Ranking.{HasNoRepeats, IsRanked}
+use Rattle.clustering.specs.Basis.{ClusteringInput, clustering_input, same_group, site_at, transformation_at}
+use Rattle.clustering.specs.code.Clusters.{ClustersAre}
+use Rattle.clustering.specs.code.Condition.{AreParts, leads}
 use Rattle.clustering.specs.Gathering.{gathered, with_job, with_jobs}
 use Rattle.clustering.specs.Labels.{labels_of, same_label}
-use Rattle.clustering.specs.Runs.{run_of, runs_of, same_run}
-use Rattle.clustering.specs.Singles.{AreSingles, job_numbers, single, singles}
+use Rattle.clustering.specs.Runs.{run_number, runs_of, same_run}
+use Rattle.clustering.specs.code.Singles.{AreSingles}
+use Rattle.clustering.specs.Singles.{single, singles}
+use Rattle.dependency_graph.specs.Graph.{numbers as job_numbers}
 use Rattle.clustering.proofs.ConditionLemmas.{Climbs, Kept, are_parts, before, level_acyclic, ranked_keeps, ranked_rises, rises_along}
 use Rattle.clustering.proofs.CyclesLemmas.{label_equal}
 use Rattle.clustering.proofs.GatheredLemmas.{gathered_parts}
 
 -- ---- runs
 
-group_equal : (b : Basis) → IsEquivalence (same_group b)
+group_equal : (b : ClusteringInput) → IsEquivalence (same_group b)
 group_equal b =
     and_equiv
     (and_equiv (on_equiv (λ (j : JobId). level b.levels j.0) nat_eq_equiv) (on_equiv (λ (j : JobId). site_at b j.0) (options_equiv nat_eq_equiv)))
     (on_equiv (λ (j : JobId). transformation_at b j.0) (options_equiv sameness))
 
-run_equal : (b : Basis) (jobs : List JobId) → IsEquivalence (same_run b jobs)
-run_equal b jobs = and_equiv (group_equal b) (on_equiv (run_of b jobs) nat_eq_equiv)
+run_equal : (b : ClusteringInput) (jobs : List JobId) → IsEquivalence (same_run b jobs)
+run_equal b jobs = and_equiv (group_equal b) (on_equiv (run_number b jobs) nat_eq_equiv)
 
-run_level : (b : Basis) (jobs : List JobId) (i j : JobId) → same_run b jobs i j ≡ true → level b.levels i.0 ≡ level b.levels j.0
-run_level b jobs i j h = eqb-true (level b.levels i.0) (level b.levels j.0) (and_parts levels sites (and_parts (levels && sites) transformations (and_parts (same_group b i j) (nat_eq (run_of b jobs i) (run_of b jobs j)) h).0).0).0
+run_level : (b : ClusteringInput) (jobs : List JobId) (i j : JobId) → same_run b jobs i j ≡ true → level b.levels i.0 ≡ level b.levels j.0
+run_level b jobs i j h = eqb-true (level b.levels i.0) (level b.levels j.0) (and_parts levels sites (and_parts (levels && sites) transformations (and_parts (same_group b i j) (nat_eq (run_number b jobs i) (run_number b jobs j)) h).0).0).0
   where
     levels : Bool
     levels = nat_eq (level b.levels i.0) (level b.levels j.0)
@@ -63,13 +66,13 @@ level_parts w kept levels goes js up equal ranked same =
       each = gathered_parts goes (before levels) (Kept kept) js (ranked_keeps kept levels js ranked) (ranked_rises kept levels js ranked);
     }))
 
-run_parts : (w : Workflow) (b : Basis) (kept : List Bool) (jobs : List JobId) → Climbs w kept b.levels → IsRanked kept b.levels (job_numbers jobs) → AreParts w kept (runs_of b jobs)
+run_parts : (w : Workflow) (b : ClusteringInput) (kept : List Bool) (jobs : List JobId) → Climbs w kept b.levels → IsRanked kept b.levels (job_numbers jobs) → AreParts w kept (runs_of b jobs)
 unfolding runs_of
 run_parts w b kept jobs up ranked = level_parts w kept b.levels (same_run b jobs) jobs up (run_equal b jobs) ranked (run_level b jobs)
 
 -- ---- labels
 
-label_parts : (w : Workflow) (b : Basis) (kept : List Bool) (jobs : List JobId) → Climbs w kept b.levels → IsRanked kept b.levels (job_numbers jobs) → ((a : ℕ) → Returns (leads w (labels_of b jobs)) a → ⊥)
+label_parts : (w : Workflow) (b : ClusteringInput) (kept : List Bool) (jobs : List JobId) → Climbs w kept b.levels → IsRanked kept b.levels (job_numbers jobs) → ((a : ℕ) → Returns (leads w (labels_of b jobs)) a → ⊥)
     → AreParts w kept (labels_of b jobs)
 unfolding labels_of
 label_parts w b kept jobs up ranked acyclic = are_parts w kept b.levels (same_label b) jobs up (label_equal b) ranked acyclic
@@ -106,18 +109,18 @@ other : (x : ℕ) (done : List JobId) (j : JobId) (later : List JobId) → is_am
 other x [] j later h = (neither (nat_eq j.0 x) (is_among x (job_numbers later)) h).0
 other x (i ∷ done) j later h = other x done j later (neither (nat_eq i.0 x) (is_among x (job_numbers (done ++ j ∷ later))) h).1
 
-is_new : (done : List JobId) (j : JobId) (later : List JobId) → AreOnce (job_numbers (done ++ j ∷ later)) → is_among j.0 (job_numbers done) ≡ false
+is_new : (done : List JobId) (j : JobId) (later : List JobId) → HasNoRepeats (job_numbers (done ++ j ∷ later)) → is_among j.0 (job_numbers done) ≡ false
 is_new [] j later once = refl
 is_new (i ∷ done) j later once = none (nat_eq i.0 j.0) (is_among j.0 (job_numbers done)) (nat_eq_equiv.symm i.0 j.0 ∙ other i.0 done j later once.0) (is_new done j later once.1)
 
-one_by_one : (done later : List JobId) → AreOnce (job_numbers (done ++ later)) → with_jobs same_job (singles done) later ≡ singles (done ++ later)
+one_by_one : (done later : List JobId) → HasNoRepeats (job_numbers (done ++ later)) → with_jobs same_job (singles done) later ≡ singles (done ++ later)
 one_by_one done [] once = ap singles (sym (append-nil done))
 one_by_one done (j ∷ later) once =
     ap (λ (ps : List (List JobId)). with_jobs same_job ps later) (alone done j (is_new done j later once) ∙ sym (map-append single done (j ∷ [])))
-    ∙ (one_by_one (done ++ j ∷ []) later (subst (λ (js : List JobId). AreOnce (job_numbers js)) (sym (append_assoc done (j ∷ []) later)) once)
+    ∙ (one_by_one (done ++ j ∷ []) later (subst (λ (js : List JobId). HasNoRepeats (job_numbers js)) (sym (append_assoc done (j ∷ []) later)) once)
     ∙ ap singles (append_assoc done (j ∷ []) later))
 
-all_singles : (js : List JobId) → AreOnce (job_numbers js) → gathered same_job js ≡ singles js
+all_singles : (js : List JobId) → HasNoRepeats (job_numbers js) → gathered same_job js ≡ singles js
 unfolding gathered
 all_singles js once = one_by_one [] js once
 
@@ -132,9 +135,9 @@ singles_are : (w : Workflow) (kept : List Bool) (levels : List ℕ) (c : Cluster
 singles_are w kept levels c up h = subst (AreParts w kept) (sym h.parts) (single_parts w kept levels h.jobs up h.ranked)
 
 pub clusters_parts : (mode : ClusterMode) (w : Workflow) (g : Links) (kept : List Bool) (levels : List ℕ) (sites : List (Option SiteId)) (t : TransformationCatalog) (c : Clusters)
-    → IsGraphOf w g → AreLevels g kept levels → ClustersAre mode w (basis w levels sites t) kept (Ok c) → AreParts w kept c.parts
+    → IsGraphOf w g → AreLevels g kept levels → ClustersAre mode w (clustering_input w levels sites t) kept (Ok c) → AreParts w kept c.parts
 clusters_parts modes.Horizontal w g kept levels sites t c graph leveled h =
-    subst (AreParts w kept) (sym h.parts) (run_parts w (basis w levels sites t) kept h.jobs (rises_along w g kept levels graph leveled) h.ranked)
+    subst (AreParts w kept) (sym h.parts) (run_parts w (clustering_input w levels sites t) kept h.jobs (rises_along w g kept levels graph leveled) h.ranked)
 clusters_parts modes.Label w g kept levels sites t c graph leveled h =
-    subst (AreParts w kept) (sym h.parts) (label_parts w (basis w levels sites t) kept h.jobs (rises_along w g kept levels graph leveled) h.ranked h.acyclic)
+    subst (AreParts w kept) (sym h.parts) (label_parts w (clustering_input w levels sites t) kept h.jobs (rises_along w g kept levels graph leveled) h.ranked h.acyclic)
 clusters_parts mode w g kept levels sites t c graph leveled h = singles_are w kept levels c (rises_along w g kept levels graph leveled) h

@@ -8,13 +8,13 @@ use Rattle.std.proofs.lemmas.List.{drop_more, get_or-set_other, take_more}
 use Rattle.std.proofs.lemmas.List.Sums.{position_or_len_is}
 use Rattle.values.specs.declared.numbers.JobId.{JobId}
 use Rattle.dependency_graph.specs.Edges.{is_among}
-use Rattle.dependency_graph.specs.Ranking.{AreOnce}
+use Rattle.dependency_graph.specs.Ranking.{HasNoRepeats}
 use Rattle.dependency_graph.proofs.TestLemmas.{any_more, by_bool, itself}
 use Rattle.clustering.specs.declared.numbers.Numbers.{Numbers}
-use Rattle.dependency_graph.specs.Graph.{job_lists}
-use Rattle.clustering.specs.Basis.{Basis, group_numbers}
+use Rattle.dependency_graph.specs.code.Graph.{job_lists}
+use Rattle.clustering.specs.Basis.{ClusteringInput, group_numbers}
 use Rattle.clustering.specs.Runs.{is_job, run_among, run_at, run_from, run_in, run_length}
-use Rattle.clustering.specs.Singles.{job_numbers}
+use Rattle.dependency_graph.specs.Graph.{numbers as job_numbers}
 
 abbrev pub at : List ℕ → ℕ → ℕ
 at runs n = slice_index_or runs n 0
@@ -34,7 +34,7 @@ abbrev pub no_job : JobId
 no_job = record { 0 = 0 }
 
 -- no job before the i-th one is it
-not_before : (js : List JobId) (k i : ℕ) → AreOnce (job_numbers js) → k < i → i < length js → is_job (get_or js i no_job) (get_or js k no_job) ≡ false
+not_before : (js : List JobId) (k i : ℕ) → HasNoRepeats (job_numbers js) → k < i → i < length js → is_job (get_or js i no_job) (get_or js k no_job) ≡ false
 not_before [] k i once l m = absurd (omega (arith, m))
 not_before (x ∷ js) k zero once l m = absurd (omega (arith, l))
 not_before (x ∷ js) zero (suc i) once l m = by_bool (nat_eq x.0 (get_or js i no_job).0)
@@ -49,10 +49,10 @@ not_before (x ∷ js) zero (suc i) once l m = by_bool (nat_eq x.0 (get_or js i n
         (λ f. ap (λ (b : Bool). b || is_among a (job_numbers ys)) f ∙ there ys n a (omega (arith, l)) e)
 not_before (x ∷ js) (suc k) (suc i) once l m = not_before js k i once.1 (omega (arith, l)) (omega (arith, m))
 
-place_of : (js : List JobId) (i : ℕ) → AreOnce (job_numbers js) → i < length js → position_or_len (is_job (get_or js i no_job)) js ≡ i
+place_of : (js : List JobId) (i : ℕ) → HasNoRepeats (job_numbers js) → i < length js → position_or_len (is_job (get_or js i no_job)) js ≡ i
 place_of js i once l = position_or_len_is (is_job (get_or js i no_job)) js i no_job (omega (arith, l)) (λ k m. not_before js k i once m l) (λ m. itself (get_or js i no_job).0)
 
-pub noted_more : (n : Numbers) (group : List JobId) (old new : List ℕ) (i run left run2 left2 : ℕ) → AreOnce (job_numbers group) → i < length group → (get_or group i no_job).0 < length new
+pub noted_more : (n : Numbers) (group : List JobId) (old new : List ℕ) (i run left run2 left2 : ℕ) → HasNoRepeats (job_numbers group) → i < length group → (get_or group i no_job).0 < length new
     → IsNoted n group old new i run left → ((p : ℕ) → run_from n (length group) run2 left2 p ≡ run_from n (length group) run left (suc p))
     → IsNoted n group old (slice_set new (get_or group i no_job).0 run) (i + 1) run2 left2
 noted_more n group old new i run left run2 left2 once l m h next = record {
@@ -105,7 +105,7 @@ items_at [] i v l is = absurd (omega (arith, l))
 items_at (u ∷ vs) zero v l is = ap (λ (x : Vec JobId Global). x.items) is
 items_at (u ∷ vs) (suc i) v l is = items_at vs i v (omega (arith, l)) is
 
-pub run_step : (c : Basis) (groups : List (List JobId)) (i : ℕ) (group : List JobId) (j : JobId) → i < length groups → group ≡ get_or groups i []
+pub run_step : (c : ClusteringInput) (groups : List (List JobId)) (i : ℕ) (group : List JobId) (j : JobId) → i < length groups → group ≡ get_or groups i []
     → run_among c (drop i groups) j ≡ cond (list_any (is_job j) group) (run_in (group_numbers c group) group j) (run_among c (drop (i + 1) groups) j)
 run_step c groups i group j l is =
     ap (λ (gs : List (List JobId)). run_among c gs j) (drop_more groups i [] l)

@@ -5,9 +5,9 @@ use Rattle.std.proofs.lemmas.List.{length-map}
 use Rattle.std.proofs.lemmas.Map.Steps.{length-le_from_distinct_below}
 use Rattle.values.specs.declared.numbers.JobId.{JobId}
 use Rattle.dependency_graph.specs.Edges.{is_among}
-use Rattle.dependency_graph.specs.Ranking.{AreOnce, IsRanked}
+use Rattle.dependency_graph.specs.Ranking.{HasNoRepeats, IsRanked}
 use Rattle.dependency_graph.proofs.TestLemmas.{or_left, by_bool}
-use Rattle.clustering.specs.Singles.{job_numbers}
+use Rattle.dependency_graph.specs.Graph.{numbers as job_numbers}
 
 -- equality of numbers, either way round
 turned : (a b : ℕ) → eqb a b ≡ eqb b a
@@ -23,7 +23,7 @@ no_other x (y ∷ ys) h = by_bool (eqb y x)
     (λ e. absurd (let k = or_left (eqb y x) (is_among x ys) e in let g : false ≡ true = sym h ∙ k in cc))
     (λ e. (turned x y ∙ e, no_other x ys (ap (λ (b : Bool). b || is_among x ys) (sym e) ∙ h)))
 
-pub distinct : (xs : List ℕ) → AreOnce xs → IsDistinct eqb xs
+pub distinct : (xs : List ℕ) → HasNoRepeats xs → IsDistinct eqb xs
 unfolding IsDistinct
 distinct [] h = tt
 distinct (x ∷ xs) h = (no_other x xs h.0, distinct xs h.1)

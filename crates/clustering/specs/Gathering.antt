@@ -1,5 +1,5 @@
 -- Jobs put together with those that they go with.
-use Rattle.std.specs.Prelude.{ℕ, zero, suc, Bool, false, if◌then◌else◌, List, [], ◌∷◌, ◌++◌}
+use Rattle.std.specs.Prelude.{Bool, false, if◌then◌else◌, List, [], ◌∷◌, ◌++◌}
 use Rattle.values.specs.declared.numbers.JobId.{JobId}
 
 -- a job goes with the first one of a part
@@ -19,9 +19,3 @@ with_jobs goes ps (j ∷ js) = with_jobs goes (with_job goes ps j) js
 -- the parts of some jobs, each in the jobs' order, and in order of their first jobs
 unfoldable pub gathered : (JobId → JobId → Bool) → List JobId → List (List JobId)
 gathered goes js = with_jobs goes [] js
-
--- one job more in the part at a place, or in a new one at the end
-abbrev pub with_at : List (List JobId) → ℕ → JobId → List (List JobId)
-with_at [] i j = (j ∷ []) ∷ []
-with_at (p ∷ ps) zero j = (p ++ j ∷ []) ∷ ps
-with_at (p ∷ ps) (suc i) j = p ∷ with_at ps i j

@@ -4,7 +4,6 @@ pub mod Numbers
 pub mod Basis
 pub mod Gathering
 pub mod Runs
-pub mod Condition
 pub mod Labels
-pub mod Cycles
-pub mod Clusters
+-- What only the code's own contracts say.
+pub mod code

@@ -2,9 +2,11 @@
 
 ghost use Rattle.std.specs.Prelude.{◌≡◌, ◌<◌, IfOk, IfSome, option_map};
 ghost use Rattle.dependency_graph.specs.Levels.{level};
-ghost use Rattle.clustering.specs.Basis.{bad_at, basis, group_numbers, group_of, numbers_at, site_at};
-ghost use Rattle.clustering.specs.Labels.{label_at, label_key};
-ghost use Rattle.clustering.specs.Numbers.{entry_of};
+ghost use Rattle.clustering.specs.code.Basis.{bad_at, group_of};
+ghost use Rattle.clustering.specs.Basis.{clustering_input, group_numbers, numbers_at, site_at};
+ghost use Rattle.clustering.specs.Labels.{label_at};
+ghost use Rattle.clustering.specs.code.Labels.{label_key};
+ghost use Rattle.clustering.specs.Numbers.{entry_of_transformation};
 
 use crate::numbers::{Numbers, bad_key, numbers_of};
 use std::alloc::Global;
@@ -27,7 +29,7 @@ impl<'a> Model for Basis<'a> {
     ghost use Rattle.std.specs.Prelude.{◌≡◌};
     ghost use Rattle.clustering.specs.Basis as declared;
 
-    ghost Value = { declared.Basis };
+    ghost Value = { declared.ClusteringInput };
 
     ghost view = { λ b. record {
       jobs = b.jobs.now;
@@ -47,7 +49,7 @@ impl<'a> Basis<'a> {
         sites: &'a [Option<SiteId>],
         transformations: &'a TransformationCatalog,
     ) -> Result<Basis<'a>, Memory>
-        ensures { IfOk result (λ b. b ≡ basis workflow.now levels.now sites.now transformations.now) }
+        ensures { IfOk result (λ b. b ≡ clustering_input workflow.now levels.now sites.now transformations.now) }
     {
         let index = Entries::new(alloc, transformations)?;
         Ok(Basis {
@@ -60,7 +62,7 @@ impl<'a> Basis<'a> {
     }
 
     fn entry_of(&self, job: &Job) -> Option<&'a TransformationEntry>
-        ensures { option_map (λ e. e.now) result ≡ entry_of self.now.entries job.now.transformation }
+        ensures { option_map (λ e. e.now) result ≡ entry_of_transformation self.now.entries job.now.transformation }
     {
         match self.index.entry_of(&job.transformation) {
             Some(place) => self.entries.get(place),

@@ -2,11 +2,12 @@
 
 ghost use Rattle.std.specs.Prelude.{◌≡◌, ◌≤◌, length, option_map};
 ghost use Rattle.values.specs.declared.numbers.JobId.{JobId};
-ghost use Rattle.dependency_graph.specs.Graph.{IsGraphOf, job_lists};
+ghost use Rattle.dependency_graph.specs.Graph.{IsGraphOf};
+ghost use Rattle.dependency_graph.specs.code.Graph.{job_lists};
 ghost use Rattle.dependency_graph.specs.Ranking.{IsRanked};
-ghost use Rattle.clustering.specs.Clusters.{ChecksSites, LabelsAre};
-ghost use Rattle.clustering.specs.Labels.{apart, holder, holder_in};
-ghost use Rattle.clustering.specs.Singles.{job_numbers};
+ghost use Rattle.clustering.specs.code.Clusters.{ChecksSites, LabelsAre};
+ghost use Rattle.clustering.specs.code.Labels.{apart, holder, holder_in};
+ghost use Rattle.dependency_graph.specs.Graph.{numbers as job_numbers};
 
 use crate::basis::Basis;
 use crate::cycles::{first_ids, sources};
@@ -39,7 +40,7 @@ fn apart<'a>(
 }
 
 /// Refuses the first job that is at another site than the first job with its label.
-#[tactic(auto, unfolding(crate::specs::Labels::first_apart))]
+#[tactic(auto, unfolding(crate::specs::code::Labels::first_apart))]
 fn check_sites(
     alloc: Global,
     workflow: &Workflow,

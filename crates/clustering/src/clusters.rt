@@ -2,8 +2,8 @@
 
 ghost use Rattle.std.specs.Prelude.{◌≡◌, ◌≤◌, length};
 ghost use Rattle.dependency_graph.specs.Graph.{IsGraphOf};
-ghost use Rattle.clustering.specs.Basis.{basis};
-ghost use Rattle.clustering.specs.Clusters.{ClustersAre};
+ghost use Rattle.clustering.specs.Basis.{clustering_input};
+ghost use Rattle.clustering.specs.code.Clusters.{ClustersAre};
 
 use crate::basis::Basis;
 use crate::by_label::clusters_by_label;
@@ -32,7 +32,7 @@ pub fn cluster(
     requires long { length kept.now ≡ length workflow.now.jobs }
     requires graph { IsGraphOf workflow.now graph.now }
     ensures { ClustersAre mode workflow.now
-        (basis workflow.now levels.now sites.now transformations.now) kept.now result }
+        (clustering_input workflow.now levels.now sites.now transformations.now) kept.now result }
 {
     let order = ranked(alloc, kept, levels)?;
     let jobs = ids(alloc, &order)?;

@@ -1,9 +1,9 @@
 //! The graph of some clusters, and a cycle of it.
 
 ghost use Rattle.std.specs.Prelude.{◌≡◌, ◌<◌, ◌≤◌, ◌++◌, ℕ, [], length, map, slice_index_or, IfOk, OnOk, All};
-ghost use Rattle.digraph.specs.Adjacency.{lists_of};
-ghost use Rattle.dependency_graph.specs.Graph.{job_lists};
-ghost use Rattle.clustering.specs.Cycles.{first_id, id_in, other_parts, part_sources, sources_from};
+ghost use Rattle.digraph.specs.code.Adjacency.{lists_of};
+ghost use Rattle.dependency_graph.specs.code.Graph.{job_lists};
+ghost use Rattle.clustering.specs.code.Cycles.{first_id, id_in, other_parts, part_sources, sources_from};
 
 use crate::horizontal::id_of;
 use crate::labels::{first_of, holder_in};

@@ -4,8 +4,9 @@ ghost use Rattle.std.specs.Prelude.{◌≡◌, List, length, map, IfOk, OnOk};
 ghost use Rattle.std.specs.List.{position_or_len};
 ghost use Rattle.indexmap.specs.IndexSet.{insert_key};
 ghost use Rattle.values.specs.declared.numbers.JobId.{JobId};
-ghost use Rattle.dependency_graph.specs.Graph.{job_lists};
-ghost use Rattle.clustering.specs.Gathering.{gathered, with_at};
+ghost use Rattle.dependency_graph.specs.code.Graph.{job_lists};
+ghost use Rattle.clustering.specs.Gathering.{gathered};
+ghost use Rattle.clustering.specs.code.Gathering.{with_at};
 
 use indexmap::IndexSet;
 use std::alloc::Global;

@@ -1,11 +1,11 @@
 //! Kept jobs of one level, site and transformation, put together in runs.
 
 ghost use Rattle.std.specs.Prelude.{◌≡◌, ◌≤◌, length, IfOk};
-ghost use Rattle.dependency_graph.specs.Built.{id_of};
-ghost use Rattle.dependency_graph.specs.Graph.{job_lists};
+ghost use Rattle.dependency_graph.specs.code.Built.{id_of};
+ghost use Rattle.dependency_graph.specs.code.Graph.{job_lists};
 ghost use Rattle.dependency_graph.specs.Ranking.{IsRanked};
-ghost use Rattle.clustering.specs.Clusters.{ChecksNumbers, RunsAre};
-ghost use Rattle.clustering.specs.Singles.{job_numbers};
+ghost use Rattle.clustering.specs.code.Clusters.{ChecksNumbers, RunsAre};
+ghost use Rattle.dependency_graph.specs.Graph.{numbers as job_numbers};
 
 use crate::basis::Basis;
 use crate::fault::ClusterFault;
@@ -25,7 +25,7 @@ pub fn id_of(alloc: Global, workflow: &Workflow, job: JobId) -> Result<Text, Mem
 }
 
 /// Refuses the first job that has a bad number.
-#[tactic(auto, unfolding(crate::specs::Basis::first_bad))]
+#[tactic(auto, unfolding(crate::specs::code::Basis::first_bad))]
 fn check_numbers(
     alloc: Global,
     workflow: &Workflow,

@@ -3,9 +3,11 @@
 ghost use Rattle.std.specs.Prelude.{◌≡◌, ◌≤◌, ℕ, [], None, Some, length, if◌then◌else◌, slice_index_or, IfOk};
 ghost use Rattle.std.specs.List.{list_any};
 ghost use Rattle.values.specs.declared.numbers.JobId.{JobId};
-ghost use Rattle.dependency_graph.specs.Graph.{job_lists};
-ghost use Rattle.clustering.specs.Labels.{first_of, holder, holder_in, labels_of};
-ghost use Rattle.clustering.specs.Runs.{IsGroup, is_job};
+ghost use Rattle.dependency_graph.specs.code.Graph.{job_lists};
+ghost use Rattle.clustering.specs.code.Labels.{first_of, holder, holder_in};
+ghost use Rattle.clustering.specs.Labels.{labels_of};
+ghost use Rattle.clustering.specs.code.Runs.{IsGroup};
+ghost use Rattle.clustering.specs.Runs.{is_job};
 
 use crate::basis::Basis;
 use crate::gathering::gather;

@@ -1,9 +1,12 @@
 //! The kept jobs put together into clusters: each alone, in runs of jobs of one level, site and transformation, or by
-//! label, as `ClustersAre` of `specs/Clusters.antt` says.
+//! label, as `ClustersAre` of `specs/code/Clusters.antt` says.
 //!
 //! Jobs are put together by what they have in common (`gathering`): first groups, then the runs of these (`runs`); or
 //! labels (`labels`), whose clusters can lead round (`cycles`). A law says that clusters can be made tasks
-//! (`specs/Condition.antt`).
+//! (`specs/code/Condition.antt`): each kept job is in one, and one after the other they can be done.
+//!
+//! [`cluster`] answers the clusters, or the first fault: a profile that is no number, a label at two sites, or a cycle
+//! of clusters, named by the first jobs of its clusters ([`ClusterFault`]).
 #![tactic(auto)]
 
 mod basis;

@@ -2,7 +2,8 @@
 
 ghost use Rattle.std.specs.Prelude.{◌≡◌, ◌<◌, ◌≤◌, length, IfSome, option_and_then, option_map};
 ghost use Rattle.std.specs.Option.{option_or};
-ghost use Rattle.clustering.specs.Numbers.{bad_key_by, is_bad, num_by, number_in, numbers_by, size_by, value_from};
+ghost use Rattle.clustering.specs.code.Numbers.{bad_key_by, is_bad};
+ghost use Rattle.clustering.specs.Numbers.{cluster_num_by, positive_number_in, numbers_by, cluster_size_by, value_from};
 
 use transformation_catalog::TransformationEntry;
 use values::Text;
@@ -32,7 +33,7 @@ fn value_of(digits: &[u8]) -> Option<u32>
 
 /// A number of one to five digits, unless it is zero.
 fn number_in(text: &Text) -> Option<u32>
-    ensures number { result ≡ number_in text.now }
+    ensures number { result ≡ positive_number_in text.now }
     ensures positive { IfSome result (λ n. 0 < n) }
 {
     let digits = text.as_bytes();
@@ -47,7 +48,7 @@ fn number_in(text: &Text) -> Option<u32>
 
 /// The number of a text, if there is one.
 fn stated(text: Option<&Text>) -> Option<u32>
-    ensures number { result ≡ option_and_then number_in (option_map (λ t. t.now) text.entry) }
+    ensures number { result ≡ option_and_then positive_number_in (option_map (λ t. t.now) text.entry) }
     ensures positive { IfSome result (λ n. 0 < n) }
 {
     match text {
@@ -75,7 +76,7 @@ fn own_or<'a>(own: &'a Option<Text>, other: Option<&'a Text>) -> Option<&'a Text
 }
 
 fn num_of<'a>(job: &'a Job, found: Option<&'a TransformationEntry>) -> Option<&'a Text>
-    ensures { option_map (λ t. t.now) result ≡ num_by (option_map (λ e. e.now) found.entry) job.now }
+    ensures { option_map (λ t. t.now) result ≡ cluster_num_by (option_map (λ e. e.now) found.entry) job.now }
 {
     match found {
         Some(entry) => own_or(&job.cluster_num, entry.cluster_num.as_ref()),
@@ -84,7 +85,7 @@ fn num_of<'a>(job: &'a Job, found: Option<&'a TransformationEntry>) -> Option<&'
 }
 
 fn size_of<'a>(job: &'a Job, found: Option<&'a TransformationEntry>) -> Option<&'a Text>
-    ensures { option_map (λ t. t.now) result ≡ size_by (option_map (λ e. e.now) found.entry) job.now }
+    ensures { option_map (λ t. t.now) result ≡ cluster_size_by (option_map (λ e. e.now) found.entry) job.now }
 {
     match found {
         Some(entry) => own_or(&job.cluster_size, entry.cluster_size.as_ref()),

@@ -3,10 +3,11 @@
 ghost use Rattle.std.specs.Prelude.{◌≡◌, ◌<◌, ◌≤◌, ◌+◌, ℕ, suc, [], length, if◌then◌else◌, slice_index_or, IfOk, IfSome};
 ghost use Rattle.std.specs.List.{list_any};
 ghost use Rattle.values.specs.declared.numbers.JobId.{JobId};
-ghost use Rattle.dependency_graph.specs.Graph.{job_lists};
+ghost use Rattle.dependency_graph.specs.code.Graph.{job_lists};
 ghost use Rattle.clustering.specs.Basis.{same_group};
 ghost use Rattle.clustering.specs.Gathering.{gathered};
-ghost use Rattle.clustering.specs.Runs.{IsGroup, is_job, run_among, run_from, run_in, run_length, runs_of};
+ghost use Rattle.clustering.specs.code.Runs.{IsGroup};
+ghost use Rattle.clustering.specs.Runs.{is_job, run_among, run_from, run_in, run_length, runs_of};
 
 use crate::basis::Basis;
 use crate::gathering::gather;

@@ -1,7 +1,8 @@
 //! Jobs, each a cluster of its own.
 
 ghost use Rattle.std.specs.Prelude.{◌≡◌, IfOk};
-ghost use Rattle.clustering.specs.Singles.{job_numbers, singles};
+ghost use Rattle.clustering.specs.Singles.{singles};
+ghost use Rattle.dependency_graph.specs.Graph.{numbers as job_numbers};
 
 use std::alloc::Global;
 use values::{Items, JobId, Memory};

@@ -1,7 +1,8 @@
 -- Which command words are.
 use Rattle.std.proofs.Common.{◌≡◌, ℕ, Bool, true, false, List, sym, ap, ◌∙◌}
 use Rattle.std.specs.Prelude.{Some, None, option_map}
-use Rattle.command_words.specs.Words.{InThreads, Quick, Quickly, Threaded, command, command_if, is_threaded, quick_command, threaded_command}
+use Rattle.command_words.specs.code.Words.{InThreads, Quick, Quickly, command, command_if, is_threaded, quick_command}
+use Rattle.command_words.specs.Words.{Threaded, threaded_command}
 
 pub is_quick : (words : List (List ℕ)) → is_threaded words ≡ false → command words ≡ option_map Quickly (quick_command words)
 is_quick words e = ap (λ (b : Bool). command_if b words) e

@@ -1,7 +1,8 @@
 //! The commands, and the table of their words.
 
 ghost use Rattle.std.specs.Prelude.{◌≡◌, IfSome, option_map};
-ghost use Rattle.command_words.specs.Words.{AreFew, HasImages, HasImagesBy, by_workers as of_workers, one_word as of_one, quick_in, quick_of, said_of, threaded_in, threaded_members, threaded_of, two_words as of_two};
+ghost use Rattle.command_words.specs.code.Words.{AreFew, HasImages, HasImagesBy, one_word as of_one, quick_in, quick_of, said_of, threaded_members, threaded_of, two_words as of_two};
+ghost use Rattle.command_words.specs.Words.{by_workers as of_workers, threaded_in};
 
 use crate::numbers::{images_in, workers_in};
 use crate::said::Said;

@@ -1,7 +1,8 @@
 //! Numbers of one to four digits, between bounds.
 
 ghost use Rattle.std.specs.Prelude.{◌≡◌, ◌≤◌, IfSome};
-ghost use Rattle.command_words.specs.Words.{AreFew, AreImages, four_digits as of_digits, images_in as images, number_in as within, workers_in as workers};
+ghost use Rattle.command_words.specs.code.Words.{AreFew, AreImages};
+ghost use Rattle.command_words.specs.Words.{four_digits as of_digits, images_in as images, number_in as within, workers_in as workers};
 
 fn four_digits(low: u32, high: u32, a: u8, b: u8, c: u8, d: u8) -> Option<u32>
     ensures is { result ≡ of_digits low high a b c d }

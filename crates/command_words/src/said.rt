@@ -1,7 +1,8 @@
 //! What the words of a call say, before it is known whether they are a command.
 
 ghost use Rattle.std.specs.Prelude.{◌≡◌, Some, true, map as list_map, option_map, string_bytes};
-ghost use Rattle.command_words.specs.Words.{apart as of_apart, is_name as names, joined as of_joined, keeps_the_rule as of_rule, one_more as of_one, said_in, said_of, three_more as of_three, two_more as of_two};
+ghost use Rattle.command_words.specs.Words.{apart as of_apart, is_name as names, joined_option as of_joined, one_more as of_one, said_in, three_more as of_three, two_more as of_two};
+ghost use Rattle.command_words.specs.code.Words.{keeps_the_rule as of_rule, said_of};
 
 /// A command's word, one or two words more, and the digits of the option for workers.
 #[derive(Clone, Copy)]

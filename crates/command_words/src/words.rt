@@ -2,7 +2,8 @@
 
 ghost use Rattle.std.specs.Prelude.{◌≡◌, Some, true, IfErr, IfOk, IfSome, IsErr, is_some, map as list_map, option_map, string_bytes};
 ghost use Rattle.std.specs.List.{list_all, list_any};
-ghost use Rattle.command_words.specs.Words.{AreFew, HasImages, HasImagesBy, IsForMemory, begins_with, is_threaded, keeps_the_rule as keeps, quick_command as quick_in, quick_of, said_in, said_of, threaded_command as threaded_in, threaded_members, threaded_of, words_given, workers_option};
+ghost use Rattle.command_words.specs.code.Words.{AreFew, HasImages, HasImagesBy, IsForMemory, is_threaded, keeps_the_rule as keeps, quick_command as quick_in, quick_of, said_of, threaded_members, threaded_of, words_given};
+ghost use Rattle.command_words.specs.Words.{begins_with, said_in, threaded_command as threaded_in, workers_option};
 
 use crate::commands::{Quick, Threaded, find_quick, find_threaded};
 use crate::line::read_by_clap;

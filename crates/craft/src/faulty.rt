@@ -1,8 +1,8 @@
 //! A tool that fails at some of its runs.
 
 ghost use Rattle.std.specs.Prelude.{◌≡◌, ◌≤◌, ◌↔◌, ℕ, IsErrOf, true, false};
-ghost use Rattle.outside.specs.Counts.{next_count};
-ghost use Rattle.outside.specs.Failing.{calls_made, failing_calls};
+ghost use Rattle.outside.specs.code.Counts.{next_count};
+ghost use Rattle.outside.specs.code.Failing.{calls_made, failing_calls};
 ghost use Rattle.craft.specs.Faulty.{faults_with, runs_failed, runs_to_fail, wrapped};
 
 use outside::{Blob, Failing, Text, Tool, ToolFault};
@@ -35,9 +35,9 @@ impl<T: Tool> Faulty<T> {
 
 impl<T: Tool> Tool for Faulty<T> {
     ghost use Rattle.craft.specs.Faulty.{faults_with, runs_failed, runs_to_fail, wrapped};
-    ghost use Rattle.outside.specs.Counts.{next_count};
-    ghost use Rattle.outside.specs.Failing.{IsNextCall, fails_next};
-    ghost use Rattle.outside.specs.Tool.{Ran};
+    ghost use Rattle.outside.specs.code.Counts.{next_count};
+    ghost use Rattle.outside.specs.code.Failing.{IsNextCall, fails_next};
+    ghost use Rattle.outside.specs.code.Tool.{Ran};
 
     ghost apply = { T.apply };
 

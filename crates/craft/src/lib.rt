@@ -1,10 +1,10 @@
 //! A worker's tool and gate, and tools over another one for tests.
 //!
-//! A [`Gate`] is called outside the lock, before a task's bytes are moved and where a worker has nothing to do, and told in
-//! the worker's turn each entry that it has added; [`OpenGate`] lets everything pass, and [`HoldingGate`] holds the first
-//! task until another one came. Contracts see the tasks for which a gate was called and the entries that it was told, in
-//! order; [`Notes`] and [`EntryNotes`] are such lists, which have no bytes in a program. [`Faulty`] fails at stated runs,
-//! and [`Holding`] holds the first run until another one was answered.
+//! A [`Gate`] is called outside the lock, before a task's bytes are moved and where a worker has nothing to do, and
+//! told in the worker's turn each entry that it has added; [`OpenGate`] lets everything pass, and [`HoldingGate`] holds
+//! the first task until another one came. Contracts see the tasks for which a gate was called and the entries that it
+//! was told, in order; [`Notes`] and [`EntryNotes`] are such lists, which have no bytes in a program. [`Faulty`] fails
+//! at stated runs, and [`Holding`] holds the first run until another one was answered.
 #![tactic(auto)]
 
 mod crew;

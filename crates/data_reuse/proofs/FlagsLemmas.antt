@@ -3,7 +3,7 @@ use Rattle.std.proofs.Common.{◌≡◌, ℕ, zero, suc, ◌<◌, ◌||◌, Bool
 use Rattle.std.specs.Prelude.{slice_set, replicate}
 use Rattle.std.proofs.lemmas.Bool.{eqb-true, eqb-false}
 use Rattle.std.proofs.lemmas.List.{get_or-set_same, get_or-set_other}
-use Rattle.data_reuse.specs.Flags.{is_set}
+use Rattle.data_reuse.specs.code.Flags.{is_set}
 
 pub flag_set : (flags : List Bool) (g f : ℕ) (value : Bool) → g < length flags → is_set (slice_set flags g value) f ≡ cond (nat_eq g f) value (is_set flags f)
 flag_set flags g f value low = by (nat_eq g f) refl

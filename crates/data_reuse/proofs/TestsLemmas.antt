@@ -3,7 +3,7 @@ use Rattle.std.proofs.Common.{◌≡◌, ℕ, zero, suc, ◌+◌, ◌<◌, ◌�
 use Rattle.std.specs.List.{list_any, AllByRecursion}
 use Rattle.std.proofs.lemmas.Bool.{eqb-true, eq-eqb}
 use Rattle.std.proofs.lemmas.List.{at_drop_more, drop_all}
-use Rattle.digraph.specs.Adjacency.{has}
+use Rattle.digraph.specs.Adjacency.{has_node}
 
 pub or_false : (b : Bool) → (b || false) ≡ b
 or_false true = refl
@@ -38,21 +38,21 @@ by_bool true f g = f refl
 by_bool false f g = g refl
 
 -- a test that a number of the list passes
-pub any_at : (f : ℕ → Bool) (xs : List ℕ) (x : ℕ) → has x xs ≡ true → f x ≡ true → list_any f xs ≡ true
+pub any_at : (f : ℕ → Bool) (xs : List ℕ) (x : ℕ) → has_node x xs ≡ true → f x ≡ true → list_any f xs ≡ true
 any_at f [] x h k = absurd cc
-any_at f (y ∷ ys) x h k = or_case (nat_eq y x) (has x ys) h
+any_at f (y ∷ ys) x h k = or_case (nat_eq y x) (has_node x ys) h
     (λ e. or_left (f y) (list_any f ys) (ap f (eqb-true y x e) ∙ k))
     (λ m. or_right (f y) (list_any f ys) (any_at f ys x m k))
 
-pub any_has : {P : Type 0} (f : ℕ → Bool) (xs : List ℕ) → list_any f xs ≡ true → ((x : ℕ) → has x xs ≡ true → f x ≡ true → P) → P
+pub any_has : {P : Type 0} (f : ℕ → Bool) (xs : List ℕ) → list_any f xs ≡ true → ((x : ℕ) → has_node x xs ≡ true → f x ≡ true → P) → P
 any_has f [] h g = absurd cc
 any_has f (x ∷ xs) h g = or_case (f x) (list_any f xs) h
-    (λ here. g x (or_left (nat_eq x x) (has x xs) (eq-eqb x x refl)) here)
-    (λ there. any_has f xs there (λ y m k. g y (or_right (nat_eq x y) (has y xs) m) k))
+    (λ here. g x (or_left (nat_eq x x) (has_node x xs) (eq-eqb x x refl)) here)
+    (λ there. any_has f xs there (λ y m k. g y (or_right (nat_eq x y) (has_node y xs) m) k))
 
-pub any_alike : (f g : ℕ → Bool) (xs : List ℕ) → ((x : ℕ) → has x xs ≡ true → f x ≡ g x) → list_any f xs ≡ list_any g xs
+pub any_alike : (f g : ℕ → Bool) (xs : List ℕ) → ((x : ℕ) → has_node x xs ≡ true → f x ≡ g x) → list_any f xs ≡ list_any g xs
 any_alike f g [] h = refl
-any_alike f g (x ∷ xs) h = ap (λ (b : Bool). b || list_any f xs) (h x (or_left (nat_eq x x) (has x xs) (eq-eqb x x refl))) ∙ ap (λ (b : Bool). g x || b) (any_alike f g xs (λ y m. h y (or_right (nat_eq x y) (has y xs) m)))
+any_alike f g (x ∷ xs) h = ap (λ (b : Bool). b || list_any f xs) (h x (or_left (nat_eq x x) (has_node x xs) (eq-eqb x x refl))) ∙ ap (λ (b : Bool). g x || b) (any_alike f g xs (λ y m. h y (or_right (nat_eq x y) (has_node y xs) m)))
 
 -- what the rest of a list adds, one element further, and at its end
 pub rest_more : {X A : Type 0} (t : A → X → Bool) (new old known : A → Bool) (items : List X) (i : ℕ) (d : X) → i < length items → ((f : A) → new f ≡ (t f (get_or items i d) || old f))

@@ -11,17 +11,19 @@ use Rattle.values.specs.declared.numbers.JobId.{JobId}
 use Rattle.workflow_core.specs.declared.workflow.Workflow.{Workflow}
 use Rattle.workflow_core.specs.declared.workflow.Job.{Job}
 use Rattle.workflow_core.specs.declared.workflow.Output.{Output}
-use Rattle.workflow_core.specs.WellFormed.{inputs_of, outputs_of, IsJobOver, IsWellFormed}
+use Rattle.workflow_core.specs.WellFormed.{inputs_of, outputs_of}
+use Rattle.workflow_core.specs.code.WellFormed.{IsJobOver, IsWellFormed}
 use Rattle.workflow_core.specs.Requested.{is_requested}
-use Rattle.digraph.specs.Adjacency.{has, times}
+use Rattle.digraph.specs.Adjacency.{has_node, times}
 use Rattle.digraph.specs.Distances.{Walk}
 use Rattle.digraph.specs.Order.{IsInOrder}
 use Rattle.dependency_graph.specs.Edges.{edge, is_among, is_paired, passes_file, read_by, written_by}
 use Rattle.dependency_graph.specs.Graph.{IsGraphOf, Links, numbers}
 use Rattle.dependency_graph.specs.Levels.{is_kept}
 use Rattle.replica_catalog.specs.declared.catalog.Replica.{Replica}
-use Rattle.data_reuse.specs.Flags.{has_both, is_set, reads}
-use Rattle.data_reuse.specs.Kept.{AreKept, IsClosed, IsKept, feeds, is_wanted}
+use Rattle.data_reuse.specs.code.Flags.{has_both, is_set, reads}
+use Rattle.data_reuse.specs.Kept.{AreKept, IsKept, feeds, is_wanted}
+use Rattle.data_reuse.specs.code.Kept.{IsClosed}
 use Rattle.data_reuse.specs.Absent.{absent_in, is_absent}
 use Rattle.data_reuse.proofs.FlagsLemmas.{flag_set}
 use Rattle.data_reuse.proofs.TestsLemmas.{all_at, and_both, and_left, and_right, any_alike, any_at, any_has, by_bool, or_case, or_left, or_right}
@@ -66,11 +68,11 @@ reader_in w b f there = by (nat_lt b (length w.jobs)) refl
     by false e = absurd (let past : length w.jobs ≤ b = grind arith in let none : is_among f (read_by w b) ≡ false = ap (is_among f) (get_or_past (map inputs_of w.jobs) b [] (omega (arith, past, length-map w.jobs inputs_of))) in cc)
 
 -- numbers in a list that has each at most once
-none_there : (a : ℕ) (ns : List ℕ) → times a ns ≤ 0 → has a ns ≡ false
+none_there : (a : ℕ) (ns : List ℕ) → times a ns ≤ 0 → has_node a ns ≡ false
 none_there a [] none = refl
 none_there a (n ∷ ns) none = by (nat_eq n a) none (none_there a ns)
   where
-    by : (t : Bool) → cond {A = ℕ} t 1 0 + times a ns ≤ 0 → (times a ns ≤ 0 → has a ns ≡ false) → (t || has a ns) ≡ false
+    by : (t : Bool) → cond {A = ℕ} t 1 0 + times a ns ≤ 0 → (times a ns ≤ 0 → has_node a ns ≡ false) → (t || has_node a ns) ≡ false
     by true few rest = absurd (let k : 1 + times a ns ≤ 0 = few in omega (arith, k))
     by false few rest = rest (let k : 0 + times a ns ≤ 0 = few in omega (arith, k))
 
@@ -79,60 +81,60 @@ stands [] i low = absurd (omega arith)
 stands (n ∷ ns) zero low = let one : cond {A = ℕ} (nat_eq n n) 1 0 ≡ 1 = ap (λ (t : Bool). cond {A = ℕ} t 1 0) (eq-eqb n n refl) in omega (arith, one)
 stands (n ∷ ns) (suc i) low = let rest = stands ns i (omega (arith, low)) in omega (arith, rest)
 
-not_before : (ns : List ℕ) (i : ℕ) → i < length ns → times (get_or ns i 0) ns ≤ 1 → has (get_or ns i 0) (take i ns) ≡ false
+not_before : (ns : List ℕ) (i : ℕ) → i < length ns → times (get_or ns i 0) ns ≤ 1 → has_node (get_or ns i 0) (take i ns) ≡ false
 not_before [] i low once = absurd (omega arith)
 not_before (n ∷ ns) zero low once = refl
 not_before (n ∷ ns) (suc i) low once = by (nat_eq n (get_or ns i 0)) refl once (λ few. not_before ns i (omega (arith, low)) few)
   where
-    by : (t : Bool) → nat_eq n (get_or ns i 0) ≡ t → cond {A = ℕ} t 1 0 + times (get_or ns i 0) ns ≤ 1 → (times (get_or ns i 0) ns ≤ 1 → has (get_or ns i 0) (take i ns) ≡ false) → (t || has (get_or ns i 0) (take i ns)) ≡ false
+    by : (t : Bool) → nat_eq n (get_or ns i 0) ≡ t → cond {A = ℕ} t 1 0 + times (get_or ns i 0) ns ≤ 1 → (times (get_or ns i 0) ns ≤ 1 → has_node (get_or ns i 0) (take i ns) ≡ false) → (t || has_node (get_or ns i 0) (take i ns)) ≡ false
     by true e few rest = absurd (let there = stands ns i (omega (arith, low)) in let k : 1 + times (get_or ns i 0) ns ≤ 1 = few in omega (arith, there, k))
     by false e few rest = rest (let k : 0 + times (get_or ns i 0) ns ≤ 1 = few in omega (arith, k))
 
-not_after : (ns : List ℕ) (i : ℕ) → i < length ns → times (get_or ns i 0) ns ≤ 1 → has (get_or ns i 0) (drop (suc i) ns) ≡ false
+not_after : (ns : List ℕ) (i : ℕ) → i < length ns → times (get_or ns i 0) ns ≤ 1 → has_node (get_or ns i 0) (drop (suc i) ns) ≡ false
 not_after [] i low once = absurd (omega arith)
 not_after (n ∷ ns) zero low once = none_there n ns (let one : cond {A = ℕ} (nat_eq n n) 1 0 ≡ 1 = ap (λ (t : Bool). cond {A = ℕ} t 1 0) (eq-eqb n n refl) in omega (arith, one, once))
 not_after (n ∷ ns) (suc i) low once = not_after ns i (omega (arith, low)) (omega (arith, once))
 
-place_of : (ns : List ℕ) (a : ℕ) → has a ns ≡ true → (i : ℕ) × (i < length ns) × (get_or ns i a ≡ a)
+place_of : (ns : List ℕ) (a : ℕ) → has_node a ns ≡ true → (i : ℕ) × (i < length ns) × (get_or ns i a ≡ a)
 place_of [] a h = absurd cc
 place_of (n ∷ ns) a h = by (nat_eq n a) refl h (λ k. place_of ns a k)
   where
-    by : (t : Bool) → nat_eq n a ≡ t → (t || has a ns) ≡ true → (has a ns ≡ true → (i : ℕ) × (i < length ns) × (get_or ns i a ≡ a)) → (i : ℕ) × (i < length (n ∷ ns)) × (get_or (n ∷ ns) i a ≡ a)
+    by : (t : Bool) → nat_eq n a ≡ t → (t || has_node a ns) ≡ true → (has_node a ns ≡ true → (i : ℕ) × (i < length ns) × (get_or ns i a ≡ a)) → (i : ℕ) × (i < length (n ∷ ns)) × (get_or (n ∷ ns) i a ≡ a)
     by true e k rest = (0, omega arith, eqb-true n a e)
     by false e k rest = let found = rest k in (suc found.0, (let l : found.0 < length ns = found.1 in omega (arith, l)), found.2)
 
-has_front : (ns : List ℕ) (a i j : ℕ) → i ≤ j → has a (take i ns) ≡ true → has a (take j ns) ≡ true
+has_front : (ns : List ℕ) (a i j : ℕ) → i ≤ j → has_node a (take i ns) ≡ true → has_node a (take j ns) ≡ true
 has_front ns a zero j low h = absurd cc
 has_front [] a (suc i) j low h = absurd cc
 has_front (n ∷ ns) a (suc i) zero low h = absurd (omega (arith, low))
-has_front (n ∷ ns) a (suc i) (suc j) low h = or_case (nat_eq n a) (has a (take i ns)) h
-    (λ e. or_left (nat_eq n a) (has a (take j ns)) e)
-    (λ m. or_right (nat_eq n a) (has a (take j ns)) (has_front ns a i j (omega (arith, low)) m))
+has_front (n ∷ ns) a (suc i) (suc j) low h = or_case (nat_eq n a) (has_node a (take i ns)) h
+    (λ e. or_left (nat_eq n a) (has_node a (take j ns)) e)
+    (λ m. or_right (nat_eq n a) (has_node a (take j ns)) (has_front ns a i j (omega (arith, low)) m))
 
-there_once : (a : ℕ) (ns : List ℕ) → times a ns ≡ 1 → has a ns ≡ true
+there_once : (a : ℕ) (ns : List ℕ) → times a ns ≡ 1 → has_node a ns ≡ true
 there_once a [] once = absurd (omega (arith, once))
 there_once a (n ∷ ns) once = by (nat_eq n a) once (there_once a ns)
   where
-    by : (t : Bool) → cond {A = ℕ} t 1 0 + times a ns ≡ 1 → (times a ns ≡ 1 → has a ns ≡ true) → (t || has a ns) ≡ true
+    by : (t : Bool) → cond {A = ℕ} t 1 0 + times a ns ≡ 1 → (times a ns ≡ 1 → has_node a ns ≡ true) → (t || has_node a ns) ≡ true
     by true k rest = refl
     by false k rest = rest (let l : 0 + times a ns ≡ 1 = k in omega (arith, l))
 
 -- where each stands once and after those that lead to it, a job leads only to those after it
-leads_on : (e : ℕ → ℕ → Bool) (ns : List ℕ) (i b : ℕ) → IsInOrder e ns → i < length ns → times (get_or ns i 0) ns ≤ 1 → has b ns ≡ true → e (get_or ns i 0) b ≡ true → has b (drop (suc i) ns) ≡ true
+leads_on : (e : ℕ → ℕ → Bool) (ns : List ℕ) (i b : ℕ) → IsInOrder e ns → i < length ns → times (get_or ns i 0) ns ≤ 1 → has_node b ns ≡ true → e (get_or ns i 0) b ≡ true → has_node b (drop (suc i) ns) ≡ true
 leads_on e ns i b order low once there into =
-    or_case (has b (take (suc i) ns)) (has b (drop (suc i) ns))
-    (sym (list_any-append (λ n. nat_eq n b) (take (suc i) ns) (drop (suc i) ns)) ∙ ap (has b) (take-append-drop (suc i) ns) ∙ there)
+    or_case (has_node b (take (suc i) ns)) (has_node b (drop (suc i) ns))
+    (sym (list_any-append (λ n. nat_eq n b) (take (suc i) ns) (drop (suc i) ns)) ∙ ap (has_node b) (take-append-drop (suc i) ns) ∙ there)
     (λ front. before (place_of (take (suc i) ns) b front))
     (λ later. later)
   where
-    before : (k : ℕ) × (k < length (take (suc i) ns)) × (get_or (take (suc i) ns) k b ≡ b) → has b (drop (suc i) ns) ≡ true
+    before : (k : ℕ) × (k < length (take (suc i) ns)) × (get_or (take (suc i) ns) k b ≡ b) → has_node b (drop (suc i) ns) ≡ true
     before found =
         let k : ℕ = found.0 in
         let short = length-take-le (suc i) ns (omega (arith, low)) in
         let less : k < suc i = (let l : k < length (take (suc i) ns) = found.1 in omega (arith, l, short)) in
         let at : get_or ns k b ≡ b = sym (get_or-take (suc i) ns k b less) ∙ found.2 in
-        let first : has (get_or ns i 0) (take k ns) ≡ true = order k b (omega (arith, less, low)) at (get_or ns i 0) into in
-        let again : has (get_or ns i 0) (take i ns) ≡ true = has_front ns (get_or ns i 0) k i (omega (arith, less)) first in
+        let first : has_node (get_or ns i 0) (take k ns) ≡ true = order k b (omega (arith, less, low)) at (get_or ns i 0) into in
+        let again : has_node (get_or ns i 0) (take i ns) ≡ true = has_front ns (get_or ns i 0) k i (omega (arith, less)) first in
         absurd (let never = not_before ns i low once in cc)
 
 abbrev pub seen : Links → ℕ → List ℕ
@@ -145,7 +147,7 @@ placed g p = get_or (numbers g.ordered) p 0
 pub record IsWalked (absent : ℕ → Bool) (w : Workflow) (g : Links) (kept needed : List Bool) (p : ℕ) : Type 0 where
   pub kept_long : length kept ≡ length w.jobs
   pub needed_long : length needed ≡ length w.files
-  pub each : (a : ℕ) → has a (seen g p) ≡ true → Decides (is_kept kept a) (IsKept absent w a)
+  pub each : (a : ℕ) → has_node a (seen g p) ≡ true → Decides (is_kept kept a) (IsKept absent w a)
   pub needed_is : (f : ℕ) → is_set needed f ≡ (is_requested w f || list_any (λ b. is_kept kept b && is_among f (read_by w b)) (seen g p))
 
 abbrev pub keeps : (ℕ → Bool) → Workflow → List Bool → ℕ → Bool
@@ -160,7 +162,7 @@ sound absent w g kept needed p a walked h = any_has (λ f. absent f && is_set ne
     kept_feeds absent w a b (any_at (λ x. absent x && is_among x (read_by w b)) (written_by w a) f m (and_both (absent f) (is_among f (read_by w b)) gone (and_right (is_kept kept b) (is_among f (read_by w b)) t)))
     ((walked.each b s).0 (and_left (is_kept kept b) (is_among f (read_by w b)) t)))))
 
-complete : (absent : ℕ → Bool) (w : Workflow) (g : Links) (kept needed : List Bool) (p a : ℕ) → IsWalked absent w g kept needed p → ((b : ℕ) → feeds absent w a b ≡ true → has b (seen g p) ≡ true) → IsKept absent w a → keeps absent w needed a ≡ true
+complete : (absent : ℕ → Bool) (w : Workflow) (g : Links) (kept needed : List Bool) (p a : ℕ) → IsWalked absent w g kept needed p → ((b : ℕ) → feeds absent w a b ≡ true → has_node b (seen g p) ≡ true) → IsKept absent w a → keeps absent w needed a ≡ true
 complete absent w g kept needed p a walked after k = kept_case absent w a k
     (λ wanted. any_has (λ x. absent x && is_requested w x) (written_by w a) wanted (λ f m t. put f m (and_left (absent f) (is_requested w f) t)
     (or_left (is_requested w f) (list_any (λ b. is_kept kept b && is_among f (read_by w b)) (seen g p)) (and_right (absent f) (is_requested w f) t))))
@@ -168,7 +170,7 @@ complete absent w g kept needed p a walked after k = kept_case absent w a k
     (or_right (is_requested w f) (list_any (λ c. is_kept kept c && is_among f (read_by w c)) (seen g p))
     (any_at (λ c. is_kept kept c && is_among f (read_by w c)) (seen g p) b (after b fed) (and_both (is_kept kept b) (is_among f (read_by w b)) ((walked.each b (after b fed)).1 kb) (and_right (absent f) (is_among f (read_by w b)) t))))))
   where
-    put : (f : ℕ) → has f (written_by w a) ≡ true → absent f ≡ true → (is_requested w f || list_any (λ b. is_kept kept b && is_among f (read_by w b)) (seen g p)) ≡ true → keeps absent w needed a ≡ true
+    put : (f : ℕ) → has_node f (written_by w a) ≡ true → absent f ≡ true → (is_requested w f || list_any (λ b. is_kept kept b && is_among f (read_by w b)) (seen g p)) ≡ true → keeps absent w needed a ≡ true
     put f m gone need = any_at (λ x. absent x && is_set needed x) (written_by w a) f m (and_both (absent f) (is_set needed f) gone (walked.needed_is f ∙ need))
 
 -- the job at a place of the order
@@ -181,7 +183,7 @@ placed_in w g graph p low = graph.order.in_range p 0 (order_low g p low)
 once : (w : Workflow) (g : Links) → IsGraphOf w g → (p : ℕ) → p < length g.ordered → times (placed g p) (numbers g.ordered) ≤ 1
 once w g graph p low = let one = graph.order.each_once (placed g p) (placed_in w g graph p low) in omega (arith, one)
 
-fed_after : (absent : ℕ → Bool) (w : Workflow) (g : Links) → IsGraphOf w g → (p : ℕ) → p < length g.ordered → (b : ℕ) → feeds absent w (placed g p) b ≡ true → has b (seen g (suc p)) ≡ true
+fed_after : (absent : ℕ → Bool) (w : Workflow) (g : Links) → IsGraphOf w g → (p : ℕ) → p < length g.ordered → (b : ℕ) → feeds absent w (placed g p) b ≡ true → has_node b (seen g (suc p)) ≡ true
 fed_after absent w g graph p low b fed =
     let inside : b < length w.jobs = any_has (λ f. absent f && is_among f (read_by w b)) (written_by w (placed g p)) fed (λ f made test. reader_in w b f (and_right (absent f) (is_among f (read_by w b)) test)) in
     leads_on (edge w) (numbers g.ordered) p b graph.order.in_order (order_low g p low) (once w g graph p low) (there_once b (numbers g.ordered) (graph.order.each_once b inside)) (feeds_along absent w (placed g p) b fed)
@@ -192,7 +194,7 @@ pub walk_more : (absent : ℕ → Bool) (w : Workflow) (g : Links) (kept needed 
 walk_more absent w g kept needed new p keep graph walked low is long marked = record {
   kept_long = length-set kept x keep ∙ walked.kept_long;
   needed_long = long ∙ walked.needed_long;
-  each = λ u h. or_case (nat_eq x u) (has u (seen g (suc p))) (sym (ap (has u) more) ∙ h)
+  each = λ u h. or_case (nat_eq x u) (has_node u (seen g (suc p))) (sym (ap (has_node u) more) ∙ h)
       (λ here. subst (λ (v : ℕ). Decides (is_kept (slice_set kept x keep) v) (IsKept absent w v)) (eqb-true x u here) (subst (λ (b : Bool). Decides b (IsKept absent w x)) (sym changed) decided))
       (λ old. subst (λ (b : Bool). Decides b (IsKept absent w u)) (sym (unchanged u old)) (walked.each u old));
   needed_is = λ f. marked f ∙ ap (λ (b : Bool). (keep && is_among f (read_by w x)) || b) (walked.needed_is f)
@@ -217,9 +219,9 @@ walk_more absent w g kept needed new p keep graph walked low is long marked = re
     turn false true c = refl
     turn false false c = refl
 
-    unchanged : (u : ℕ) → has u (seen g (suc p)) ≡ true → is_kept (slice_set kept x keep) u ≡ is_kept kept u
+    unchanged : (u : ℕ) → has_node u (seen g (suc p)) ≡ true → is_kept (slice_set kept x keep) u ≡ is_kept kept u
     unchanged u m = flag_set kept x u keep within ∙ by_bool (nat_eq x u)
-        (λ e. absurd (let again : has x (seen g (suc p)) ≡ true = ap (λ (k : ℕ). has k (seen g (suc p))) (eqb-true x u e) ∙ m in let never = not_after (numbers g.ordered) p (order_low g p low) (once w g graph p low) in cc))
+        (λ e. absurd (let again : has_node x (seen g (suc p)) ≡ true = ap (λ (k : ℕ). has_node k (seen g (suc p))) (eqb-true x u e) ∙ m in let never = not_after (numbers g.ordered) p (order_low g p low) (once w g graph p low) in cc))
         (λ e. ap (λ (b : Bool). cond b keep (is_kept kept u)) e)
 
     changed : is_kept (slice_set kept x keep) x ≡ keep
@@ -233,7 +235,7 @@ pub walk_none : (absent : ℕ → Bool) (w : Workflow) (g : Links) (kept needed 
 walk_none absent w g kept needed p past kept_long needed_long each = record {
   kept_long = kept_long;
   needed_long = needed_long;
-  each = λ a h. absurd (let none : has a (seen g p) ≡ false = ap (has a) nothing in cc);
+  each = λ a h. absurd (let none : has_node a (seen g p) ≡ false = ap (has_node a) nothing in cc);
   needed_is = λ f. each f ∙ sym (ap (λ (ns : List ℕ). is_requested w f || list_any (λ b. is_kept kept b && is_among f (read_by w b)) ns) nothing ∙ or_none (is_requested w f));
 }
   where
@@ -264,7 +266,7 @@ over w formed a j low is = subst (IsJobOver (length w.files)) is (all_at (IsJobO
 reads_is : (w : Workflow) (a : ℕ) (j : Job) (f : ℕ) → a < length w.jobs → get_or w.jobs a j ≡ j → reads f j ≡ is_among f (read_by w a)
 reads_is w a j f low is = by j.inputs ∙ sym (ap (is_among f) (get_or-map inputs_of w.jobs a j [] low ∙ ap inputs_of is))
   where
-    by : (gs : List FileId) → list_any (λ (g : FileId). nat_eq g.0 f) gs ≡ has f (map (λ (g : FileId). g.0) gs)
+    by : (gs : List FileId) → list_any (λ (g : FileId). nat_eq g.0 f) gs ≡ has_node f (map (λ (g : FileId). g.0) gs)
     by [] = refl
     by (g ∷ gs) = ap (λ (b : Bool). nat_eq g.0 f || b) (by gs)
 

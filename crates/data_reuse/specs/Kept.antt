@@ -22,11 +22,6 @@ pub record IsKept (absent : ℕ → Bool) (w : Workflow) (a : ℕ) : Type 0 wher
   pub way : Walk (feeds absent w) steps a last
   pub wanted : is_wanted absent w last ≡ true
 
--- A set that holds each wanted job, and each job that feeds one in it. The kept jobs are the least such set.
-pub record IsClosed (absent : ℕ → Bool) (w : Workflow) (P : ℕ → Type 0) : Type 0 where
-  pub wanted : (a : ℕ) → is_wanted absent w a ≡ true → P a
-  pub feeding : (a b : ℕ) → feeds absent w a b ≡ true → P b → P a
-
 -- a value for each job, which tells whether it is kept
 pub record AreKept (absent : ℕ → Bool) (w : Workflow) (kept : List Bool) : Type 0 where
   pub long : length kept ≡ length w.jobs

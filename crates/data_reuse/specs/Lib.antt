@@ -1,5 +1,5 @@
 -- What the public contracts say
 pub mod Absent
 pub mod Kept
--- Steps of the walk
-pub mod Flags
+-- What only the code's own contracts say.
+pub mod code

@@ -1,9 +1,9 @@
 //! A flag for each file.
 
 ghost use Rattle.std.specs.Prelude.{◌≡◌, ◌||◌, ℕ, length, IfOk};
-ghost use Rattle.workflow_core.specs.WellFormed.{IsWellFormed, IsJobOver};
+ghost use Rattle.workflow_core.specs.code.WellFormed.{IsWellFormed, IsJobOver};
 ghost use Rattle.workflow_core.specs.Requested.{requests, is_requested};
-ghost use Rattle.data_reuse.specs.Flags.{is_set, reads};
+ghost use Rattle.data_reuse.specs.code.Flags.{is_set, reads};
 
 use std::alloc::Global;
 use values::{FileId, Memory};

@@ -2,7 +2,8 @@
 
 ghost use Rattle.std.specs.Prelude.{◌≡◌, ℕ, Bool, true};
 ghost use Rattle.workflow_core.specs.declared.workflow.Workflow.{Workflow};
-ghost use Rattle.data_reuse.specs.Kept.{IsKept, IsClosed};
+ghost use Rattle.data_reuse.specs.Kept.{IsKept};
+ghost use Rattle.data_reuse.specs.code.Kept.{IsClosed};
 
 /// The kept jobs hold each wanted job and each that feeds a kept one, and every set that does so holds them.
 pub fn kept_is_least()

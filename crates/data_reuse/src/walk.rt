@@ -1,10 +1,10 @@
 //! The walk from the end of a graph's order.
 
 ghost use Rattle.std.specs.Prelude.{◌≡◌, ◌||◌, ◌&&◌, ℕ, length, IfOk};
-ghost use Rattle.workflow_core.specs.WellFormed.{IsWellFormed, IsJobOver};
+ghost use Rattle.workflow_core.specs.code.WellFormed.{IsWellFormed, IsJobOver};
 ghost use Rattle.dependency_graph.specs.Graph.{IsGraphOf};
 ghost use Rattle.data_reuse.specs.Absent.{absent_in};
-ghost use Rattle.data_reuse.specs.Flags.{is_set, reads, has_both};
+ghost use Rattle.data_reuse.specs.code.Flags.{is_set, reads, has_both};
 ghost use Rattle.data_reuse.specs.Kept.{AreKept};
 
 use crate::absent::absent_files;

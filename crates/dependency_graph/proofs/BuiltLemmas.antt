@@ -6,10 +6,10 @@ use Rattle.std.proofs.lemmas.List.{get_or-map, length-map}
 use Rattle.values.specs.declared.numbers.JobId.{JobId}
 use Rattle.workflow_core.specs.declared.workflow.Workflow.{Workflow}
 use Rattle.dependency_graph.proofs.MakersLemmas.{makers_below}
-use Rattle.dependency_graph.specs.Built.{AreProducers, IsContested}
+use Rattle.dependency_graph.specs.code.Built.{AreProducers, IsContested}
 use Rattle.dependency_graph.specs.Edges.{makers, makers_from}
-use Rattle.dependency_graph.specs.Graph.{made_at}
-use Rattle.dependency_graph.specs.Makers.{are_two, first_two, known}
+use Rattle.dependency_graph.specs.Graph.{producer_of_file}
+use Rattle.dependency_graph.specs.code.Makers.{are_two, first_two, known}
 use Rattle.dependency_graph.specs.declared.makers.Makers.{Makers}
 
 two_ones : (ns : List ℕ) (a b : JobId) → (first_two ns).first ≡ Some a → (first_two ns).second ≡ Some b → (later : List ℕ) × (ns ≡ a.0 ∷ b.0 ∷ later)
@@ -35,7 +35,7 @@ at_most_one None ns e = let l : length ns ≡ 0 = ap length e in omega (arith, l
 at_most_one (Some j) ns e = let l : length ns ≡ 1 = ap length e in omega (arith, l)
 
 pub one_producer : (w : Workflow) (ps : List (Option JobId)) → AreProducers w ps → (f : ℕ) → f < length w.files → length (makers w f) ≤ 1
-one_producer w ps are f h = at_most_one (made_at ps f) (makers w f) (are.each f h)
+one_producer w ps are f h = at_most_one (producer_of_file ps f) (makers w f) (are.each f h)
 
 -- the first contested file, its jobs in range
 pub record Contested (w : Workflow) (file first second : ℕ) : Type 0 where
@@ -69,7 +69,7 @@ producers_are w table ps long tells none is = record {
   long = ap length is ∙ length-map table (λ (m : Makers). m.first) ∙ long;
   each = λ f h.
       let low : f < length table = omega arith in
-      let at : made_at ps f ≡ (first_two (makers_from f 0 w.jobs)).first = ap (λ (x : List (Option JobId)). made_at x f) is ∙ get_or-map (λ (m : Makers). m.first) table f (record { first = None; second = None }) None low ∙ ap (λ (m : Makers). m.first) (tells f h) in
+      let at : producer_of_file ps f ≡ (first_two (makers_from f 0 w.jobs)).first = ap (λ (x : List (Option JobId)). producer_of_file x f) is ∙ get_or-map (λ (m : Makers). m.first) table f (record { first = None; second = None }) None low ∙ ap (λ (m : Makers). m.first) (tells f h) in
       let one : length (makers_from f 0 w.jobs) ≤ 1 = not_two (makers_from f 0 w.jobs) (sym (ap are_two (tells f h)) ∙ none f low) in
       subst (λ (o : Option JobId). MatchOption o (makers_from f 0 w.jobs ≡ []) (λ (j : JobId). makers_from f 0 w.jobs ≡ j.0 ∷ [])) (sym at) (only_first (makers_from f 0 w.jobs) one);
 }

@@ -6,15 +6,16 @@ use Rattle.std.proofs.lemmas.List.Elements.{All-nil, All-cons, All-append}
 use Rattle.values.specs.declared.numbers.JobId.{JobId}
 use Rattle.workflow_core.specs.declared.workflow.Workflow.{Workflow}
 use Rattle.workflow_core.specs.declared.workflow.Job.{Job}
-use Rattle.workflow_core.specs.WellFormed.{inputs_of, outputs_of, IsJobOver, IsWellFormed, before, after}
+use Rattle.workflow_core.specs.WellFormed.{inputs_of, outputs_of, parent_of, child_of}
+use Rattle.workflow_core.specs.code.WellFormed.{IsJobOver, IsWellFormed}
 use Rattle.std.proofs.Math.Bool.{or-false}
 use Rattle.std.proofs.lemmas.Bool.{eq-eqb, ne_eqb}
 use Rattle.dependency_graph.proofs.MakersLemmas.{makers_below}
-use Rattle.dependency_graph.specs.Built.{AreProducers}
+use Rattle.dependency_graph.specs.code.Built.{AreProducers}
 use Rattle.dependency_graph.specs.Edges.{edge, has_output, is_among, is_paired, makers, makers_from, producer, read_by, written_by}
-use Rattle.dependency_graph.specs.Graph.{made_at, numbers}
-use Rattle.dependency_graph.specs.Sources.{found}
-use Rattle.digraph.specs.Adjacency.{has, neighbours}
+use Rattle.dependency_graph.specs.Graph.{producer_of_file, numbers}
+use Rattle.dependency_graph.specs.code.Sources.{found}
+use Rattle.digraph.specs.Adjacency.{has_node, neighbours}
 
 -- the numbers of the jobs that make a file
 later_makers : (f i a : ℕ) (js : List Job) → a < i → is_among a (makers_from f i js) ≡ false
@@ -61,15 +62,15 @@ is_maker : (a : ℕ) (o : Option JobId) (ns : List ℕ) → MatchOption o (ns �
 is_maker a None ns e = sym (ap (is_among a) e)
 is_maker a (Some j) ns e = sym (ap (is_among a) e ∙ or-false (nat_eq j.0 a))
 
-has_option : (a : ℕ) (o : Option JobId) (ns : List ℕ) → has a (numbers (option_to_list o) ++ ns) ≡ (is_job a o || has a ns)
+has_option : (a : ℕ) (o : Option JobId) (ns : List ℕ) → has_node a (numbers (option_to_list o) ++ ns) ≡ (is_job a o || has_node a ns)
 has_option a None ns = refl
 has_option a (Some j) ns = refl
 
-has_found : (w : Workflow) (ps : List (Option JobId)) → AreProducers w ps → (a : ℕ) (fs : List ℕ) → AllByRecursion (λ f. f < length w.files) fs → has a (found ps fs) ≡ list_any (λ f. is_among f (written_by w a)) fs
+has_found : (w : Workflow) (ps : List (Option JobId)) → AreProducers w ps → (a : ℕ) (fs : List ℕ) → AllByRecursion (λ f. f < length w.files) fs → has_node a (found ps fs) ≡ list_any (λ f. is_among f (written_by w a)) fs
 has_found w ps are a [] low = refl
 has_found w ps are a (f ∷ fs) low =
-    has_option a (made_at ps f) (found ps fs)
-    ∙ ap (λ (b : Bool). b || has a (found ps fs)) (is_maker a (made_at ps f) (makers w f) (are.each f low.0) ∙ makes w f a)
+    has_option a (producer_of_file ps f) (found ps fs)
+    ∙ ap (λ (b : Bool). b || has_node a (found ps fs)) (is_maker a (producer_of_file ps f) (makers w f) (are.each f low.0) ∙ makes w f a)
     ∙ ap (λ (b : Bool). is_among f (written_by w a) || b) (has_found w ps are a fs low.1)
 
 maker_in : (n : ℕ) (o : Option JobId) (ns : List ℕ) → AllByRecursion (λ a. a < n) ns → MatchOption o (ns ≡ []) (λ (j : JobId). ns ≡ j.0 ∷ []) → All (λ a. a < n) (numbers (option_to_list o))
@@ -82,8 +83,8 @@ found_in : (w : Workflow) (ps : List (Option JobId)) → AreProducers w ps → (
 unfolding makers
 found_in w ps are [] low = All-nil (λ a. a < length w.jobs)
 found_in w ps are (f ∷ fs) low =
-    All-append (λ a. a < length w.jobs) (numbers (option_to_list (made_at ps f))) (found ps fs)
-    (maker_in (length w.jobs) (made_at ps f) (makers_from f 0 w.jobs) (makers_below f 0 (length w.jobs) w.jobs (omega arith)) (are.each f low.0))
+    All-append (λ a. a < length w.jobs) (numbers (option_to_list (producer_of_file ps f))) (found ps fs)
+    (maker_in (length w.jobs) (producer_of_file ps f) (makers_from f 0 w.jobs) (makers_below f 0 (length w.jobs) w.jobs (omega arith)) (are.each f low.0))
     (found_in w ps are fs low.1)
 
 read_in : (n b : ℕ) (js : List Job) → AllByRecursion (IsJobOver n) js → AllByRecursion (λ f. f < n) (slice_index_or (map inputs_of js) b [])
@@ -102,23 +103,23 @@ sources_in w ps ls form are is k =
     subst (λ (x : List ℕ). All (λ a. a < length w.jobs) x) (sym (ap (λ (x : List (List ℕ)). neighbours x k) is ∙ list_found ps k w.jobs)) (found_in w ps are (read_by w k) (read_in (length w.files) k w.jobs form.jobs))
 
 abbrev pub pair_numbers : JobId × JobId → ℕ × ℕ
-pair_numbers p = (before p, after p)
+pair_numbers p = (parent_of p, child_of p)
 
-pub pairs_in : (n m : ℕ) (ps : List (JobId × JobId)) → m ≡ n → AllByRecursion (λ (p : JobId × JobId). (before p < n) × (after p < n)) ps → All (λ (q : ℕ × ℕ). (q.0 < m) × (q.1 < m)) (map pair_numbers ps)
+pub pairs_in : (n m : ℕ) (ps : List (JobId × JobId)) → m ≡ n → AllByRecursion (λ (p : JobId × JobId). (parent_of p < n) × (child_of p < n)) ps → All (λ (q : ℕ × ℕ). (q.0 < m) × (q.1 < m)) (map pair_numbers ps)
 pairs_in n m [] same low = All-nil (λ (q : ℕ × ℕ). (q.0 < m) × (q.1 < m))
 pairs_in n m (p ∷ ps) same low =
-    All-cons (λ (q : ℕ × ℕ). (q.0 < m) × (q.1 < m)) (pair_numbers p) (map pair_numbers ps) (let one : before p < n = low.0.0 in let two : after p < n = low.0.1 in (omega (arith, one, same), omega (arith, two, same))) (pairs_in n m ps same low.1)
+    All-cons (λ (q : ℕ × ℕ). (q.0 < m) × (q.1 < m)) (pair_numbers p) (map pair_numbers ps) (let one : parent_of p < n = low.0.0 in let two : child_of p < n = low.0.1 in (omega (arith, one, same), omega (arith, two, same))) (pairs_in n m ps same low.1)
 
-any_pair : (a b : ℕ) (ps : List (JobId × JobId)) → list_any (λ (q : ℕ × ℕ). nat_eq q.0 a && nat_eq q.1 b) (map pair_numbers ps) ≡ list_any (λ (p : JobId × JobId). nat_eq (before p) a && nat_eq (after p) b) ps
+any_pair : (a b : ℕ) (ps : List (JobId × JobId)) → list_any (λ (q : ℕ × ℕ). nat_eq q.0 a && nat_eq q.1 b) (map pair_numbers ps) ≡ list_any (λ (p : JobId × JobId). nat_eq (parent_of p) a && nat_eq (child_of p) b) ps
 any_pair a b [] = refl
-any_pair a b (p ∷ ps) = ap (λ (t : Bool). (nat_eq (before p) a && nat_eq (after p) b) || t) (any_pair a b ps)
+any_pair a b (p ∷ ps) = ap (λ (t : Bool). (nat_eq (parent_of p) a && nat_eq (child_of p) b) || t) (any_pair a b ps)
 
 pub sources_are : (w : Workflow) (ps : List (Option JobId)) (ls new : List (List ℕ)) → IsWellFormed w → AreProducers w ps → ls ≡ map (λ (j : Job). found ps (inputs_of j)) w.jobs
-    → ((a b : ℕ) → has a (neighbours new b) ≡ (has a (neighbours ls b) || list_any (λ (q : ℕ × ℕ). nat_eq q.0 a && nat_eq q.1 b) (map pair_numbers w.pairs))) → (a b : ℕ) → has a (neighbours new b) ≡ edge w a b
+    → ((a b : ℕ) → has_node a (neighbours new b) ≡ (has_node a (neighbours ls b) || list_any (λ (q : ℕ × ℕ). nat_eq q.0 a && nat_eq q.1 b) (map pair_numbers w.pairs))) → (a b : ℕ) → has_node a (neighbours new b) ≡ edge w a b
 unfolding edge
 sources_are w ps ls new form are is added a b =
-    added a b ∙ ap (λ (x : Bool). has a (neighbours ls b) || x) (any_pair a b w.pairs)
-    ∙ ap (λ (x : Bool). x || is_paired w a b) (ap (λ (x : List (List ℕ)). has a (neighbours x b)) is ∙ ap (has a) (list_found ps b w.jobs) ∙ has_found w ps are a (read_by w b) (read_in (length w.files) b w.jobs form.jobs))
+    added a b ∙ ap (λ (x : Bool). has_node a (neighbours ls b) || x) (any_pair a b w.pairs)
+    ∙ ap (λ (x : Bool). x || is_paired w a b) (ap (λ (x : List (List ℕ)). has_node a (neighbours x b)) is ∙ ap (has_node a) (list_found ps b w.jobs) ∙ has_found w ps are a (read_by w b) (read_in (length w.files) b w.jobs form.jobs))
 
 -- the first of the jobs that make a file is its producer
 none_makes : (f i : ℕ) (js : List Job) → makers_from f i js ≡ [] → producer js f ≡ None

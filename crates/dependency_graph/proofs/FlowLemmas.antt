@@ -6,40 +6,42 @@ use Rattle.std.proofs.lemmas.List.Elements.{All-get_or}
 use Rattle.values.specs.declared.numbers.JobId.{JobId}
 use Rattle.workflow_core.specs.declared.workflow.Workflow.{Workflow}
 use Rattle.workflow_core.specs.declared.workflow.Job.{Job}
-use Rattle.workflow_core.specs.WellFormed.{inputs_of, outputs_of, IsJobOver, IsWellFormed}
+use Rattle.workflow_core.specs.WellFormed.{inputs_of, outputs_of}
+use Rattle.workflow_core.specs.code.WellFormed.{IsJobOver, IsWellFormed}
 use Rattle.std.proofs.Math.Bool.{or-true}
 use Rattle.std.proofs.lemmas.Bool.{eqb-true}
 use Rattle.dependency_graph.proofs.EdgesLemmas.{first_producer, makes}
 use Rattle.dependency_graph.proofs.GraphLemmas.{comes_first}
 use Rattle.dependency_graph.proofs.ValueLemmas.{Makes, among_below, any_in, edge_in, job_over, maker, unmade, value_law}
 use Rattle.dependency_graph.specs.Edges.{edge, has_output, is_among, is_paired, makers, makers_from, producer, read_by, written_by}
-use Rattle.dependency_graph.specs.Flow.{FlowsAlong, is_base, is_there, is_written}
+use Rattle.dependency_graph.specs.code.Flow.{FlowsAlong, is_base, is_there, is_written}
 use Rattle.dependency_graph.specs.Graph.{IsGraphOf, IsSound, Links, numbers}
-use Rattle.dependency_graph.specs.Value.{Basis, base_at, made_by, run_of, tool_at, tool_for, value}
+use Rattle.dependency_graph.specs.Value.{Basis, base_at, run_of, tool_for, value}
+use Rattle.dependency_graph.specs.code.Value.{made_by, tool_at}
 use Rattle.values.specs.Apply.{all_of, part}
-use Rattle.digraph.specs.Adjacency.{has, times}
+use Rattle.digraph.specs.Adjacency.{has_node, times}
 
 -- who makes an input comes before
-pub makers_first : (w : Workflow) (g : Links) → IsGraphOf w g → (i : ℕ) (a : JobId) → i < length g.ordered → slice_index_or g.ordered i a ≡ a → (f p : ℕ) → is_among f (read_by w a.0) ≡ true → is_among p (makers w f) ≡ true → has p (numbers (take i g.ordered)) ≡ true
+pub makers_first : (w : Workflow) (g : Links) → IsGraphOf w g → (i : ℕ) (a : JobId) → i < length g.ordered → slice_index_or g.ordered i a ≡ a → (f p : ℕ) → is_among f (read_by w a.0) ≡ true → is_among p (makers w f) ≡ true → has_node p (numbers (take i g.ordered)) ≡ true
 unfolding edge
 makers_first w g graph i a h at f p reads makes_it =
     comes_first w g graph i a h at p (ap (λ (t : Bool). t || is_paired w p a.0) (any_in (λ x. is_among x (written_by w p)) f (read_by w a.0) reads (sym (makes w f p) ∙ makes_it)))
 
 -- one of some jobs that makes a file
-written_has : (w : Workflow) (js : List JobId) (p f : ℕ) → has p (numbers js) ≡ true → is_among f (written_by w p) ≡ true → is_written w js f ≡ true
+written_has : (w : Workflow) (js : List JobId) (p f : ℕ) → has_node p (numbers js) ≡ true → is_among f (written_by w p) ≡ true → is_written w js f ≡ true
 written_has w [] p f h e = absurd cc
 written_has w (j ∷ js) p f h e = by (nat_eq j.0 p) refl h (λ k. written_has w js p f k e)
   where
-    by : (t : Bool) → nat_eq j.0 p ≡ t → (t || has p (numbers js)) ≡ true → (has p (numbers js) ≡ true → is_written w js f ≡ true) → (is_among f (written_by w j.0) || is_written w js f) ≡ true
+    by : (t : Bool) → nat_eq j.0 p ≡ t → (t || has_node p (numbers js)) ≡ true → (has_node p (numbers js) ≡ true → is_written w js f ≡ true) → (is_among f (written_by w j.0) || is_written w js f) ≡ true
     by true s k rest = ap (λ (b : Bool). b || is_written w js f) (ap (λ (n : ℕ). is_among f (written_by w n)) (eqb-true j.0 p s) ∙ e)
     by false s k rest = ap (λ (b : Bool). is_among f (written_by w j.0) || b) (rest k) ∙ or-true (is_among f (written_by w j.0))
 
 -- what stands once is there
-there_once : (p : ℕ) (ns : List ℕ) → times p ns ≡ 1 → has p ns ≡ true
+there_once : (p : ℕ) (ns : List ℕ) → times p ns ≡ 1 → has_node p ns ≡ true
 there_once p [] once = absurd (omega (arith, once))
 there_once p (n ∷ ns) once = by (nat_eq n p) refl once (λ e. there_once p ns e)
   where
-    by : (t : Bool) → nat_eq n p ≡ t → cond {A = ℕ} t 1 0 + times p ns ≡ 1 → (times p ns ≡ 1 → has p ns ≡ true) → (t || has p ns) ≡ true
+    by : (t : Bool) → nat_eq n p ≡ t → cond {A = ℕ} t 1 0 + times p ns ≡ 1 → (times p ns ≡ 1 → has_node p ns ≡ true) → (t || has_node p ns) ≡ true
     by true e k rest = refl
     by false e k rest = rest (omega (arith, k))
 
@@ -59,7 +61,7 @@ makes_it_by : (w : Workflow) (b f : ℕ) (q : Job) → Makes w b q f → is_amon
 makes_it_by w b f q made = ap (is_among f) (writes_of w b q made.below made.is) ∙ made.makes
 
 -- a file is there where its maker, if it has one, is among these jobs
-there : (w : Workflow) (js : List JobId) (f : ℕ) → ((b : ℕ) (q : Job) → Makes w b q f → has b (numbers js) ≡ true) → is_there w js f ≡ true
+there : (w : Workflow) (js : List JobId) (f : ℕ) → ((b : ℕ) (q : Job) → Makes w b q f → has_node b (numbers js) ≡ true) → is_there w js f ≡ true
 there w js f among = by (producer w.jobs f) refl
   where
     by : (o : Option Job) → producer w.jobs f ≡ o → is_there w js f ≡ true

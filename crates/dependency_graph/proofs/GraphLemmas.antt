@@ -7,10 +7,10 @@ use Rattle.values.specs.declared.numbers.JobId.{JobId}
 use Rattle.workflow_core.specs.declared.workflow.Workflow.{Workflow}
 use Rattle.dependency_graph.proofs.BuiltLemmas.{one_producer}
 use Rattle.dependency_graph.proofs.EdgesLemmas.{first_producer, no_producer}
-use Rattle.dependency_graph.specs.Built.{AreProducers}
+use Rattle.dependency_graph.specs.code.Built.{AreProducers}
 use Rattle.dependency_graph.specs.Edges.{edge, makers, producer}
-use Rattle.dependency_graph.specs.Graph.{IsGraphOf, Links, made_at, numbers}
-use Rattle.digraph.specs.Adjacency.{AreNeighbours, has}
+use Rattle.dependency_graph.specs.Graph.{IsGraphOf, Links, producer_of_file, numbers}
+use Rattle.digraph.specs.Adjacency.{AreNeighbours, has_node}
 use Rattle.digraph.specs.Cycle.{Returns}
 use Rattle.digraph.specs.Order.{IsTopologicalOrder}
 
@@ -20,9 +20,9 @@ take_numbers (suc i) [] = refl
 take_numbers (suc i) (j ∷ js) = ap (λ (ns : List ℕ). j.0 ∷ ns) (take_numbers i js)
 
 -- who leads to a job comes before it
-pub comes_first : (w : Workflow) (g : Links) → IsGraphOf w g → (i : ℕ) (a : JobId) → i < length g.ordered → slice_index_or g.ordered i a ≡ a → (p : ℕ) → edge w p a.0 ≡ true → has p (numbers (take i g.ordered)) ≡ true
+pub comes_first : (w : Workflow) (g : Links) → IsGraphOf w g → (i : ℕ) (a : JobId) → i < length g.ordered → slice_index_or g.ordered i a ≡ a → (p : ℕ) → edge w p a.0 ≡ true → has_node p (numbers (take i g.ordered)) ≡ true
 comes_first w g graph i a h at p into =
-    ap (has p) (sym (take_numbers i g.ordered))
+    ap (has_node p) (sym (take_numbers i g.ordered))
     ∙ graph.order.in_order i a.0 (omega (arith, h, length-map g.ordered (λ (j : JobId). j.0))) (get_or-map (λ (j : JobId). j.0) g.ordered i a a.0 h ∙ ap (λ (j : JobId). j.0) at) p into
 
 -- the numbers of a graph's order are in range
@@ -30,7 +30,7 @@ pub numbers_in : (n : ℕ) (js : List JobId) → All (λ a. a < n) (numbers js) 
 numbers_in n js all i d h = subst (λ (x : ℕ). x < n) (get_or-map (λ (j : JobId). j.0) js i d d.0 h) (all i d.0 (omega (arith, h, length-map js (λ (j : JobId). j.0))))
 
 -- a file has a producer where the graph has one for it
-pub known_maker : (w : Workflow) (g : Links) → IsGraphOf w g → (f : ℕ) → f < length g.producers → (o : Option JobId) → made_at g.producers f ≡ o → is_some (producer w.jobs f) ≡ is_some o
+pub known_maker : (w : Workflow) (g : Links) → IsGraphOf w g → (f : ℕ) → f < length g.producers → (o : Option JobId) → producer_of_file g.producers f ≡ o → is_some (producer w.jobs f) ≡ is_some o
 known_maker w g graph f h None e = ap is_some (no_producer w f (subst (λ (o : Option JobId). MatchOption o (makers w f ≡ []) (λ (j : JobId). makers w f ≡ j.0 ∷ [])) e (graph.producer f (omega (arith, h, graph.files)))))
 known_maker w g graph f h (Some j) e = ap is_some (first_producer w f j.0 [] (subst (λ (o : Option JobId). MatchOption o (makers w f ≡ []) (λ (j : JobId). makers w f ≡ j.0 ∷ [])) e (graph.producer f (omega (arith, h, graph.files))))).1
 

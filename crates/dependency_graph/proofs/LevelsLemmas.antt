@@ -8,21 +8,21 @@ use Rattle.std.proofs.lemmas.List.Folds.{list_any-append}
 use Rattle.std.proofs.Math.Bool.{or-false, or-true}
 use Rattle.values.specs.declared.numbers.JobId.{JobId}
 use Rattle.workflow_core.specs.declared.workflow.Workflow.{Workflow}
-use Rattle.workflow_core.specs.WellFormed.{IsWellFormed}
+use Rattle.workflow_core.specs.code.WellFormed.{IsWellFormed}
 use Rattle.dependency_graph.proofs.GraphLemmas.{numbers_in}
 use Rattle.dependency_graph.specs.Graph.{IsGraphOf, Links, jobs_at, numbers}
 use Rattle.dependency_graph.specs.Levels.{AreLevels, above, above_all, is_kept, level, level_by}
-use Rattle.digraph.specs.Adjacency.{has, neighbours, times}
+use Rattle.digraph.specs.Adjacency.{has_node, neighbours, times}
 
 pub above_push : (kept : List Bool) (levels : List ℕ) (js : List JobId) (j : JobId) → above_all kept levels (js ++ j ∷ []) ≡ max (above kept levels j.0) (above_all kept levels js)
 above_push kept levels [] j = refl
 above_push kept levels (x ∷ js) j = let rest = above_push kept levels js j in omega (arith, rest)
 
 -- what lies above jobs whose levels stay
-above_same : (kept : List Bool) (levels new : List ℕ) (js : List JobId) → ((b : ℕ) → has b (numbers js) ≡ true → level levels b ≡ level new b) → above_all kept levels js ≡ above_all kept new js
+above_same : (kept : List Bool) (levels new : List ℕ) (js : List JobId) → ((b : ℕ) → has_node b (numbers js) ≡ true → level levels b ≡ level new b) → above_all kept levels js ≡ above_all kept new js
 above_same kept levels new [] same = refl
 above_same kept levels new (j ∷ js) same =
-    let here : level levels j.0 ≡ level new j.0 = same j.0 (ap (λ (t : Bool). t || has j.0 (numbers js)) (eq-eqb j.0 j.0 refl)) in
+    let here : level levels j.0 ≡ level new j.0 = same j.0 (ap (λ (t : Bool). t || has_node j.0 (numbers js)) (eq-eqb j.0 j.0 refl)) in
     let one : above kept levels j.0 ≡ above kept new j.0 = ap (λ (n : ℕ). cond (is_kept kept j.0) (suc n) 0) here in
     let rest : above_all kept levels js ≡ above_all kept new js = above_same kept levels new js (λ b there. same b (ap (λ (t : Bool). nat_eq j.0 b || t) there ∙ or-true (nat_eq j.0 b))) in
     omega (arith, one, rest)
@@ -91,12 +91,12 @@ stands [] i low = absurd (omega arith)
 stands (n ∷ ns) zero low = let one : cond {A = ℕ} (nat_eq n n) 1 0 ≡ 1 = ap (λ (t : Bool). cond {A = ℕ} t 1 0) (eq-eqb n n refl) in omega (arith, one)
 stands (n ∷ ns) (suc i) low = let rest = stands ns i (omega arith) in omega (arith, rest)
 
-new_there : (ns : List ℕ) (i : ℕ) → i < length ns → times (get_or ns i 0) ns ≤ 1 → has (get_or ns i 0) (take i ns) ≡ false
+new_there : (ns : List ℕ) (i : ℕ) → i < length ns → times (get_or ns i 0) ns ≤ 1 → has_node (get_or ns i 0) (take i ns) ≡ false
 new_there [] i low once = absurd (omega arith)
 new_there (n ∷ ns) zero low once = refl
 new_there (n ∷ ns) (suc i) low once = by (nat_eq n (get_or ns i 0)) refl once (λ few. new_there ns i (omega (arith, low)) few)
   where
-    by : (t : Bool) → nat_eq n (get_or ns i 0) ≡ t → cond {A = ℕ} t 1 0 + times (get_or ns i 0) ns ≤ 1 → (times (get_or ns i 0) ns ≤ 1 → has (get_or ns i 0) (take i ns) ≡ false) → (t || has (get_or ns i 0) (take i ns)) ≡ false
+    by : (t : Bool) → nat_eq n (get_or ns i 0) ≡ t → cond {A = ℕ} t 1 0 + times (get_or ns i 0) ns ≤ 1 → (times (get_or ns i 0) ns ≤ 1 → has_node (get_or ns i 0) (take i ns) ≡ false) → (t || has_node (get_or ns i 0) (take i ns)) ≡ false
     by true e few rest = absurd (let there = stands ns i (omega (arith, low)) in let k : 1 + times (get_or ns i 0) ns ≤ 1 = few in omega (arith, there, k))
     by false e few rest = rest (let k : 0 + times (get_or ns i 0) ns ≤ 1 = few in omega (arith, k))
 
@@ -110,8 +110,8 @@ placed g i = get_or (numbers g.ordered) i 0
 pub record IsLeveled (g : Links) (kept : List Bool) (levels : List ℕ) (i : ℕ) : Type 0 where
   pub long : length levels ≡ length kept
   pub small : (a : ℕ) → level levels a ≤ i
-  pub closed : (a b : ℕ) → has a (seen g i) ≡ true → has b (numbers (jobs_at g.parents a)) ≡ true → has b (seen g i) ≡ true
-  pub each : (a : ℕ) → has a (seen g i) ≡ true → level levels a ≡ level_by g kept levels a
+  pub closed : (a b : ℕ) → has_node a (seen g i) ≡ true → has_node b (numbers (jobs_at g.parents a)) ≡ true → has_node b (seen g i) ≡ true
+  pub each : (a : ℕ) → has_node a (seen g i) ≡ true → level levels a ≡ level_by g kept levels a
 
 zero_at : (n a : ℕ) → level (replicate n 0) a ≡ 0
 zero_at zero a = refl
@@ -133,18 +133,18 @@ below w g graph i low = graph.order.in_range i 0 (omega (arith, low, length-map 
 pub parents_in : (w : Workflow) (g : Links) → IsGraphOf w g → (a : ℕ) → All (λ (p : JobId). p.0 < length w.jobs) (jobs_at g.parents a)
 parents_in w g graph a = numbers_in (length w.jobs) (jobs_at g.parents a) (subst (λ (ns : List ℕ). All (λ n. n < length w.jobs) ns) (parents_at g.parents a) (graph.parents.in_range a))
 
-parents_first : (w : Workflow) (g : Links) → IsGraphOf w g → (i : ℕ) → i < length g.ordered → (b : ℕ) → has b (numbers (jobs_at g.parents (placed g i))) ≡ true → has b (seen g i) ≡ true
+parents_first : (w : Workflow) (g : Links) → IsGraphOf w g → (i : ℕ) → i < length g.ordered → (b : ℕ) → has_node b (numbers (jobs_at g.parents (placed g i))) ≡ true → has_node b (seen g i) ≡ true
 parents_first w g graph i low b parent =
     graph.order.in_order i (placed g i) (omega (arith, low, length-map g.ordered (λ (j : JobId). j.0))) (get_or_default (numbers g.ordered) i (placed g i) 0 (omega (arith, low, length-map g.ordered (λ (j : JobId). j.0)))) b
-    (sym (graph.parents.same (placed g i) b) ∙ ap (has b) (parents_at g.parents (placed g i)) ∙ parent)
+    (sym (graph.parents.same (placed g i) b) ∙ ap (has_node b) (parents_at g.parents (placed g i)) ∙ parent)
 
-new_placed : (w : Workflow) (g : Links) → IsGraphOf w g → (i : ℕ) → i < length g.ordered → has (placed g i) (seen g i) ≡ false
+new_placed : (w : Workflow) (g : Links) → IsGraphOf w g → (i : ℕ) → i < length g.ordered → has_node (placed g i) (seen g i) ≡ false
 new_placed w g graph i low = new_there (numbers g.ordered) i (omega (arith, low, length-map g.ordered (λ (j : JobId). j.0))) (let once = graph.order.each_once (placed g i) (below w g graph i low) in omega (arith, once))
 
-seen_more : (g : Links) (i : ℕ) → i < length g.ordered → (b : ℕ) → has b (seen g (i + 1)) ≡ (has b (seen g i) || nat_eq (placed g i) b)
+seen_more : (g : Links) (i : ℕ) → i < length g.ordered → (b : ℕ) → has_node b (seen g (i + 1)) ≡ (has_node b (seen g i) || nat_eq (placed g i) b)
 seen_more g i low b =
-    ap (has b) (take_more (numbers g.ordered) i 0 (omega (arith, low, length-map g.ordered (λ (j : JobId). j.0))))
-    ∙ list_any-append (λ n. nat_eq n b) (seen g i) (placed g i ∷ []) ∙ ap (λ (t : Bool). has b (seen g i) || t) (or-false (nat_eq (placed g i) b))
+    ap (has_node b) (take_more (numbers g.ordered) i 0 (omega (arith, low, length-map g.ordered (λ (j : JobId). j.0))))
+    ∙ list_any-append (λ n. nat_eq n b) (seen g i) (placed g i ∷ []) ∙ ap (λ (t : Bool). has_node b (seen g i) || t) (or-false (nat_eq (placed g i) b))
 
 level_set : (levels : List ℕ) (x v a : ℕ) → x < length levels → level (slice_set levels x v) a ≡ cond {A = ℕ} (nat_eq x a) v (level levels a)
 level_set levels x v a low = by (nat_eq x a) refl
@@ -158,8 +158,8 @@ pub leveled_more : (w : Workflow) (g : Links) (kept : List Bool) (levels : List 
 leveled_more w g kept levels i v graph many is low value = record {
   long = length-set levels x v ∙ is.long;
   small = λ a. let at = level_set levels x v a within in omega (arith, at, small_by (nat_eq x a) (level levels a) (is.small a));
-  closed = λ a b there parent. seen_more g i low b ∙ ap (λ (t : Bool). t || nat_eq x b) (closed_by a b (has a (seen g i)) refl there parent);
-  each = λ a there. each_by a (has a (seen g i)) refl there;
+  closed = λ a b there parent. seen_more g i low b ∙ ap (λ (t : Bool). t || nat_eq x b) (closed_by a b (has_node a (seen g i)) refl there parent);
+  each = λ a there. each_by a (has_node a (seen g i)) refl there;
 }
   where
     x : ℕ
@@ -182,40 +182,40 @@ leveled_more w g kept levels i v graph many is low value = record {
     small_by true n h = v_small
     small_by false n h = omega (arith, h)
 
-    or_seen : (a : ℕ) (t : Bool) → has a (seen g i) ≡ t → has a (seen g (i + 1)) ≡ true → (t || nat_eq x a) ≡ true
+    or_seen : (a : ℕ) (t : Bool) → has_node a (seen g i) ≡ t → has_node a (seen g (i + 1)) ≡ true → (t || nat_eq x a) ≡ true
     or_seen a t e there = sym (ap (λ (b : Bool). b || nat_eq x a) e) ∙ sym (seen_more g i low a) ∙ there
 
-    closed_by : (a b : ℕ) (t : Bool) → has a (seen g i) ≡ t → has a (seen g (i + 1)) ≡ true → has b (numbers (jobs_at g.parents a)) ≡ true → has b (seen g i) ≡ true
+    closed_by : (a b : ℕ) (t : Bool) → has_node a (seen g i) ≡ t → has_node a (seen g (i + 1)) ≡ true → has_node b (numbers (jobs_at g.parents a)) ≡ true → has_node b (seen g i) ≡ true
     closed_by a b true e there parent = is.closed a b e parent
-    closed_by a b false e there parent = parents_first w g graph i low b (ap (λ (k : ℕ). has b (numbers (jobs_at g.parents k))) (eqb-true x a (or_seen a false e there)) ∙ parent)
+    closed_by a b false e there parent = parents_first w g graph i low b (ap (λ (k : ℕ). has_node b (numbers (jobs_at g.parents k))) (eqb-true x a (or_seen a false e there)) ∙ parent)
 
-    unchanged : (b : ℕ) → has b (seen g i) ≡ true → level levels b ≡ level new b
+    unchanged : (b : ℕ) → has_node b (seen g i) ≡ true → level levels b ≡ level new b
     unchanged b there = sym (level_set levels x v b within ∙ by (nat_eq x b) refl)
       where
         by : (t : Bool) → nat_eq x b ≡ t → cond {A = ℕ} t v (level levels b) ≡ level levels b
-        by true e = absurd (let again : has x (seen g i) ≡ true = ap (λ (k : ℕ). has k (seen g i)) (eqb-true x b e) ∙ there in let no_more = new_placed w g graph i low in cc)
+        by true e = absurd (let again : has_node x (seen g i) ≡ true = ap (λ (k : ℕ). has_node k (seen g i)) (eqb-true x b e) ∙ there in let no_more = new_placed w g graph i low in cc)
         by false e = refl
 
-    same_by : (a : ℕ) → ((b : ℕ) → has b (numbers (jobs_at g.parents a)) ≡ true → has b (seen g i) ≡ true) → level_by g kept levels a ≡ level_by g kept new a
+    same_by : (a : ℕ) → ((b : ℕ) → has_node b (numbers (jobs_at g.parents a)) ≡ true → has_node b (seen g i) ≡ true) → level_by g kept levels a ≡ level_by g kept new a
     same_by a first = ap (λ (n : ℕ). cond (is_kept kept a) n 0) (above_same kept levels new (jobs_at g.parents a) (λ b parent. unchanged b (first b parent)))
 
-    each_by : (a : ℕ) (t : Bool) → has a (seen g i) ≡ t → has a (seen g (i + 1)) ≡ true → level new a ≡ level_by g kept new a
+    each_by : (a : ℕ) (t : Bool) → has_node a (seen g i) ≡ t → has_node a (seen g (i + 1)) ≡ true → level new a ≡ level_by g kept new a
     each_by a true e there = sym (unchanged a e) ∙ is.each a e ∙ same_by a (λ b parent. is.closed a b e parent)
     each_by a false e there = subst (λ (k : ℕ). level new k ≡ level_by g kept new k) (eqb-true x a (or_seen a false e there))
         (level_set levels x v x within ∙ ap (λ (t : Bool). cond {A = ℕ} t v (level levels x)) (eq-eqb x x refl) ∙ value ∙ same_by x (parents_first w g graph i low))
 
-has_some : (a : ℕ) (ns : List ℕ) → times a ns ≡ 1 → has a ns ≡ true
+has_some : (a : ℕ) (ns : List ℕ) → times a ns ≡ 1 → has_node a ns ≡ true
 has_some a [] once = absurd (omega (arith, once))
 has_some a (n ∷ ns) once = by (nat_eq n a) refl once (has_some a ns)
   where
-    by : (t : Bool) → nat_eq n a ≡ t → cond {A = ℕ} t 1 0 + times a ns ≡ 1 → (times a ns ≡ 1 → has a ns ≡ true) → (t || has a ns) ≡ true
+    by : (t : Bool) → nat_eq n a ≡ t → cond {A = ℕ} t 1 0 + times a ns ≡ 1 → (times a ns ≡ 1 → has_node a ns ≡ true) → (t || has_node a ns) ≡ true
     by true e k rest = refl
     by false e k rest = rest (omega (arith, k))
 
 pub leveled_all : (w : Workflow) (g : Links) (kept : List Bool) (levels : List ℕ) (i : ℕ) → IsGraphOf w g → length kept ≡ length g.parents → IsLeveled g kept levels i → length g.ordered ≤ i → AreLevels g kept levels
 leveled_all w g kept levels i graph many is past = record {
   long = is.long;
-  each = λ a low. is.each a (ap (has a) (take_all i (numbers g.ordered) (omega (arith, past, length-map g.ordered (λ (j : JobId). j.0)))) ∙ has_some a (numbers g.ordered) (graph.order.each_once a (let p = graph.parents.long in let q = length-map g.parents numbers in omega (arith, p, q, many, low))));
+  each = λ a low. is.each a (ap (has_node a) (take_all i (numbers g.ordered) (omega (arith, past, length-map g.ordered (λ (j : JobId). j.0)))) ∙ has_some a (numbers g.ordered) (graph.order.each_once a (let p = graph.parents.long in let q = length-map g.parents numbers in omega (arith, p, q, many, low))));
 }
 
 -- the same in the words of the walk
@@ -232,9 +232,9 @@ levels_low w g kept levels i formed graph is low a = let few = formed.few_jobs i
 
 -- two lists of levels say the same
 pub agree : (w : Workflow) (g : Links) (kept : List Bool) (one two : List ℕ) → IsGraphOf w g → length kept ≡ length g.parents → AreLevels g kept one → AreLevels g kept two
-    → (i : ℕ) → i ≤ length g.ordered → (a : ℕ) → has a (seen g i) ≡ true → level one a ≡ level two a
+    → (i : ℕ) → i ≤ length g.ordered → (a : ℕ) → has_node a (seen g i) ≡ true → level one a ≡ level two a
 agree w g kept one two graph many first second zero low a there = absurd cc
-agree w g kept one two graph many first second (suc i) low a there = by (has a (seen g i)) refl (agree w g kept one two graph many first second i (omega (arith, low)))
+agree w g kept one two graph many first second (suc i) low a there = by (has_node a (seen g i)) refl (agree w g kept one two graph many first second i (omega (arith, low)))
   where
     here : level_by g kept one (placed g i) ≡ level_by g kept two (placed g i) → level one (placed g i) ≡ level two (placed g i)
     here same = let within : placed g i < length kept = (let l = below w g graph i (omega (arith, low)) in let p = graph.parents.long in let q = length-map g.parents numbers in omega (arith, l, p, q, many)) in
@@ -243,14 +243,14 @@ agree w g kept one two graph many first second (suc i) low a there = by (has a (
     next : suc i ≡ i + 1
     next = omega arith
 
-    by : (t : Bool) → has a (seen g i) ≡ t → ((b : ℕ) → has b (seen g i) ≡ true → level one b ≡ level two b) → level one a ≡ level two a
+    by : (t : Bool) → has_node a (seen g i) ≡ t → ((b : ℕ) → has_node b (seen g i) ≡ true → level one b ≡ level two b) → level one a ≡ level two a
     by true e rest = rest a e
     by false e rest =
-        let is : (has a (seen g i) || nat_eq (placed g i) a) ≡ true = sym (seen_more g i (omega (arith, low)) a) ∙ subst (λ (k : ℕ). has a (seen g k) ≡ true) next there in
+        let is : (has_node a (seen g i) || nat_eq (placed g i) a) ≡ true = sym (seen_more g i (omega (arith, low)) a) ∙ subst (λ (k : ℕ). has_node a (seen g k) ≡ true) next there in
         let at : placed g i ≡ a = eqb-true (placed g i) a (sym (ap (λ (t : Bool). t || nat_eq (placed g i) a) e) ∙ is) in
         subst (λ (k : ℕ). level one k ≡ level two k) at (here (ap (λ (n : ℕ). cond (is_kept kept (placed g i)) n 0) (above_same kept one two (jobs_at g.parents (placed g i)) (λ b parent. rest b (parents_first w g graph i (omega (arith, low)) b parent)))))
 
 pub one_levels : (w : Workflow) (g : Links) (kept : List Bool) (one two : List ℕ) → IsGraphOf w g → length kept ≡ length g.parents → AreLevels g kept one → AreLevels g kept two → one ≡ two
 one_levels w g kept one two graph many first second = ext_get_or 0 one two (first.long ∙ sym second.long) (λ a low. agree w g kept one two graph many first second (length g.ordered) (omega arith) a
-    (ap (has a) (take_all (length g.ordered) (numbers g.ordered) (omega (arith, length-map g.ordered (λ (j : JobId). j.0))))
+    (ap (has_node a) (take_all (length g.ordered) (numbers g.ordered) (omega (arith, length-map g.ordered (λ (j : JobId). j.0))))
     ∙ has_some a (numbers g.ordered) (graph.order.each_once a (let p = graph.parents.long in let q = length-map g.parents numbers in omega (arith, p, q, many, low, first.long)))))

@@ -13,7 +13,7 @@ use Rattle.workflow_core.specs.WellFormed.{outputs_of}
 use Rattle.std.proofs.Math.Bool.{or-false, or-true}
 use Rattle.std.proofs.lemmas.Bool.{eq-eqb, eqb-true, ne_eqb}
 use Rattle.dependency_graph.specs.Edges.{has_output, is_among, makers_from}
-use Rattle.dependency_graph.specs.Makers.{AreNoted, first_two, known, noted, noted_after, or_job}
+use Rattle.dependency_graph.specs.code.Makers.{AreNoted, first_two, known, noted, noted_after, or_job}
 use Rattle.dependency_graph.specs.declared.makers.Makers.{Makers}
 
 or_job_twice : (s : Option JobId) (j : JobId) → or_job (or_job s j) j ≡ or_job s j

@@ -10,7 +10,8 @@ use Rattle.std.proofs.lemmas.List.{append-nil}
 use Rattle.std.specs.declared.cmp.Ordering.TheVariants.{Less, Equal, Greater}
 use Rattle.std.proofs.lemmas.List.Sums.{sum_by-cons, sum_by-append}
 use Rattle.dependency_graph.specs.Levels.{is_kept}
-use Rattle.dependency_graph.specs.Ranking.{AreOnce, comes_before, IsRanked, leveled, numbers_in}
+use Rattle.dependency_graph.specs.Ranking.{HasNoRepeats, comes_before, IsRanked}
+use Rattle.dependency_graph.specs.code.Ranking.{leveled, numbers_in}
 use Rattle.dependency_graph.proofs.TestLemmas.{has, or_left, or_right, by_bool, itself, fresh_at}
 
 pub leveled_kept : (kept : List Bool) (levels : List ℕ) (n : ℕ) → is_kept kept n ≡ true → leveled kept levels (n + 1) ≡ leveled kept levels n ++ (get_or levels n 0, n) ∷ []
@@ -83,7 +84,7 @@ has_times (p ∷ ps) a = by_head (eqb p.1 a) refl (has_times ps a)
     by_head true e less = ap (λ (b : Bool). b || has (numbers_in ps) a) e ∙ (let one : if_so (eqb p.1 a) ≡ 1 = ap if_so e in let sum = sum_by-cons (λ (p : ℕ × ℕ). cond (eqb p.1 a) 1 0) p ps in let g : true ≡ ltb 0 (times a (p ∷ ps)) = grind (arith, one, sum) in g)
     by_head false e less = ap (λ (b : Bool). b || has (numbers_in ps) a) e ∙ less ∙ ap (ltb 0) (let none : if_so (eqb p.1 a) ≡ zero = ap if_so e in let sum = sum_by-cons (λ (p : ℕ × ℕ). cond (eqb p.1 a) 1 0) p ps in let g : times a ps ≡ times a (p ∷ ps) = omega (arith, none, sum) in g)
 
-once_times : (ps : List (ℕ × ℕ)) → ((a : ℕ) → times a ps ≤ 1) → AreOnce (numbers_in ps)
+once_times : (ps : List (ℕ × ℕ)) → ((a : ℕ) → times a ps ≤ 1) → HasNoRepeats (numbers_in ps)
 once_times [] h = tt
 once_times (p ∷ ps) h = (
   has_times ps p.1 ∙ (let one : if_so (eqb p.1 p.1) ≡ 1 = ap if_so (itself p.1) in let sum = sum_by-cons (λ (q : ℕ × ℕ). cond (eqb q.1 p.1) 1 0) p ps in let most = h p.1 in let g : ltb 0 (times p.1 ps) ≡ false = grind (arith, one, sum, most) in g),
@@ -136,7 +137,7 @@ ranked_is kept levels ps perm up = record {
     most_one true = omega arith
     most_one false = omega arith
 
-    once : AreOnce (numbers_in ps)
+    once : HasNoRepeats (numbers_in ps)
     once = once_times ps (λ a. let e = count a in let m = most_one (is_kept kept a && ltb a (length kept)) in omega (arith, e, m))
 
     flag_below : (xs : List Bool) (a : ℕ) → is_kept xs a ≡ true → a < length xs

@@ -4,7 +4,7 @@ use Rattle.std.specs.List.{list_any}
 use Rattle.std.proofs.lemmas.List.{take_more}
 use Rattle.std.proofs.lemmas.List.Folds.{list_any-append}
 use Rattle.dependency_graph.specs.Edges.{is_among}
-use Rattle.dependency_graph.specs.Ranking.{AreOnce}
+use Rattle.dependency_graph.specs.Ranking.{HasNoRepeats}
 
 -- the number stands in the list
 abbrev pub has : List ℕ → ℕ → Bool
@@ -44,7 +44,7 @@ has_at [] j l = absurd (omega arith)
 has_at (y ∷ ys) zero l = or_left (eqb y y) (has ys y) (itself y)
 has_at (y ∷ ys) (suc j) l = or_right (eqb y (get_or ys j 0)) (has ys (get_or ys j 0)) (has_at ys j (omega arith))
 
-pub fresh_at : (xs : List ℕ) (i : ℕ) → AreOnce xs → i < length xs → has (take i xs) (get_or xs i 0) ≡ false
+pub fresh_at : (xs : List ℕ) (i : ℕ) → HasNoRepeats xs → i < length xs → has (take i xs) (get_or xs i 0) ≡ false
 fresh_at [] i once l = absurd (omega arith)
 fresh_at (x ∷ xs) zero once l = refl
 fresh_at (x ∷ xs) (suc i) once l = or_neither (eqb x (get_or xs i 0)) (has (take i xs) (get_or xs i 0)) (not_later i (omega arith)) (fresh_at xs i once.1 (omega arith))

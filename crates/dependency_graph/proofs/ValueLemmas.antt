@@ -5,13 +5,15 @@ use Rattle.std.specs.List.{list_any, AllByRecursion}
 use Rattle.std.proofs.lemmas.List.{get_or-map}
 use Rattle.workflow_core.specs.declared.workflow.Workflow.{Workflow}
 use Rattle.workflow_core.specs.declared.workflow.Job.{Job}
-use Rattle.workflow_core.specs.WellFormed.{inputs_of, outputs_of, IsJobOver, IsWellFormed}
+use Rattle.workflow_core.specs.WellFormed.{inputs_of, outputs_of}
+use Rattle.workflow_core.specs.code.WellFormed.{IsJobOver, IsWellFormed}
 use Rattle.std.proofs.Math.Bool.{or-true}
 use Rattle.std.proofs.lemmas.Bool.{eq-eqb, eqb-true}
 use Rattle.dependency_graph.proofs.EdgesLemmas.{makes}
 use Rattle.dependency_graph.specs.Edges.{edge, has_output, is_among, is_paired, producer, read_by, written_by}
 use Rattle.dependency_graph.specs.Graph.{IsSound}
-use Rattle.dependency_graph.specs.Value.{Basis, IsValuation, base_at, by_producer, made_for, run_of, tool_for, value, value_within}
+use Rattle.dependency_graph.specs.Value.{Basis, base_at, by_producer, made_for, run_of, tool_for, value, value_within}
+use Rattle.dependency_graph.specs.code.Value.{IsValuation}
 use Rattle.values.specs.Apply.{all_of, part}
 use Rattle.digraph.proofs.OrderLemmas.{fresh, fresh_less, fresh_small}
 use Rattle.digraph.specs.Distances.{Walk}

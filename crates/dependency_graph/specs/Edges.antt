@@ -4,12 +4,12 @@ use Rattle.std.specs.List.{list_any}
 use Rattle.values.specs.declared.numbers.JobId.{JobId}
 use Rattle.workflow_core.specs.declared.workflow.Workflow.{Workflow}
 use Rattle.workflow_core.specs.declared.workflow.Job.{Job}
-use Rattle.workflow_core.specs.WellFormed.{inputs_of, outputs_of, before, after}
-use Rattle.digraph.specs.Adjacency.{has}
+use Rattle.workflow_core.specs.WellFormed.{inputs_of, outputs_of, parent_of, child_of}
+use Rattle.digraph.specs.Adjacency.{has_node}
 
 -- one of the files is this one
 abbrev pub is_among : ℕ → List ℕ → Bool
-is_among f fs = has f fs
+is_among f fs = has_node f fs
 
 abbrev pub has_output : ℕ → Job → Bool
 has_output f j = is_among f (outputs_of j)
@@ -40,7 +40,7 @@ passes_file w a b = list_any (λ f. is_among f (written_by w a)) (read_by w b)
 
 -- job b is stated to come after job a
 abbrev pub is_paired : Workflow → ℕ → ℕ → Bool
-is_paired w a b = list_any (λ (p : JobId × JobId). before p == a && after p == b) w.pairs
+is_paired w a b = list_any (λ (p : JobId × JobId). parent_of p == a && child_of p == b) w.pairs
 
 unfoldable pub edge : Workflow → ℕ → ℕ → Bool
 edge w a b = passes_file w a b || is_paired w a b

@@ -1,7 +1,6 @@
 -- What a graph says of its workflow.
-use Rattle.std.specs.Prelude.{◌≡◌, ℕ, ◌<◌, ◌≤◌, List, [], ◌∷◌, length, map, Option, None, MatchOption, Vec, slice_index_or}
+use Rattle.std.specs.Prelude.{◌≡◌, ℕ, ◌<◌, ◌≤◌, List, [], ◌∷◌, length, map, Option, None, MatchOption, slice_index_or}
 use Rattle.std.specs.List.{All}
-use Rattle.std.specs.declared.alloc.Global.{Global}
 use Rattle.values.specs.declared.numbers.JobId.{JobId}
 use Rattle.workflow_core.specs.declared.workflow.Workflow.{Workflow}
 use Rattle.digraph.specs.Adjacency.{AreNeighbours}
@@ -19,16 +18,13 @@ pub record Links : Type 0 where
 abbrev pub numbers : List JobId → List ℕ
 numbers js = map (λ (j : JobId). j.0) js
 
-abbrev pub job_lists : List (Vec JobId Global) → List (List JobId)
-job_lists vs = map (λ (v : Vec JobId Global). v.items) vs
-
 -- the list of a job: empty where there is no such job
 abbrev pub jobs_at : List (List JobId) → ℕ → List JobId
 jobs_at ls i = slice_index_or ls i []
 
 -- the job that makes a file
-abbrev pub made_at : List (Option JobId) → ℕ → Option JobId
-made_at producers f = slice_index_or producers f None
+abbrev pub producer_of_file : List (Option JobId) → ℕ → Option JobId
+producer_of_file producers f = slice_index_or producers f None
 
 -- Each file has at most one producer, and no job reaches itself.
 pub record IsSound (w : Workflow) : Type 0 where
@@ -40,7 +36,7 @@ pub record IsGraphOf (w : Workflow) (g : Links) : Type 0 where
   pub sound : IsSound w
   pub files : length g.producers ≡ length w.files
   pub producer : (f : ℕ) → f < length w.files
-      → MatchOption (made_at g.producers f) (makers w f ≡ []) (λ (j : JobId). makers w f ≡ j.0 ∷ [])
+      → MatchOption (producer_of_file g.producers f) (makers w f ≡ []) (λ (j : JobId). makers w f ≡ j.0 ∷ [])
   pub parents : AreNeighbours (λ b a. edge w a b) (length w.jobs) (map numbers g.parents)
   pub children : AreNeighbours (edge w) (length w.jobs) (map numbers g.children)
   pub in_range : All (λ (j : JobId). j.0 < length w.jobs) g.ordered

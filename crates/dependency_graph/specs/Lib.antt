@@ -5,7 +5,5 @@ pub mod Levels
 pub mod Ranking
 pub mod Built
 pub mod Value
-pub mod Flow
--- Steps of the building
-pub mod Makers
-pub mod Sources
+-- What only the code's own contracts say.
+pub mod code

@@ -1,5 +1,5 @@
 -- The value of a file: its base where no job makes it, else what its producer makes of the values of the producer's inputs.
-use Rattle.std.specs.Prelude.{◌≡◌, ℕ, zero, suc, ◌<◌, ◌==◌, true, false, List, [], ◌∷◌, length, map, if◌then◌else◌, Option, Some, None, is_some, option_map, option_and_then, slice_index_or}
+use Rattle.std.specs.Prelude.{ℕ, zero, suc, List, [], ◌∷◌, length, map, if◌then◌else◌, Option, Some, None, option_and_then, slice_index_or}
 use Rattle.values.specs.Apply.{Apply, all_of, part}
 use Rattle.workflow_core.specs.declared.workflow.Workflow.{Workflow}
 use Rattle.workflow_core.specs.declared.workflow.Job.{Job}
@@ -14,10 +14,6 @@ pub record Basis : Type 0 where
 
 abbrev pub basis : Apply → List (List ℕ) → List (Option (List ℕ)) → Basis
 basis apply tools bases = record { apply = apply; tools = tools; bases = bases }
-
--- the tool of the job with this number
-abbrev pub tool_at : Basis → ℕ → List ℕ
-tool_at b a = slice_index_or b.tools a []
 
 -- the base of a file
 abbrev pub base_at : Basis → ℕ → Option (List ℕ)
@@ -51,17 +47,3 @@ value_within b js (suc k) f = by_producer (producer js f) (base_at b f)
 
 abbrev pub value : Basis → Workflow → ℕ → Option (List ℕ)
 value b w f = value_within b w.jobs (length w.jobs) f
-
--- what a job makes in its workflow with its tool
-abbrev pub made_by : Basis → Workflow → List ℕ → Job → Option (List (List ℕ))
-made_by b w tool j = run_of b.apply tool j (all_of (map (value b w) (inputs_of j)))
-
--- each file that no job makes has its base
-abbrev pub AllBased : Basis → Workflow → Type 0
-AllBased b w = (f : ℕ) → f < length w.files → is_some (producer w.jobs f) ≡ false
-    → is_some (base_at b f) ≡ true
-
--- what stands at each file is its base, or what its producer makes for it
-abbrev pub IsValuation : Basis → Workflow → (ℕ → Option (List ℕ)) → Type 0
-IsValuation b w v = (f : ℕ) → f < length w.files
-    → v f ≡ by_producer (producer w.jobs f) (base_at b f) (made_for b w.jobs v f)

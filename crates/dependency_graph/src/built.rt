@@ -1,11 +1,13 @@
 //! The graph of a workflow, or why it has none.
 
 ghost use Rattle.std.specs.Prelude.{◌≡◌, ◌<◌, ℕ, List, length, map, IfOk, All};
-ghost use Rattle.workflow_core.specs.WellFormed.{IsWellFormed};
-ghost use Rattle.digraph.specs.Cycle.{Returns, IsNamedCycle};
-ghost use Rattle.digraph.specs.Digraph.{count, edge};
+ghost use Rattle.workflow_core.specs.code.WellFormed.{IsWellFormed};
+ghost use Rattle.digraph.specs.Cycle.{Returns};
+ghost use Rattle.digraph.specs.code.Cycle.{IsNamedCycle};
+ghost use Rattle.digraph.specs.code.Digraph.{count, edge};
 ghost use Rattle.dependency_graph.specs.declared.fault.GraphFault.TheVariants.{TwoProducers, Cycle};
-ghost use Rattle.dependency_graph.specs.Built.{name_of, id_of, FindsProducers, Builds};
+ghost use Rattle.dependency_graph.specs.Built.{workflow_file_name};
+ghost use Rattle.dependency_graph.specs.code.Built.{id_of, FindsProducers, Builds};
 
 use crate::edges::sources_of;
 use crate::fault::GraphFault;
@@ -44,7 +46,7 @@ fn two_producers(
     requires file { file.0 < length workflow.now.files }
     requires first { first.0 < length workflow.now.jobs }
     requires second { second.0 < length workflow.now.jobs }
-    ensures { IfOk result (λ e. e ≡ TwoProducers (name_of workflow.now file.0) (id_of workflow.now first.0)
+    ensures { IfOk result (λ e. e ≡ TwoProducers (workflow_file_name workflow.now file.0) (id_of workflow.now first.0)
         (id_of workflow.now second.0)) }
 {
     let name = workflow.files.as_slice()[file.0 as usize].copied(alloc)?;

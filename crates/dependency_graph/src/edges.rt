@@ -3,10 +3,11 @@
 ghost use Rattle.std.specs.Prelude.{◌≡◌, ◌<◌, ℕ, [], ◌∷◌, List, length, slice_index_or, None, Some, IfOk, All};
 ghost use Rattle.workflow_core.specs.declared.workflow.Workflow.{Workflow};
 ghost use Rattle.workflow_core.specs.declared.workflow.Job.{Job};
-ghost use Rattle.workflow_core.specs.WellFormed.{IsWellFormed};
-ghost use Rattle.digraph.specs.Adjacency.{lists_of, neighbours, has};
+ghost use Rattle.workflow_core.specs.code.WellFormed.{IsWellFormed};
+ghost use Rattle.digraph.specs.code.Adjacency.{lists_of};
+ghost use Rattle.digraph.specs.Adjacency.{neighbours, has_node};
 ghost use Rattle.dependency_graph.specs.Edges.{makers, producer, edge};
-ghost use Rattle.dependency_graph.specs.Built.{AreProducers};
+ghost use Rattle.dependency_graph.specs.code.Built.{AreProducers};
 
 use crate::sources::{numbered, sources};
 use digraph::add_pairs;
@@ -26,7 +27,7 @@ pub fn sources_of(
     ensures in_range { IfOk result (λ lists. (k : ℕ)
         → All (λ n. n < length workflow.now.jobs) (neighbours (lists_of lists.items) k)) }
     ensures edges { IfOk result (λ lists. (a b : ℕ)
-        → has a (neighbours (lists_of lists.items) b) ≡ edge workflow.now a b) }
+        → has_node a (neighbours (lists_of lists.items) b) ≡ edge workflow.now a b) }
 {
     let mut lists = sources(alloc, producers, workflow.jobs.as_slice())?;
     let pairs = numbered(alloc, workflow.pairs.as_slice())?;

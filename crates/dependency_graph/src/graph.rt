@@ -2,10 +2,12 @@
 
 ghost use Rattle.std.specs.Prelude.{◌≡◌, ◌<◌, ℕ, length, map, is_some, IfOk};
 ghost use Rattle.workflow_core.specs.declared.workflow.Workflow.{Workflow};
-ghost use Rattle.digraph.specs.Adjacency.{lists_of, AreNeighbours};
-ghost use Rattle.digraph.specs.Digraph.{count, edge};
+ghost use Rattle.digraph.specs.code.Adjacency.{lists_of};
+ghost use Rattle.digraph.specs.Adjacency.{AreNeighbours};
+ghost use Rattle.digraph.specs.code.Digraph.{count, edge};
 ghost use Rattle.dependency_graph.specs.Edges.{producer};
-ghost use Rattle.dependency_graph.specs.Graph.{numbers, job_lists, jobs_at, made_at, IsGraphOf};
+ghost use Rattle.dependency_graph.specs.Graph.{numbers, jobs_at, producer_of_file, IsGraphOf};
+ghost use Rattle.dependency_graph.specs.code.Graph.{job_lists};
 
 use digraph::Digraph;
 use std::alloc::Global;
@@ -32,7 +34,8 @@ impl Drop for Graph {
 }
 
 impl Model for Graph {
-    ghost use Rattle.dependency_graph.specs.Graph.{Links, job_lists};
+    ghost use Rattle.dependency_graph.specs.Graph.{Links};
+    ghost use Rattle.dependency_graph.specs.code.Graph.{job_lists};
 
     ghost Value = { Links };
 
@@ -64,7 +67,7 @@ impl Graph {
     /// The job that makes a file.
     pub fn producer(&self, file: FileId) -> Option<JobId>
         requires { file.0 < length self.now.producers }
-        ensures { result ≡ made_at self.now.producers file.0 }
+        ensures { result ≡ producer_of_file self.now.producers file.0 }
     {
         self.producers[file.0 as usize]
     }

@@ -9,7 +9,7 @@
 //! lists the kept jobs in order of (level, number): `specs/Ranking.antt`.
 //!
 //! The value of a file is defined in `specs/Value.antt`. Laws in `value.rt` and `flow.rt` say that nothing
-//! else fits together so, and that values flow along the graph's order (`specs/Flow.antt`).
+//! else fits together so, and that values flow along the graph's order (`specs/code/Flow.antt`).
 #![tactic(auto)]
 
 mod built;

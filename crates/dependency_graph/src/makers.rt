@@ -5,7 +5,7 @@ ghost use Rattle.workflow_core.specs.WellFormed.{outputs_of};
 ghost use Rattle.values.specs.declared.numbers.FileId.{FileId};
 ghost use Rattle.values.specs.declared.numbers.JobId.{JobId};
 ghost use Rattle.dependency_graph.specs.Edges.{makers_from};
-ghost use Rattle.dependency_graph.specs.Makers.{known, noted, first_two, are_two, AreNoted};
+ghost use Rattle.dependency_graph.specs.code.Makers.{known, noted, first_two, are_two, AreNoted};
 
 use std::alloc::Global;
 use values::{FileId, JobId, Memory};

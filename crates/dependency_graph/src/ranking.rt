@@ -2,7 +2,8 @@
 
 ghost use Rattle.std.specs.Prelude.{◌≡◌, ◌≤◌, ℕ, length, IfOk};
 ghost use Rattle.dependency_graph.specs.Levels.{is_kept, level};
-ghost use Rattle.dependency_graph.specs.Ranking.{leveled, numbers_in, IsRanked};
+ghost use Rattle.dependency_graph.specs.code.Ranking.{leveled, numbers_in};
+ghost use Rattle.dependency_graph.specs.Ranking.{IsRanked};
 
 use std::alloc::Global;
 use values::Memory;

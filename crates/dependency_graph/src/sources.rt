@@ -1,11 +1,11 @@
 //! The jobs that make the inputs of a job.
 
 ghost use Rattle.std.specs.Prelude.{◌≡◌, map, IfOk};
-ghost use Rattle.workflow_core.specs.WellFormed.{inputs_of, before, after};
+ghost use Rattle.workflow_core.specs.WellFormed.{inputs_of, parent_of, child_of};
 ghost use Rattle.values.specs.declared.numbers.FileId.{FileId};
 ghost use Rattle.values.specs.declared.numbers.JobId.{JobId};
-ghost use Rattle.digraph.specs.Adjacency.{lists_of};
-ghost use Rattle.dependency_graph.specs.Sources.{found};
+ghost use Rattle.digraph.specs.code.Adjacency.{lists_of};
+ghost use Rattle.dependency_graph.specs.code.Sources.{found};
 
 use std::alloc::Global;
 use values::{FileId, JobId, Memory};
@@ -42,7 +42,7 @@ pub fn sources(
 
 /// Pairs of jobs by number.
 pub fn numbered(alloc: Global, pairs: &[(JobId, JobId)]) -> Result<Vec<(u32, u32)>, Memory>
-    ensures { IfOk result (λ v. v.items ≡ map (λ (p : JobId × JobId). (before p, after p)) pairs.now) }
+    ensures { IfOk result (λ v. v.items ≡ map (λ (p : JobId × JobId). (parent_of p, child_of p)) pairs.now) }
 {
     Ok(
         pairs

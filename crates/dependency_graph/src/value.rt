@@ -3,10 +3,11 @@
 ghost use Rattle.std.specs.Prelude.{◌≡◌, ◌<◌, ℕ, List, length, Option, Some, None};
 ghost use Rattle.workflow_core.specs.declared.workflow.Workflow.{Workflow};
 ghost use Rattle.workflow_core.specs.declared.workflow.Job.{Job};
-ghost use Rattle.workflow_core.specs.WellFormed.{IsWellFormed};
+ghost use Rattle.workflow_core.specs.code.WellFormed.{IsWellFormed};
 ghost use Rattle.dependency_graph.specs.Edges.{producer};
 ghost use Rattle.dependency_graph.specs.Graph.{IsSound};
-ghost use Rattle.dependency_graph.specs.Value.{Basis, base_at, made_for, value, IsValuation};
+ghost use Rattle.dependency_graph.specs.Value.{Basis, base_at, made_for, value};
+ghost use Rattle.dependency_graph.specs.code.Value.{IsValuation};
 
 /// The value of a file is its base, or its part of what its producer makes of the values of the producer's inputs.
 pub fn value_is_made_of_values()

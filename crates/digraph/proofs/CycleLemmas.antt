@@ -6,12 +6,15 @@ use Rattle.digraph.proofs.AdjacencyLemmas.{same_edges, swapped}
 use Rattle.digraph.proofs.DistancesLemmas.{distance_is_at, is_distance, walk_distance}
 use Rattle.digraph.proofs.TimesLemmas.{present}
 use Rattle.digraph.proofs.OrderLemmas.{never_returns}
-use Rattle.digraph.specs.Adjacency.{AreLinked, comes, has, leads, neighbours, times}
-use Rattle.digraph.specs.Cycle.{Descends, IsCycleFrom, IsNamedCycle, IsNext, Returns}
-use Rattle.digraph.specs.Distances.{Walk, distance_at}
-use Rattle.digraph.specs.Kahn.{IsPlacement, free, waits_for}
-use Rattle.digraph.specs.Nearest.{IsLeastAt, IsNearest}
-use Rattle.digraph.specs.Search.{IsDistanceTable}
+use Rattle.digraph.specs.code.Adjacency.{AreLinked, comes, leads}
+use Rattle.digraph.specs.Adjacency.{has_node, neighbours, times}
+use Rattle.digraph.specs.code.Cycle.{Descends, IsCycleFrom, IsNamedCycle, IsNext}
+use Rattle.digraph.specs.Cycle.{Returns}
+use Rattle.digraph.specs.Distances.{Walk}
+use Rattle.digraph.specs.code.Distances.{distance_at}
+use Rattle.digraph.specs.code.Kahn.{IsPlacement, free, waits_for}
+use Rattle.digraph.specs.code.Nearest.{IsLeastAt, IsNearest}
+use Rattle.digraph.specs.code.Search.{IsDistanceTable}
 
 pub next_is : (successors : List (List ℕ)) (s node d : ℕ) (table : List (Option ℕ)) (c : ℕ) → IsDistanceTable (leads successors) s table → IsLeastAt table (neighbours successors node) d (Some c) → IsNext (leads successors) s node d c
 next_is successors s node d table c right found = record {

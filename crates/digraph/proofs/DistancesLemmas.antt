@@ -1,8 +1,9 @@
 -- Distances, and the tables that have them.
 use Rattle.std.proofs.Common.{◌≡◌, ℕ, zero, suc, ◌≤◌, Bool, List, sym, ap, ◌∙◌, arith}
 use Rattle.std.specs.Prelude.{Option, Some, None}
-use Rattle.digraph.specs.Distances.{AreDistances, IsDistance, Walk, distance_at}
-use Rattle.digraph.specs.Search.{IsDistanceTable}
+use Rattle.digraph.specs.code.Distances.{AreDistances, IsDistance, distance_at}
+use Rattle.digraph.specs.Distances.{Walk}
+use Rattle.digraph.specs.code.Search.{IsDistanceTable}
 
 -- the distances that a table tells are the distances
 pub walk_distance : (e : ℕ → ℕ → Bool) (s : ℕ) (table : List (Option ℕ)) → IsDistanceTable e s table → (n a : ℕ) → Walk e n a s → (x : ℕ) × (distance_at table a ≡ Some x) × (x ≤ n)

@@ -9,8 +9,9 @@ use Rattle.std.specs.declared.alloc.Global.{Global}
 use Rattle.std.proofs.lemmas.List.Folds.{list_any-append}
 use Rattle.std.proofs.lemmas.Bool.{eq-eqb, eqb-false, eqb-true, ne_eqb}
 use Rattle.digraph.proofs.AdjacencyLemmas.{neighbours_past, times_rising}
-use Rattle.digraph.specs.Adjacency.{AreLinked, comes, has, lists_of, neighbours, times}
-use Rattle.digraph.specs.Kahn.{IsPlacement, IsReleased, free, missing, waiting, waits_for}
+use Rattle.digraph.specs.code.Adjacency.{AreLinked, comes, lists_of}
+use Rattle.digraph.specs.Adjacency.{has_node, neighbours, times}
+use Rattle.digraph.specs.code.Kahn.{IsPlacement, IsReleased, free, missing, waiting, waits_for}
 use Rattle.digraph.specs.Order.{IsInOrder}
 use Rattle.digraph.proofs.TimesLemmas.{times_push, times_front, present, missing_all, missing_push, missing_none, missing_some, new_at, has_front, stands_once, all_has}
 
@@ -201,18 +202,18 @@ take_past (suc n) (x ∷ xs) ys h =
     let e : suc n - length (x ∷ xs) ≡ n - length xs = omega arith in
     ap (λ (zs : List ℕ). x ∷ zs) (take_past n xs ys (omega arith)) ∙ sym (ap (λ (m : ℕ). x ∷ xs ++ take m ys) e)
 
-pub order_more : (e : ℕ → ℕ → Bool) (xs ys : List ℕ) → IsInOrder e xs → ((i : ℕ) (j : ℕ) → i < length ys → get_or ys i j ≡ j → (a : ℕ) → e a j ≡ true → has a xs ≡ true) → IsInOrder e (xs ++ ys)
+pub order_more : (e : ℕ → ℕ → Bool) (xs ys : List ℕ) → IsInOrder e xs → ((i : ℕ) (j : ℕ) → i < length ys → get_or ys i j ≡ j → (a : ℕ) → e a j ≡ true → has_node a xs ≡ true) → IsInOrder e (xs ++ ys)
 order_more e xs ys order later i j h is a edge = by (nat_lt i (length xs)) refl
   where
-    by : (t : Bool) → nat_lt i (length xs) ≡ t → has a (take i (xs ++ ys)) ≡ true
+    by : (t : Bool) → nat_lt i (length xs) ≡ t → has_node a (take i (xs ++ ys)) ≡ true
     by true l =
         let low : i < length xs = grind arith in
-        ap (has a) (take-append-le i xs ys (omega arith)) ∙ order i j low (sym (get_or_append_left xs ys j i low) ∙ is) a edge
+        ap (has_node a) (take-append-le i xs ys (omega arith)) ∙ order i j low (sym (get_or_append_left xs ys j i low) ∙ is) a edge
     by false l =
         let high : length xs ≤ i = grind arith in
         let at : get_or ys (i - length xs) j ≡ j = grind (arith, common_steps) in
-        let there : has a xs ≡ true = later (i - length xs) j (omega (arith, high, h, length-append xs ys)) at a edge in
-        ap (has a) (take_past i xs ys high) ∙ list_any-append (λ (k : ℕ). nat_eq k a) xs (take (i - length xs) ys) ∙ ap (λ (b : Bool). b || has a (take (i - length xs) ys)) there
+        let there : has_node a xs ≡ true = later (i - length xs) j (omega (arith, high, h, length-append xs ys)) at a edge in
+        ap (has_node a) (take_past i xs ys high) ∙ list_any-append (λ (k : ℕ). nat_eq k a) xs (take (i - length xs) ys) ∙ ap (λ (b : Bool). b || has_node a (take (i - length xs) ys)) there
 
 past_open : (counts : List ℕ) (b : ℕ) → length counts ≤ b → waits_for counts b ≡ 1
 past_open counts b h = get_or_past counts b 1 h
@@ -227,7 +228,7 @@ is_one counts b none = by (nat_lt b (length counts)) refl
 
 -- its predecessors are placed
 cleared : (predecessors : List (List ℕ)) (placed : List ℕ) (counts : List ℕ) → length counts ≡ length predecessors → ((b : ℕ) → b < length predecessors → waits_for counts b ≡ missing placed (neighbours predecessors b))
-    → (b : ℕ) → waits_for counts b ≡ 0 → (a : ℕ) → comes predecessors a b ≡ true → has a placed ≡ true
+    → (b : ℕ) → waits_for counts b ≡ 0 → (a : ℕ) → comes predecessors a b ≡ true → has_node a placed ≡ true
 cleared predecessors placed counts long is b none a edge =
     missing_none placed (neighbours predecessors b) a (sym (is b (let h : b < length counts = is_one counts b none in omega arith)) ∙ none) edge
 
@@ -274,7 +275,7 @@ placed_first vs ordered counts is once kept done = record {
 pub enough : (predecessors successors : List (List ℕ)) (head : ℕ) (ordered : List ℕ) (counts : List ℕ) → AreLinked predecessors successors → Placed predecessors head ordered counts → (j : ℕ) → head < length ordered → get_or ordered head j ≡ j → (b : ℕ) → times b (neighbours successors j) ≤ waits_for counts b
 enough predecessors successors head ordered counts linked placed j h is b = by (nat_lt b (length predecessors)) refl
   where
-    not_yet : has j (take head ordered) ≡ false
+    not_yet : has_node j (take head ordered) ≡ false
     not_yet = new_at ordered head j h is (let k : free counts j ≤ 1 = free_small counts j in omega (arith, k, placed.once j))
 
     by : (t : Bool) → nat_lt b (length predecessors) ≡ t → times b (neighbours successors j) ≤ waits_for counts b
@@ -295,11 +296,11 @@ placed_more predecessors successors head ordered longer counts new linked placed
   open_is = waits;
   once = λ b. omega (arith, released.placed b, placed.once b);
   in_order = subst (λ (x : List ℕ). IsInOrder (comes predecessors) x) (sym released.is) (order_more (comes predecessors) ordered released.more placed.in_order (λ i y l at a edge.
-      has_front a (head + 1) ordered (subst (λ (x : List ℕ). has a x ≡ true) front (cleared predecessors (take (head + 1) longer) new (same ∙ placed.long) waits y (subst (λ (k : ℕ). waits_for new k ≡ 0) at (released.done i y l)) a edge))));
+      has_front a (head + 1) ordered (subst (λ (x : List ℕ). has_node a x ≡ true) front (cleared predecessors (take (head + 1) longer) new (same ∙ placed.long) waits y (subst (λ (k : ℕ). waits_for new k ≡ 0) at (released.done i y l)) a edge))));
   kept = omega (arith, released.kept, placed.kept);
 }
   where
-    not_yet : has j (take head ordered) ≡ false
+    not_yet : has_node j (take head ordered) ≡ false
     not_yet = new_at ordered head j h is (let k : free counts j ≤ 1 = free_small counts j in omega (arith, k, placed.once j))
 
     front : take (head + 1) longer ≡ take (head + 1) ordered
@@ -323,7 +324,7 @@ placed_all predecessors successors head ordered counts linked placed past = reco
   stuck = λ b l waits. wait b (missing_some ordered (neighbours predecessors b) (λ none. waits (placed.open_is b l ∙ ap (λ (x : List ℕ). missing x (neighbours predecessors b)) (take_all head ordered past) ∙ none)));
 }
   where
-    wait : (b : ℕ) → (a : ℕ) × (has a (neighbours predecessors b) ≡ true) × (has a ordered ≡ false) → (a : ℕ) × (comes predecessors a b ≡ true) × (a < length predecessors) × (waits_for counts a ≢ 0)
+    wait : (b : ℕ) → (a : ℕ) × (has_node a (neighbours predecessors b) ≡ true) × (has_node a ordered ≡ false) → (a : ℕ) × (comes predecessors a b ≡ true) × (a < length predecessors) × (waits_for counts a ≢ 0)
     wait b found =
         let a = found.0 in (
           a,

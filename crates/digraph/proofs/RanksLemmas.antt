@@ -4,16 +4,18 @@ use Rattle.std.specs.Prelude.{Option, Some, None, is_some}
 use Rattle.std.specs.List.{All}
 use Rattle.std.proofs.Math.Bool.{or-false}
 use Rattle.digraph.proofs.SearchLemmas.{distance_in, kept_distance, reached_at, stands_at}
-use Rattle.digraph.specs.Adjacency.{comes, has, neighbours}
+use Rattle.digraph.specs.code.Adjacency.{comes}
+use Rattle.digraph.specs.Adjacency.{has_node, neighbours}
 use Rattle.digraph.specs.Cycle.{Returns}
-use Rattle.digraph.specs.Distances.{Walk, distance_at}
-use Rattle.digraph.specs.Ranks.{AreRanks}
-use Rattle.digraph.specs.Search.{IsMarked, IsSpread, later, reached}
+use Rattle.digraph.specs.Distances.{Walk}
+use Rattle.digraph.specs.code.Distances.{distance_at}
+use Rattle.digraph.specs.code.Ranks.{AreRanks}
+use Rattle.digraph.specs.code.Search.{IsMarked, IsSpread, later, reached}
 
 -- ranks but for the edges to some nodes, which were the last to get this one
 pub record AreRanksBut (predecessors : List (List ℕ)) (rank : ℕ) (frontier : List ℕ) (table : List (Option ℕ)) : Type 0 where
-  pub ranks : (a b x : ℕ) → comes predecessors a b ≡ true → distance_at table b ≡ Some x → has b frontier ≡ false → (y : ℕ) × (distance_at table a ≡ Some y) × (y ≤ x)
-  pub last : (c : ℕ) → has c frontier ≡ true → distance_at table c ≡ Some rank
+  pub ranks : (a b x : ℕ) → comes predecessors a b ≡ true → distance_at table b ≡ Some x → has_node b frontier ≡ false → (y : ℕ) × (distance_at table a ≡ Some y) × (y ≤ x)
+  pub last : (c : ℕ) → has_node c frontier ≡ true → distance_at table c ≡ Some rank
   pub most : (c x : ℕ) → distance_at table c ≡ Some x → x ≤ rank
 
 -- what is said after nodes were found
@@ -40,21 +42,21 @@ some_rank None rank most = (rank, refl, omega arith)
 pub first_ranks : (predecessors : List (List ℕ)) (old table : List (Option ℕ)) (root rank : ℕ) (frontier : List ℕ) → AreRanks (comes predecessors) old → ((c x : ℕ) → distance_at old c ≡ Some x → x ≤ rank) → IsMarked old table [] frontier (root ∷ []) rank → AreRanksBut predecessors rank frontier table
 first_ranks predecessors old table root rank frontier ranks most marked = record {
   ranks = λ a b x edge e new.
-      let was : distance_at old b ≡ Some x = had (distance_at old b) (has b (root ∷ [])) rank x (sym (marked.says b) ∙ e) (sym (marked.found b) ∙ new) in
+      let was : distance_at old b ≡ Some x = had (distance_at old b) (has_node b (root ∷ [])) rank x (sym (marked.says b) ∙ e) (sym (marked.found b) ∙ new) in
       let found = ranks a b x edge was in
-      (found.0, kept_distance old table (λ p. has p (root ∷ [])) rank marked.says a found.0 found.1, found.2);
-  last = λ c h. marked.says c ∙ found_last (distance_at old c) (has c (root ∷ [])) rank (sym (marked.found c) ∙ h);
-  most = λ c x e. found_most (distance_at old c) (has c (root ∷ [])) rank x (most c) (sym (marked.says c) ∙ e);
+      (found.0, kept_distance old table (λ p. has_node p (root ∷ [])) rank marked.says a found.0 found.1, found.2);
+  last = λ c h. marked.says c ∙ found_last (distance_at old c) (has_node c (root ∷ [])) rank (sym (marked.found c) ∙ h);
+  most = λ c x e. found_most (distance_at old c) (has_node c (root ∷ [])) rank x (most c) (sym (marked.says c) ∙ e);
 }
 
 pub more_ranks : (predecessors : List (List ℕ)) (old table : List (Option ℕ)) (rank : ℕ) (frontier next : List ℕ) → AreRanksBut predecessors rank frontier old → IsSpread predecessors old table frontier next rank → AreRanksBut predecessors rank next table
 more_ranks predecessors old table rank frontier next but spread = record {
-  ranks = λ a b x edge e new. by a b x edge (had (distance_at old b) (reached predecessors frontier b) rank x (sym (spread.says b) ∙ e) (sym (spread.found b) ∙ new)) (has b frontier) refl;
+  ranks = λ a b x edge e new. by a b x edge (had (distance_at old b) (reached predecessors frontier b) rank x (sym (spread.says b) ∙ e) (sym (spread.found b) ∙ new)) (has_node b frontier) refl;
   last = λ c h. spread.says c ∙ found_last (distance_at old c) (reached predecessors frontier c) rank (sym (spread.found c) ∙ h);
   most = λ c x e. found_most (distance_at old c) (reached predecessors frontier c) rank x (but.most c) (sym (spread.says c) ∙ e);
 }
   where
-    by : (a b x : ℕ) → comes predecessors a b ≡ true → distance_at old b ≡ Some x → (t : Bool) → has b frontier ≡ t → (y : ℕ) × (distance_at table a ≡ Some y) × (y ≤ x)
+    by : (a b x : ℕ) → comes predecessors a b ≡ true → distance_at old b ≡ Some x → (t : Bool) → has_node b frontier ≡ t → (y : ℕ) × (distance_at table a ≡ Some y) × (y ≤ x)
     by a b x edge was true h =
         let found = some_rank (distance_at old a) rank (but.most a) in
         let same : Some x ≡ Some rank = sym was ∙ but.last b h in
@@ -65,7 +67,7 @@ more_ranks predecessors old table rank frontier next but spread = record {
         (found.0, kept_distance old table (reached predecessors frontier) rank spread.says a found.0 found.1, found.2)
 
 pub all_ranks : (predecessors : List (List ℕ)) (rank : ℕ) (frontier : List ℕ) (table : List (Option ℕ)) → AreRanksBut predecessors rank frontier table → frontier ≡ [] → AreRanks (comes predecessors) table
-all_ranks predecessors rank frontier table but none = λ a b x edge e. but.ranks a b x edge e (ap (has b) none)
+all_ranks predecessors rank frontier table but none = λ a b x edge e. but.ranks a b x edge e (ap (has_node b) none)
 
 pub last_in : (predecessors : List (List ℕ)) (rank : ℕ) (frontier : List ℕ) (table : List (Option ℕ)) → AreRanksBut predecessors rank frontier table → All (λ (j : ℕ). j < length table) frontier
 last_in predecessors rank frontier table but i d h = distance_in table (get_or frontier i d) rank (but.last (get_or frontier i d) (stands_at frontier i d h))

@@ -2,8 +2,9 @@
 
 ghost use Rattle.std.specs.Prelude.{◌≡◌, ◌≤◌, ◌<◌, ◌==◌, ◌++◌, ◌||◌, ◌&&◌, ◌^◌, ℕ, [], ◌∷◌, length, cond, IfOk, OnOk, All};
 ghost use Rattle.std.specs.List.{list_any};
-ghost use Rattle.digraph.specs.Adjacency.{lists_of, neighbours, has, IsTransposed};
-ghost use Rattle.digraph.specs.Scatter.{ends_with, IsScattered};
+ghost use Rattle.digraph.specs.code.Adjacency.{lists_of, IsTransposed};
+ghost use Rattle.digraph.specs.Adjacency.{neighbours, has_node};
+ghost use Rattle.digraph.specs.code.Scatter.{ends_with, IsScattered};
 
 use std::alloc::Global;
 use values::Memory;
@@ -41,8 +42,8 @@ pub fn add_pairs(lists: &mut Vec<Vec<u32>>, pairs: &[(u32, u32)]) -> Result<(), 
     ensures long { length lists.new.items ≡ length lists.old.items }
     ensures below { OnOk result ((k : ℕ)
         → All (λ n. n < length lists.old.items) (neighbours (lists_of lists.new.items) k)) }
-    ensures added { OnOk result ((a b : ℕ) → has a (neighbours (lists_of lists.new.items) b)
-        ≡ (has a (neighbours (lists_of lists.old.items) b)
+    ensures added { OnOk result ((a b : ℕ) → has_node a (neighbours (lists_of lists.new.items) b)
+        ≡ (has_node a (neighbours (lists_of lists.old.items) b)
         || list_any (λ (p : ℕ × ℕ). p.0 == a && p.1 == b) pairs.now)) }
 {
     for pair in pairs {

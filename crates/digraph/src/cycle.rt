@@ -1,11 +1,13 @@
 //! The cycle that a fault names.
 
 ghost use Rattle.std.specs.Prelude.{◌≡◌, ◌<◌, ◌≤◌, ◌∷◌, ◌^◌, ℕ, Some, true, length, IfOk, MatchOption, All};
-ghost use Rattle.digraph.specs.Adjacency.{lists_of, neighbours, leads, IsRising, AreLinked};
-ghost use Rattle.digraph.specs.Cycle.{Returns, Descends, IsCycleFrom, IsNamedCycle};
-ghost use Rattle.digraph.specs.Distances.{distance_at};
-ghost use Rattle.digraph.specs.Ranks.{AreRanks};
-ghost use Rattle.digraph.specs.Search.{IsDistanceTable};
+ghost use Rattle.digraph.specs.code.Adjacency.{lists_of, leads, AreLinked};
+ghost use Rattle.digraph.specs.Adjacency.{neighbours, IsRising};
+ghost use Rattle.digraph.specs.Cycle.{Returns};
+ghost use Rattle.digraph.specs.code.Cycle.{Descends, IsCycleFrom, IsNamedCycle};
+ghost use Rattle.digraph.specs.code.Distances.{distance_at};
+ghost use Rattle.digraph.specs.code.Ranks.{AreRanks};
+ghost use Rattle.digraph.specs.code.Search.{IsDistanceTable};
 
 use crate::nearest::{distance_at, least_at, nearest};
 use crate::ranks::ranks;

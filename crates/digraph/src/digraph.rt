@@ -1,7 +1,7 @@
 //! A directed graph on the numbers below a count.
 
 ghost use Rattle.std.specs.Prelude.{◌<◌, ◌^◌, length};
-ghost use Rattle.digraph.specs.Adjacency.{lists_of, AreLinked, AreLinked-prop};
+ghost use Rattle.digraph.specs.code.Adjacency.{lists_of, AreLinked, AreLinked-prop};
 
 /// The predecessors and the successors of each node.
 #[derive(Drop)]

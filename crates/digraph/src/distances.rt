@@ -1,8 +1,9 @@
 //! How many edges lead from each node to one of them.
 
 ghost use Rattle.std.specs.Prelude.{◌≡◌, ◌<◌, ◌^◌, ℕ, length, IfOk, All};
-ghost use Rattle.digraph.specs.Adjacency.{lists_of, neighbours, comes};
-ghost use Rattle.digraph.specs.Distances.{AreDistances};
+ghost use Rattle.digraph.specs.code.Adjacency.{lists_of, comes};
+ghost use Rattle.digraph.specs.Adjacency.{neighbours};
+ghost use Rattle.digraph.specs.code.Distances.{AreDistances};
 
 use crate::search::search;
 use std::alloc::Global;

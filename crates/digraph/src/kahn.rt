@@ -2,8 +2,9 @@
 
 ghost use Rattle.std.specs.Prelude.{◌≡◌, ◌<◌, ◌≤◌, ◌+◌, ◌^◌, ℕ, length, map, IfOk, OnOk, All, Vec};
 ghost use Rattle.std.specs.declared.alloc.Global.{Global};
-ghost use Rattle.digraph.specs.Adjacency.{lists_of, times, AreLinked};
-ghost use Rattle.digraph.specs.Kahn.{waits_for, free, waiting, IsReleased, IsPlacement};
+ghost use Rattle.digraph.specs.code.Adjacency.{lists_of, AreLinked};
+ghost use Rattle.digraph.specs.Adjacency.{times};
+ghost use Rattle.digraph.specs.code.Kahn.{waits_for, free, waiting, IsReleased, IsPlacement};
 
 use std::alloc::Global;
 use values::Memory;

@@ -1,7 +1,8 @@
 //! What the definitions of orders and cycles come to.
 
 ghost use Rattle.std.specs.Prelude.{◌≡◌, ◌<◌, ℕ, Bool, true, List};
-ghost use Rattle.digraph.specs.Cycle.{Returns, IsNamedCycle};
+ghost use Rattle.digraph.specs.Cycle.{Returns};
+ghost use Rattle.digraph.specs.code.Cycle.{IsNamedCycle};
 ghost use Rattle.digraph.specs.Order.{IsTopologicalOrder};
 
 /// Where the nodes below the count have a topological order, none of them returns to itself.

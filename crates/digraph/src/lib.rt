@@ -4,7 +4,7 @@
 //! such lists), and answers a topological order, the one cycle that is named, and distances. It
 //! stands on `values` for want of memory alone, and knows nothing of jobs.
 //!
-//! `specs/Digraph.antt` has what an edge is, and the files after it in `specs/Lib.antt` say what an
+//! `specs/code/Digraph.antt` has what an edge is, and the files after it in `specs/Lib.antt` say what an
 //! order, a distance and the named cycle are, of any relation between numbers. An order exists
 //! exactly where no node returns to itself.
 #![tactic(auto)]

@@ -2,8 +2,8 @@
 
 ghost use Rattle.std.specs.Prelude.{◌≡◌};
 ghost use Rattle.digraph.specs.Adjacency.{IsRising};
-ghost use Rattle.digraph.specs.Distances.{distance_at};
-ghost use Rattle.digraph.specs.Nearest.{lesser, IsNearest, IsLeastAt};
+ghost use Rattle.digraph.specs.code.Distances.{distance_at};
+ghost use Rattle.digraph.specs.code.Nearest.{lesser, IsNearest, IsLeastAt};
 
 /// What a table says of a node.
 pub fn distance_at(table: &[Option<u32>], node: u32) -> Option<u32>

@@ -1,7 +1,7 @@
 //! A topological order.
 
 ghost use Rattle.std.specs.Prelude.{◌≡◌, ◌<◌, ◌^◌, ℕ, length, IfOk, MatchOption};
-ghost use Rattle.digraph.specs.Adjacency.{lists_of, leads, AreLinked};
+ghost use Rattle.digraph.specs.code.Adjacency.{lists_of, leads, AreLinked};
 ghost use Rattle.digraph.specs.Cycle.{Returns};
 ghost use Rattle.digraph.specs.Order.{IsTopologicalOrder};
 

@@ -2,10 +2,12 @@
 
 ghost use Rattle.std.specs.Prelude.{◌≡◌, ◌<◌, ◌==◌, ◌&&◌, ◌^◌, ℕ, length, IfOk, MatchOption, All};
 ghost use Rattle.std.specs.List.{list_any};
-ghost use Rattle.digraph.specs.Adjacency.{lists_of, neighbours, has, AreNeighbours};
-ghost use Rattle.digraph.specs.Cycle.{Returns, IsNamedCycle};
-ghost use Rattle.digraph.specs.Digraph.{count, edge};
-ghost use Rattle.digraph.specs.Distances.{AreDistances};
+ghost use Rattle.digraph.specs.code.Adjacency.{lists_of};
+ghost use Rattle.digraph.specs.Adjacency.{neighbours, has_node, AreNeighbours};
+ghost use Rattle.digraph.specs.Cycle.{Returns};
+ghost use Rattle.digraph.specs.code.Cycle.{IsNamedCycle};
+ghost use Rattle.digraph.specs.code.Digraph.{count, edge};
+ghost use Rattle.digraph.specs.code.Distances.{AreDistances};
 ghost use Rattle.digraph.specs.Order.{IsTopologicalOrder};
 
 use crate::adjacency::{add_pairs, empty_lists, transposed};
@@ -25,7 +27,7 @@ impl Digraph {
             → All (λ n. n < length predecessors.now) (neighbours (lists_of predecessors.now) k) }
         ensures count { IfOk result (λ g. count g ≡ length predecessors.now) }
         ensures edges { IfOk result
-            (λ g. (a b : ℕ) → edge g a b ≡ has a (neighbours (lists_of predecessors.now) b)) }
+            (λ g. (a b : ℕ) → edge g a b ≡ has_node a (neighbours (lists_of predecessors.now) b)) }
     {
         let successors = transposed(alloc, predecessors)?;
         let predecessors = transposed(alloc, &successors)?;

@@ -2,9 +2,10 @@
 //! both.
 
 ghost use Rattle.std.specs.Prelude.{◌≡◌, ◌<◌, ◌≤◌, ◌^◌, ℕ, Some, length, IfOk, OnOk, All};
-ghost use Rattle.digraph.specs.Adjacency.{lists_of, neighbours, comes, leads, AreLinked};
-ghost use Rattle.digraph.specs.Distances.{distance_at};
-ghost use Rattle.digraph.specs.Ranks.{AreRanks};
+ghost use Rattle.digraph.specs.code.Adjacency.{lists_of, comes, leads, AreLinked};
+ghost use Rattle.digraph.specs.Adjacency.{neighbours};
+ghost use Rattle.digraph.specs.code.Distances.{distance_at};
+ghost use Rattle.digraph.specs.code.Ranks.{AreRanks};
 
 use crate::finishing::finishing_order;
 use crate::search::{blank, mark, spread};

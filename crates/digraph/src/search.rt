@@ -1,8 +1,9 @@
 //! Breadth-first search, from a node against the edges.
 
 ghost use Rattle.std.specs.Prelude.{◌≡◌, ◌<◌, ◌≤◌, ◌^◌, ℕ, None, length, replicate, IfOk, OnOk, All};
-ghost use Rattle.digraph.specs.Adjacency.{lists_of, neighbours, comes};
-ghost use Rattle.digraph.specs.Search.{IsMarked, IsSpread, IsDistanceTable};
+ghost use Rattle.digraph.specs.code.Adjacency.{lists_of, comes};
+ghost use Rattle.digraph.specs.Adjacency.{neighbours};
+ghost use Rattle.digraph.specs.code.Search.{IsMarked, IsSpread, IsDistanceTable};
 
 use std::alloc::Global;
 use values::Memory;

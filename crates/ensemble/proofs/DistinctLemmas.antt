@@ -5,7 +5,7 @@ use Rattle.std.specs.Str.{bytes_eq}
 use Rattle.std.proofs.lemmas.Bool.{and_from, and_parts, or_parts}
 use Rattle.std.proofs.lemmas.List.{append-nil, map-append}
 use Rattle.std.proofs.lemmas.List.Folds.{list_any-append}
-use Rattle.workflow_core.specs.WellFormed.{are_distinct, are_new}
+use Rattle.workflow_core.specs.code.WellFormed.{are_distinct, are_new}
 use Rattle.ensemble.specs.MemberEntry.{has_slash}
 use Rattle.ensemble.specs.Prefix.{prefixed}
 use Rattle.ensemble.proofs.PrefixLemmas.{other_prefixed, own_prefixed}

@@ -2,7 +2,7 @@
 use Rattle.std.proofs.Common.{◌≡◌, ℕ, zero, suc, ◌+◌, ◌<◌, ◌≤◌, List, [], ◌∷◌, length, drop, get_or, sym, arith}
 use Rattle.std.specs.List.{All}
 use Rattle.std.proofs.lemmas.List.Elements.{All-from_recursion}
-use Rattle.workflow_core.specs.WellFormed.{IsJobOver}
+use Rattle.workflow_core.specs.code.WellFormed.{IsJobOver}
 use Rattle.ensemble.specs.declared.member.Member.{Member}
 use Rattle.ensemble.specs.Jobs.{FitsAfter, PairFitsAfter}
 use Rattle.ensemble.specs.Member.{IsMember, count_files, count_jobs, files_of, jobs_of}

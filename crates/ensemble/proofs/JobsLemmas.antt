@@ -9,7 +9,8 @@ use Rattle.values.specs.declared.numbers.JobId.{JobId}
 use Rattle.workflow_core.specs.declared.workflow.Job.{Job}
 use Rattle.workflow_core.specs.declared.workflow.Output.{Output}
 use Rattle.workflow_core.specs.Requested.{requests}
-use Rattle.workflow_core.specs.WellFormed.{IsJobOver, after, are_distinct, before, inputs_of, outputs_of}
+use Rattle.workflow_core.specs.code.WellFormed.{IsJobOver, are_distinct}
+use Rattle.workflow_core.specs.WellFormed.{child_of as after, parent_of as before, inputs_of, outputs_of}
 use Rattle.dependency_graph.specs.Edges.{has_output, is_among}
 use Rattle.ensemble.specs.Jobs.{FitsAfter, PairFitsAfter, file_after, job_of, output_after, pair_after}
 use Rattle.ensemble.proofs.DistinctLemmas.{all_mapped, all_unmapped, all_weaker, any_mapped, distinct_mapped}

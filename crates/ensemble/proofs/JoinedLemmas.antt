@@ -5,21 +5,17 @@ use Rattle.std.specs.List.{AllByRecursion}
 use Rattle.std.specs.Option.{option_or}
 use Rattle.std.specs.Str.{bytes_eq}
 use Rattle.std.proofs.lemmas.List.{append-nil}
-use Rattle.workflow_core.specs.Law.{NumbersNames}
-use Rattle.workflow_core.specs.Names as core
-use Rattle.workflow_core.specs.WellFormed.{are_distinct}
+use Rattle.workflow_core.specs.code.Law.{NumbersNames}
+use Rattle.workflow_core.specs.code.WellFormed.{are_distinct}
 use Rattle.replica_catalog.specs.declared.catalog.Pfn.{Pfn}
 use Rattle.replica_catalog.specs.declared.catalog.Replica.{Replica}
-use Rattle.replica_catalog.specs.Joining.{distinct, entries_with, first_checksum, joined, joined_entry, lfns_of, pfns_of}
+use Rattle.replica_catalog.specs.Lookup.{entries_with, first_checksum, joined, joined_entry, lfns_of, pfns_of_entries}
+use Rattle.values.specs.Distinct.{distinct}
 use Rattle.ensemble.proofs.DistinctLemmas.{all_unmapped, first_apart, rest_distinct}
 use Rattle.ensemble.proofs.LookupLemmas.{or_nothing}
 use Rattle.ensemble.proofs.PrefixLemmas.{not_same, own_name}
 
 -- ---- joined entries have distinct names
-
-same_distinct : (ns : List (List ℕ)) → distinct ns ≡ core.distinct ns
-same_distinct [] = refl
-same_distinct (n ∷ ns) = ap (λ (ms : List (List ℕ)). n ∷ filter (λ m. not (bytes_eq m n)) ms) (same_distinct ns)
 
 names_of_joined : (es : List Replica) (ns : List (List ℕ)) → lfns_of (map (joined_entry es) ns) ≡ ns
 names_of_joined es [] = refl
@@ -28,7 +24,7 @@ names_of_joined es (n ∷ ns) = ap (λ (ms : List (List ℕ)). n ∷ ms) (names_
 pub joined_distinct : NumbersNames → (es all : List Replica) → es ≡ joined all → are_distinct bytes_eq (lfns_of es) ≡ true
 joined_distinct law es all is =
     ap (λ (xs : List Replica). are_distinct bytes_eq (lfns_of xs)) is
-    ∙ ap (are_distinct bytes_eq) (names_of_joined all (distinct (lfns_of all)) ∙ same_distinct (lfns_of all))
+    ∙ ap (are_distinct bytes_eq) (names_of_joined all (distinct (lfns_of all)))
     ∙ law.once (lfns_of all)
 
 -- ---- and entries with distinct names are joined
@@ -50,7 +46,7 @@ none_with lfn [] h = refl
 none_with lfn (e ∷ es) h = ap (λ (b : Bool). cond b (e ∷ entries_with lfn es) (entries_with lfn es)) h.0 ∙ none_with lfn es h.1
 
 abbrev entry_by : List ℕ → List Replica → Replica
-entry_by lfn es = record { lfn = lfn; pfns = pfns_of es; checksum = first_checksum es }
+entry_by lfn es = record { lfn = lfn; pfns = pfns_of_entries es; checksum = first_checksum es }
 
 alone : (e : Replica) → entry_by e.lfn (e ∷ []) ≡ e
 alone e =

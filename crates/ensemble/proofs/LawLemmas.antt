@@ -11,7 +11,7 @@ use Rattle.std.proofs.lemmas.List.{get_or-append-add, get_or-map, length-map, ma
 use Rattle.std.proofs.lemmas.List.Folds.{find-append, list_any-append}
 use Rattle.workflow_core.specs.declared.workflow.Job.{Job}
 use Rattle.workflow_core.specs.Requested.{requests}
-use Rattle.workflow_core.specs.WellFormed.{are_distinct}
+use Rattle.workflow_core.specs.code.WellFormed.{are_distinct}
 use Rattle.replica_catalog.specs.declared.catalog.Replica.{Replica}
 use Rattle.replica_catalog.specs.Lookup.{is_of}
 use Rattle.plan_request.specs.declared.request.ToolOf.{ToolOf}

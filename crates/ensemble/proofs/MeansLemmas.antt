@@ -7,20 +7,21 @@ use Rattle.std.proofs.lemmas.Option.{slice_get-get_or}
 use Rattle.std.proofs.lemmas.List.{get_or-map}
 use Rattle.workflow_core.specs.declared.workflow.Job.{Job}
 use Rattle.workflow_core.specs.declared.workflow.Workflow.{Workflow}
-use Rattle.workflow_core.specs.Law.{NumbersNames}
+use Rattle.workflow_core.specs.code.Law.{NumbersNames}
 use Rattle.workflow_core.specs.Requested.{requests}
-use Rattle.workflow_core.specs.WellFormed.{IsWellFormed}
+use Rattle.workflow_core.specs.code.WellFormed.{IsWellFormed}
 use Rattle.replica_catalog.specs.declared.catalog.Replica.{Replica}
 use Rattle.replica_catalog.specs.Lookup.{is_of, pfns_in}
-use Rattle.replica_catalog.specs.Reader.{view}
+use Rattle.replica_catalog.specs.Catalog.{replica_view}
 use Rattle.plan_request.specs.declared.request.PlanRequest.{PlanRequest}
 use Rattle.plan_request.specs.JobTools.{tool_of}
 use Rattle.dependency_graph.specs.Edges.{producer}
 use Rattle.dependency_graph.specs.Graph.{IsSound}
-use Rattle.dependency_graph.specs.Value.{Basis, IsValuation, base_at, by_producer, made_for, tool_for, value}
+use Rattle.dependency_graph.specs.Value.{Basis, base_at, by_producer, made_for, tool_for, value}
+use Rattle.dependency_graph.specs.code.Value.{IsValuation}
 use Rattle.values.specs.Apply.{Apply}
 use Rattle.transfer_refiner.specs.Draft.{entry_in as entry_named}
-use Rattle.planner.specs.Meaning.{AreHonest, IsHonest, Told, base, basis_of, entry_of, first_told, value_of}
+use Rattle.planner.specs.Meaning.{AreHonest, IsHonest, Told, base, basis_of, replica_in_survey, first_told, value_of}
 use Rattle.planner.specs.declared.surveyed.Surveyed.{Surveyed}
 use Rattle.ensemble.specs.declared.member.Member.{Member}
 use Rattle.ensemble.specs.Entries.{replica_of}
@@ -145,7 +146,7 @@ no_entry w es f h = ap (entry_named es) (past w.files f h)
     past (x ∷ xs) zero l = absurd (omega arith)
     past (x ∷ xs) (suc i) l = past xs i (omega arith)
 
-entry_in : (ms : List Member) (r : PlanRequest) (s : Surveyed) (i : ℕ) (m : Member) → Place ms r s i m → (f : ℕ) → f < files_of m → entry_of s.survey (first_file ms i + f) ≡ option_map (replica_of m.name) (entry_of m.survey f)
+entry_in : (ms : List Member) (r : PlanRequest) (s : Surveyed) (i : ℕ) (m : Member) → Place ms r s i m → (f : ℕ) → f < files_of m → replica_in_survey s.survey (first_file ms i + f) ≡ option_map (replica_of m.name) (replica_in_survey m.survey f)
 entry_in ms r s i m p f h =
     named_entry s.survey.workflow s.survey.replicas.entries (first_file ms i + f) (in_range ms r s i m p f h)
     ∙ ap (λ (n : List ℕ). find (is_of n) s.survey.replicas.entries) (named ms r s i m p f h)
@@ -156,7 +157,7 @@ entry_in ms r s i m p f h =
 pub means : NumbersNames → Fitting → Determined → (ms : List Member) (r : PlanRequest) (s : Surveyed) → AreMembers ms → IsJoint ms r s → MeansMembers ms s
 means numbers fitting determined ms r s are joint = record {
   owned = λ g h. owned g h;
-  joined = joint_joined numbers ms (view s.survey.replicas) are joint.survey.replicas.entries;
+  joined = joint_joined numbers ms (replica_view s.survey.replicas) are joint.survey.replicas.entries;
   named = λ i m f has. named ms r s i m (place i m has.member) f has.in_range;
   values = λ apply told i m f has. worth apply told i m f has.member has.in_range;
   sized = λ i m f has.
@@ -181,13 +182,13 @@ means numbers fitting determined ms r s are joint = record {
         let is : IsMember m = all_at IsMember ms i m (each_member ms are) at in
         determined (basis_of apply told m.request m.survey) m.survey.workflow (λ g. value_of apply told s.request s.survey (first_file ms i + g)) is.well_formed is.graph.sound (valued fitting apply told ms r s i m (place i m at)) f h
 
-    honest : (apply : Apply) (told : Told) → ((i : ℕ) (m : Member) → slice_get ms i ≡ Some m → AreHonest apply told m.request m.survey) → (g : ℕ) → (g < count_files ms) ⊎ (count_files ms ≤ g) → IfSome (entry_of s.survey g) (IsHonest told (value_of apply told s.request s.survey g))
+    honest : (apply : Apply) (told : Told) → ((i : ℕ) (m : Member) → slice_get ms i ≡ Some m → AreHonest apply told m.request m.survey) → (g : ℕ) → (g < count_files ms) ⊎ (count_files ms ≤ g) → IfSome (replica_in_survey s.survey g) (IsHonest told (value_of apply told s.request s.survey g))
     honest apply told each g (inl l) =
         let at = located ms g l in
         let here : first_file ms at.0 + at.2 ≡ g = sym at.5 in
-        subst (λ (n : ℕ). IfSome (entry_of s.survey n) (IsHonest told (value_of apply told s.request s.survey n))) here (
+        subst (λ (n : ℕ). IfSome (replica_in_survey s.survey n) (IsHonest told (value_of apply told s.request s.survey n))) here (
         subst (λ (o : Option Replica). IfSome o (IsHonest told (value_of apply told s.request s.survey (first_file ms at.0 + at.2)))) (sym (entry_in ms r s at.0 at.1 (place at.0 at.1 at.3) at.2 at.4))
-        (honest_under told at.1.name _ (value_of apply told at.1.request at.1.survey at.2) (entry_of at.1.survey at.2) (worth apply told at.0 at.1 at.2 at.3 at.4) (each at.0 at.1 at.3 at.2))
+        (honest_under told at.1.name _ (value_of apply told at.1.request at.1.survey at.2) (replica_in_survey at.1.survey at.2) (worth apply told at.0 at.1 at.2 at.3 at.4) (each at.0 at.1 at.3 at.2))
         )
     honest apply told each g (inr l) =
         let all : length s.survey.workflow.files ≡ count_files ms = ap length joint.survey.workflow.files ∙ count_files_in ms in

@@ -10,18 +10,18 @@ use Rattle.std.proofs.lemmas.List.Elements.{recursion_from_All}
 use Rattle.values.specs.declared.numbers.JobId.{JobId}
 use Rattle.workflow_core.specs.declared.workflow.Job.{Job}
 use Rattle.workflow_core.specs.declared.workflow.Workflow.{Workflow}
-use Rattle.workflow_core.specs.Law.{NumbersNames}
-use Rattle.workflow_core.specs.WellFormed.{IsJobOver, IsSmallSize, IsWellFormed, are_distinct}
+use Rattle.workflow_core.specs.code.Law.{NumbersNames}
+use Rattle.workflow_core.specs.code.WellFormed.{IsJobOver, IsSmallSize, IsWellFormed, are_distinct}
 use Rattle.replica_catalog.specs.declared.catalog.Replica.{Replica}
-use Rattle.replica_catalog.specs.Joining.{lfns_of}
-use Rattle.replica_catalog.specs.Reader.{CatalogEntry}
+use Rattle.replica_catalog.specs.Lookup.{lfns_of}
+use Rattle.replica_catalog.specs.Catalog.{CatalogEntry}
 use Rattle.plan_request.specs.declared.request.Execution.{Execution}
 use Rattle.plan_request.specs.declared.request.PlanRequest.{PlanRequest}
 use Rattle.plan_request.specs.declared.request.SizeOf.{SizeOf}
 use Rattle.plan_request.specs.FileSizes.{declared_sizes, named_size}
-use Rattle.plan_request.specs.Limits.{IsRuntimeInRange, IsSmallDefault, IsWithinLimits}
+use Rattle.plan_request.specs.code.Limits.{IsRuntimeInRange, IsSmallDefault, IsWithinLimits}
 use Rattle.plan_request.specs.declared.request.Runtime.{Runtime}
-use Rattle.plan_request.specs.RunPolicy.{IsPolicyInRange}
+use Rattle.plan_request.specs.code.RunPolicy.{IsPolicyInRange}
 use Rattle.ensemble.specs.declared.member.Member.{Member}
 use Rattle.ensemble.specs.Catalogues.{joint_replicas}
 use Rattle.ensemble.specs.Entries.{replica_of}

@@ -5,22 +5,23 @@ use Rattle.std.specs.List.{AllByRecursion, list_any}
 use Rattle.std.specs.Str.{bytes_eq}
 use Rattle.std.proofs.lemmas.Bool.{and_from}
 use Rattle.serde_json.specs.Data.{Data}
-use Rattle.peg_json.specs.Duplicates.{first_repeat}
+use Rattle.peg_json.specs.Elements.{first_repeat}
 use Rattle.peg_json.specs.Path.{key_path}
-use Rattle.peg_json.specs.ReadFault.{then_read}
+use Rattle.peg_json.specs.Tree.{then_read}
 use Rattle.peg_json.specs.Table.{checks}
 use Rattle.peg_json.specs.Tree.{list_in, tree_of}
 use Rattle.peg_json.specs.Typed.{flag_of, name_of, optional, required}
 use Rattle.peg_json.specs.declared.fault.TreeFault.{TreeFault}
 use Rattle.peg_json.specs.declared.fault.TreeFault.TheVariants as faults
 use Rattle.peg_json.specs.declared.read_fault.ReadFault.{ReadFault}
-use Rattle.workflow_core.specs.WellFormed.{are_new}
+use Rattle.workflow_core.specs.code.WellFormed.{are_new}
 use Rattle.plan_request.specs.declared.request.Execution.{Execution}
-use Rattle.plan_request.specs.Execution.{execution_of}
-use Rattle.plan_request.specs.Known.{only_known}
-use Rattle.plan_request.specs.Modes.{cleanup_at, cluster_at}
-use Rattle.plan_request.specs.RunPolicy.{IsPolicyInRange, policy_of}
-use Rattle.plan_request.specs.Reader.{execute_checked}
+use Rattle.plan_request.specs.Request.{execution_of}
+use Rattle.plan_request.specs.Request.{only_known}
+use Rattle.plan_request.specs.Request.{cleanup_at, cluster_at}
+use Rattle.plan_request.specs.code.RunPolicy.{IsPolicyInRange}
+use Rattle.plan_request.specs.Request.{policy_of}
+use Rattle.plan_request.specs.Request.{execute_checked}
 use Rattle.plan_request.proofs.LimitsLemmas.{execution_small, policy_in_range}
 use Rattle.plan_request.proofs.StepLemmas.{Always, list_has, passed, required_has, unwrapped}
 use Rattle.ensemble.specs.declared.document.Ensemble.{Ensemble}

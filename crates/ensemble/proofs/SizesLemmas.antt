@@ -7,7 +7,7 @@ use Rattle.std.specs.Option.{option_or}
 use Rattle.std.specs.Str.{bytes_eq}
 use Rattle.std.proofs.Math.ListN.{get_or-append}
 use Rattle.std.proofs.lemmas.List.{get_or-append-add, map-append}
-use Rattle.workflow_core.specs.WellFormed.{are_distinct}
+use Rattle.workflow_core.specs.code.WellFormed.{are_distinct}
 use Rattle.plan_request.specs.declared.request.PlanRequest.{PlanRequest}
 use Rattle.plan_request.specs.declared.request.SizeOf.{SizeOf}
 use Rattle.plan_request.specs.FileSizes.{declared_size, declared_sizes, named_size}

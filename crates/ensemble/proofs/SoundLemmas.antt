@@ -11,10 +11,10 @@ use Rattle.std.proofs.lemmas.List.Folds.{list_any-append}
 use Rattle.values.specs.declared.numbers.JobId.{JobId}
 use Rattle.workflow_core.specs.declared.workflow.Job.{Job}
 use Rattle.workflow_core.specs.declared.workflow.Workflow.{Workflow}
-use Rattle.workflow_core.specs.WellFormed.{after, before, inputs_of, outputs_of}
+use Rattle.workflow_core.specs.WellFormed.{child_of, parent_of, inputs_of, outputs_of}
 use Rattle.digraph.specs.Cycle.{Returns}
 use Rattle.digraph.specs.Distances.{Walk}
-use Rattle.dependency_graph.specs.Built.{AreCycle, AreTwoProducers, Builds}
+use Rattle.dependency_graph.specs.code.Built.{AreCycle, AreTwoProducers, Builds}
 use Rattle.dependency_graph.specs.declared.fault.GraphFault.{GraphFault}
 use Rattle.dependency_graph.specs.declared.fault.GraphFault.TheVariants as graph
 use Rattle.dependency_graph.specs.Edges.{edge, has_output, is_among, is_paired, makers, makers_from}
@@ -92,7 +92,7 @@ abbrev passes_in : List Job → ℕ → ℕ → Bool
 passes_in js a b = list_any (λ f. is_among f (get_or (map outputs_of js) a [])) (get_or (map inputs_of js) b [])
 
 abbrev pairs_in : List (JobId × JobId) → ℕ → ℕ → Bool
-pairs_in ps a b = list_any (λ (p : JobId × JobId). nat_eq (before p) a && nat_eq (after p) b) ps
+pairs_in ps a b = list_any (λ (p : JobId × JobId). nat_eq (parent_of p) a && nat_eq (child_of p) b) ps
 
 abbrev edge_in : ℕ → List Job → List (JobId × JobId) → ℕ → ℕ → Bool
 edge_in q js ps a b = passes_in js a b || pairs_in ps (q + a) (q + b)
@@ -153,14 +153,14 @@ no_pair : (low high a b : ℕ) (ps : List (JobId × JobId)) → AllByRecursion (
 no_pair low high a b [] all out = refl
 no_pair low high a b (p ∷ ps) all out = ap (λ (t : Bool). t || pairs_in ps a b) (by out) ∙ no_pair low high a b ps all.1 out
   where
-    by : IsOutside low high a ⊎ IsOutside low high b → (nat_eq (before p) a && nat_eq (after p) b) ≡ false
-    by (inl h) = and_left (nat_eq (before p) a) (nat_eq (after p) b) (other low high (before p) a all.0.0 h)
-    by (inr h) = and_right (nat_eq (before p) a) (nat_eq (after p) b) (other low high (after p) b all.0.1 h)
+    by : IsOutside low high a ⊎ IsOutside low high b → (nat_eq (parent_of p) a && nat_eq (child_of p) b) ≡ false
+    by (inl h) = and_left (nat_eq (parent_of p) a) (nat_eq (child_of p) b) (other low high (parent_of p) a all.0.0 h)
+    by (inr h) = and_right (nat_eq (parent_of p) a) (nat_eq (child_of p) b) (other low high (child_of p) b all.0.1 h)
 
 pairs_after : (q a b : ℕ) (ps : List (JobId × JobId)) → pairs_in (map (pair_after q) ps) (q + a) (q + b) ≡ pairs_in ps a b
 pairs_after q a b ps =
-    any_mapped (λ (p : JobId × JobId). nat_eq (before p) (q + a) && nat_eq (after p) (q + b)) (λ (p : JobId × JobId). nat_eq (before p) a && nat_eq (after p) b) (pair_after q)
-    (λ p. ap (λ (t : Bool). t && nat_eq (q + after p) (q + b)) (same_after q (before p) a) ∙ ap (λ (t : Bool). nat_eq (before p) a && t) (same_after q (after p) b)) ps
+    any_mapped (λ (p : JobId × JobId). nat_eq (parent_of p) (q + a) && nat_eq (child_of p) (q + b)) (λ (p : JobId × JobId). nat_eq (parent_of p) a && nat_eq (child_of p) b) (pair_after q)
+    (λ p. ap (λ (t : Bool). t && nat_eq (q + child_of p) (q + b)) (same_after q (parent_of p) a) ∙ ap (λ (t : Bool). nat_eq (parent_of p) a && t) (same_after q (child_of p) b)) ps
 
 -- ---- edges of the first member, and of those after it
 
@@ -185,7 +185,7 @@ among_first k q m ms all a b ha hb = or_both _ _ _ _ passes pairs
 
     pairs : pairs_in (joint_pairs q (m ∷ ms)) (q + a) (q + b) ≡ is_paired m.survey.workflow a b
     pairs =
-        list_any-append (λ (p : JobId × JobId). nat_eq (before p) (q + a) && nat_eq (after p) (q + b)) (map (pair_after q) m.survey.workflow.pairs) (joint_pairs (q + jobs_of m) ms)
+        list_any-append (λ (p : JobId × JobId). nat_eq (parent_of p) (q + a) && nat_eq (child_of p) (q + b)) (map (pair_after q) m.survey.workflow.pairs) (joint_pairs (q + jobs_of m) ms)
         ∙ ap (λ (t : Bool). t || pairs_in (joint_pairs (q + jobs_of m) ms) (q + a) (q + b)) (pairs_after q a b m.survey.workflow.pairs)
         ∙ ap (λ (t : Bool). pairs_in m.survey.workflow.pairs a b || t) (no_pair (q + jobs_of m) (q + jobs_of m + count_jobs ms) (q + a) (q + b) (joint_pairs (q + jobs_of m) ms) (rest_pairs (q + jobs_of m) (q + jobs_of m) (q + jobs_of m + count_jobs ms) ms all.1 (omega arith) (omega arith)) (inl (inl (omega (arith, ha)))))
         ∙ or-false (pairs_in m.survey.workflow.pairs a b)
@@ -193,7 +193,7 @@ among_first k q m ms all a b ha hb = or_both _ _ _ _ passes pairs
 -- pairs never lead from the first member to others, nor back
 pairs_apart : (k q : ℕ) (m : Member) (ms : List Member) → AllByRecursion IsMember (m ∷ ms) → (a b : ℕ) → ((a < jobs_of m) × (jobs_of m ≤ b)) ⊎ ((jobs_of m ≤ a) × (b < jobs_of m)) → pairs_in (joint_pairs q (m ∷ ms)) (q + a) (q + b) ≡ false
 pairs_apart k q m ms all a b way =
-    list_any-append (λ (p : JobId × JobId). nat_eq (before p) (q + a) && nat_eq (after p) (q + b)) (map (pair_after q) m.survey.workflow.pairs) (joint_pairs (q + jobs_of m) ms)
+    list_any-append (λ (p : JobId × JobId). nat_eq (parent_of p) (q + a) && nat_eq (child_of p) (q + b)) (map (pair_after q) m.survey.workflow.pairs) (joint_pairs (q + jobs_of m) ms)
     ∙ or_both _ _ false false
     (no_pair q (q + jobs_of m) (q + a) (q + b) (map (pair_after q) m.survey.workflow.pairs) (own_pairs q q (q + jobs_of m) m all.0 (omega arith) (omega arith)) (late way))
     (no_pair (q + jobs_of m) (q + jobs_of m + count_jobs ms) (q + a) (q + b) (joint_pairs (q + jobs_of m) ms) (rest_pairs (q + jobs_of m) (q + jobs_of m) (q + jobs_of m + count_jobs ms) ms all.1 (omega arith) (omega arith)) (early way))
@@ -260,7 +260,7 @@ among_rest k q m ms all a b = or_both _ _ _ _ passes pairs
     pairs =
         ap (λ (x : ℕ). pairs_in (joint_pairs q (m ∷ ms)) x (q + (jobs_of m + b))) one
         ∙ ap (λ (x : ℕ). pairs_in (joint_pairs q (m ∷ ms)) (q + jobs_of m + a) x) two
-        ∙ list_any-append (λ (p : JobId × JobId). nat_eq (before p) (q + jobs_of m + a) && nat_eq (after p) (q + jobs_of m + b)) (map (pair_after q) m.survey.workflow.pairs) (joint_pairs (q + jobs_of m) ms)
+        ∙ list_any-append (λ (p : JobId × JobId). nat_eq (parent_of p) (q + jobs_of m + a) && nat_eq (child_of p) (q + jobs_of m + b)) (map (pair_after q) m.survey.workflow.pairs) (joint_pairs (q + jobs_of m) ms)
         ∙ ap (λ (t : Bool). t || pairs_in (joint_pairs (q + jobs_of m) ms) (q + jobs_of m + a) (q + jobs_of m + b)) (no_pair q (q + jobs_of m) (q + jobs_of m + a) (q + jobs_of m + b) (map (pair_after q) m.survey.workflow.pairs) (own_pairs q q (q + jobs_of m) m all.0 (omega arith) (omega arith)) (inl (inr (omega arith))))
 
 -- ---- walks

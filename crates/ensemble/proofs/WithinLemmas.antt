@@ -3,7 +3,8 @@ use Rattle.std.proofs.Common.{ℕ, ◌+◌, ◌<◌, ◌≤◌, List, [], ◌∷
 use Rattle.std.specs.List.{AllByRecursion}
 use Rattle.values.specs.declared.numbers.JobId.{JobId}
 use Rattle.workflow_core.specs.declared.workflow.Job.{Job}
-use Rattle.workflow_core.specs.WellFormed.{IsJobOver, after, before, inputs_of, outputs_of}
+use Rattle.workflow_core.specs.code.WellFormed.{IsJobOver}
+use Rattle.workflow_core.specs.WellFormed.{child_of, parent_of, inputs_of, outputs_of}
 use Rattle.ensemble.specs.declared.member.Member.{Member}
 use Rattle.ensemble.specs.Jobs.{job_of, pair_after}
 use Rattle.ensemble.specs.Member.{IsMember, count_files, count_jobs, files_of, jobs_of}
@@ -46,12 +47,12 @@ rest_reads low k high (m ∷ ms) all l h =
 -- ---- pairs
 
 abbrev pub IsPairWithin : ℕ → ℕ → JobId × JobId → Type 0
-IsPairWithin low high p = ((low ≤ before p) × (before p < high)) × ((low ≤ after p) × (after p < high))
+IsPairWithin low high p = ((low ≤ parent_of p) × (parent_of p < high)) × ((low ≤ child_of p) × (child_of p < high))
 
 pair_after_within : (q n low high : ℕ) (p : JobId × JobId) → low ≤ q → q + n ≤ high → IsPairBelow n p → IsPairWithin low high (pair_after q p)
 pair_after_within q n low high p l h low_pair =
-    let one : before p < n = low_pair.0 in
-    let two : after p < n = low_pair.1 in
+    let one : parent_of p < n = low_pair.0 in
+    let two : child_of p < n = low_pair.1 in
     ((omega (arith, l), omega (arith, one, h)), (omega (arith, l), omega (arith, two, h)))
 
 pub own_pairs : (low q high : ℕ) (m : Member) → IsMember m → low ≤ q → q + jobs_of m ≤ high → AllByRecursion (IsPairWithin low high) (map (pair_after q) m.survey.workflow.pairs)

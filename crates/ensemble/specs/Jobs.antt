@@ -5,7 +5,7 @@ use Rattle.values.specs.declared.numbers.FileId.{FileId}
 use Rattle.values.specs.declared.numbers.JobId.{JobId}
 use Rattle.workflow_core.specs.declared.workflow.Job.{Job}
 use Rattle.workflow_core.specs.declared.workflow.Output.{Output}
-use Rattle.workflow_core.specs.WellFormed.{after, before}
+use Rattle.workflow_core.specs.WellFormed.{child_of as after, parent_of as before}
 use Rattle.ensemble.specs.Prefix.{prefixed, transformation_of}
 
 -- a file, where the members before have so many files

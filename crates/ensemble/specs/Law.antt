@@ -2,7 +2,7 @@
 use Rattle.std.specs.Prelude.{◌≡◌, ℕ, zero, suc, ◌+◌, ◌<◌, List, [], ◌∷◌, length, Option, Some, None, slice_get, slice_index_or}
 use Rattle.values.specs.Apply.{Apply}
 use Rattle.workflow_core.specs.Requested.{is_requested}
-use Rattle.replica_catalog.specs.Reader.{view}
+use Rattle.replica_catalog.specs.Catalog.{replica_view}
 use Rattle.plan_request.specs.declared.request.PlanRequest.{PlanRequest}
 use Rattle.plan_request.specs.FileSizes.{declared_size}
 use Rattle.planner.specs.Meaning.{AreHonest, Told, value_of}
@@ -56,6 +56,6 @@ pub record MeansMembers (ms : List Member) (s : Surveyed) : Type 0 where
       ≡ value_of apply told m.request m.survey f
   pub requested : (i : ℕ) (m : Member) (f : ℕ) → HasFile ms i m f
       → is_requested s.survey.workflow (first_file ms i + f) ≡ is_requested m.survey.workflow f
-  pub joined : IsJoined (view s.survey.replicas)
+  pub joined : IsJoined (replica_view s.survey.replicas)
   pub honest : (apply : Apply) (told : Told) → AreHonestMembers apply told ms
       → AreHonest apply told s.request s.survey

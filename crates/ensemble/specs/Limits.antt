@@ -2,9 +2,9 @@
 use Rattle.std.specs.Prelude.{◌≡◌, ◌^◌, ◌≤◌, true, false, Ok}
 use Rattle.std.specs.List.{AllByRecursion}
 use Rattle.std.specs.Str.{bytes_eq}
-use Rattle.workflow_core.specs.WellFormed.{are_distinct}
-use Rattle.plan_request.specs.RunPolicy.{IsPolicyInRange}
-use Rattle.plan_request.specs.Reader.{execute_checked}
+use Rattle.workflow_core.specs.code.WellFormed.{are_distinct}
+use Rattle.plan_request.specs.code.RunPolicy.{IsPolicyInRange}
+use Rattle.plan_request.specs.Request.{execute_checked}
 use Rattle.plan_request.specs.declared.request.Execution.{Execution}
 use Rattle.ensemble.specs.declared.document.Ensemble.{Ensemble}
 use Rattle.ensemble.specs.declared.document.MemberEntry.{MemberEntry}

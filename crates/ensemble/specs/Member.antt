@@ -2,11 +2,11 @@
 use Rattle.std.specs.Prelude.{◌≡◌, ℕ, ◌+◌, true, false, List, [], ◌∷◌, length, map}
 use Rattle.std.specs.List.{All}
 use Rattle.std.specs.Str.{bytes_eq}
-use Rattle.workflow_core.specs.WellFormed.{IsWellFormed, are_distinct}
+use Rattle.workflow_core.specs.code.WellFormed.{IsWellFormed, are_distinct}
 use Rattle.replica_catalog.specs.declared.catalog.Replica.{Replica}
-use Rattle.replica_catalog.specs.Joining.{joined}
-use Rattle.replica_catalog.specs.Reader.{CatalogEntry, view}
-use Rattle.plan_request.specs.Limits.{IsWithinLimits}
+use Rattle.replica_catalog.specs.Lookup.{joined}
+use Rattle.replica_catalog.specs.Catalog.{CatalogEntry, replica_view}
+use Rattle.plan_request.specs.code.Limits.{IsWithinLimits}
 use Rattle.dependency_graph.specs.Graph.{IsGraphOf}
 use Rattle.ensemble.specs.declared.member.Member.{Member}
 use Rattle.ensemble.specs.MemberEntry.{has_slash}
@@ -37,7 +37,7 @@ pub record IsMember (m : Member) : Type 0 where
   pub plain_name : has_slash m.name ≡ false
   pub well_formed : IsWellFormed m.survey.workflow
   pub graph : IsGraphOf m.survey.workflow m.survey.graph
-  pub joined : IsJoined (view m.survey.replicas)
+  pub joined : IsJoined (replica_view m.survey.replicas)
   pub limits : IsWithinLimits m.request
 
 -- Members have distinct names.

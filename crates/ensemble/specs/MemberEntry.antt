@@ -9,7 +9,7 @@ use Rattle.peg_json.specs.Typed.{required, name_of}
 use Rattle.peg_json.specs.declared.row.Kind.TheVariants as kinds
 use Rattle.peg_json.specs.declared.fault.TreeFault.{TreeFault}
 use Rattle.peg_json.specs.declared.fault.TreeFault.TheVariants as faults
-use Rattle.plan_request.specs.Known.{only_known}
+use Rattle.plan_request.specs.Request.{only_known}
 use Rattle.ensemble.specs.declared.document.MemberEntry.{MemberEntry}
 
 abbrev pub member_rows : List Row

@@ -1,13 +1,13 @@
 -- What the document of an ensemble reads as, or its first fault.
 use Rattle.std.specs.Prelude.{◌≡◌, ℕ, List, [], length, map, nat_lt, if◌then◌else◌, Option, Some, None, Result, Ok, Err}
 use Rattle.std.specs.Str.{bytes_eq}
-use Rattle.peg_json.specs.Duplicates.{first_repeat}
-use Rattle.peg_json.specs.ReadFault.{then_read, told_by}
-use Rattle.peg_json.specs.Tree.{◌>>=◌, tree_of}
+use Rattle.peg_json.specs.Elements.{first_repeat}
+use Rattle.peg_json.specs.Tree.{then_read, ◌>>=◌, tree_of}
+use Rattle.peg_json.specs.code.ReadFault.{told_by}
 use Rattle.peg_json.specs.declared.fault.TreeFault.TheVariants as faults
 use Rattle.peg_json.specs.declared.read_fault.ReadFault.{ReadFault}
 use Rattle.peg_json.specs.declared.read_fault.ReadFault.TheVariants as reads
-use Rattle.plan_request.specs.Reader.{execute_checked}
+use Rattle.plan_request.specs.Request.{execute_checked}
 use Rattle.ensemble.specs.declared.document.Ensemble.{Ensemble}
 use Rattle.ensemble.specs.declared.document.MemberEntry.{MemberEntry}
 use Rattle.ensemble.specs.declared.fault.EnsembleFault.{EnsembleFault}

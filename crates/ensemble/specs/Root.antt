@@ -6,10 +6,7 @@ use Rattle.peg_json.specs.Table.{Row, needs, may_have, checks}
 use Rattle.peg_json.specs.Typed.{required, optional, flag_of}
 use Rattle.peg_json.specs.declared.row.Kind.TheVariants as kinds
 use Rattle.peg_json.specs.declared.fault.TreeFault.{TreeFault}
-use Rattle.plan_request.specs.Execution.{execution_of}
-use Rattle.plan_request.specs.Known.{only_known}
-use Rattle.plan_request.specs.Modes.{cluster_at, cleanup_at}
-use Rattle.plan_request.specs.RunPolicy.{policy_of}
+use Rattle.plan_request.specs.Request.{execution_of, only_known, cluster_at, cleanup_at, policy_of}
 use Rattle.ensemble.specs.declared.document.Ensemble.{Ensemble}
 use Rattle.ensemble.specs.MemberEntry.{member_of}
 

@@ -1,8 +1,8 @@
 //! The requests of an ensemble and of its members.
 
 ghost use Rattle.std.specs.Prelude.{◌≡◌, Ok, IfOk};
-ghost use Rattle.plan_request.specs.Limits.{IsWithinLimits};
-ghost use Rattle.plan_request.specs.Reader.{execute_checked};
+ghost use Rattle.plan_request.specs.code.Limits.{IsWithinLimits};
+ghost use Rattle.plan_request.specs.Request.{execute_checked};
 ghost use Rattle.ensemble.specs.Applying.{of_ensemble, own_request};
 ghost use Rattle.ensemble.specs.Limits.{IsFit};
 

@@ -1,7 +1,7 @@
 //! The joint catalogues.
 
 ghost use Rattle.std.specs.Prelude.{◌≡◌, IfOk};
-ghost use Rattle.replica_catalog.specs.Reader.{view};
+ghost use Rattle.replica_catalog.specs.Catalog.{replica_view};
 ghost use Rattle.ensemble.specs.Catalogues.{AreJointReplicas, AreJointTransformations, first_sites, joint_entries, joint_replicas};
 ghost use Rattle.ensemble.specs.Member.{AreMembers, IsJoined};
 
@@ -54,7 +54,7 @@ fn entries_of(alloc: Global, members: &[Member]) -> Result<Vec<TransformationEnt
 pub fn joint_replicas(alloc: Global, members: &[Member]) -> Result<ReplicaCatalog, Memory>
     requires { AreMembers members.now }
     ensures joint { IfOk result (λ c. AreJointReplicas members.now c) }
-    ensures joined { IfOk result (λ c. IsJoined (view c)) }
+    ensures joined { IfOk result (λ c. IsJoined (replica_view c)) }
 {
     // A law for the proof: it does nothing.
     names_are_numbered();

@@ -1,10 +1,10 @@
 //! The joint of some members: one request and one survey, in which each part bears its member's name.
 
 ghost use Rattle.std.specs.Prelude.{◌≡◌, ◌≤◌, IfOk, Ok};
-ghost use Rattle.workflow_core.specs.WellFormed.{IsWellFormed};
-ghost use Rattle.replica_catalog.specs.Reader.{view};
-ghost use Rattle.plan_request.specs.Limits.{IsWithinLimits};
-ghost use Rattle.plan_request.specs.Reader.{execute_checked};
+ghost use Rattle.workflow_core.specs.code.WellFormed.{IsWellFormed};
+ghost use Rattle.replica_catalog.specs.Catalog.{replica_view};
+ghost use Rattle.plan_request.specs.code.Limits.{IsWithinLimits};
+ghost use Rattle.plan_request.specs.Request.{execute_checked};
 ghost use Rattle.dependency_graph.specs.Graph.{IsGraphOf};
 ghost use Rattle.ensemble.specs.Joining.{IsJointSurvey, Joins};
 ghost use Rattle.ensemble.specs.Workflows.{IsJointWorkflow};
@@ -51,7 +51,7 @@ fn joint_survey(alloc: Global, members: &[Member]) -> Result<Survey, Memory>
     requires few_files { count_files members.now ≤ 50000 }
     ensures joint { IfOk result (λ s. IsJointSurvey members.now s) }
     ensures well_formed { IfOk result (λ s. IsWellFormed s.workflow) }
-    ensures joined { IfOk result (λ s. IsJoined (view s.replicas)) }
+    ensures joined { IfOk result (λ s. IsJoined (replica_view s.replicas)) }
 {
     let sites = first_sites(alloc, members)?;
     let Ok(replicas) = joint_replicas(alloc, members) else {

@@ -5,7 +5,7 @@ ghost use Rattle.values.specs.declared.documents.Documents.{Documents};
 ghost use Rattle.workflow_core.specs.declared.workflow.Workflow.{Workflow};
 ghost use Rattle.dependency_graph.specs.Graph.{IsSound};
 ghost use Rattle.plan_request.specs.declared.request.PlanRequest.{PlanRequest};
-ghost use Rattle.planner.specs.Course.{IsSurvey};
+ghost use Rattle.planner.specs.code.Course.{IsSurvey};
 ghost use Rattle.planner.specs.declared.surveyed.Surveyed.{Surveyed};
 ghost use Rattle.ensemble.specs.declared.member.Member.{Member};
 ghost use Rattle.ensemble.specs.Joining.{IsJoint};

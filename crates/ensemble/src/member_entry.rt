@@ -3,8 +3,8 @@
 ghost use Rattle.std.specs.Prelude.{◌≡◌};
 ghost use Rattle.std.specs.List.{list_any};
 ghost use Rattle.serde_json.specs.View.{view as tree_view};
-ghost use Rattle.peg_json.specs.Table.{rows_of};
-ghost use Rattle.peg_json.specs.Tree.{Gives};
+ghost use Rattle.peg_json.specs.code.Table.{rows_of};
+ghost use Rattle.peg_json.specs.code.Tree.{Gives};
 ghost use Rattle.ensemble.specs.MemberEntry.{has_slash, member_rows, plain_name_at};
 
 use crate::document::MemberEntry;

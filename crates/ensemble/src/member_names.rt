@@ -2,7 +2,7 @@
 
 ghost use Rattle.std.specs.Prelude.{◌≡◌, length};
 ghost use Rattle.std.specs.Str.{bytes_eq};
-ghost use Rattle.peg_json.specs.Duplicates.{first_repeat};
+ghost use Rattle.peg_json.specs.Elements.{first_repeat};
 ghost use Rattle.ensemble.specs.Reader.{GivesEnsemble, few_members, named_once, names_of, twice_refused};
 
 use crate::document::MemberEntry;

@@ -1,8 +1,8 @@
 //! The reader of whole ensembles.
 
 ghost use Rattle.std.specs.Prelude.{◌≡◌, IfOk};
-ghost use Rattle.peg_json.specs.ReadFault.{GivesRead};
-ghost use Rattle.plan_request.specs.Reader.{execute_checked};
+ghost use Rattle.peg_json.specs.code.ReadFault.{GivesRead};
+ghost use Rattle.plan_request.specs.Request.{execute_checked};
 ghost use Rattle.ensemble.specs.Limits.{IsFit};
 ghost use Rattle.ensemble.specs.Reader.{GivesEnsemble, read_of, sited_of, sites_distinct};
 
@@ -14,7 +14,7 @@ use plan_request::Execution;
 use std::alloc::Global;
 
 /// Refuses too many execution sites, and one that is there before.
-#[tactic(auto, unfolding(plan_request::specs::Reader::execute_checked))]
+#[tactic(auto, unfolding(plan_request::specs::Request::execute_checked))]
 fn check_execute(alloc: Global, execute: &[Execution]) -> Result<(), ReadFault>
     ensures { GivesRead (λ u. u) result (execute_checked execute.now) }
 {

@@ -2,7 +2,7 @@
 
 ghost use Rattle.std.specs.Prelude.{◌≡◌, IfOk};
 ghost use Rattle.std.specs.List.{All};
-ghost use Rattle.plan_request.specs.Limits.{IsWithinLimits};
+ghost use Rattle.plan_request.specs.code.Limits.{IsWithinLimits};
 ghost use Rattle.ensemble.specs.Member.{AreMembers, IsMember};
 ghost use Rattle.ensemble.specs.Requests.{joint_request, joint_sizes, joint_tools};
 

@@ -1,7 +1,7 @@
 //! A whole ensemble: its table and its reading.
 
 ghost use Rattle.std.specs.Prelude.{◌≡◌};
-ghost use Rattle.peg_json.specs.Table.{rows_of};
+ghost use Rattle.peg_json.specs.code.Table.{rows_of};
 ghost use Rattle.ensemble.specs.Root.{ensemble_rows};
 
 use crate::document::{Ensemble, MemberEntry};

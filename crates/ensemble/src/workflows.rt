@@ -2,7 +2,7 @@
 
 ghost use Rattle.std.specs.Prelude.{◌≡◌, ◌≤◌, ◌++◌, IfOk, OnOk};
 ghost use Rattle.std.specs.List.{All};
-ghost use Rattle.workflow_core.specs.WellFormed.{IsWellFormed};
+ghost use Rattle.workflow_core.specs.code.WellFormed.{IsWellFormed};
 ghost use Rattle.ensemble.specs.Member.{AreMembers, IsMember, count_files, count_jobs};
 ghost use Rattle.ensemble.specs.Workflows.{IsJointWorkflow, joint_files, joint_jobs, joint_pairs, joint_stated};
 

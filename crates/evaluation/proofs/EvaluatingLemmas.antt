@@ -1,7 +1,7 @@
 -- How an evaluation ends.
 use Rattle.std.proofs.Common.{◌≡◌, ℕ, List, refl, sym, ap, ◌∙◌}
 use Rattle.std.specs.Prelude.{None, Result, Ok, Err}
-use Rattle.outside.specs.Counts.{Rose}
+use Rattle.outside.specs.code.Counts.{Rose}
 use Rattle.values.specs.declared.numbers.JobId.{JobId}
 use Rattle.dependency_graph.specs.Value.{Basis, basis}
 use Rattle.workflow_eval.specs.Evaluating.{AreValues, Evaluates, IsReached, first_undefined}

@@ -12,7 +12,8 @@ use Rattle.workflow_core.specs.declared.workflow.Job.{Job}
 use Rattle.workflow_core.specs.declared.workflow.Workflow.{Workflow}
 use Rattle.replica_catalog.specs.declared.catalog.Replica.{Replica}
 use Rattle.dependency_graph.specs.Edges.{producer}
-use Rattle.dependency_graph.specs.Value.{AllBased, basis}
+use Rattle.dependency_graph.specs.code.Value.{AllBased}
+use Rattle.dependency_graph.specs.Value.{basis}
 use Rattle.values.specs.Apply.{Apply}
 use Rattle.plan_request.specs.JobTools.{tool_of}
 use Rattle.plan_request.specs.declared.request.ToolOf.{ToolOf}

@@ -4,12 +4,13 @@ use Rattle.std.specs.Prelude.{◌==◌, Some, slice_set}
 use Rattle.std.specs.List.{list_any}
 use Rattle.std.proofs.lemmas.Grind.{common_steps}
 use Rattle.std.proofs.lemmas.Bool.Decides.{nat_tests}
-use Rattle.outside.specs.Counts.{IsLater, Rose}
+use Rattle.outside.specs.code.Counts.{IsLater, Rose}
 use Rattle.outside.specs.declared.counts.Counts.{Counts}
 use Rattle.workflow_core.specs.declared.workflow.Workflow.{Workflow}
 use Rattle.workflow_core.specs.declared.workflow.Job.{Job}
 use Rattle.workflow_core.specs.declared.workflow.Output.{Output}
-use Rattle.workflow_core.specs.Requested.{requests, is_requested, requested, requested_from}
+use Rattle.workflow_core.specs.Requested.{requests, is_requested}
+use Rattle.workflow_core.specs.code.Requested.{requested, requested_from}
 use Rattle.dependency_graph.specs.Value.{Basis, value}
 use Rattle.workflow_eval.specs.Evaluating.{AreValues}
 use Rattle.evaluation.specs.ValueLines.{AreValued, chosen, marked, marked_by, picked}

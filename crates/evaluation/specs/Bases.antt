@@ -3,12 +3,12 @@ use Rattle.std.specs.Prelude.{◌≡◌, ℕ, ◌^◌, List, [], ◌∷◌, if�
 use Rattle.std.specs.Str.{bytes_eq}
 use Rattle.std.specs.FinMap as map
 use Rattle.sha2.specs.Sha256.{sha256}
-use Rattle.peg_json.specs.Tree.{◌>>=◌}
-use Rattle.outside.specs.Host.{Reads, replica}
+use Rattle.outside.specs.code.Host.{Reads, replica}
 use Rattle.outside.specs.declared.counts.Counts.{Counts}
 use Rattle.outside.specs.declared.host.HostFault.{HostFault}
 use Rattle.outside.specs.declared.host.HostFault.TheVariants as host_faults
 use Rattle.outside.specs.declared.store.Store.{Store}
+use Rattle.peg_json.specs.Tree.{◌>>=◌}
 use Rattle.run_record.specs.declared.run_fault.RunFault.TheVariants.{ReplicaAbsent, ReplicaTooLong, ChecksumDiffers, HostFailed, Memory}
 use Rattle.evaluation.specs.declared.fault.EvaluationFault.{EvaluationFault}
 use Rattle.evaluation.specs.declared.fault.EvaluationFault.TheVariants.{Failed}

@@ -1,10 +1,10 @@
 -- What an evaluation asks of the documents and the tool, the bases that it reads, and how it ends.
 use Rattle.std.specs.Prelude.{◌≡◌, ℕ, ◌<◌, Bool, true, List, length, is_some, Some, None, Result, Ok, Err, Vec, slice_index_or}
 use Rattle.std.specs.declared.alloc.Global.{Global}
-use Rattle.peg_json.specs.Tree.{◌>>=◌}
-use Rattle.outside.specs.Counts.{Rose}
 use Rattle.values.specs.declared.numbers.JobId.{JobId}
-use Rattle.workflow_core.specs.Requested.{requested}
+use Rattle.outside.specs.code.Counts.{Rose}
+use Rattle.peg_json.specs.Tree.{◌>>=◌}
+use Rattle.workflow_core.specs.code.Requested.{requested}
 use Rattle.workflow_core.specs.declared.workflow.Job.{Job}
 use Rattle.workflow_core.specs.declared.workflow.Workflow.{Workflow}
 use Rattle.dependency_graph.specs.Value.{Basis, basis}

@@ -1,9 +1,9 @@
 -- What is evaluated, and what the evaluation meets.
 use Rattle.std.specs.Prelude.{ℕ, Bool, List, Option}
 use Rattle.values.specs.Apply.{Apply}
+use Rattle.values.specs.declared.numbers.JobId.{JobId}
 use Rattle.outside.specs.declared.counts.Counts.{Counts}
 use Rattle.outside.specs.declared.host.Host as host
-use Rattle.values.specs.declared.numbers.JobId.{JobId}
 use Rattle.outside.specs.declared.store.Store.{Store}
 use Rattle.outside.specs.declared.tool.Tool as tool
 use Rattle.workflow_core.specs.declared.workflow.Workflow.{Workflow}

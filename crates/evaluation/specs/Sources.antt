@@ -2,10 +2,10 @@
 use Rattle.std.specs.Prelude.{ℕ, suc, List, [], ◌∷◌, find, if◌then◌else◌, is_some, Option, Some, None, Result, Ok, Err}
 use Rattle.peg_json.specs.Tree.{◌>>=◌}
 use Rattle.workflow_core.specs.declared.workflow.Workflow.{Workflow}
-use Rattle.dependency_graph.specs.Edges.{producer}
 use Rattle.replica_catalog.specs.Lookup.{is_of}
 use Rattle.replica_catalog.specs.declared.catalog.Pfn.{Pfn}
 use Rattle.replica_catalog.specs.declared.catalog.Replica.{Replica}
+use Rattle.dependency_graph.specs.Edges.{producer}
 use Rattle.evaluation.specs.declared.fault.EvaluationFault.{EvaluationFault}
 use Rattle.evaluation.specs.declared.fault.EvaluationFault.TheVariants.{NoReplica}
 use Rattle.evaluation.specs.declared.sources.Source.{Source}

@@ -1,7 +1,7 @@
 //! The bases of a workflow's files, read from their sources.
 
 ghost use Rattle.std.specs.Prelude.{◌≡◌, List, ℕ, Result};
-ghost use Rattle.outside.specs.Counts.{IsLater};
+ghost use Rattle.outside.specs.code.Counts.{IsLater};
 ghost use Rattle.evaluation.specs.Bases.{IsBaseRead, ReadsBases, base_answer, checked};
 ghost use Rattle.evaluation.specs.Fault.{UnlessMemory, items_of};
 

@@ -1,8 +1,8 @@
 //! The evaluation of a workflow.
 
 ghost use Rattle.std.specs.Prelude.{◌≡◌, ◌<◌, length, IfOk};
-ghost use Rattle.outside.specs.Counts.{IsLater};
-ghost use Rattle.workflow_core.specs.WellFormed.{IsWellFormed};
+ghost use Rattle.outside.specs.code.Counts.{IsLater};
+ghost use Rattle.workflow_core.specs.code.WellFormed.{IsWellFormed};
 ghost use Rattle.dependency_graph.specs.Graph.{IsGraphOf};
 ghost use Rattle.evaluation.specs.Evaluating.{AnswersFault, Evaluated, HasValues, IsIdOf, NamesJob, prepared};
 ghost use Rattle.evaluation.specs.Fault.{UnlessMemory};

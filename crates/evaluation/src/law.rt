@@ -1,7 +1,7 @@
 //! What the definition of an evaluation comes to.
 
 ghost use Rattle.std.specs.Prelude.{◌≡◌};
-ghost use Rattle.outside.specs.Counts.{Rose};
+ghost use Rattle.outside.specs.code.Counts.{Rose};
 ghost use Rattle.run_record.specs.declared.run_fault.RunFault.TheVariants as run_faults;
 ghost use Rattle.evaluation.specs.Evaluating.{AllDefined, HasNoValues};
 ghost use Rattle.evaluation.specs.Moments.{Meeting, Subject};

@@ -1,7 +1,7 @@
 //! Where the bytes of the files that no job makes come from.
 
 ghost use Rattle.std.specs.Prelude.{◌≡◌, ◌<◌, length, IfOk};
-ghost use Rattle.workflow_core.specs.WellFormed.{IsWellFormed};
+ghost use Rattle.workflow_core.specs.code.WellFormed.{IsWellFormed};
 ghost use Rattle.dependency_graph.specs.Graph.{IsGraphOf};
 ghost use Rattle.evaluation.specs.Fault.{UnlessMemory, items_of};
 ghost use Rattle.evaluation.specs.Sources.{first_place, registered, source_if_base, source_of, sources_of};

@@ -11,17 +11,18 @@ use Rattle.values.specs.declared.numbers.FileId.{FileId}
 use Rattle.values.specs.declared.numbers.JobId.{JobId}
 use Rattle.workflow_core.specs.declared.workflow.Workflow.{Workflow}
 use Rattle.workflow_core.specs.declared.workflow.Job.{Job}
-use Rattle.workflow_core.specs.WellFormed.{inputs_of, outputs_of, IsSmallSize, IsWellFormed}
+use Rattle.workflow_core.specs.WellFormed.{inputs_of, outputs_of}
+use Rattle.workflow_core.specs.code.WellFormed.{IsSmallSize, IsWellFormed}
 use Rattle.plan_request.specs.declared.request.PlanRequest.{PlanRequest}
 use Rattle.plan_request.specs.declared.request.SizeOf.{SizeOf}
 use Rattle.plan_request.specs.FileSizes.{declared_sizes, named_size}
-use Rattle.plan_request.specs.Limits.{IsSmallDefault, IsWithinLimits}
+use Rattle.plan_request.specs.code.Limits.{IsSmallDefault, IsWithinLimits}
 use Rattle.dependency_graph.specs.Edges.{is_among, makers, written_by}
-use Rattle.dependency_graph.specs.Graph.{IsGraphOf, Links, made_at, numbers}
+use Rattle.dependency_graph.specs.Graph.{IsGraphOf, Links, producer_of_file, numbers}
 use Rattle.dependency_graph.proofs.EdgesLemmas.{makes}
 use Rattle.dependency_graph.proofs.LevelsLemmas.{parents_in}
 use Rattle.heft_selector.specs.Costs.{size_at}
-use Rattle.heft_selector.specs.Carried.{carried, AreLists}
+use Rattle.heft_selector.specs.code.Carried.{carried, AreLists}
 use Rattle.heft_selector.proofs.MoveLemmas.{made_few, once_distinct}
 use Rattle.list_schedule.proofs.WalkLemmas.{once_short}
 use Rattle.heft_selector.proofs.BridgeLemmas.{job_over, low_file}
@@ -41,7 +42,7 @@ size_small (o ∷ sizes) (suc f) small = size_small sizes f small.1
 carried_few : (producers : List (Option JobId)) (sizes : List (Option ℕ)) (a : ℕ) (fs : List FileId) → AllByRecursion IsSmallSize sizes → carried producers sizes a fs ≤ length fs * 2 ^ 40
 carried_few producers sizes a [] small = omega arith
 carried_few producers sizes a (f ∷ fs) small =
-    let here = made_few (made_at producers f.0) a (size_at sizes f.0) (2 ^ 40) (size_small sizes f.0 small) in
+    let here = made_few (producer_of_file producers f.0) a (size_at sizes f.0) (2 ^ 40) (size_small sizes f.0 small) in
     let rest = carried_few producers sizes a fs small in
     omega (arith, here, rest)
 
@@ -76,7 +77,7 @@ all_files n [] all k d l = absurd (omega (arith, l))
 all_files n (f ∷ fs) all zero d l = all.0
 all_files n (f ∷ fs) all (suc k) d l = all_files n fs all.1 k d (omega (arith, l))
 
-none_past : (producers : List (Option JobId)) (f : ℕ) → length producers ≤ f → made_at producers f ≡ None
+none_past : (producers : List (Option JobId)) (f : ℕ) → length producers ≤ f → producer_of_file producers f ≡ None
 none_past [] zero past = refl
 none_past [] (suc f) past = refl
 none_past (p ∷ producers) zero past = absurd (omega (arith, past))
@@ -88,7 +89,7 @@ nothing_past [] (suc a) past = refl
 nothing_past (j ∷ js) zero past = absurd (omega (arith, past))
 nothing_past (j ∷ js) (suc a) past = nothing_past js a (omega (arith, past))
 
-maker_low : (w : Workflow) (g : Links) → IsGraphOf w g → (f : ℕ) (j : JobId) → made_at g.producers f ≡ Some j → j.0 < length w.jobs
+maker_low : (w : Workflow) (g : Links) → IsGraphOf w g → (f : ℕ) (j : JobId) → producer_of_file g.producers f ≡ Some j → j.0 < length w.jobs
 maker_low w g graph f j is = at (cases_order f (length w.files))
   where
     nowhere : length w.files ≤ f → ⊥
@@ -102,7 +103,7 @@ maker_low w g graph f j is = at (cases_order f (length w.files))
     within low = by (cases_order j.0 (length w.jobs))
       where
         made : makers w f ≡ j.0 ∷ []
-        made = of_some (made_at g.producers f) is (graph.producer f low)
+        made = of_some (producer_of_file g.producers f) is (graph.producer f low)
 
         writes : is_among f (written_by w j.0) ≡ true
         writes = sym (makes w f j.0) ∙ ap (is_among j.0) made ∙ ap (λ (t : Bool). t || false) (eq-eqb j.0 j.0 refl)

@@ -10,15 +10,16 @@ use Rattle.std.proofs.lemmas.Bool.{eqb-true, eqb-false, eq-eqb, ne_eqb, cases_or
 use Rattle.values.specs.declared.numbers.FileId.{FileId}
 use Rattle.values.specs.declared.numbers.JobId.{JobId}
 use Rattle.workflow_core.specs.declared.workflow.Workflow.{Workflow}
-use Rattle.workflow_core.specs.WellFormed.{are_new, are_distinct}
-use Rattle.digraph.specs.Adjacency.{has, lists_of, neighbours}
+use Rattle.workflow_core.specs.code.WellFormed.{are_new, are_distinct}
+use Rattle.digraph.specs.Adjacency.{has_node as has, neighbours}
+use Rattle.digraph.specs.code.Adjacency.{lists_of}
 use Rattle.dependency_graph.specs.Edges.{is_among, makers, read_by, written_by}
-use Rattle.dependency_graph.specs.Graph.{IsGraphOf, Links, jobs_at, made_at}
-use Rattle.dependency_graph.specs.Ranking.{AreOnce}
+use Rattle.dependency_graph.specs.Graph.{IsGraphOf, Links, jobs_at, producer_of_file}
+use Rattle.dependency_graph.specs.Ranking.{HasNoRepeats}
 use Rattle.dependency_graph.proofs.EdgesLemmas.{makes}
 use Rattle.dependency_graph.proofs.TestLemmas.{any_more}
 use Rattle.heft_selector.specs.Costs.{size_at, bytes_read, seconds_for}
-use Rattle.heft_selector.specs.Carried.{bytes_at, made_for, carried, moves_by, AreMoves}
+use Rattle.heft_selector.specs.code.Carried.{bytes_at, made_for, carried, moves_by, AreMoves}
 use Rattle.list_schedule.proofs.GraphLemmas.{by_bool}
 
 -- ---- each once
@@ -44,11 +45,11 @@ new_apart known (x ∷ xs) h a there = split (list_any (nat_eq x) known) refl h 
         left true u h = absurd cc
         left false u h = refl
 
-once_after : (known xs : List ℕ) → are_new nat_eq known xs ≡ true → AreOnce xs
+once_after : (known xs : List ℕ) → are_new nat_eq known xs ≡ true → HasNoRepeats xs
 once_after known [] h = tt
 once_after known (x ∷ xs) h = split (list_any (nat_eq x) known) h (λ k. once_after (known ++ x ∷ []) xs k)
   where
-    split : (t : Bool) → (not t && are_new nat_eq (known ++ x ∷ []) xs) ≡ true → (are_new nat_eq (known ++ x ∷ []) xs ≡ true → AreOnce xs) → AreOnce (x ∷ xs)
+    split : (t : Bool) → (not t && are_new nat_eq (known ++ x ∷ []) xs) ≡ true → (are_new nat_eq (known ++ x ∷ []) xs ≡ true → HasNoRepeats xs) → HasNoRepeats (x ∷ xs)
     split true k rest = absurd cc
     split false k rest = (
       by_bool (has x xs) (λ t. absurd (let out = new_apart (known ++ x ∷ []) xs k x t in let more = any_more (nat_eq x) known x in let itself : nat_eq x x ≡ true = eq-eqb x x refl in right (list_any (nat_eq x) known) (nat_eq x x) itself (sym more ∙ out))) (λ f. f),
@@ -59,7 +60,7 @@ once_after known (x ∷ xs) h = split (list_any (nat_eq x) known) h (λ k. once_
         right true u e h = absurd cc
         right false u e h = absurd (let clash = sym e ∙ h in cc)
 
-pub once_distinct : (xs : List ℕ) → are_distinct nat_eq xs ≡ true → AreOnce xs
+pub once_distinct : (xs : List ℕ) → are_distinct nat_eq xs ≡ true → HasNoRepeats xs
 once_distinct xs h = once_after [] xs h
 
 -- ---- two lists, each counted by the other
@@ -76,7 +77,7 @@ single_none sizes x (f ∷ fs) off = by (nat_eq f x) refl off (λ k. single_none
     by true e k more = absurd cc
     by false e k more = let rest = more k in let none : cond {A = ℕ} (nat_eq x f) (size_at sizes f) 0 ≡ 0 = ap (λ (b : Bool). cond {A = ℕ} b (size_at sizes f) 0) (same_test x f ∙ e) in omega (arith, rest, none)
 
-single_is : (sizes : List (Option ℕ)) (x : ℕ) (fs : List ℕ) → AreOnce fs → single sizes x fs ≡ cond {A = ℕ} (has x fs) (size_at sizes x) 0
+single_is : (sizes : List (Option ℕ)) (x : ℕ) (fs : List ℕ) → HasNoRepeats fs → single sizes x fs ≡ cond {A = ℕ} (has x fs) (size_at sizes x) 0
 single_is sizes x [] once = refl
 single_is sizes x (f ∷ fs) once = by (nat_eq f x) refl (single_is sizes x fs once.1)
   where
@@ -103,7 +104,7 @@ read_nothing sizes [] = refl
 read_nothing sizes (f ∷ fs) = let rest = read_nothing sizes fs in omega (arith, rest)
 
 -- those of xs that are in ys are those of ys that are in xs
-pub read_turned : (sizes : List (Option ℕ)) (xs ys : List ℕ) → AreOnce xs → AreOnce ys → bytes_read sizes ys xs ≡ bytes_read sizes xs ys
+pub read_turned : (sizes : List (Option ℕ)) (xs ys : List ℕ) → HasNoRepeats xs → HasNoRepeats ys → bytes_read sizes ys xs ≡ bytes_read sizes xs ys
 read_turned sizes [] ys one two = sym (read_nothing sizes ys)
 read_turned sizes (x ∷ xs) ys one two =
     let rest = read_turned sizes xs ys one.1 two in
@@ -114,7 +115,7 @@ read_turned sizes (x ∷ xs) ys one two =
 -- ---- what is carried
 
 pub carried_read : (producers : List (Option JobId)) (sizes : List (Option ℕ)) (a : ℕ) (out : List ℕ) (fs : List FileId)
-    → ((f n : ℕ) → has f (map (λ (g : FileId). g.0) fs) ≡ true → made_for (made_at producers f) a n ≡ cond {A = ℕ} (has f out) n 0) → carried producers sizes a fs ≡ bytes_read sizes out (map (λ (g : FileId). g.0) fs)
+    → ((f n : ℕ) → has f (map (λ (g : FileId). g.0) fs) ≡ true → made_for (producer_of_file producers f) a n ≡ cond {A = ℕ} (has f out) n 0) → carried producers sizes a fs ≡ bytes_read sizes out (map (λ (g : FileId). g.0) fs)
 carried_read producers sizes a out [] same = refl
 carried_read producers sizes a out (f ∷ fs) same =
     let here = same f.0 (size_at sizes f.0) (ap (λ (t : Bool). t || has f.0 (map (λ (g : FileId). g.0) fs)) (eq-eqb f.0 f.0 refl)) in
@@ -126,8 +127,8 @@ carried_read producers sizes a out (f ∷ fs) same =
     later false u e = e
 
 -- the maker of a file is the job that has it among its outputs
-pub maker_is : (w : Workflow) (g : Links) → IsGraphOf w g → (a f n : ℕ) → f < length w.files → made_for (made_at g.producers f) a n ≡ cond {A = ℕ} (has f (written_by w a)) n 0
-maker_is w g graph a f n low = by (made_at g.producers f) (graph.producer f low) ∙ ap (λ (t : Bool). cond {A = ℕ} t n 0) (makes w f a)
+pub maker_is : (w : Workflow) (g : Links) → IsGraphOf w g → (a f n : ℕ) → f < length w.files → made_for (producer_of_file g.producers f) a n ≡ cond {A = ℕ} (has f (written_by w a)) n 0
+maker_is w g graph a f n low = by (producer_of_file g.producers f) (graph.producer f low) ∙ ap (λ (t : Bool). cond {A = ℕ} t n 0) (makes w f a)
   where
     by : (o : Option JobId) → MatchOption o (makers w f ≡ []) (λ (j : JobId). makers w f ≡ j.0 ∷ []) → made_for o a n ≡ cond {A = ℕ} (is_among a (makers w f)) n 0
     by None is = sym (ap (λ (xs : List ℕ). cond {A = ℕ} (is_among a xs) n 0) is)
@@ -139,7 +140,7 @@ maker_is w g graph a f n low = by (made_at g.producers f) (graph.producer f low)
 
 -- the bytes that one job carries to another
 pub carried_is : (w : Workflow) (g : Links) → IsGraphOf w g → (sizes : List (Option ℕ)) (a b : ℕ) (fs : List FileId) → map (λ (f : FileId). f.0) fs ≡ read_by w b → ((f : ℕ) → has f (read_by w b) ≡ true → f < length w.files)
-    → AreOnce (read_by w b) → AreOnce (written_by w a) → carried g.producers sizes a fs ≡ bytes_read sizes (read_by w b) (written_by w a)
+    → HasNoRepeats (read_by w b) → HasNoRepeats (written_by w a) → carried g.producers sizes a fs ≡ bytes_read sizes (read_by w b) (written_by w a)
 carried_is w g graph sizes a b fs is low once_read once_written =
     carried_read g.producers sizes a (written_by w a) fs (λ f n there. maker_is w g graph a f n (low f (ap (has f) (sym is) ∙ there)))
     ∙ ap (bytes_read sizes (written_by w a)) is
@@ -161,12 +162,12 @@ taken_at xs x v n a low few is = ap (λ (k : ℕ). k + cond {A = ℕ} (nat_eq x 
     by true e = let here : get_or xs x 0 ≡ get_or xs a 0 = ap (λ (k : ℕ). get_or xs k 0) (eqb-true x a e) in omega (arith, is, few, here)
     by false e = omega arith
 
-carried_push : (producers : List (Option JobId)) (sizes : List (Option ℕ)) (a : ℕ) (fs : List FileId) (f : FileId) → carried producers sizes a (fs ++ f ∷ []) ≡ carried producers sizes a fs + made_for (made_at producers f.0) a (size_at sizes f.0)
+carried_push : (producers : List (Option JobId)) (sizes : List (Option ℕ)) (a : ℕ) (fs : List FileId) (f : FileId) → carried producers sizes a (fs ++ f ∷ []) ≡ carried producers sizes a fs + made_for (producer_of_file producers f.0) a (size_at sizes f.0)
 carried_push producers sizes a [] f = omega arith
 carried_push producers sizes a (g ∷ fs) f = let rest = carried_push producers sizes a fs f in omega (arith, rest)
 
 pub carried_more : (producers : List (Option JobId)) (sizes : List (Option ℕ)) (a i : ℕ) (fs : List FileId) → i < length fs
-    → carried producers sizes a (take (i + 1) fs) ≡ carried producers sizes a (take i fs) + made_for (made_at producers (get_or fs i (record { 0 = 0 })).0) a (size_at sizes (get_or fs i (record { 0 = 0 })).0)
+    → carried producers sizes a (take (i + 1) fs) ≡ carried producers sizes a (take i fs) + made_for (producer_of_file producers (get_or fs i (record { 0 = 0 })).0) a (size_at sizes (get_or fs i (record { 0 = 0 })).0)
 carried_more producers sizes a i fs low = ap (carried producers sizes a) (take_more fs i (record { 0 = 0 }) low) ∙ carried_push producers sizes a (take i fs) (get_or fs i (record { 0 = 0 }))
 
 -- the first files carry no more than all

@@ -11,24 +11,28 @@ use Rattle.values.specs.declared.select_fault.SelectFault.{SelectFault}
 use Rattle.values.specs.declared.select_fault.SelectFault.TheVariants.{NoSite, NoTransformation, Memory}
 use Rattle.workflow_core.specs.declared.workflow.Workflow.{Workflow}
 use Rattle.workflow_core.specs.declared.workflow.Job.{Job}
-use Rattle.workflow_core.specs.WellFormed.{IsWellFormed}
+use Rattle.workflow_core.specs.code.WellFormed.{IsWellFormed}
 use Rattle.transformation_catalog.specs.declared.catalog.TransformationCatalog.{TransformationCatalog}
 use Rattle.plan_request.specs.declared.request.Execution.{Execution}
 use Rattle.plan_request.specs.declared.request.PlanRequest.{PlanRequest}
 use Rattle.plan_request.specs.FileSizes.{declared_sizes}
-use Rattle.plan_request.specs.Limits.{IsRuntimeInRange, IsWithinLimits}
-use Rattle.digraph.specs.Adjacency.{lists_of, neighbours}
+use Rattle.plan_request.specs.code.Limits.{IsRuntimeInRange, IsWithinLimits}
+use Rattle.digraph.specs.code.Adjacency.{lists_of}
+use Rattle.digraph.specs.Adjacency.{neighbours}
 use Rattle.dependency_graph.specs.Graph.{IsGraphOf, Links, jobs_at}
 use Rattle.dependency_graph.specs.Levels.{is_kept}
 use Rattle.dependency_graph.proofs.LevelsLemmas.{parents_in}
 use Rattle.site_selector.specs.Offers.{sites_of}
-use Rattle.site_selector.specs.Candidates.{candidates_from, candidates, is_candidate, offered_unless, unknown_site}
-use Rattle.heft_selector.specs.Costs.{name_of, name_at, seconds, time, move}
-use Rattle.heft_selector.specs.Candidates.{Offering, offering, candidates_at, candidates_in, AreOffered, FindsAll}
-use Rattle.heft_selector.specs.Stated.{site_name_at, AreTimes}
-use Rattle.heft_selector.specs.Carried.{AreMoves}
-use Rattle.list_schedule.specs.Tables.{moves_to, AreCosts, AreCandidates, AreFull, AreSites}
-use Rattle.heft_selector.specs.Selecting.{offering_of, estimates, SelectsHeft}
+use Rattle.site_selector.specs.Candidates.{candidates_from, candidates, is_candidate, unknown_site}
+use Rattle.site_selector.specs.code.Candidates.{offered_unless}
+use Rattle.heft_selector.specs.Costs.{transformation_name, name_at, seconds, time, move}
+use Rattle.heft_selector.specs.Candidates.{Offering, offering, candidates_at, candidates_in}
+use Rattle.heft_selector.specs.code.Candidates.{AreOffered, FindsAll}
+use Rattle.heft_selector.specs.code.Stated.{site_name_at, AreTimes}
+use Rattle.heft_selector.specs.code.Carried.{AreMoves}
+use Rattle.list_schedule.specs.code.Tables.{moves_to, AreCosts, AreCandidates, AreFull, AreSites}
+use Rattle.heft_selector.specs.Selecting.{offering_of, estimates}
+use Rattle.heft_selector.specs.code.Selecting.{SelectsHeft}
 use Rattle.heft_selector.proofs.TimeLemmas.{seconds_are}
 use Rattle.heft_selector.proofs.BridgeLemmas.{moves_are}
 
@@ -122,7 +126,7 @@ times_at w g kept r t lists times moves are a on =
     let low : a < length w.jobs = (let l = kept_low kept a on in let m = are.many in omega (arith, l, m)) in
     let there = job_there w.jobs a low in
     are.times_are.each a there.job low on there.at
-    ∙ ap (λ (n : List ℕ). map (λ (s : ℕ). seconds r.runtimes n (site_name_at r.execute s)) (neighbours lists a)) (sym (get_or-map name_of w.jobs a there.job [] low ∙ ap name_of there.at))
+    ∙ ap (λ (n : List ℕ). map (λ (s : ℕ). seconds r.runtimes n (site_name_at r.execute s)) (neighbours lists a)) (sym (get_or-map transformation_name w.jobs a there.job [] low ∙ ap transformation_name there.at))
 
 pub costs_are : (w : Workflow) (g : Links) (kept : List Bool) (r : PlanRequest) (t : TransformationCatalog) (lists times moves : List (List ℕ)) → AreTables w g kept r t lists times moves → AreCosts g kept (estimates w kept r t) times moves
 costs_are w g kept r t lists times moves are = record {

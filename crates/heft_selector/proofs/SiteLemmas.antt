@@ -4,9 +4,10 @@ use Rattle.std.specs.Prelude.{Option, Some, None}
 use Rattle.std.proofs.lemmas.Option.{slice_get-get_or, get_or_from_slice_get}
 use Rattle.values.specs.declared.numbers.SiteId.{SiteId}
 use Rattle.dependency_graph.specs.Levels.{is_kept}
-use Rattle.list_schedule.specs.Law.{RunsAtCandidate}
+use Rattle.list_schedule.specs.code.Law.{RunsAtCandidate}
 use Rattle.list_schedule.specs.Schedule.{site}
-use Rattle.heft_selector.specs.Selecting.{offering_of, estimates, SitesAreBelow, KeptJobsHaveSites}
+use Rattle.heft_selector.specs.Selecting.{offering_of, estimates}
+use Rattle.heft_selector.specs.code.Selecting.{SitesAreBelow, KeptJobsHaveSites}
 use Rattle.list_schedule.proofs.GraphLemmas.{by_bool, all_low}
 use Rattle.heft_selector.proofs.SelectLemmas.{kept_low, candidates_low}
 

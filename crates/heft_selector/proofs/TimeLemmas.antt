@@ -10,13 +10,14 @@ use Rattle.std.proofs.lemmas.List.{take_more, get_or-map, get_or_default}
 use Rattle.std.proofs.lemmas.Bool.{eqb-true, eq-eqb, ne_eqb, cases_order}
 use Rattle.workflow_core.specs.Names.{number}
 use Rattle.workflow_core.specs.declared.workflow.Job.{Job}
-use Rattle.digraph.specs.Adjacency.{lists_of, neighbours}
+use Rattle.digraph.specs.code.Adjacency.{lists_of}
+use Rattle.digraph.specs.Adjacency.{neighbours}
 use Rattle.dependency_graph.specs.Levels.{is_kept}
 use Rattle.plan_request.specs.declared.request.Execution.{Execution}
 use Rattle.plan_request.specs.declared.request.Runtime.{Runtime}
-use Rattle.plan_request.specs.Limits.{IsRuntimeInRange}
-use Rattle.heft_selector.specs.Costs.{is_entry_for, name_of, seconds}
-use Rattle.heft_selector.specs.Stated.{stated, cell, site_name, site_name_at, times_of, IsTable, IsClock, AreTimes}
+use Rattle.plan_request.specs.code.Limits.{IsRuntimeInRange}
+use Rattle.heft_selector.specs.Costs.{is_entry_for, transformation_name, seconds}
+use Rattle.heft_selector.specs.code.Stated.{stated, cell, site_name, site_name_at, times_of, IsTable, IsClock, AreTimes}
 use Rattle.heft_selector.proofs.MoveLemmas.{at_last, at_left, pushed, longer}
 use Rattle.list_schedule.proofs.SetLemmas.{set_at}
 use Rattle.list_schedule.proofs.GraphLemmas.{by_bool}
@@ -229,20 +230,20 @@ times_are ts es rows columns table n (s ∷ ss) small clock row all =
     ∙ ap (λ (ks : List ℕ). seconds ts n (site_name_at es s) ∷ ks) (times_are ts es rows columns table n ss small clock row (λ i d l. all (suc i) d (omega (arith, l))))
 
 pub times_more : (jobs : List Job) (kept : List Bool) (es : List Execution) (ts : List Runtime) (candidates : List (List ℕ)) (vs new : List (Vec ℕ Global)) (v : Vec ℕ Global) (n : ℕ) (job : Job) → n < length jobs
-    → AreTimes jobs kept es ts candidates (lists_of vs) n → slice_index_or jobs n job ≡ job → (is_kept kept n ≡ true → v.items ≡ times_of ts es (name_of job) (neighbours candidates n)) → new ≡ vs ++ v ∷ []
+    → AreTimes jobs kept es ts candidates (lists_of vs) n → slice_index_or jobs n job ≡ job → (is_kept kept n ≡ true → v.items ≡ times_of ts es (transformation_name job) (neighbours candidates n)) → new ≡ vs ++ v ∷ []
     → AreTimes jobs kept es ts candidates (lists_of new) (n + 1)
 times_more jobs kept es ts candidates vs new v n job inside are at is grown = subst (λ (ls : List (List ℕ)). AreTimes jobs kept es ts candidates ls (n + 1)) (sym (ap (λ (xs : List (Vec ℕ Global)). lists_of xs) grown ∙ pushed vs v)) (record {
   long = longer (lists_of vs) v.items ∙ ap (λ (k : ℕ). k + 1) are.long;
   each = λ a j low on there. by a j low on there (cases_order a n);
 })
   where
-    here : (j : Job) → is_kept kept n ≡ true → slice_index_or jobs n j ≡ j → neighbours (lists_of vs ++ v.items ∷ []) n ≡ times_of ts es (name_of j) (neighbours candidates n)
+    here : (j : Job) → is_kept kept n ≡ true → slice_index_or jobs n j ≡ j → neighbours (lists_of vs ++ v.items ∷ []) n ≡ times_of ts es (transformation_name j) (neighbours candidates n)
     here j on there =
         let one_job : job ≡ j = sym at ∙ get_or_default jobs n job j inside ∙ there in
-        ap (λ (k : ℕ). neighbours (lists_of vs ++ v.items ∷ []) k) (sym are.long) ∙ at_last (lists_of vs) v.items ∙ is on ∙ ap (λ (x : Job). times_of ts es (name_of x) (neighbours candidates n)) one_job
+        ap (λ (k : ℕ). neighbours (lists_of vs ++ v.items ∷ []) k) (sym are.long) ∙ at_last (lists_of vs) v.items ∙ is on ∙ ap (λ (x : Job). times_of ts es (transformation_name x) (neighbours candidates n)) one_job
 
-    by : (a : ℕ) (j : Job) → a < n + 1 → is_kept kept a ≡ true → slice_index_or jobs a j ≡ j → ((a ≡ n) ⊎ ((a < n) ⊎ (n < a))) → neighbours (lists_of vs ++ v.items ∷ []) a ≡ times_of ts es (name_of j) (neighbours candidates a)
-    by a j low on there (inl same) = subst (λ (m : ℕ). is_kept kept m ≡ true → slice_index_or jobs m j ≡ j → neighbours (lists_of vs ++ v.items ∷ []) m ≡ times_of ts es (name_of j) (neighbours candidates m)) (sym same) (here j) on there
+    by : (a : ℕ) (j : Job) → a < n + 1 → is_kept kept a ≡ true → slice_index_or jobs a j ≡ j → ((a ≡ n) ⊎ ((a < n) ⊎ (n < a))) → neighbours (lists_of vs ++ v.items ∷ []) a ≡ times_of ts es (transformation_name j) (neighbours candidates a)
+    by a j low on there (inl same) = subst (λ (m : ℕ). is_kept kept m ≡ true → slice_index_or jobs m j ≡ j → neighbours (lists_of vs ++ v.items ∷ []) m ≡ times_of ts es (transformation_name j) (neighbours candidates m)) (sym same) (here j) on there
     by a j low on there (inr (inl less)) = at_left (lists_of vs) v.items a (let l = are.long in omega (arith, l, less)) ∙ are.each a j less on there
     by a j low on there (inr (inr more)) = absurd (omega (arith, more, low))
 

@@ -21,19 +21,17 @@ seconds [] transformation site = 1
 seconds (t ∷ ts) transformation site =
     if is_entry_for transformation site t then t.seconds else seconds ts transformation site
 
-abbrev pub name_of : Job → List ℕ
-name_of j = j.transformation.name
+abbrev pub transformation_name : Job → List ℕ
+transformation_name j = j.transformation.name
 
--- the name of a job's transformation, and that of an execution site, by number
+-- the name of a job's transformation, by its number
 abbrev pub name_at : Workflow → ℕ → List ℕ
-name_at w a = slice_index_or (map name_of w.jobs) a []
-
-abbrev pub site_at : PlanRequest → ℕ → List ℕ
-site_at r s = slice_index_or (map (λ (e : Execution). e.site) r.execute) s []
+name_at w a = slice_index_or (map transformation_name w.jobs) a []
 
 -- how long job a runs at site s
 abbrev pub time : Workflow → PlanRequest → ℕ → ℕ → ℕ
-time w r a s = seconds r.runtimes (name_at w a) (site_at r s)
+time w r a s = seconds r.runtimes (name_at w a)
+    (slice_index_or (map (λ (e : Execution). e.site) r.execute) s [])
 
 -- ---- moves
 
@@ -47,14 +45,11 @@ bytes_read sizes read [] = 0
 bytes_read sizes read (f ∷ fs) =
     (if is_among f read then size_at sizes f else 0) + bytes_read sizes read fs
 
--- the bytes that job b reads of what job a makes
-abbrev pub bytes : Workflow → PlanRequest → ℕ → ℕ → ℕ
-bytes w r a b = bytes_read (declared_sizes r w.files w.sizes) (read_by w b) (written_by w a)
-
 -- so many bytes at a rate, in seconds, rounded up
 abbrev pub seconds_for : ℕ → ℕ → ℕ
 seconds_for n rate = (n + (rate - 1)) / rate
 
 -- how long the files take from job a to job b
 abbrev pub move : Workflow → PlanRequest → ℕ → ℕ → ℕ
-move w r a b = seconds_for (bytes w r a b) r.rate
+move w r a b = seconds_for
+    (bytes_read (declared_sizes r w.files w.sizes) (read_by w b) (written_by w a)) r.rate

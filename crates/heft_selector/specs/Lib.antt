@@ -2,6 +2,5 @@
 pub mod Costs
 pub mod Candidates
 pub mod Selecting
--- Steps
-pub mod Stated
-pub mod Carried
+-- What only the code's own contracts say.
+pub mod code

@@ -1,8 +1,9 @@
 //! The sites where each kept job can run.
 
 ghost use Rattle.std.specs.Prelude.{◌≡◌, ◌<◌, ◌≤◌, ◌++◌, [], ◌∷◌, length, Ok, OnOk};
-ghost use Rattle.plan_request.specs.Reader.{execute_checked};
-ghost use Rattle.heft_selector.specs.Candidates.{offering, FindsAll, FindsOne};
+ghost use Rattle.plan_request.specs.Request.{execute_checked};
+ghost use Rattle.heft_selector.specs.Candidates.{offering};
+ghost use Rattle.heft_selector.specs.code.Candidates.{FindsAll, FindsOne};
 
 use plan_request::Execution;
 use site_selector::{Offers, candidates_of};

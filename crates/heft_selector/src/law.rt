@@ -1,6 +1,6 @@
 //! What a schedule of a request comes to.
 
-ghost use Rattle.heft_selector.specs.Selecting.{SitesAreBelow, KeptJobsHaveSites};
+ghost use Rattle.heft_selector.specs.code.Selecting.{SitesAreBelow, KeptJobsHaveSites};
 
 use list_schedule::schedules_are_sound;
 

@@ -3,10 +3,10 @@
 ghost use Rattle.std.specs.Prelude.{◌≡◌, ◌+◌, ◌-◌, ◌*◌, ◌<◌, ◌≤◌, ◌^◌, ℕ, Some, length, map, get_or, IfOk, OnOk, All};
 ghost use Rattle.values.specs.declared.numbers.FileId.{FileId};
 ghost use Rattle.values.specs.declared.numbers.JobId.{JobId};
-ghost use Rattle.digraph.specs.Adjacency.{lists_of};
-ghost use Rattle.dependency_graph.specs.Graph.{made_at, jobs_at};
+ghost use Rattle.digraph.specs.code.Adjacency.{lists_of};
+ghost use Rattle.dependency_graph.specs.Graph.{producer_of_file, jobs_at};
 ghost use Rattle.heft_selector.specs.Costs.{size_at, seconds_for};
-ghost use Rattle.heft_selector.specs.Carried.{bytes_at, made_for, carried, moves_by, AreMade, AreLists, AreMoves};
+ghost use Rattle.heft_selector.specs.code.Carried.{bytes_at, made_for, carried, moves_by, AreMade, AreLists, AreMoves};
 
 use dependency_graph::Graph;
 use std::alloc::Global;

@@ -1,20 +1,22 @@
 //! The whole selection.
 
 ghost use Rattle.std.specs.Prelude.{◌≡◌, ◌<◌, ℕ, true, length, Ok, IfOk, All};
-ghost use Rattle.workflow_core.specs.WellFormed.{IsWellFormed};
+ghost use Rattle.workflow_core.specs.code.WellFormed.{IsWellFormed};
 ghost use Rattle.transformation_catalog.specs.declared.catalog.TransformationCatalog.{TransformationCatalog as Catalog};
 ghost use Rattle.plan_request.specs.FileSizes.{declared_sizes};
-ghost use Rattle.plan_request.specs.Limits.{IsWithinLimits};
-ghost use Rattle.plan_request.specs.Reader.{execute_checked};
-ghost use Rattle.digraph.specs.Adjacency.{lists_of, neighbours};
+ghost use Rattle.plan_request.specs.code.Limits.{IsWithinLimits};
+ghost use Rattle.plan_request.specs.Request.{execute_checked};
+ghost use Rattle.digraph.specs.code.Adjacency.{lists_of};
+ghost use Rattle.digraph.specs.Adjacency.{neighbours};
 ghost use Rattle.dependency_graph.specs.Graph.{IsGraphOf};
 ghost use Rattle.dependency_graph.specs.Levels.{is_kept};
-ghost use Rattle.list_schedule.specs.Board.{schedule_of};
-ghost use Rattle.heft_selector.specs.Candidates.{AreOffered, FindsAll};
-ghost use Rattle.heft_selector.specs.Carried.{AreLists, AreMoves};
+ghost use Rattle.list_schedule.specs.code.Board.{schedule_of};
+ghost use Rattle.heft_selector.specs.code.Candidates.{AreOffered, FindsAll};
+ghost use Rattle.heft_selector.specs.code.Carried.{AreLists, AreMoves};
 ghost use Rattle.list_schedule.specs.Schedule.{IsHeft};
-ghost use Rattle.heft_selector.specs.Selecting.{offering_of, estimates, SelectsHeft};
-ghost use Rattle.heft_selector.specs.Stated.{AreTimes};
+ghost use Rattle.heft_selector.specs.Selecting.{offering_of, estimates};
+ghost use Rattle.heft_selector.specs.code.Selecting.{SelectsHeft};
+ghost use Rattle.heft_selector.specs.code.Stated.{AreTimes};
 
 use crate::candidates::all_candidates;
 use crate::moves::all_moves;

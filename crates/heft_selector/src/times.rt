@@ -3,12 +3,14 @@
 ghost use Rattle.std.specs.Prelude.{◌≡◌, ◌+◌, ◌*◌, ◌<◌, ◌≤◌, ◌^◌, ℕ, [], true, length, map, get_or, slice_index_or, replicate, IfOk, All};
 ghost use Rattle.std.specs.List.{AllByRecursion};
 ghost use Rattle.workflow_core.specs.declared.workflow.Job.{Job};
-ghost use Rattle.digraph.specs.Adjacency.{lists_of, neighbours};
+ghost use Rattle.digraph.specs.code.Adjacency.{lists_of};
+ghost use Rattle.digraph.specs.Adjacency.{neighbours};
 ghost use Rattle.dependency_graph.specs.Levels.{is_kept};
-ghost use Rattle.workflow_core.specs.Names.{number, with_names};
-ghost use Rattle.plan_request.specs.Limits.{IsRuntimeInRange};
-ghost use Rattle.heft_selector.specs.Costs.{name_of};
-ghost use Rattle.heft_selector.specs.Stated.{cell, noted, said, said_at, IsTable, IsClock, AreTimes, site_name, site_name_at};
+ghost use Rattle.workflow_core.specs.Names.{number};
+ghost use Rattle.workflow_core.specs.code.Names.{with_names};
+ghost use Rattle.plan_request.specs.code.Limits.{IsRuntimeInRange};
+ghost use Rattle.heft_selector.specs.Costs.{transformation_name};
+ghost use Rattle.heft_selector.specs.code.Stated.{cell, noted, said, said_at, IsTable, IsClock, AreTimes, site_name, site_name_at};
 
 use plan_request::{Execution, Runtime};
 use std::alloc::Global;
@@ -16,7 +18,7 @@ use values::{Memory, Text};
 use workflow_core::{Job, Names};
 
 fn transformations_of(alloc: Global, jobs: &[Job]) -> Result<Names, Memory>
-    ensures { IfOk result (λ names. names ≡ with_names [] (map name_of jobs.now)) }
+    ensures { IfOk result (λ names. names ≡ with_names [] (map transformation_name jobs.now)) }
 {
     let mut names = Names::new(alloc);
     for job in jobs {
@@ -198,7 +200,7 @@ fn fill_times(
     requires kept { length kept.now ≡ length jobs.now }
     requires long { length candidates.now ≡ length jobs.now }
     requires names { (a : ℕ) (j : Job) → a < length jobs.now → slice_index_or jobs.now a j ≡ j
-        → number transformations.now (name_of j) < length transformations.now }
+        → number transformations.now (transformation_name j) < length transformations.now }
     requires below { (a : ℕ) → is_kept kept.now a ≡ true
         → All (λ s. s < length execute.now) (neighbours (lists_of candidates.now) a) }
     ensures { IfOk result
@@ -245,7 +247,7 @@ fn with_table(
     requires kept { length kept.now ≡ length jobs.now }
     requires long { length candidates.now ≡ length jobs.now }
     requires names { (a : ℕ) (j : Job) → a < length jobs.now → slice_index_or jobs.now a j ≡ j
-        → number transformations.now (name_of j) < length transformations.now }
+        → number transformations.now (transformation_name j) < length transformations.now }
     requires below { (a : ℕ) → is_kept kept.now a ≡ true
         → All (λ s. s < length execute.now) (neighbours (lists_of candidates.now) a) }
     ensures { IfOk result

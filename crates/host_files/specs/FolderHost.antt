@@ -1,6 +1,6 @@
 -- A store of files.
 use Rattle.std.specs.Prelude.{◌≡◌}
-use Rattle.outside.specs.Counts.{one_fault}
+use Rattle.outside.specs.code.Counts.{one_fault}
 use Rattle.outside.specs.declared.counts.Counts.{Counts}
 use Rattle.outside.specs.declared.host.HostFault.{HostFault}
 use Rattle.outside.specs.declared.host.HostFault.TheVariants.{Failed, Memory}

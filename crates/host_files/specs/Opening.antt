@@ -1,6 +1,6 @@
 -- Opening files of the machine.
 use Rattle.std.specs.Prelude.{◌≡◌}
-use Rattle.outside.specs.Counts.{one_fault, one_miss}
+use Rattle.outside.specs.code.Counts.{one_fault, one_miss}
 use Rattle.outside.specs.declared.counts.Counts.{Counts}
 use Rattle.outside.specs.declared.host.HostFault.{HostFault}
 use Rattle.outside.specs.declared.host.HostFault.TheVariants.{Absent, Failed}

@@ -1,7 +1,7 @@
 //! Documents as files.
 
 ghost use Rattle.std.specs.Prelude.{◌≡◌};
-ghost use Rattle.outside.specs.Counts.{no_calls};
+ghost use Rattle.outside.specs.code.Counts.{no_calls};
 
 use crate::reading::{Reading, read_front};
 use outside::{Counts, DocFault, Docs};

@@ -1,8 +1,8 @@
 //! A store of files.
 
 ghost use Rattle.std.specs.Prelude.{◌≡◌, ◌+◌, IfErr, IfOk, Ok, OnErr, OnOk, string_bytes};
-ghost use Rattle.outside.specs.Counts.{IsLater, no_calls, one_done, one_fault};
-ghost use Rattle.outside.specs.Lending.{with_faults};
+ghost use Rattle.outside.specs.code.Counts.{IsLater, no_calls, one_done, one_fault};
+ghost use Rattle.outside.specs.code.Lending.{with_faults};
 ghost use Rattle.host_files.specs.FolderHost.{Refuses};
 ghost use Rattle.host_files.specs.Writing.{part_path};
 
@@ -133,7 +133,7 @@ where
     R::File: Claim,
 {
     ghost use Rattle.std.specs.Prelude.{None};
-    ghost use Rattle.outside.specs.Store.{blank};
+    ghost use Rattle.outside.specs.code.Store.{blank};
 
     type Reading = FolderReading<R::File>;
 

@@ -10,8 +10,11 @@
 //! [`RecordKeeper`] meets `craft::Gate`: it writes each entry that it is told into a file of the working folder, which
 //! [`KeptRecord`] stands for, so that the record of a run that is killed isn't lost.
 //!
-//! [`Progress`] is a line on a terminal: [`ShownTool`] counts a tool's runs in it, and [`WipingSink`] takes it away before
-//! a text is written.
+//! A [`Claim`] keeps an open folder for one process until it is closed. A law says that names written as paths stay
+//! apart ([`escaped_names_stay_apart`]).
+//!
+//! [`Progress`] is a line on a terminal: [`ShownTool`] counts a tool's runs in it, and [`WipingSink`] takes it away
+//! before a text is written.
 #![tactic(auto)]
 
 mod claim;

@@ -1,9 +1,9 @@
 //! Opening files of the machine. Each call counts itself.
 
 ghost use Rattle.std.specs.Prelude.{◌≡◌, ◌≤◌, Err, IfErr, IfOk, IfSome, None, OnOk};
-ghost use Rattle.outside.specs.Counts.{IsLater};
-ghost use Rattle.outside.specs.Host.{Reads};
-ghost use Rattle.outside.specs.Lending.{Opens};
+ghost use Rattle.outside.specs.code.Counts.{IsLater};
+ghost use Rattle.outside.specs.code.Host.{Reads};
+ghost use Rattle.outside.specs.code.Lending.{Opens};
 ghost use Rattle.host_files.specs.Opening.{FindsNone};
 
 use crate::folder_reading::FolderReading;

@@ -19,13 +19,15 @@ pub fn part_path(alloc: Global, number: u64) -> Result<String, Memory>
     Ok(path)
 }
 
-/// Makes a file, in place of an earlier one of this path.
+/// Makes a file. What stands under its path already, a link too, is removed first.
 pub fn create_part<R: Files>(rt: &R, part: &str) -> io::Result<R::File> {
-    match fs::remove_file(rt, part) {
-        Err(e) if e.kind() != ErrorKind::NotFound => return Err(e),
-        _ => {}
+    match fs::File::create_new(rt, part) {
+        Err(e) if e.kind() == ErrorKind::AlreadyExists => {
+            fs::remove_file(rt, part)?;
+            fs::File::create_new(rt, part)
+        }
+        made => made,
     }
-    fs::File::create_new(rt, part)
 }
 
 /// Removes a draft's file. One that stays is replaced by the next draft of that number.

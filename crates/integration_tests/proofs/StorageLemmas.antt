@@ -5,8 +5,10 @@ use Rattle.plan_core.specs.declared.plan.Plan.{Plan}
 use Rattle.plan_core.specs.Words.{output_bound}
 use Rattle.storage_simulation.specs.declared.standing.Held.{Held}
 use Rattle.storage_simulation.specs.declared.standing.Held.TheVariants.{Nothing}
-use Rattle.storage_simulation.specs.Goods.{IsWithinLimits, count_sites, places}
-use Rattle.storage_simulation.specs.Standings.{at_in, held_size}
+use Rattle.storage_simulation.specs.code.Goods.{IsWithinLimits}
+use Rattle.storage_simulation.specs.Goods.{count_sites, places}
+use Rattle.storage_simulation.specs.code.Standings.{at_in}
+use Rattle.storage_simulation.specs.Standings.{held_size}
 
 pub both_small : (xs ys : List Held) → ((g : ℕ) → held_size (at_in Nothing xs g) ≤ 2 ^ 40) → ((g : ℕ) → held_size (at_in Nothing ys g) ≤ 2 ^ 40) → (g : ℕ) → held_size (at_in Nothing (xs ++ ys) g) ≤ 2 ^ 40
 both_small [] ys h k g = k g

@@ -1,9 +1,9 @@
 //! What a book tells once its first file came.
 
 ghost use Rattle.std.specs.Prelude.{◌≤◌};
-ghost use Rattle.plan_core.specs.Proper.{IsProper};
+ghost use Rattle.plan_core.specs.code.Proper.{IsProper};
 ghost use Rattle.plan_core.specs.Words.{retries};
-ghost use Rattle.storage_simulation.specs.Goods.{IsWithinLimits};
+ghost use Rattle.storage_simulation.specs.code.Goods.{IsWithinLimits};
 
 use crate::sketches::{DIAMOND_CLEANED, plan_of};
 use crate::storage::is_limited;

@@ -2,7 +2,7 @@
 //! back.
 
 ghost use Rattle.std.specs.Prelude.{◌≡◌, length};
-ghost use Rattle.workflow_core.specs.WellFormed.{IsWellFormed};
+ghost use Rattle.workflow_core.specs.code.WellFormed.{IsWellFormed};
 
 use crate::by_hand::workflow;
 use dependency_graph::build;

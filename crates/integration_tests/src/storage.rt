@@ -2,8 +2,10 @@
 
 ghost use Rattle.std.specs.Prelude.{◌≡◌, ◌≤◌, ◌^◌, ℕ, [], true};
 ghost use Rattle.plan_core.specs.Words.{declared};
-ghost use Rattle.storage_simulation.specs.Goods.{IsWithinLimits, or_zero, place_bound};
-ghost use Rattle.storage_simulation.specs.Standings.{IsStanding, at_in, held_of, held_size, sizes};
+ghost use Rattle.storage_simulation.specs.code.Goods.{IsWithinLimits};
+ghost use Rattle.storage_simulation.specs.Goods.{or_zero, place_bound};
+ghost use Rattle.storage_simulation.specs.code.Standings.{IsStanding, at_in, held_of};
+ghost use Rattle.storage_simulation.specs.Standings.{held_size, sizes};
 ghost use Rattle.storage_simulation.specs.declared.standing.Held.TheVariants.{Nothing};
 ghost use Rattle.storage_simulation.specs.Usage.{IsWithin};
 

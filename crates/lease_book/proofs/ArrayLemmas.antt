@@ -6,13 +6,13 @@ use Rattle.std.specs.Prelude.{replicate}
 use Rattle.std.proofs.Math.Path.{fun_ext}
 use Rattle.storage_simulation.specs.declared.standing.Held.{Held}
 use Rattle.storage_simulation.specs.declared.standing.Held.TheVariants.{Nothing, Stored}
-use Rattle.storage_simulation.specs.Standings.{at_in}
+use Rattle.storage_simulation.specs.code.Standings.{at_in}
 use Rattle.plan_core.specs.Numbers.{has}
 use Rattle.plan_core.specs.declared.plan.Plan.{Plan}
 use Rattle.plan_core.specs.Words.{cleans}
 use Rattle.storage_simulation.specs.declared.standing.Standing.{Standing}
 use Rattle.storage_simulation.specs.Goods.{makes}
-use Rattle.lease_rules.specs.Law.{HasStorageLaws}
+use Rattle.lease_rules.specs.code.Law.{HasStorageLaws}
 use Rattle.lease_book.specs.RunState.{HasLengths, IsSame}
 use Rattle.lease_rules.specs.State.{State, put, stored_among}
 use Rattle.place_peaks.proofs.Offered.{has_head, or_right}

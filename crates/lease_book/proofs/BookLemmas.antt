@@ -8,21 +8,25 @@ use Rattle.place_peaks.proofs.Offered.{both, by_bool, choice_exists, complete_of
 use Rattle.lease_book.specs.Book.{is_tried_again, state_at}
 use Rattle.lease_rules.specs.Choice.{IsChoice}
 use Rattle.lease_book.specs.Kept.{IsBook}
-use Rattle.lease_rules.specs.Law.{FitsFromStart, HasStorageLaws, IsConsistent, IsSafeState, IsSoundState}
+use Rattle.lease_rules.specs.code.Law.{FitsFromStart, HasStorageLaws, IsConsistent, IsSafeState, IsSoundState}
 use Rattle.lease_rules.specs.Legal.{Allowed, CauseFits, IsComplete, Legal, LegalFrom, MayFail}
-use Rattle.lease_rules.specs.Room.{listed, entries_room, sizes_left, sizes_room}
+use Rattle.lease_rules.specs.code.Room.{listed, entries_room, sizes_left, sizes_room}
 use Rattle.lease_book.specs.RunState.{HasPeaks, HasRoom, IsSame, state_of}
-use Rattle.lease_rules.specs.State.{State, after, now, now_from, opened, runs}
+use Rattle.lease_rules.specs.State.{State, after, now, now_from, opened}
+use Rattle.lease_rules.specs.code.State.{runs}
 use Rattle.lease_book.specs.declared.book.Book.{Book}
 use Rattle.lease_book.specs.declared.state.RunState.{RunState}
 use Rattle.plan_core.specs.Words.{count_tasks, retries, task_numbers}
 use Rattle.plan_core.specs.declared.plan.Plan.{Plan}
-use Rattle.run_record.specs.Events.{Again, Event, Fail, Log, Regrant, is_empty, may_publish, may_retry}
+use Rattle.run_record.specs.Events.{Again, Event, Fail, Regrant, may_retry}
+use Rattle.run_record.specs.code.Events.{Log, is_empty, may_publish}
 use Rattle.run_record.specs.declared.entry.Cause.{Cause}
 use Rattle.run_record.specs.declared.entry.Cause.TheVariants.{Absent, Checksum, Declined, HostFailed, Memory, Oversize, TooLong, ToolFailed}
-use Rattle.storage_simulation.specs.Goods.{IsWithinLimits, makes}
-use Rattle.storage_simulation.specs.Standings.{IsStanding, at_in, sizes}
-use Rattle.storage_simulation.specs.Usage.{total}
+use Rattle.storage_simulation.specs.code.Goods.{IsWithinLimits}
+use Rattle.storage_simulation.specs.Goods.{makes}
+use Rattle.storage_simulation.specs.code.Standings.{IsStanding, at_in}
+use Rattle.storage_simulation.specs.Standings.{sizes}
+use Rattle.values.specs.Numbers.{total}
 use Rattle.storage_simulation.specs.declared.standing.Phase.{Phase}
 use Rattle.storage_simulation.specs.declared.standing.Phase.TheVariants.{Ended, Runs, Waits}
 

@@ -12,8 +12,9 @@ use Rattle.plan_core.specs.declared.plan.Plan.{Plan}
 use Rattle.run_record.specs.Events.{Regrant}
 use Rattle.storage_simulation.specs.declared.standing.Phase.TheVariants.{Runs, Waits}
 use Rattle.storage_simulation.specs.declared.standing.Standing.{Standing}
-use Rattle.storage_simulation.specs.Goods.{IsWithinLimits}
-use Rattle.storage_simulation.specs.Standings.{held_of, held_size, phase_of}
+use Rattle.storage_simulation.specs.code.Goods.{IsWithinLimits}
+use Rattle.storage_simulation.specs.code.Standings.{held_of, phase_of}
+use Rattle.storage_simulation.specs.Standings.{held_size}
 use Rattle.place_peaks.specs.declared.peaks.Peaks.{Peaks}
 use Rattle.place_peaks.specs.Renewing.{IsShown}
 use Rattle.place_peaks.specs.Entries.{AreTied}

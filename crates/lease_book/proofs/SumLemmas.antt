@@ -4,8 +4,9 @@ use Rattle.place_peaks.proofs.Offered.{total_more}
 use Rattle.lease_rules.specs.State.{reserved_size, stored_size}
 use Rattle.plan_core.specs.declared.plan.Plan.{Plan}
 use Rattle.storage_simulation.specs.Goods.{lies_at}
-use Rattle.storage_simulation.specs.Standings.{IsStanding, held_of, held_size}
-use Rattle.storage_simulation.specs.Usage.{total}
+use Rattle.storage_simulation.specs.code.Standings.{IsStanding, held_of}
+use Rattle.storage_simulation.specs.Standings.{held_size}
+use Rattle.values.specs.Numbers.{total}
 use Rattle.storage_simulation.specs.declared.standing.Held.{Held}
 use Rattle.storage_simulation.specs.declared.standing.Held.TheVariants.{Nothing, Reserved, Stored}
 use Rattle.storage_simulation.specs.declared.standing.Standing.{Standing}

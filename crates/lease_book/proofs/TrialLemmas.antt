@@ -4,18 +4,21 @@ use Rattle.std.specs.Prelude.{Decides}
 use Rattle.std.specs.List.{list_all, list_any}
 use Rattle.std.proofs.Math.Path.{fun_ext}
 use Rattle.place_peaks.proofs.Offered.{all_have, good_small, have_all}
-use Rattle.lease_rules.specs.Choice.{HaveParentsEnded, IsCandidate, start}
-use Rattle.lease_rules.specs.Law.{IsSoundState}
-use Rattle.lease_rules.specs.State.{State, ended, held_after, phase_after, put, reserved_for, runs, started}
+use Rattle.lease_rules.specs.Choice.{HaveParentsEnded, IsCandidate, start_event}
+use Rattle.lease_rules.specs.code.Law.{IsSoundState}
+use Rattle.lease_rules.specs.State.{State, ended, held_after, phase_after, put, reserved_for, started}
+use Rattle.lease_rules.specs.code.State.{runs}
 use Rattle.lease_book.specs.Trial.{HasPlace, IsTrial}
 use Rattle.lease_book.specs.declared.trial.Trial.{Trial}
 use Rattle.plan_core.specs.Numbers.{has}
 use Rattle.plan_core.specs.Words.{cleans, is_clean, parents}
 use Rattle.plan_core.specs.declared.plan.Plan.{Plan}
 use Rattle.run_record.specs.Events.{Clean, Grant}
-use Rattle.storage_simulation.specs.Goods.{IsWithinLimits, good_size, makes}
-use Rattle.storage_simulation.specs.Ordering.{progress}
-use Rattle.storage_simulation.specs.Standings.{IsStanding, at_in, held_of, held_size, phase_of, sizes}
+use Rattle.storage_simulation.specs.code.Goods.{IsWithinLimits}
+use Rattle.storage_simulation.specs.Goods.{good_size, makes}
+use Rattle.storage_simulation.specs.code.Ordering.{progress}
+use Rattle.storage_simulation.specs.code.Standings.{IsStanding, at_in, held_of, phase_of}
+use Rattle.storage_simulation.specs.Standings.{held_size, sizes}
 use Rattle.storage_simulation.specs.Usage.{IsWithin}
 use Rattle.storage_simulation.specs.declared.standing.Held.{Held}
 use Rattle.storage_simulation.specs.declared.standing.Held.TheVariants.{Nothing, Reserved}
@@ -23,14 +26,14 @@ use Rattle.storage_simulation.specs.declared.standing.Phase.{Phase}
 use Rattle.storage_simulation.specs.declared.standing.Phase.TheVariants.{Ended, Runs, Waits}
 
 -- what a start changes, by the task's kind
-start_phase : (p : Plan) (f : ℕ → Phase) (t u : ℕ) → phase_after (start p 0 t) f u ≡ put f t (cond (is_clean p t) Ended Runs) u
+start_phase : (p : Plan) (f : ℕ → Phase) (t u : ℕ) → phase_after (start_event p 0 t) f u ≡ put f t (cond (is_clean p t) Ended Runs) u
 start_phase p f t u = by_kind (is_clean p t)
   where
     by_kind : (b : Bool) → phase_after (cond b (Clean 0 t) (Grant 0 t)) f u ≡ put f t (cond b Ended Runs) u
     by_kind true = refl
     by_kind false = refl
 
-start_small : (p : Plan) (f : ℕ → Held) (t g : ℕ) → held_size (f g) ≤ good_size p g → held_size (held_after p (start p 0 t) f g) ≤ good_size p g
+start_small : (p : Plan) (f : ℕ → Held) (t g : ℕ) → held_size (f g) ≤ good_size p g → held_size (held_after p (start_event p 0 t) f g) ≤ good_size p g
 start_small p f t g small = by_kind (is_clean p t)
   where
     by_kind : (b : Bool) → held_size (held_after p (cond b (Clean 0 t) (Grant 0 t)) f g) ≤ good_size p g
@@ -65,7 +68,7 @@ pub not_all_parents : (p : Plan) (s : State) (t : ℕ) → false ≡ list_all (�
 not_all_parents p s t e can = let all = have_all (λ u. ended (s.phase u)) (parents p t) can in absurd cc
 
 -- the test of a candidate
-kept : (p : Plan) (s : State) (t : ℕ) → is_clean p t ≡ false → (g : ℕ) → held_after p (start p 0 t) s.held g ≡ reserved_for p t s.held g
+kept : (p : Plan) (s : State) (t : ℕ) → is_clean p t ≡ false → (g : ℕ) → held_after p (start_event p 0 t) s.held g ≡ reserved_for p t s.held g
 kept p s t unclean g = ap (λ (b : Bool). held_after p (cond b (Clean 0 t) (Grant 0 t)) s.held g) unclean
 
 candidate_held : (p : Plan) (s : State) (t : ℕ) (x : Trial) → is_clean p t ≡ false → IsTrial p s t x → held_of x.standing ≡ reserved_for p t s.held

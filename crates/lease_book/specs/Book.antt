@@ -5,12 +5,12 @@ use Rattle.plan_core.specs.Words.{is_clean, retries, task_numbers}
 use Rattle.storage_simulation.specs.declared.standing.Phase.TheVariants.{Runs}
 use Rattle.run_record.specs.declared.entry.Cause.{Cause}
 use Rattle.run_record.specs.Events.{Event, Again, Fail, Grant, Regrant, may_retry}
-use Rattle.lease_book.specs.declared.book.Book.{Book}
-use Rattle.lease_book.specs.declared.leasing.Next.{Next}
-use Rattle.lease_book.specs.declared.leasing.Next.TheVariants.{Task, Done, Stopped, NotYet}
 use Rattle.lease_rules.specs.State.{State, now}
 use Rattle.lease_rules.specs.Choice.{HasNoChoice, IsChoice, IsFresh}
 use Rattle.lease_rules.specs.Legal.{IsComplete}
+use Rattle.lease_book.specs.declared.book.Book.{Book}
+use Rattle.lease_book.specs.declared.leasing.Next.{Next}
+use Rattle.lease_book.specs.declared.leasing.Next.TheVariants.{Task, Done, Stopped, NotYet}
 
 -- the state of a book's record
 abbrev pub state_at : Book → State

@@ -3,16 +3,16 @@ use Rattle.std.specs.Prelude.{ℕ, suc, ◌≤◌, List, [], ◌∷◌, Option, 
 use Rattle.std.specs.Coded.{×_prop, Unit-prop, le_prop}
 use Rattle.std.proofs.Props.{props}
 use Rattle.plan_core.specs.declared.plan.Plan.{Plan}
-use Rattle.plan_core.specs.Numbers.{RisesFrom}
+use Rattle.plan_core.specs.code.Numbers.{RisesFrom}
 use Rattle.plan_core.specs.Words.{retries}
-use Rattle.storage_simulation.specs.Goods.{IsWithinLimits}
-use Rattle.run_record.specs.Events.{Log}
-use Rattle.lease_book.specs.declared.state.RunState.{RunState}
+use Rattle.storage_simulation.specs.code.Goods.{IsWithinLimits}
+use Rattle.run_record.specs.code.Events.{Log}
 use Rattle.lease_rules.specs.State.{now}
 use Rattle.lease_rules.specs.Legal.{Legal}
-use Rattle.lease_rules.specs.Law.{FitsFromStart, HasStorageLaws, IsConsistent}
-use Rattle.lease_rules.specs.Room.{entries_room, sizes_room}
+use Rattle.lease_rules.specs.code.Law.{FitsFromStart, HasStorageLaws, IsConsistent}
+use Rattle.lease_rules.specs.code.Room.{entries_room, sizes_room}
 use Rattle.place_peaks.specs.Links.{IsCleaner}
+use Rattle.lease_book.specs.declared.state.RunState.{RunState}
 use Rattle.lease_book.specs.RunState.{HasPeaks, HasRoom, IsSame, state_of}
 
 -- A book's record is Legal, its arrays show the state after it, and there is room for all entries that may come.

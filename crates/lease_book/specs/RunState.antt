@@ -3,12 +3,12 @@ use Rattle.std.specs.Prelude.{◌≡◌, ℕ, ◌≤◌, ◌++◌, [], false, fi
 use Rattle.plan_core.specs.declared.plan.Plan.{Plan}
 use Rattle.plan_core.specs.Words.{count_pairs, count_tasks}
 use Rattle.storage_simulation.specs.declared.standing.Standing.{Standing}
-use Rattle.storage_simulation.specs.Standings.{at_in, held_of, phase_of}
-use Rattle.lease_book.specs.declared.state.RunState.{RunState}
+use Rattle.storage_simulation.specs.code.Standings.{at_in, held_of, phase_of}
 use Rattle.lease_rules.specs.State.{State}
 use Rattle.place_peaks.specs.Entries.{AreTied}
 use Rattle.place_peaks.specs.Links.{AreLinks}
 use Rattle.place_peaks.specs.Peaks.{left_of, line_of, stack_of}
+use Rattle.lease_book.specs.declared.state.RunState.{RunState}
 
 abbrev pub state_of : RunState → State
 state_of s = record {

@@ -4,7 +4,8 @@ ghost use Rattle.std.specs.Prelude.{◌≡◌, slice_get, option_map, Decides};
 ghost use Rattle.values.specs.declared.numbers.TaskId.{TaskId};
 ghost use Rattle.plan_core.specs.Words.{task_numbers};
 ghost use Rattle.lease_book.specs.Book.{state_at};
-ghost use Rattle.lease_rules.specs.Law.{IsSafeState, reserved_at, stored_at};
+ghost use Rattle.lease_rules.specs.code.Law.{IsSafeState};
+ghost use Rattle.lease_rules.specs.Law.{reserved_at, stored_at};
 ghost use Rattle.lease_rules.specs.Legal.{IsOpen, Legal};
 
 use crate::book::Book;

@@ -1,12 +1,12 @@
 //! The book of leases: a record, and what follows from it.
 
 ghost use Rattle.std.specs.Prelude.{◌≡◌, ◌≤◌, [], IfOk};
-ghost use Rattle.plan_core.specs.Proper.{IsProper, IsProper-prop};
+ghost use Rattle.plan_core.specs.code.Proper.{IsProper, IsProper-prop};
 ghost use Rattle.plan_core.specs.Words.{retries, task_numbers};
-ghost use Rattle.storage_simulation.specs.Goods.{IsWithinLimits};
-ghost use Rattle.storage_simulation.specs.Bench.{IsFor};
+ghost use Rattle.storage_simulation.specs.code.Goods.{IsWithinLimits};
+ghost use Rattle.storage_simulation.specs.code.Bench.{IsFor};
 ghost use Rattle.lease_book.specs.Kept.{IsBook, IsBook-prop};
-ghost use Rattle.lease_rules.specs.Law.{FitsFromStart};
+ghost use Rattle.lease_rules.specs.code.Law.{FitsFromStart};
 ghost use Rattle.lease_book.specs.Trial.{HasPlace};
 
 use crate::goods::all_made;

@@ -1,12 +1,12 @@
 //! The task of a fresh order.
 
 ghost use Rattle.std.specs.Prelude.{◌≡◌, ◌<◌, ℕ, true, false, length, get_or, None, Some, Decides, MatchOption};
-ghost use Rattle.plan_core.specs.Proper.{IsProper};
-ghost use Rattle.storage_simulation.specs.Goods.{IsWithinLimits};
-ghost use Rattle.storage_simulation.specs.Bench.{IsFor};
-ghost use Rattle.storage_simulation.specs.Front.{front_of};
+ghost use Rattle.plan_core.specs.code.Proper.{IsProper};
+ghost use Rattle.storage_simulation.specs.code.Goods.{IsWithinLimits};
+ghost use Rattle.storage_simulation.specs.code.Bench.{IsFor};
+ghost use Rattle.storage_simulation.specs.code.Front.{front_of};
 ghost use Rattle.lease_rules.specs.Choice.{HasNoChoice, IsCandidate, IsFresh, IsFreshAmong};
-ghost use Rattle.lease_rules.specs.Law.{HasStorageLaws, IsSoundState};
+ghost use Rattle.lease_rules.specs.code.Law.{HasStorageLaws, IsSoundState};
 ghost use Rattle.lease_book.specs.RunState.{HasPeaks, HasRoom, LineIsRest, state_of};
 ghost use Rattle.place_peaks.specs.Peaks.{left_of, line_of};
 ghost use Rattle.lease_rules.specs.State.{order_with};

@@ -2,9 +2,10 @@
 
 ghost use Rattle.std.specs.Prelude.{◌≡◌, ◌≤◌, ◌<◌, ◌+◌, ◌*◌, length, get_or};
 ghost use Rattle.plan_core.specs.Words.{count_pairs, count_tasks};
-ghost use Rattle.storage_simulation.specs.Goods.{IsWithinLimits, makes};
-ghost use Rattle.storage_simulation.specs.Usage.{total};
-ghost use Rattle.lease_rules.specs.Law.{HasStorageLaws};
+ghost use Rattle.storage_simulation.specs.code.Goods.{IsWithinLimits};
+ghost use Rattle.storage_simulation.specs.Goods.{makes};
+ghost use Rattle.values.specs.Numbers.{total};
+ghost use Rattle.lease_rules.specs.code.Law.{HasStorageLaws};
 
 use plan_core::Plan;
 use storage_simulation::is_delivery;
@@ -35,7 +36,7 @@ pub(crate) fn made_at(plan: &Plan, task: TaskId, k: usize) -> u32
 }
 
 /// How many goods all tasks make.
-#[tactic(auto, using(lease_rules::proofs::GoodsLemmas::made_so_far, lease_rules::proofs::TotalLemmas::total_more), unfolding(storage_simulation::specs::Usage::total))]
+#[tactic(auto, using(lease_rules::proofs::GoodsLemmas::made_so_far, lease_rules::proofs::TotalLemmas::total_more), unfolding(values::specs::Numbers::total))]
 pub(crate) fn all_made(plan: &Plan) -> usize
     requires limits { IsWithinLimits plan.now }
     requires laws { HasStorageLaws plan.now }

@@ -5,9 +5,10 @@ ghost use Rattle.plan_core.specs.Numbers.{has};
 ghost use Rattle.plan_core.specs.Words.{cleans, count_pairs, count_tasks};
 ghost use Rattle.storage_simulation.specs.declared.standing.Held.TheVariants.{Nothing, Stored};
 ghost use Rattle.storage_simulation.specs.declared.standing.Phase.TheVariants.{Ended, Runs, Waits};
-ghost use Rattle.storage_simulation.specs.Goods.{IsWithinLimits, makes};
-ghost use Rattle.storage_simulation.specs.Standings.{held_of, phase_of};
-ghost use Rattle.lease_rules.specs.Law.{HasStorageLaws};
+ghost use Rattle.storage_simulation.specs.code.Goods.{IsWithinLimits};
+ghost use Rattle.storage_simulation.specs.Goods.{makes};
+ghost use Rattle.storage_simulation.specs.code.Standings.{held_of, phase_of};
+ghost use Rattle.lease_rules.specs.code.Law.{HasStorageLaws};
 ghost use Rattle.lease_book.specs.RunState.{HasLengths};
 ghost use Rattle.lease_rules.specs.State.{put, reserved_for, stored_among};
 

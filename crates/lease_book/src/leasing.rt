@@ -4,12 +4,13 @@ ghost use Rattle.std.specs.Prelude.{◌≡◌, ◌<◌, ◌++◌, [], ◌∷◌,
 ghost use Rattle.std.specs.List.{list_any};
 ghost use Rattle.plan_core.specs.Words.{task_numbers};
 ghost use Rattle.run_record.specs.Events.{Grant, Regrant};
-ghost use Rattle.storage_simulation.specs.Front.{front_of};
+ghost use Rattle.storage_simulation.specs.code.Front.{front_of};
 ghost use Rattle.lease_book.specs.Book.{IsNext, state_at};
 ghost use Rattle.lease_rules.specs.Choice.{HasNoChoice};
 ghost use Rattle.lease_rules.specs.Legal.{Allowed};
 ghost use Rattle.lease_book.specs.RunState.{state_of};
-ghost use Rattle.lease_rules.specs.State.{order_with, runs};
+ghost use Rattle.lease_rules.specs.State.{order_with};
+ghost use Rattle.lease_rules.specs.code.State.{runs};
 
 use crate::book::Book;
 use crate::choice::choose;

@@ -3,7 +3,8 @@
 ghost use Rattle.std.specs.Prelude.{◌≡◌, ◌≤◌, [], ℕ, true, false, length, Decides};
 ghost use Rattle.plan_core.specs.Numbers.{has};
 ghost use Rattle.plan_core.specs.Words.{is_run};
-ghost use Rattle.storage_simulation.specs.Goods.{IsWithinLimits, good_size, makes};
+ghost use Rattle.storage_simulation.specs.code.Goods.{IsWithinLimits};
+ghost use Rattle.storage_simulation.specs.Goods.{good_size, makes};
 ghost use Rattle.lease_rules.specs.Legal.{AreDeclared, AreOfFirst, ArePublished};
 
 use crate::goods::{count_made, made_at};

@@ -4,13 +4,15 @@ ghost use Rattle.std.specs.Prelude.{◌≡◌, ◌<◌, ℕ, true, false, length
 ghost use Rattle.std.specs.List.{list_any};
 ghost use Rattle.plan_core.specs.Words.{count_tasks, task_numbers};
 ghost use Rattle.run_record.specs.Events.{Grant, Regrant, Arrive, End, Clean, Fail, Again};
-ghost use Rattle.plan_core.specs.Proper.{IsProper};
-ghost use Rattle.storage_simulation.specs.Goods.{IsWithinLimits, makes};
-ghost use Rattle.storage_simulation.specs.Standings.{at_in};
-ghost use Rattle.lease_rules.specs.Law.{HasStorageLaws};
-ghost use Rattle.lease_rules.specs.Law.{FitsFromStart};
+ghost use Rattle.plan_core.specs.code.Proper.{IsProper};
+ghost use Rattle.storage_simulation.specs.code.Goods.{IsWithinLimits};
+ghost use Rattle.storage_simulation.specs.Goods.{makes};
+ghost use Rattle.storage_simulation.specs.code.Standings.{at_in};
+ghost use Rattle.lease_rules.specs.code.Law.{HasStorageLaws};
+ghost use Rattle.lease_rules.specs.code.Law.{FitsFromStart};
 ghost use Rattle.lease_rules.specs.Legal.{Allowed, IsOpen};
-ghost use Rattle.lease_rules.specs.State.{after, opened, order_with, put, runs};
+ghost use Rattle.lease_rules.specs.State.{after, opened, order_with, put};
+ghost use Rattle.lease_rules.specs.code.State.{runs};
 ghost use Rattle.place_peaks.specs.Entries.{Frees};
 ghost use Rattle.lease_book.specs.RunState.{HasPeaks, HasRoom, IsSame, state_of};
 

@@ -1,8 +1,9 @@
 //! What is stored, and what is reserved, at a place.
 
 ghost use Rattle.std.specs.Prelude.{◌≡◌, ◌≤◌, ◌+◌, ◌*◌, ◌^◌, ℕ, cond};
-ghost use Rattle.storage_simulation.specs.Goods.{IsWithinLimits, goods, lies_at};
-ghost use Rattle.storage_simulation.specs.Standings.{IsStanding, held_of};
+ghost use Rattle.storage_simulation.specs.code.Goods.{IsWithinLimits};
+ghost use Rattle.storage_simulation.specs.Goods.{goods, lies_at};
+ghost use Rattle.storage_simulation.specs.code.Standings.{IsStanding, held_of};
 ghost use Rattle.lease_rules.specs.Law.{reserved_at, stored_at};
 ghost use Rattle.lease_rules.specs.State.{reserved_size, stored_size};
 
@@ -71,7 +72,7 @@ fn reserved_part(plan: &Plan, standing: &Standing, place: u32, good: u32) -> u64
 }
 
 /// The bytes that are stored at a place.
-#[tactic(auto, using(crate::proofs::SumLemmas::sum_more), unfolding(storage_simulation::specs::Usage::total))]
+#[tactic(auto, using(crate::proofs::SumLemmas::sum_more), unfolding(values::specs::Numbers::total))]
 pub(crate) fn stored_at(plan: &Plan, standing: &Standing, place: u32) -> u64
     requires limits { IsWithinLimits plan.now }
     requires standing { IsStanding plan.now standing.now }
@@ -85,7 +86,7 @@ pub(crate) fn stored_at(plan: &Plan, standing: &Standing, place: u32) -> u64
 }
 
 /// The bytes that are reserved at a place.
-#[tactic(auto, using(crate::proofs::SumLemmas::sum_more), unfolding(storage_simulation::specs::Usage::total))]
+#[tactic(auto, using(crate::proofs::SumLemmas::sum_more), unfolding(values::specs::Numbers::total))]
 pub(crate) fn reserved_at(plan: &Plan, standing: &Standing, place: u32) -> u64
     requires limits { IsWithinLimits plan.now }
     requires standing { IsStanding plan.now standing.now }

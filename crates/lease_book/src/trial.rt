@@ -2,12 +2,13 @@
 
 ghost use Rattle.std.specs.Prelude.{◌≡◌, ◌<◌, [], ℕ, Decides, IfOk};
 ghost use Rattle.plan_core.specs.Words.{count_tasks};
-ghost use Rattle.storage_simulation.specs.Goods.{IsWithinLimits};
-ghost use Rattle.storage_simulation.specs.Standings.{IsStanding, held_of, phase_of, sizes};
+ghost use Rattle.storage_simulation.specs.code.Goods.{IsWithinLimits};
+ghost use Rattle.storage_simulation.specs.code.Standings.{IsStanding, held_of, phase_of};
+ghost use Rattle.storage_simulation.specs.Standings.{sizes};
 ghost use Rattle.storage_simulation.specs.Usage.{IsWithin};
-ghost use Rattle.lease_rules.specs.Law.{HasStorageLaws};
+ghost use Rattle.lease_rules.specs.code.Law.{HasStorageLaws};
 ghost use Rattle.lease_book.specs.RunState.{HasRoom, state_of};
-ghost use Rattle.lease_rules.specs.Choice.{start};
+ghost use Rattle.lease_rules.specs.Choice.{start_event};
 ghost use Rattle.lease_rules.specs.State.{held_after, phase_after};
 ghost use Rattle.lease_book.specs.Trial.{HasPlace, IsTrial};
 
@@ -82,9 +83,9 @@ impl Trial {
         requires place { HasPlace plan.now self.old }
         requires task { task < count_tasks plan.now }
         ensures phase { (u : ℕ) → phase_of self.new.standing u
-            ≡ phase_after (start plan.now 0 task) (phase_of self.old.standing) u }
+            ≡ phase_after (start_event plan.now 0 task) (phase_of self.old.standing) u }
         ensures held { (g : ℕ) → held_of self.new.standing g
-            ≡ held_after plan.now (start plan.now 0 task) (held_of self.old.standing) g }
+            ≡ held_after plan.now (start_event plan.now 0 task) (held_of self.old.standing) g }
         ensures place { HasPlace plan.now self.new }
     {
         if plan.is_clean(TaskId(task)) {

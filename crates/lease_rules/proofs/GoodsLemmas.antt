@@ -8,16 +8,19 @@ use Rattle.plan_core.specs.declared.plan.Target.TheVariants.{Delivery, Site}
 use Rattle.plan_core.specs.declared.plan.Task.{Task}
 use Rattle.plan_core.specs.declared.plan.TaskKind.{TaskKind}
 use Rattle.plan_core.specs.declared.plan.TaskKind.TheVariants.{Transfer, Run, Clean}
-use Rattle.plan_core.specs.Numbers.{RisesFrom, has}
+use Rattle.plan_core.specs.code.Numbers.{RisesFrom}
+use Rattle.plan_core.specs.Numbers.{has}
 use Rattle.plan_core.specs.Words.{count_pairs, count_tasks, is_clean_kind, kind, kind_cleans, kind_in, pair, reads, writes}
 use Rattle.storage_simulation.specs.Fitting.{Fits}
-use Rattle.storage_simulation.specs.Goods.{IsWithinLimits, delivered_size, good_size, is_delivery, is_delivery_kind, kind_size, makes, pair_size}
-use Rattle.storage_simulation.specs.Law.{KeepsGoods}
+use Rattle.storage_simulation.specs.code.Goods.{IsWithinLimits}
+use Rattle.storage_simulation.specs.Goods.{delivered_size, good_size, is_delivery, is_delivery_kind, kind_size, makes, pair_size}
+use Rattle.storage_simulation.specs.code.Law.{KeepsGoods}
 use Rattle.storage_simulation.specs.Ordering.{Progress, size}
 use Rattle.storage_simulation.specs.OrderLaw.{stated_order}
 use Rattle.storage_simulation.specs.Standings.{waits}
-use Rattle.storage_simulation.specs.Usage.{IsWithin, total}
-use Rattle.lease_rules.specs.Law.{HasStorageLaws}
+use Rattle.storage_simulation.specs.Usage.{IsWithin}
+use Rattle.values.specs.Numbers.{total}
+use Rattle.lease_rules.specs.code.Law.{HasStorageLaws}
 use Rattle.lease_rules.proofs.ListLemmas.{has_head, or_right}
 use Rattle.lease_rules.proofs.TotalLemmas.{total_bound}
 

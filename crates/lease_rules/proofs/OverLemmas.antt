@@ -4,7 +4,7 @@ use Rattle.lease_rules.proofs.OwningLemmas.{chosen_waits}
 use Rattle.lease_rules.proofs.RoomLemmas.{consistent_more}
 use Rattle.lease_rules.proofs.SoundLemmas.{choice_in, fresh_among, is_waiting}
 use Rattle.lease_rules.specs.Choice.{IsChoice}
-use Rattle.lease_rules.specs.Law.{HasStorageLaws, IsConsistent}
+use Rattle.lease_rules.specs.code.Law.{HasStorageLaws, IsConsistent}
 use Rattle.lease_rules.specs.Legal.{Allowed, IsComplete, LegalFrom, MayFail}
 use Rattle.lease_rules.specs.State.{State, after, ended, now_from}
 use Rattle.plan_core.specs.Words.{count_tasks}

@@ -5,10 +5,12 @@ use Rattle.lease_rules.proofs.RoomLemmas.{consistent_more}
 use Rattle.lease_rules.proofs.ReadingLemmas.{grants_waits}
 use Rattle.lease_rules.proofs.SoundLemmas.{choice_in, is_waiting, sound_opened}
 use Rattle.lease_rules.specs.Choice.{IsChoice}
-use Rattle.lease_rules.specs.Law.{FitsFromStart, HasStorageLaws, IsConsistent}
+use Rattle.lease_rules.specs.code.Law.{FitsFromStart, HasStorageLaws, IsConsistent}
 use Rattle.lease_rules.specs.Legal.{Allowed, IsOpen, LegalFrom, MayFail}
-use Rattle.lease_rules.specs.Owning.{entries_by, is_open, is_open_after, open_after, worker}
-use Rattle.lease_rules.specs.State.{State, after, now_from, opened, runs}
+use Rattle.lease_rules.specs.code.Owning.{entries_by, is_open, is_open_after, open_after}
+use Rattle.lease_rules.specs.Owning.{worker}
+use Rattle.lease_rules.specs.State.{State, after, now_from, opened}
+use Rattle.lease_rules.specs.code.State.{runs}
 use Rattle.plan_core.specs.declared.plan.Plan.{Plan}
 use Rattle.run_record.specs.Events.{Again, Arrive, Clean, End, Event, Fail, Grant, Regrant}
 use Rattle.storage_simulation.specs.declared.standing.Phase.{Phase}

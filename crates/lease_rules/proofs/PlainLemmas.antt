@@ -3,12 +3,12 @@ use Rattle.std.proofs.Common.{◌≡◌, ℕ, ◌||◌, ◌&&◌, Bool, true, fa
 use Rattle.std.specs.Prelude.{not, filter}
 use Rattle.std.specs.List.{list_any}
 use Rattle.lease_rules.proofs.ListLemmas.{filter_without}
-use Rattle.lease_rules.specs.Law.{FitsFromStart, HasStorageLaws}
+use Rattle.lease_rules.specs.code.Law.{FitsFromStart, HasStorageLaws}
 use Rattle.lease_rules.specs.Legal.{Allowed, Legal, LegalFrom}
-use Rattle.lease_rules.specs.Reading.{IsPlain, IsPlainlyRead, again_of, begins, ends, grants}
+use Rattle.lease_rules.specs.code.Reading.{IsPlain, IsPlainlyRead, again_of, begins, ends, grants}
 use Rattle.lease_rules.specs.State.{State, after, now, now_from, opened, without}
 use Rattle.values.specs.declared.policy.Policy.{Policy}
-use Rattle.plan_core.specs.Printing.{is_plain}
+use Rattle.plan_core.specs.code.Printing.{is_plain}
 use Rattle.plan_core.specs.Words.{is_fresh, retries}
 use Rattle.plan_core.specs.declared.plan.Plan.{Plan}
 use Rattle.run_record.specs.Events.{Again, Arrive, Clean, End, Event, Fail, Grant, Regrant}

@@ -4,10 +4,11 @@ use Rattle.std.specs.Prelude.{not, filter, Option, Some, None, is_some}
 use Rattle.std.specs.List.{list_any}
 use Rattle.lease_rules.proofs.ListLemmas.{by_bool, or_left, or_right}
 use Rattle.lease_rules.proofs.SoundLemmas.{choice_in, fresh_among, is_waiting, sound_more, sound_opened}
-use Rattle.lease_rules.specs.Law.{FitsFromStart, HasStorageLaws, IsSoundState}
+use Rattle.lease_rules.specs.code.Law.{FitsFromStart, HasStorageLaws, IsSoundState}
 use Rattle.lease_rules.specs.Legal.{Allowed, Legal, LegalFrom, MayFail}
-use Rattle.lease_rules.specs.Reading.{IsRead, again_of, ends, fails, frees, grants, held_by, is_fail, is_grant_in, is_granted, last_of, reserves, size_among, stored, stores, worker_in}
-use Rattle.lease_rules.specs.State.{State, after, ended, now, now_from, opened, runs, stored_among}
+use Rattle.lease_rules.specs.code.Reading.{IsRead, again_of, ends, fails, frees, grants, held_by, is_fail, is_grant_in, is_granted, last_of, reserves, size_among, stored, stores, worker_in}
+use Rattle.lease_rules.specs.State.{State, after, ended, now, now_from, opened, stored_among}
+use Rattle.lease_rules.specs.code.State.{runs}
 use Rattle.plan_core.specs.Numbers.{has, or_else}
 use Rattle.plan_core.specs.Words.{cleans}
 use Rattle.plan_core.specs.declared.plan.Plan.{Plan}

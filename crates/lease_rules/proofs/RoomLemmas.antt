@@ -4,9 +4,9 @@ use Rattle.std.specs.Prelude.{◌⊎◌}
 use Rattle.lease_rules.proofs.SoundLemmas.{choice_in, false_of, fresh_among, is_waiting, put_at, put_off, sound_more}
 use Rattle.lease_rules.proofs.TotalLemmas.{total_change}
 use Rattle.lease_rules.specs.Choice.{IsChoice}
-use Rattle.lease_rules.specs.Law.{HasStorageLaws, IsConsistent}
+use Rattle.lease_rules.specs.code.Law.{HasStorageLaws, IsConsistent}
 use Rattle.lease_rules.specs.Legal.{Allowed, IsOpen}
-use Rattle.lease_rules.specs.Room.{entries_of, entries_room, task_room}
+use Rattle.lease_rules.specs.code.Room.{entries_of, entries_room, task_room}
 use Rattle.lease_rules.specs.State.{State, after, put}
 use Rattle.plan_core.specs.Numbers.{below}
 use Rattle.plan_core.specs.Words.{count_tasks, is_clean, retries}

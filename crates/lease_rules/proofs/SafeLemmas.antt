@@ -3,8 +3,9 @@ use Rattle.std.proofs.Common.{◌≡◌, ℕ, ◌+◌, ◌<◌, Bool, true, fals
 use Rattle.lease_rules.proofs.FitLemmas.{fit_tail}
 use Rattle.lease_rules.proofs.ListLemmas.{has_head, has_take, or_case, or_right, without_head}
 use Rattle.lease_rules.proofs.TotalLemmas.{total_add}
-use Rattle.lease_rules.specs.Choice.{IsChoice, Safe, start}
-use Rattle.lease_rules.specs.Law.{FitsFromStart, HasStorageLaws, IsSafeState, IsSoundState, reserved_at, stored_at}
+use Rattle.lease_rules.specs.Choice.{IsChoice, Safe, start_event}
+use Rattle.lease_rules.specs.code.Law.{FitsFromStart, HasStorageLaws, IsSafeState, IsSoundState}
+use Rattle.lease_rules.specs.Law.{reserved_at, stored_at}
 use Rattle.lease_rules.specs.Legal.{IsComplete, Legal}
 use Rattle.lease_rules.specs.State.{State, after, ended, now, opened, put, reserved_for, reserved_size, stored_size, without}
 use Rattle.plan_core.specs.Numbers.{has}
@@ -58,7 +59,7 @@ choice_exists p s t ts proper sound unfailed idle is = record {
         let w = fit.waiting u.0 (or_right (eqb t u.0) (has ts u.0) (has_take ts k u.0 u.1)) in
         not_both (s.phase u.0) w (parents_ended u.0 (proper.cleans_after t u.0 g c u.2)))
 
-    leaves : (w : ℕ) (b : Bool) → is_clean p t ≡ b → Safe p (after p s (start p w t))
+    leaves : (w : ℕ) (b : Bool) → is_clean p t ≡ b → Safe p (after p s (start_event p w t))
     leaves w true e = subst (λ (b : Bool). Safe p (after p s (cond b (Clean w t) (Grant w t)))) (sym e) (subst (λ (xs : List ℕ). Fits p (put s.phase t Ended) (cleaned_held p t s.held) xs) (sym tail)
         (fit_tail p s.phase (put s.phase t Ended) s.held (cleaned_held p t s.held) t ts (λ u off. ap waits (put_off s.phase t Ended u off)) (ap waits (put_at s.phase t Ended))
         (λ k g. clean_weight (cleans p t g) (cleaned p (take k ts) g) (has (makes p t) g) (made p (take k ts) g) (good_size p g) (s.held g) (proper.cleans_make t g e) (unmade k g)) fit))

@@ -3,9 +3,9 @@ use Rattle.std.proofs.Common.{◌≡◌, ℕ, ◌+◌, ◌-◌, ◌*◌, ◌≤�
 use Rattle.lease_rules.proofs.SoundLemmas.{choice_in, declared_long, false_of, fresh_among, is_waiting, put_at, put_off}
 use Rattle.lease_rules.proofs.TotalLemmas.{total_change}
 use Rattle.lease_rules.specs.Choice.{IsChoice}
-use Rattle.lease_rules.specs.Law.{IsConsistent}
+use Rattle.lease_rules.specs.code.Law.{IsConsistent}
 use Rattle.lease_rules.specs.Legal.{Allowed, AreOfFirst, CauseFits, MayFail}
-use Rattle.lease_rules.specs.Room.{listed, sizes_left, sizes_of, sizes_room}
+use Rattle.lease_rules.specs.code.Room.{listed, sizes_left, sizes_of, sizes_room}
 use Rattle.lease_rules.specs.State.{State, after, put}
 use Rattle.plan_core.specs.Numbers.{below}
 use Rattle.plan_core.specs.Words.{count_tasks, retries}

@@ -4,16 +4,18 @@ use Rattle.std.specs.Prelude.{Option, Some, None, ◌⊎◌, is_some}
 use Rattle.std.proofs.lemmas.List.Folds.{list_any-append}
 use Rattle.lease_rules.proofs.FitLemmas.{fit_more, fit_stays}
 use Rattle.lease_rules.proofs.ListLemmas.{by_bool, has_head, has_without, or_left, or_right, without_absent, without_gone}
-use Rattle.lease_rules.specs.Choice.{IsCandidate, IsChoice, IsFreshAmong, Safe, start}
-use Rattle.lease_rules.specs.Law.{FitsFromStart, HasStorageLaws, IsSound, IsSoundState}
+use Rattle.lease_rules.specs.Choice.{IsCandidate, IsChoice, IsFreshAmong, Safe, start_event}
+use Rattle.lease_rules.specs.code.Law.{FitsFromStart, HasStorageLaws, IsSound, IsSoundState}
 use Rattle.lease_rules.specs.Legal.{Allowed, AreDeclared, IsOpen, LegalFrom}
-use Rattle.lease_rules.specs.State.{State, after, ended, held_after, now_from, opened, order_or, order_with, put, reserved_for, rest_after, runs, started, stored_among, without}
+use Rattle.lease_rules.specs.State.{State, after, ended, held_after, now_from, opened, order_or, order_with, put, reserved_for, rest_after, started, stored_among, without}
+use Rattle.lease_rules.specs.code.State.{runs}
 use Rattle.plan_core.specs.Numbers.{has}
 use Rattle.plan_core.specs.Words.{cleans, count_tasks, is_clean, kind, parents}
 use Rattle.plan_core.specs.declared.plan.Plan.{Plan}
 use Rattle.run_record.specs.Events.{Again, Arrive, Clean, End, Event, Fail, Grant, Regrant}
 use Rattle.storage_simulation.specs.Fitting.{Fits}
-use Rattle.storage_simulation.specs.Ordering.{IsOrder, all_wait, at_start, nothing_held}
+use Rattle.storage_simulation.specs.code.Ordering.{IsOrder}
+use Rattle.storage_simulation.specs.Ordering.{all_wait, at_start, nothing_held}
 use Rattle.std.proofs.Math.Logic.{∥∥₁_elim}
 use mathlib.Core.Bool.{Bool-set}
 use Rattle.storage_simulation.specs.Goods.{good_size, makes}
@@ -256,10 +258,10 @@ pub false_of : (b : Bool) → (b ≡ true → ⊥) → b ≡ false
 false_of true f = absurd (f refl)
 false_of false f = refl
 
-pub safe_grant : (p : Plan) (s : State) (w t : ℕ) → is_clean p t ≡ false → Safe p (after p s (start p w t)) → Fits p (put s.phase t Runs) (reserved_for p t s.held) (without t s.rest)
+pub safe_grant : (p : Plan) (s : State) (w t : ℕ) → is_clean p t ≡ false → Safe p (after p s (start_event p w t)) → Fits p (put s.phase t Runs) (reserved_for p t s.held) (without t s.rest)
 safe_grant p s w t kind safe = subst (λ (b : Bool). Safe p (after p s (cond b (Clean w t) (Grant w t)))) kind safe
 
-pub safe_clean : (p : Plan) (s : State) (w t : ℕ) → is_clean p t ≡ true → Safe p (after p s (start p w t)) → Fits p (put s.phase t Ended) (cleaned_held p t s.held) (without t s.rest)
+pub safe_clean : (p : Plan) (s : State) (w t : ℕ) → is_clean p t ≡ true → Safe p (after p s (start_event p w t)) → Fits p (put s.phase t Ended) (cleaned_held p t s.held) (without t s.rest)
 safe_clean p s w t kind safe = subst (λ (b : Bool). Safe p (after p s (cond b (Clean w t) (Grant w t)))) kind safe
 
 -- an Again puts its task at the front: of a running task

@@ -8,14 +8,15 @@ use Rattle.lease_rules.proofs.SoundLemmas.{clean_weight, cleaned_held, false_of,
 use Rattle.lease_rules.proofs.SafeLemmas.{maker_of}
 use Rattle.lease_rules.proofs.TotalLemmas.{total_same}
 use Rattle.lease_rules.specs.Choice.{CanStart, HasNoChoice, HaveParentsEnded, IsChoice, Safe}
-use Rattle.lease_rules.specs.Law.{HasStorageLaws, IsSoundState}
+use Rattle.lease_rules.specs.code.Law.{HasStorageLaws, IsSoundState}
 use Rattle.lease_rules.specs.State.{State, after, put, reserved_for, without}
 use Rattle.plan_core.specs.Numbers.{below, has}
 use Rattle.plan_core.specs.Words.{cleans, is_clean, kind}
 use Rattle.plan_core.specs.declared.plan.Plan.{Plan}
 use Rattle.run_record.specs.Events.{Clean, Grant}
 use Rattle.storage_simulation.specs.Fitting.{Fits}
-use Rattle.storage_simulation.specs.Following.{Follows, IsReady}
+use Rattle.storage_simulation.specs.code.Following.{Follows}
+use Rattle.storage_simulation.specs.Following.{IsReady}
 use Rattle.storage_simulation.specs.Goods.{good_size, goods, lies_at, makes, place_bound}
 use Rattle.storage_simulation.specs.Ordering.{size}
 use Rattle.storage_simulation.specs.Standings.{sizes, waits}

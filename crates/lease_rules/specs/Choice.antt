@@ -14,8 +14,8 @@ abbrev pub Safe : Plan → State → Type 0
 Safe p s = Fits p s.phase s.held s.rest
 
 -- the entry by which a worker begins a task
-abbrev pub start : Plan → ℕ → ℕ → Event
-start p w t = cond (is_clean p t) (Clean w t) (Grant w t)
+abbrev pub start_event : Plan → ℕ → ℕ → Event
+start_event p w t = cond (is_clean p t) (Clean w t) (Grant w t)
 
 abbrev pub HaveParentsEnded : Plan → State → ℕ → Type 0
 HaveParentsEnded p s t = (u : ℕ) → has (parents p t) u ≡ true → ended (s.phase u) ≡ true
@@ -23,7 +23,7 @@ HaveParentsEnded p s t = (u : ℕ) → has (parents p t) u ≡ true → ended (s
 -- The task's parents have all ended, and its Grant, or its Clean, leaves a Safe state.
 pub record CanStart (p : Plan) (s : State) (t : ℕ) : Type 0 where
   pub parents_ended : HaveParentsEnded p s t
-  pub leaves_safe : (w : ℕ) → Safe p (after p s (start p w t))
+  pub leaves_safe : (w : ℕ) → Safe p (after p s (start_event p w t))
 
 -- The Choice is the first task of rest that can start. There is none after a Fail.
 pub record IsChoice (p : Plan) (s : State) (t : ℕ) : Type 0 where

@@ -1,5 +1,5 @@
 -- Legal records, entry by entry, and complete ones.
-use Rattle.std.specs.Prelude.{◌≡◌, ℕ, ◌≤◌, ◌<◌, ◌⊎◌, Bool, true, false, not, nat_lt, List, [], ◌∷◌, Option, Some, None}
+use Rattle.std.specs.Prelude.{◌≡◌, ℕ, ◌≤◌, ◌<◌, ◌⊎◌, Bool, true, false, not, nat_lt, List, [], ◌∷◌, Option, Some, None, option_and_then, slice_get}
 use Rattle.std.specs.Str.{bytes_eq}
 use Rattle.plan_core.specs.declared.plan.Plan.{Plan}
 use Rattle.plan_core.specs.declared.plan.PlanFile.{PlanFile}
@@ -8,7 +8,6 @@ use Rattle.plan_core.specs.declared.plan.TaskKind.TheVariants.{Transfer, Run}
 use Rattle.plan_core.specs.declared.plan.Source.TheVariants.{Pfn}
 use Rattle.plan_core.specs.Numbers.{has}
 use Rattle.plan_core.specs.Words.{count_tasks, declared, is_clean, is_run, is_transfer, job_numbers, kind, outputs, retries}
-use Rattle.std.specs.Prelude.{slice_get}
 use Rattle.storage_simulation.specs.Goods.{good_size, makes, or_zero}
 use Rattle.storage_simulation.specs.declared.standing.Phase.TheVariants.{Runs}
 use Rattle.run_record.specs.declared.entry.Cause.{Cause}
@@ -55,12 +54,8 @@ abbrev pub differs_from : Option (List ℕ) → List ℕ → Bool
 differs_from None d = false
 differs_from (Some wanted) d = not (bytes_eq wanted d)
 
-abbrev pub checksum_in : Option PlanFile → Option (List ℕ)
-checksum_in None = None
-checksum_in (Some f) = f.checksum
-
 unfoldable pub checksum : Plan → ℕ → Option (List ℕ)
-checksum p f = checksum_in (slice_get p.files f)
+checksum p f = option_and_then (λ (x : PlanFile). x.checksum) (slice_get p.files f)
 
 abbrev pub is_wrong_for : Plan → Option TaskKind → List ℕ → Bool
 is_wrong_for p (Some (Transfer f from to)) d = differs_from (checksum p f.0) d

@@ -27,10 +27,6 @@ abbrev pub ended : Phase → Bool
 ended Ended = true
 ended _ = false
 
-abbrev pub runs : Phase → Bool
-runs Runs = true
-runs _ = false
-
 -- the function with another value at t; the list without t
 abbrev pub put : {X : Type 0} → (ℕ → X) → ℕ → X → ℕ → X
 put f t x u = cond (t == u) x (f u)

@@ -3,7 +3,7 @@
 ghost use Rattle.std.specs.Prelude.{◌≡◌, Decides, ◌≤◌, ◌+◌, ◌<◌, ℕ, List, [], ◌++◌, true, false, length, take};
 ghost use Rattle.plan_core.specs.declared.plan.Plan.{Plan};
 ghost use Rattle.plan_core.specs.Numbers.{has};
-ghost use Rattle.plan_core.specs.Proper.{IsProper};
+ghost use Rattle.plan_core.specs.code.Proper.{IsProper};
 ghost use Rattle.plan_core.specs.Words.{count_pairs, is_clean, task_numbers};
 ghost use Rattle.storage_simulation.specs.declared.ordered.Ordered.{Ordered};
 ghost use Rattle.storage_simulation.specs.declared.standing.Held.{Held};
@@ -15,10 +15,11 @@ ghost use Rattle.run_record.specs.Events.{Again, Event, Regrant};
 ghost use Rattle.lease_rules.specs.State.{State, after, now, opened};
 ghost use Rattle.lease_rules.specs.Choice.{HasNoChoice, HaveParentsEnded, IsChoice, IsFresh};
 ghost use Rattle.lease_rules.specs.Legal.{Allowed, IsComplete, IsOpen, Legal};
-ghost use Rattle.lease_rules.specs.Law.{FitsFromStart, HasStorageLaws, IsConsistent, IsSafeState, IsSoundState, reserved_at, stored_at};
-ghost use Rattle.lease_rules.specs.Owning.{entries_by, is_open, is_open_after};
-ghost use Rattle.lease_rules.specs.Reading.{IsPlain, IsPlainlyRead, IsRead};
-ghost use Rattle.lease_rules.specs.Room.{entries_room, listed, sizes_room};
+ghost use Rattle.lease_rules.specs.code.Law.{FitsFromStart, HasStorageLaws, IsConsistent, IsSafeState, IsSoundState};
+ghost use Rattle.lease_rules.specs.Law.{reserved_at, stored_at};
+ghost use Rattle.lease_rules.specs.code.Owning.{entries_by, is_open, is_open_after};
+ghost use Rattle.lease_rules.specs.code.Reading.{IsPlain, IsPlainlyRead, IsRead};
+ghost use Rattle.lease_rules.specs.code.Room.{entries_room, listed, sizes_room};
 
 use plan_core::files_are_listed_by_pair;
 use storage_simulation::{plain_policy_counts_pairs, proper_plans_keep_goods, steps_fit};

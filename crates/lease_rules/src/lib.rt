@@ -1,8 +1,9 @@
 //! Which tasks of a run may begin, said of the list of a run's entries.
 //!
-//! To the layers above this is what a record of a plan says: a state, a fold over its entries (`specs/State.antt`); Safe
-//! and the Choice (`specs/Choice.antt`); what may come next and which records are legal (`specs/Legal.antt`). There is no
-//! code here but laws. [`legal_records_are_safe`] is the theorem on them: no bound is passed, and no run gets stuck.
+//! To the layers above this is what a record of a plan says: a state, a fold over its entries (`specs/State.antt`);
+//! Safe and the Choice (`specs/Choice.antt`); what may come next and which records are legal (`specs/Legal.antt`).
+//! There is no code here but laws. [`legal_records_are_safe`] is the theorem on them: no bound is passed, and no run
+//! gets stuck.
 #![tactic(auto)]
 
 mod law;

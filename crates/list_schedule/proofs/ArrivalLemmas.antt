@@ -7,7 +7,7 @@ use Rattle.values.specs.declared.numbers.SiteId.{SiteId}
 use Rattle.dependency_graph.specs.Levels.{is_kept}
 use Rattle.list_schedule.specs.declared.arrivals.Latest.{Latest}
 use Rattle.list_schedule.specs.Schedule.{is_site}
-use Rattle.list_schedule.specs.Arrivals.{latest_at, counted, site_of, finish_of, elsewhere}
+use Rattle.list_schedule.specs.code.Arrivals.{latest_at, counted, site_of, finish_of, elsewhere}
 
 pub note_dropped : (x : Latest) (k : Bool) (site : Option SiteId) (v s : ℕ) → k ≡ false → latest_at x s ≡ max (latest_at x s) (counted k site v s)
 note_dropped x true site v s off = absurd cc

@@ -3,7 +3,7 @@ use Rattle.std.proofs.Common.{◌≡◌, ℕ, ◌+◌, ◌<◌, ◌≤◌, ◌�
 use Rattle.std.proofs.lemmas.Bool.{cases_order}
 use Rattle.list_schedule.specs.declared.arrivals.Latest.{Latest}
 use Rattle.list_schedule.specs.declared.choice.Slot.{Slot}
-use Rattle.list_schedule.specs.Arrivals.{start_at, finish_at, IsEarliest}
+use Rattle.list_schedule.specs.code.Arrivals.{start_at, finish_at, IsEarliest}
 
 -- the slot is the one at place i
 pub record IsSlotAt (candidates times free : List ℕ) (x : Latest) (slot : Slot) (i : ℕ) : Type 0 where

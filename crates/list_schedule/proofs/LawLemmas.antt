@@ -3,13 +3,14 @@ use Rattle.std.proofs.Common.{◌≡◌, ℕ, zero, suc, ◌+◌, ◌<◌, ◌�
 use Rattle.std.proofs.lemmas.Bool.{eqb-true, eq-eqb, cases_order}
 use Rattle.std.proofs.lemmas.List.{take_more, length-map}
 use Rattle.values.specs.declared.numbers.JobId.{JobId}
-use Rattle.digraph.specs.Adjacency.{has}
+use Rattle.digraph.specs.Adjacency.{has_node}
 use Rattle.dependency_graph.specs.Graph.{Links, jobs_at, numbers}
 use Rattle.dependency_graph.specs.Levels.{is_kept}
 use Rattle.dependency_graph.proofs.TestLemmas.{has_at, has_more}
 use Rattle.list_schedule.specs.Estimates.{Estimates}
-use Rattle.list_schedule.specs.Schedule.{Schedule, site_id, start, finish, is_site, runs_at, free_after, arrival, latest, earliest_start, earliest_finish, candidate, IsPlaced, IsHeft}
-use Rattle.list_schedule.specs.Law.{StartsAfterParents, RunsAtCandidate, FinishesFirst, NeverOverlaps}
+use Rattle.list_schedule.specs.Schedule.{Schedule, start, finish, is_site, runs_at, free_after, arrival, latest, earliest_start, earliest_finish, candidate, IsPlaced, IsHeft}
+use Rattle.values.specs.Numbers.{site_id}
+use Rattle.list_schedule.specs.code.Law.{StartsAfterParents, RunsAtCandidate, FinishesFirst, NeverOverlaps}
 use Rattle.list_schedule.proofs.GraphLemmas.{by_bool, stands}
 use Rattle.list_schedule.proofs.PlacingLemmas.{free_push, stands_before}
 
@@ -29,13 +30,13 @@ find_place g kept e h heft a kept_a = by (stands a (numbers h.order) (heft.order
     by : (q : ℕ) × (q < length (numbers h.order)) × (get_or (numbers h.order) q 0 ≡ a) → Placed g kept e h a
     by found = record { place = found.0; low = found.1; is = found.2; placed = subst (IsPlaced g kept e h (take found.0 (numbers h.order))) found.2 (placed_at g kept e h heft found.0 found.1) }
 
-arrives : (kept : List Bool) (e : Estimates) (h : Schedule) (a s p : ℕ) (ps : List JobId) → is_kept kept p ≡ true → has p (numbers ps) ≡ true → finish h p + cond {A = ℕ} (runs_at h s p) 0 (e.move p a) ≤ latest kept e h a s ps
+arrives : (kept : List Bool) (e : Estimates) (h : Schedule) (a s p : ℕ) (ps : List JobId) → is_kept kept p ≡ true → has_node p (numbers ps) ≡ true → finish h p + cond {A = ℕ} (runs_at h s p) 0 (e.move p a) ≤ latest kept e h a s ps
 arrives kept e h a s p [] kept_p there = absurd cc
 arrives kept e h a s p (q ∷ ps) kept_p there = by_bool (nat_eq q.0 p)
     (λ t. let here : arrival kept e h a s q.0 ≡ finish h p + cond {A = ℕ} (runs_at h s p) 0 (e.move p a)
     = ap (arrival kept e h a s) (eqb-true q.0 p t) ∙ ap (λ (b : Bool). cond {A = ℕ} b (finish h p + cond {A = ℕ} (runs_at h s p) 0 (e.move p a)) 0) kept_p in
     omega (arith, here))
-    (λ f. let rest = arrives kept e h a s p ps kept_p (sym (ap (λ (b : Bool). b || has p (numbers ps)) f) ∙ there) in omega (arith, rest))
+    (λ f. let rest = arrives kept e h a s p ps kept_p (sym (ap (λ (b : Bool). b || has_node p (numbers ps)) f) ∙ there) in omega (arith, rest))
 
 -- a job that is placed at s has the candidate s
 site_of_placed : (g : Links) (kept : List Bool) (e : Estimates) (h : Schedule) (placed : List ℕ) (a s : ℕ) → (is : IsPlaced g kept e h placed a) → runs_at h s a ≡ true → candidate e a is.choice ≡ s
@@ -50,7 +51,7 @@ starts_after_parents g kept e h heft a p s kept_a kept_p parent at =
     let far = arrives kept e h a s.0 p (jobs_at g.parents a) kept_p parent in
     omega (arith, begins, far)
 
-has_place : (xs : List ℕ) (i : ℕ) → i < length xs → has (get_or xs i 0) xs ≡ true
+has_place : (xs : List ℕ) (i : ℕ) → i < length xs → has_node (get_or xs i 0) xs ≡ true
 has_place xs i low = has_at xs i low
 
 pub runs_at_candidate : RunsAtCandidate
@@ -65,9 +66,9 @@ finishes_first g kept e h heft i s low there =
     subst (λ (t : ℕ). finish h (get_or (numbers h.order) i 0) ≤ earliest_finish g kept e h (take i (numbers h.order)) (get_or (numbers h.order) i 0) t) at.2 (is.least at.0 at.1)
 
 -- one job more, after which a site is free
-free_next : (g : Links) (kept : List Bool) (e : Estimates) (h : Schedule) → IsHeft g kept e h → (s k a : ℕ) → k < length (numbers h.order) → has a (take (k + 1) (numbers h.order)) ≡ true → runs_at h s a ≡ true
-    → (has a (take k (numbers h.order)) ≡ true → finish h a ≤ free_after h s 0 (take k (numbers h.order))) → finish h a ≤ free_after h s 0 (take (k + 1) (numbers h.order))
-free_next g kept e h heft s k a inside there at before = subst (λ (xs : List ℕ). finish h a ≤ free_after h s 0 xs) (sym more) (subst (λ (n : ℕ). finish h a ≤ n) (sym (free_push h s 0 j (take k ns))) (by_bool (has a (take k ns)) old new))
+free_next : (g : Links) (kept : List Bool) (e : Estimates) (h : Schedule) → IsHeft g kept e h → (s k a : ℕ) → k < length (numbers h.order) → has_node a (take (k + 1) (numbers h.order)) ≡ true → runs_at h s a ≡ true
+    → (has_node a (take k (numbers h.order)) ≡ true → finish h a ≤ free_after h s 0 (take k (numbers h.order))) → finish h a ≤ free_after h s 0 (take (k + 1) (numbers h.order))
+free_next g kept e h heft s k a inside there at before = subst (λ (xs : List ℕ). finish h a ≤ free_after h s 0 xs) (sym more) (subst (λ (n : ℕ). finish h a ≤ n) (sym (free_push h s 0 j (take k ns))) (by_bool (has_node a (take k ns)) old new))
   where
     ns : List ℕ
     ns = numbers h.order
@@ -78,7 +79,7 @@ free_next g kept e h heft s k a inside there at before = subst (λ (xs : List �
     more : take (k + 1) ns ≡ take k ns ++ j ∷ []
     more = take_more ns k 0 inside
 
-    old : has a (take k ns) ≡ true → finish h a ≤ cond (runs_at h s j) (finish h j) (free_after h s 0 (take k ns))
+    old : has_node a (take k ns) ≡ true → finish h a ≤ cond (runs_at h s j) (finish h j) (free_after h s 0 (take k ns))
     old t = by (runs_at h s j) refl
       where
         by : (b : Bool) → runs_at h s j ≡ b → finish h a ≤ cond b (finish h j) (free_after h s 0 (take k ns))
@@ -90,7 +91,7 @@ free_next g kept e h heft s k a inside there at before = subst (λ (xs : List �
             omega (arith, past, ends)
         by false q = before t
 
-    new : has a (take k ns) ≡ false → finish h a ≤ cond (runs_at h s j) (finish h j) (free_after h s 0 (take k ns))
+    new : has_node a (take k ns) ≡ false → finish h a ≤ cond (runs_at h s j) (finish h j) (free_after h s 0 (take k ns))
     new f =
         let is : j ≡ a = eqb-true j a (sym (ap (λ (b : Bool). b || nat_eq j a) f) ∙ sym (has_more ns k a inside) ∙ there) in
         let here : runs_at h s j ≡ true = ap (runs_at h s) is ∙ at in
@@ -98,13 +99,13 @@ free_next g kept e h heft s k a inside there at before = subst (λ (xs : List �
         omega (arith, same)
 
 -- a site is free after all that ran there before
-free_past : (g : Links) (kept : List Bool) (e : Estimates) (h : Schedule) → IsHeft g kept e h → (s k a : ℕ) → k ≤ length (numbers h.order) → has a (take k (numbers h.order)) ≡ true → runs_at h s a ≡ true
+free_past : (g : Links) (kept : List Bool) (e : Estimates) (h : Schedule) → IsHeft g kept e h → (s k a : ℕ) → k ≤ length (numbers h.order) → has_node a (take k (numbers h.order)) ≡ true → runs_at h s a ≡ true
     → finish h a ≤ free_after h s 0 (take k (numbers h.order))
 free_past g kept e h heft s zero a low there at = absurd cc
 free_past g kept e h heft s (suc k) a low there at =
     let next : suc k ≡ k + 1 = omega arith in
     subst (λ (n : ℕ). finish h a ≤ free_after h s 0 (take n (numbers h.order))) (sym next)
-    (free_next g kept e h heft s k a (omega (arith, low)) (subst (λ (n : ℕ). has a (take n (numbers h.order)) ≡ true) next there) at (λ t. free_past g kept e h heft s k a (omega (arith, low)) t at))
+    (free_next g kept e h heft s k a (omega (arith, low)) (subst (λ (n : ℕ). has_node a (take n (numbers h.order)) ≡ true) next there) at (λ t. free_past g kept e h heft s k a (omega (arith, low)) t at))
 
 -- a job that stands before another one at its site has ended when that one begins
 ended : (g : Links) (kept : List Bool) (e : Estimates) (h : Schedule) → IsHeft g kept e h → (a b s : ℕ) (x : Placed g kept e h a) (y : Placed g kept e h b) → x.place < y.place → runs_at h s a ≡ true → runs_at h s b ≡ true → finish h a ≤ start h b

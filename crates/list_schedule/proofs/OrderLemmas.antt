@@ -5,11 +5,12 @@ use Rattle.std.specs.List.Sorted.{IsPermutation, IsSorted}
 use Rattle.std.specs.Ordering.{nat_cmp, ordering_then}
 use Rattle.std.proofs.lemmas.List.{get_or-map}
 use Rattle.dependency_graph.specs.Levels.{is_kept}
-use Rattle.dependency_graph.specs.Ranking.{IsRanked, leveled, numbers_in}
+use Rattle.dependency_graph.specs.Ranking.{IsRanked}
+use Rattle.dependency_graph.specs.code.Ranking.{leveled, numbers_in}
 use Rattle.dependency_graph.proofs.RankingLemmas.{leveled_kept, leveled_dropped, ranked_is}
 use Rattle.dependency_graph.proofs.TestLemmas.{has_at}
 use Rattle.list_schedule.specs.Ranks.{rank, IsRankOrder}
-use Rattle.list_schedule.specs.Tables.{depths}
+use Rattle.list_schedule.specs.code.Tables.{depths}
 
 depth_at : (ranks : List ℕ) (n : ℕ) → n < length ranks → get_or (depths ranks) n 0 ≡ 2 ^ 80 - get_or ranks n 0
 depth_at ranks n low = get_or-map (λ (r : ℕ). 2 ^ 80 - r) ranks n 0 0 low

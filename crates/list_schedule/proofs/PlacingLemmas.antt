@@ -6,7 +6,7 @@ use Rattle.std.proofs.lemmas.List.{take_more, length-take, get_or-map, get_or-ta
 use Rattle.values.specs.declared.numbers.JobId.{JobId}
 use Rattle.values.specs.declared.numbers.SiteId.{SiteId}
 use Rattle.workflow_core.specs.declared.workflow.Workflow.{Workflow}
-use Rattle.digraph.specs.Adjacency.{has, neighbours}
+use Rattle.digraph.specs.Adjacency.{has_node, neighbours}
 use Rattle.dependency_graph.specs.Graph.{IsGraphOf, Links, jobs_at, numbers}
 use Rattle.dependency_graph.specs.Levels.{is_kept}
 use Rattle.dependency_graph.proofs.TestLemmas.{has_at, fresh_at, has_more}
@@ -15,39 +15,40 @@ use Rattle.list_schedule.specs.declared.choice.Slot.{Slot}
 use Rattle.list_schedule.specs.declared.board.Board.{Board}
 use Rattle.list_schedule.specs.Estimates.{Estimates, cost}
 use Rattle.list_schedule.specs.Ranks.{rank, farthest, AreRanks, comes_first, IsRankOrder}
-use Rattle.list_schedule.specs.Schedule.{Schedule, site_id, site, start, finish, is_site, runs_at, free_after, arrival, latest, earliest_start, earliest_finish, candidate, IsPlaced}
-use Rattle.list_schedule.specs.Tables.{moves_to, AreCosts, AreCandidates}
-use Rattle.list_schedule.specs.Arrivals.{latest_at, finish_of, elsewhere, start_at, finish_at, IsEarliest}
-use Rattle.list_schedule.specs.Board.{IsEmpty, IsPut, schedule_at, ArePlaced}
+use Rattle.list_schedule.specs.Schedule.{Schedule, site, start, finish, is_site, runs_at, free_after, arrival, latest, earliest_start, earliest_finish, candidate, IsPlaced}
+use Rattle.values.specs.Numbers.{site_id}
+use Rattle.list_schedule.specs.code.Tables.{moves_to, AreCosts, AreCandidates}
+use Rattle.list_schedule.specs.code.Arrivals.{latest_at, finish_of, elsewhere, start_at, finish_at, IsEarliest}
+use Rattle.list_schedule.specs.code.Board.{IsEmpty, IsPut, schedule_at, ArePlaced}
 use Rattle.list_schedule.proofs.SetLemmas.{set_at}
 use Rattle.list_schedule.proofs.GraphLemmas.{by_bool, stands, links}
 
 -- ---- parents come first
 
-far_reach : (kept : List Bool) (e : Estimates) (ranks : List ℕ) (p a : ℕ) (cs : List JobId) → is_kept kept a ≡ true → has a (numbers cs) ≡ true → rank ranks a ≤ farthest kept e ranks p cs
+far_reach : (kept : List Bool) (e : Estimates) (ranks : List ℕ) (p a : ℕ) (cs : List JobId) → is_kept kept a ≡ true → has_node a (numbers cs) ≡ true → rank ranks a ≤ farthest kept e ranks p cs
 far_reach kept e ranks p a [] kept_a there = absurd cc
 far_reach kept e ranks p a (c ∷ cs) kept_a there = by_bool (nat_eq c.0 a)
     (λ t. let here : cond {A = ℕ} (is_kept kept c.0) (e.move p c.0 + rank ranks c.0) 0 ≡ e.move p a + rank ranks a
     = ap (λ (n : ℕ). cond {A = ℕ} (is_kept kept n) (e.move p n + rank ranks n) 0) (eqb-true c.0 a t) ∙ ap (λ (b : Bool). cond {A = ℕ} b (e.move p a + rank ranks a) 0) kept_a in
     omega (arith, here))
-    (λ f. let rest = far_reach kept e ranks p a cs kept_a (sym (ap (λ (b : Bool). b || has a (numbers cs)) f) ∙ there) in omega (arith, rest))
+    (λ f. let rest = far_reach kept e ranks p a cs kept_a (sym (ap (λ (b : Bool). b || has_node a (numbers cs)) f) ∙ there) in omega (arith, rest))
 
 -- a kept parent's rank is greater
 pub parent_greater : (w : Workflow) (g : Links) (kept : List Bool) (e : Estimates) (ranks : List ℕ) → IsGraphOf w g → AreRanks g kept e ranks → ((a : ℕ) → is_kept kept a ≡ true → 1 ≤ cost e a)
-    → (a p : ℕ) → is_kept kept a ≡ true → is_kept kept p ≡ true → has p (numbers (jobs_at g.parents a)) ≡ true → rank ranks a < rank ranks p
+    → (a p : ℕ) → is_kept kept a ≡ true → is_kept kept p ≡ true → has_node p (numbers (jobs_at g.parents a)) ≡ true → rank ranks a < rank ranks p
 parent_greater w g kept e ranks graph are costly a p kept_a kept_p parent =
     let own = are.each p kept_p in
     let some = costly p kept_p in
     let far = far_reach kept e ranks p a (jobs_at g.children p) kept_a (links w g graph p a ∙ parent) in
     omega (arith, own, some, far)
 
-pub stands_before : (order : List ℕ) (q i p : ℕ) → q < i → q < length order → get_or order q 0 ≡ p → has p (take i order) ≡ true
+pub stands_before : (order : List ℕ) (q i p : ℕ) → q < i → q < length order → get_or order q 0 ≡ p → has_node p (take i order) ≡ true
 stands_before order q i p less low at =
-    ap (λ (n : ℕ). has n (take i order)) (sym at ∙ sym (get_or-take i order q 0 less))
+    ap (λ (n : ℕ). has_node n (take i order)) (sym at ∙ sym (get_or-take i order q 0 less))
     ∙ has_at (take i order) q (let long = length-take i order in omega (arith, long, less, low))
 
 pub parents_first : (w : Workflow) (g : Links) (kept : List Bool) (e : Estimates) (ranks order : List ℕ) → IsGraphOf w g → AreRanks g kept e ranks → ((a : ℕ) → is_kept kept a ≡ true → 1 ≤ cost e a) → IsRankOrder kept ranks order
-    → (i : ℕ) → i < length order → (p : ℕ) → has p (numbers (jobs_at g.parents (get_or order i 0))) ≡ true → is_kept kept p ≡ true → has p (take i order) ≡ true
+    → (i : ℕ) → i < length order → (p : ℕ) → has_node p (numbers (jobs_at g.parents (get_or order i 0))) ≡ true → is_kept kept p ≡ true → has_node p (take i order) ≡ true
 parents_first w g kept e ranks order graph are costly sorted i low p parent kept_p = by (stands p order (sorted.kept_ones p ∙ kept_p))
   where
     a : ℕ
@@ -62,10 +63,10 @@ parents_first w g kept e ranks order graph are costly sorted i low p parent kept
         clash : (r q x y : ℕ) → r < q → (ltb q r || (eqb r q && ltb x y)) ≡ true → ⊥
         clash r q x y l h = absurd (let f : (ltb q r || (eqb r q && ltb x y)) ≡ false = grind arith in let k = sym h ∙ f in cc)
 
-    by : (q : ℕ) × (q < length order) × (get_or order q 0 ≡ p) → has p (take i order) ≡ true
+    by : (q : ℕ) × (q < length order) × (get_or order q 0 ≡ p) → has_node p (take i order) ≡ true
     by found = at (cases_order found.0 i)
       where
-        at : ((found.0 ≡ i) ⊎ ((found.0 < i) ⊎ (i < found.0))) → has p (take i order) ≡ true
+        at : ((found.0 ≡ i) ⊎ ((found.0 < i) ⊎ (i < found.0))) → has_node p (take i order) ≡ true
         at (inl same) = absurd (let is : a ≡ p = ap (λ (n : ℕ). get_or order n 0) (sym same) ∙ found.2 in let r : rank ranks a ≡ rank ranks p = ap (rank ranks) is in omega (arith, greater, r))
         at (inr (inl less)) = stands_before order found.0 i p less found.1 found.2
         at (inr (inr more)) = absurd (no (ap (λ (n : ℕ). comes_first ranks a n) (sym found.2) ∙ sorted.falling i found.0 more found.1))
@@ -80,12 +81,12 @@ pub record Agree (h k : Schedule) (a : ℕ) : Type 0 where
 runs_same : (h k : Schedule) (s a : ℕ) → Agree h k a → runs_at h s a ≡ runs_at k s a
 runs_same h k s a agree = ap (is_site s) agree.at
 
-free_same : (h k : Schedule) (s first : ℕ) (xs : List ℕ) → ((a : ℕ) → has a xs ≡ true → Agree h k a) → free_after h s first xs ≡ free_after k s first xs
+free_same : (h k : Schedule) (s first : ℕ) (xs : List ℕ) → ((a : ℕ) → has_node a xs ≡ true → Agree h k a) → free_after h s first xs ≡ free_after k s first xs
 free_same h k s first [] agree = refl
 free_same h k s first (a ∷ rest) agree =
-    let here = agree a (ap (λ (t : Bool). t || has a rest) (eq-eqb a a refl)) in
+    let here = agree a (ap (λ (t : Bool). t || has_node a rest) (eq-eqb a a refl)) in
     ap (λ (n : ℕ). free_after h s n rest) (ap (λ (t : Bool). cond t (finish h a) first) (runs_same h k s a here) ∙ ap (λ (n : ℕ). cond (runs_at k s a) n first) here.ends)
-    ∙ free_same h k s (cond (runs_at k s a) (finish k a) first) rest (λ b there. agree b (later (nat_eq a b) (has b rest) there))
+    ∙ free_same h k s (cond (runs_at k s a) (finish k a) first) rest (λ b there. agree b (later (nat_eq a b) (has_node b rest) there))
   where
     later : (t u : Bool) → u ≡ true → (t || u) ≡ true
     later true u e = refl
@@ -98,11 +99,11 @@ arrival_same kept e h k a s p agree = by (is_kept kept p) agree
     by true f = let same = f refl in ap (λ (n : ℕ). n + cond {A = ℕ} (runs_at h s p) 0 (e.move p a)) same.ends ∙ ap (λ (t : Bool). finish k p + cond {A = ℕ} t 0 (e.move p a)) (runs_same h k s p same)
     by false f = refl
 
-latest_same : (kept : List Bool) (e : Estimates) (h k : Schedule) (a s : ℕ) (ps : List JobId) → ((p : ℕ) → has p (numbers ps) ≡ true → is_kept kept p ≡ true → Agree h k p) → latest kept e h a s ps ≡ latest kept e k a s ps
+latest_same : (kept : List Bool) (e : Estimates) (h k : Schedule) (a s : ℕ) (ps : List JobId) → ((p : ℕ) → has_node p (numbers ps) ≡ true → is_kept kept p ≡ true → Agree h k p) → latest kept e h a s ps ≡ latest kept e k a s ps
 latest_same kept e h k a s [] agree = refl
 latest_same kept e h k a s (p ∷ ps) agree =
-    let here = arrival_same kept e h k a s p.0 (agree p.0 (ap (λ (t : Bool). t || has p.0 (numbers ps)) (eq-eqb p.0 p.0 refl))) in
-    let rest = latest_same kept e h k a s ps (λ q there. agree q (later (nat_eq p.0 q) (has q (numbers ps)) there)) in
+    let here = arrival_same kept e h k a s p.0 (agree p.0 (ap (λ (t : Bool). t || has_node p.0 (numbers ps)) (eq-eqb p.0 p.0 refl))) in
+    let rest = latest_same kept e h k a s ps (λ q there. agree q (later (nat_eq p.0 q) (has_node q (numbers ps)) there)) in
     omega (arith, here, rest)
   where
     later : (t u : Bool) → u ≡ true → (t || u) ≡ true
@@ -111,8 +112,8 @@ latest_same kept e h k a s (p ∷ ps) agree =
 
 -- what a job's place hangs on is the same
 pub record Alike (g : Links) (kept : List Bool) (h k : Schedule) (placed : List ℕ) (a : ℕ) : Type 0 where
-  pub before : (b : ℕ) → has b placed ≡ true → Agree h k b
-  pub parents : (p : ℕ) → has p (numbers (jobs_at g.parents a)) ≡ true → is_kept kept p ≡ true → Agree h k p
+  pub before : (b : ℕ) → has_node b placed ≡ true → Agree h k b
+  pub parents : (p : ℕ) → has_node p (numbers (jobs_at g.parents a)) ≡ true → is_kept kept p ≡ true → Agree h k p
 
 pub start_same : (g : Links) (kept : List Bool) (e : Estimates) (h k : Schedule) (placed : List ℕ) (a s : ℕ) → Alike g kept h k placed a → earliest_start g kept e h placed a s ≡ earliest_start g kept e k placed a s
 start_same g kept e h k placed a s alike =
@@ -134,12 +135,12 @@ placed_same g kept e h k placed a alike own is = record {
 -- ---- arrivals from elsewhere
 
 -- jobs at the site itself hold nothing up once the site is free
-pub elsewhere_is : (kept : List Bool) (e : Estimates) (h : Schedule) (a s free : ℕ) (ps : List JobId) → ((p : ℕ) → has p (numbers ps) ≡ true → is_kept kept p ≡ true → runs_at h s p ≡ true → finish h p ≤ free)
+pub elsewhere_is : (kept : List Bool) (e : Estimates) (h : Schedule) (a s free : ℕ) (ps : List JobId) → ((p : ℕ) → has_node p (numbers ps) ≡ true → is_kept kept p ≡ true → runs_at h s p ≡ true → finish h p ≤ free)
     → max free (elsewhere kept h.sites h.finishes s ps (moves_to e a ps)) ≡ max free (latest kept e h a s ps)
 elsewhere_is kept e h a s free [] past = refl
 elsewhere_is kept e h a s free (p ∷ ps) past =
-    let rest = elsewhere_is kept e h a s free ps (λ q there. past q (later (nat_eq p.0 q) (has q (numbers ps)) there)) in
-    let here = by (is_kept kept p.0) (runs_at h s p.0) (past p.0 (ap (λ (t : Bool). t || has p.0 (numbers ps)) (eq-eqb p.0 p.0 refl))) in
+    let rest = elsewhere_is kept e h a s free ps (λ q there. past q (later (nat_eq p.0 q) (has_node q (numbers ps)) there)) in
+    let here = by (is_kept kept p.0) (runs_at h s p.0) (past p.0 (ap (λ (t : Bool). t || has_node p.0 (numbers ps)) (eq-eqb p.0 p.0 refl))) in
     omega (arith, rest, here)
   where
     later : (t u : Bool) → u ≡ true → (t || u) ≡ true
@@ -199,8 +200,8 @@ placed_more w g kept e ranks candidates times moves old new js i j slot x graph 
     k : Schedule
     k = schedule_at new js
 
-    there : has j ns ≡ true
-    there = ap (λ (n : ℕ). has n ns) is ∙ has_at ns i low
+    there : has_node j ns ≡ true
+    there = ap (λ (n : ℕ). has_node n ns) is ∙ has_at ns i low
 
     kept_j : is_kept kept j ≡ true
     kept_j = sym (sorted.kept_ones j) ∙ there
@@ -217,30 +218,30 @@ placed_more w g kept e ranks candidates times moves old new js i j slot x graph 
     j_finishes : j < length old.finishes.items
     j_finishes = omega (arith, j_low, finishes_long)
 
-    fresh : has j (take i ns) ≡ false
-    fresh = ap (λ (n : ℕ). has n (take i ns)) is ∙ fresh_at ns i sorted.once low
+    fresh : has_node j (take i ns) ≡ false
+    fresh = ap (λ (n : ℕ). has_node n (take i ns)) is ∙ fresh_at ns i sorted.once low
 
     -- a job that is placed is another one
-    other : (a : ℕ) → has a (take i ns) ≡ true → nat_eq j a ≡ false
-    other a inside = by_bool (nat_eq j a) (λ t. absurd (let again : has j (take i ns) ≡ true = ap (λ (n : ℕ). has n (take i ns)) (eqb-true j a t) ∙ inside in let clash = sym again ∙ fresh in cc)) (λ f. f)
+    other : (a : ℕ) → has_node a (take i ns) ≡ true → nat_eq j a ≡ false
+    other a inside = by_bool (nat_eq j a) (λ t. absurd (let again : has_node j (take i ns) ≡ true = ap (λ (n : ℕ). has_node n (take i ns)) (eqb-true j a t) ∙ inside in let clash = sym again ∙ fresh in cc)) (λ f. f)
 
-    agree : (a : ℕ) → has a (take i ns) ≡ true → Agree h k a
+    agree : (a : ℕ) → has_node a (take i ns) ≡ true → Agree h k a
     agree a inside = put_agrees old new js j slot put j_sites j_starts j_finishes a (other a inside)
 
-    inner : (n a : ℕ) → n ≤ i → has a (take n ns) ≡ true → has a (take i ns) ≡ true
+    inner : (n a : ℕ) → n ≤ i → has_node a (take n ns) ≡ true → has_node a (take i ns) ≡ true
     inner n a few inside = wider n i ns few inside
       where
-        wider : (n i : ℕ) (xs : List ℕ) → n ≤ i → has a (take n xs) ≡ true → has a (take i xs) ≡ true
+        wider : (n i : ℕ) (xs : List ℕ) → n ≤ i → has_node a (take n xs) ≡ true → has_node a (take i xs) ≡ true
         wider zero i xs few h = absurd cc
         wider (suc n) zero xs few h = absurd (omega (arith, few))
         wider (suc n) (suc i) [] few h = absurd cc
         wider (suc n) (suc i) (x ∷ xs) few h = by (nat_eq x a) h (wider n i xs (omega (arith, few)))
           where
-            by : (t : Bool) → (t || has a (take n xs)) ≡ true → (has a (take n xs) ≡ true → has a (take i xs) ≡ true) → (t || has a (take i xs)) ≡ true
+            by : (t : Bool) → (t || has_node a (take n xs)) ≡ true → (has_node a (take n xs) ≡ true → has_node a (take i xs) ≡ true) → (t || has_node a (take i xs)) ≡ true
             by true h f = refl
             by false h f = f h
 
-    parents : (m : ℕ) → m < length ns → m ≤ i → (p : ℕ) → has p (numbers (jobs_at g.parents (get_or ns m 0))) ≡ true → is_kept kept p ≡ true → has p (take i ns) ≡ true
+    parents : (m : ℕ) → m < length ns → m ≤ i → (p : ℕ) → has_node p (numbers (jobs_at g.parents (get_or ns m 0))) ≡ true → is_kept kept p ≡ true → has_node p (take i ns) ≡ true
     parents m inside few p parent kept_p = inner m p few (parents_first w g kept e ranks ns graph are offers.costly sorted m inside p parent kept_p)
 
     -- the new job
@@ -253,8 +254,8 @@ placed_more w g kept e ranks candidates times moves old new js i j slot x graph 
     finish_j : finish k j ≡ slot.finish
     finish_j = ap (λ (xs : List ℕ). get_or xs j 0) put.finishes ∙ set_at 0 old.finishes.items j slot.finish j j_finishes ∙ ap (λ (t : Bool). cond t slot.finish (get_or old.finishes.items j 0)) (eq-eqb j j refl)
 
-    parents_j : (p : ℕ) → has p (numbers (jobs_at g.parents j)) ≡ true → is_kept kept p ≡ true → has p (take i ns) ≡ true
-    parents_j p parent kept_p = parents i low (omega arith) p (ap (λ (n : ℕ). has p (numbers (jobs_at g.parents n))) (sym is) ∙ parent) kept_p
+    parents_j : (p : ℕ) → has_node p (numbers (jobs_at g.parents j)) ≡ true → is_kept kept p ≡ true → has_node p (take i ns) ≡ true
+    parents_j p parent kept_p = parents i low (omega arith) p (ap (λ (n : ℕ). has_node p (numbers (jobs_at g.parents n))) (sym is) ∙ parent) kept_p
 
     alike_j : Alike g kept h k (take i ns) j
     alike_j = record { before = agree; parents = λ p parent kept_p. agree p (parents_j p parent kept_p) }
@@ -337,8 +338,8 @@ placed_more w g kept e ranks candidates times moves old new js i j slot x graph 
         by true e q = let same : finish_of old.free.items slot.site ≡ finish_of old.free.items s = ap (finish_of old.free.items) (eqb-true slot.site s e) in omega (arith, q, few, later, same)
         by false e q = omega (arith, q, few)
 
-    past : (a s : ℕ) → has a (take (i + 1) ns) ≡ true → runs_at k s a ≡ true → finish k a ≤ finish_of new.free.items s
-    past a s inside at = by_bool (has a (take i ns))
+    past : (a s : ℕ) → has_node a (take (i + 1) ns) ≡ true → runs_at k s a ≡ true → finish k a ≤ finish_of new.free.items s
+    past a s inside at = by_bool (has_node a (take i ns))
         (λ t. let same = agree a t in let old_at : runs_at h s a ≡ true = runs_same h k s a same ∙ at in let few = before.past a s t old_at in let e = same.ends in rises s (finish k a) (omega (arith, few, e)))
         (λ f. let is_j : j ≡ a = eqb-true j a (let more = has_more ns i a low in ap (λ (n : ℕ). nat_eq n a) is ∙ sym (ap (λ (b : Bool). b || nat_eq (get_or ns i 0) a) f) ∙ sym more ∙ inside) in
         let here : nat_eq slot.site s ≡ true = sym (runs_j s) ∙ ap (runs_at k s) is_j ∙ at in

@@ -4,15 +4,15 @@ use Rattle.std.specs.Prelude.{sum, replicate}
 use Rattle.std.proofs.lemmas.Bool.{eqb-true, eq-eqb}
 use Rattle.std.proofs.lemmas.List.{take_more, drop_all, length-map}
 use Rattle.values.specs.declared.numbers.JobId.{JobId}
-use Rattle.workflow_core.specs.WellFormed.{IsWellFormed}
+use Rattle.workflow_core.specs.code.WellFormed.{IsWellFormed}
 use Rattle.workflow_core.specs.declared.workflow.Workflow.{Workflow}
-use Rattle.digraph.specs.Adjacency.{has, neighbours, times}
+use Rattle.digraph.specs.Adjacency.{has_node, neighbours, times}
 use Rattle.dependency_graph.specs.Graph.{IsGraphOf, Links, jobs_at, numbers}
 use Rattle.dependency_graph.specs.Levels.{is_kept}
 use Rattle.dependency_graph.proofs.LevelsLemmas.{job_is, order_long, below}
 use Rattle.list_schedule.specs.Estimates.{Estimates, cost}
 use Rattle.list_schedule.specs.Ranks.{rank, farthest, AreRanks}
-use Rattle.list_schedule.specs.Tables.{moves_to, AreCosts, reach, rank_by}
+use Rattle.list_schedule.specs.code.Tables.{moves_to, AreCosts, reach, rank_by}
 use Rattle.list_schedule.proofs.GraphLemmas.{by_bool, links, after_edge, child_edge, IsNext, next_is, times_has}
 
 pub reach_push : (ps : List JobId) (ms : List ℕ) (v a : ℕ) (p : JobId) (m : ℕ) → length ms ≡ length ps → reach (ps ++ p ∷ []) (ms ++ m ∷ []) v a ≡ max (reach ps ms v a) (cond {A = ℕ} (nat_eq p.0 a) (m + v) 0)
@@ -40,7 +40,7 @@ reach_more ps ms v a i d e l =
     short (x ∷ xs) (y ∷ ys) (suc i) e = let rest = short xs ys i (omega (arith, e)) in omega (arith, rest)
 
 -- what is reached by moves to job j
-pub reach_is : (e : Estimates) (j v a : ℕ) (ps : List JobId) → reach ps (moves_to e j ps) v a ≡ cond {A = ℕ} (has a (numbers ps)) (e.move a j + v) 0
+pub reach_is : (e : Estimates) (j v a : ℕ) (ps : List JobId) → reach ps (moves_to e j ps) v a ≡ cond {A = ℕ} (has_node a (numbers ps)) (e.move a j + v) 0
 reach_is e j v a [] = refl
 reach_is e j v a (p ∷ ps) = by (nat_eq p.0 a) refl (reach_is e j v a ps)
   where
@@ -48,11 +48,11 @@ reach_is e j v a (p ∷ ps) = by (nat_eq p.0 a) refl (reach_is e j v a ps)
     both true n = omega arith
     both false n = omega arith
 
-    by : (t : Bool) → nat_eq p.0 a ≡ t → reach ps (moves_to e j ps) v a ≡ cond {A = ℕ} (has a (numbers ps)) (e.move a j + v) 0
-        → max (cond {A = ℕ} t (e.move p.0 j + v) 0) (reach ps (moves_to e j ps) v a) ≡ cond {A = ℕ} (t || has a (numbers ps)) (e.move a j + v) 0
+    by : (t : Bool) → nat_eq p.0 a ≡ t → reach ps (moves_to e j ps) v a ≡ cond {A = ℕ} (has_node a (numbers ps)) (e.move a j + v) 0
+        → max (cond {A = ℕ} t (e.move p.0 j + v) 0) (reach ps (moves_to e j ps) v a) ≡ cond {A = ℕ} (t || has_node a (numbers ps)) (e.move a j + v) 0
     by true at rest =
         ap (λ (n : ℕ). max (e.move n j + v) (reach ps (moves_to e j ps) v a)) (eqb-true p.0 a at)
-        ∙ ap (λ (n : ℕ). max (e.move a j + v) n) rest ∙ both (has a (numbers ps)) (e.move a j + v)
+        ∙ ap (λ (n : ℕ). max (e.move a j + v) n) rest ∙ both (has_node a (numbers ps)) (e.move a j + v)
     by false at rest = omega (arith, rest)
 
 -- the same as `farthest`, of the jobs of a set alone
@@ -68,17 +68,17 @@ and_false : (b t : Bool) → t ≡ false → (b && t) ≡ false
 and_false true t e = e
 and_false false t e = refl
 
-in_head : (c : JobId) (cs : List JobId) → has c.0 (numbers (c ∷ cs)) ≡ true
-in_head c cs = ap (λ (t : Bool). t || has c.0 (numbers cs)) (eq-eqb c.0 c.0 refl)
+in_head : (c : JobId) (cs : List JobId) → has_node c.0 (numbers (c ∷ cs)) ≡ true
+in_head c cs = ap (λ (t : Bool). t || has_node c.0 (numbers cs)) (eq-eqb c.0 c.0 refl)
 
-in_tail : (c : JobId) (cs : List JobId) (b : ℕ) → has b (numbers cs) ≡ true → has b (numbers (c ∷ cs)) ≡ true
-in_tail c cs b h = by (nat_eq c.0 b) (has b (numbers cs)) h
+in_tail : (c : JobId) (cs : List JobId) (b : ℕ) → has_node b (numbers cs) ≡ true → has_node b (numbers (c ∷ cs)) ≡ true
+in_tail c cs b h = by (nat_eq c.0 b) (has_node b (numbers cs)) h
   where
     by : (t u : Bool) → u ≡ true → (t || u) ≡ true
     by true u k = refl
     by false u k = k
 
-far_all : (kept : List Bool) (D : ℕ → Bool) (e : Estimates) (ranks : List ℕ) (a : ℕ) (cs : List JobId) → ((c : ℕ) → has c (numbers cs) ≡ true → D c ≡ true) → reached kept D e ranks a cs ≡ farthest kept e ranks a cs
+far_all : (kept : List Bool) (D : ℕ → Bool) (e : Estimates) (ranks : List ℕ) (a : ℕ) (cs : List JobId) → ((c : ℕ) → has_node c (numbers cs) ≡ true → D c ≡ true) → reached kept D e ranks a cs ≡ farthest kept e ranks a cs
 far_all kept D e ranks a [] all = refl
 far_all kept D e ranks a (c ∷ cs) all =
     let here : cond {A = ℕ} (is_kept kept c.0 && D c.0) (e.move a c.0 + rank ranks c.0) 0 ≡ cond {A = ℕ} (is_kept kept c.0) (e.move a c.0 + rank ranks c.0) 0
@@ -86,7 +86,7 @@ far_all kept D e ranks a (c ∷ cs) all =
     let rest = far_all kept D e ranks a cs (λ b h. all b (in_tail c cs b h)) in
     omega (arith, here, rest)
 
-far_same : (kept : List Bool) (e : Estimates) (ranks new : List ℕ) (a : ℕ) (cs : List JobId) → ((c : ℕ) → has c (numbers cs) ≡ true → rank ranks c ≡ rank new c) → farthest kept e ranks a cs ≡ farthest kept e new a cs
+far_same : (kept : List Bool) (e : Estimates) (ranks new : List ℕ) (a : ℕ) (cs : List JobId) → ((c : ℕ) → has_node c (numbers cs) ≡ true → rank ranks c ≡ rank new c) → farthest kept e ranks a cs ≡ farthest kept e new a cs
 far_same kept e ranks new a [] same = refl
 far_same kept e ranks new a (c ∷ cs) same =
     let here : cond {A = ℕ} (is_kept kept c.0) (e.move a c.0 + rank ranks c.0) 0 ≡ cond {A = ℕ} (is_kept kept c.0) (e.move a c.0 + rank new c.0) 0
@@ -120,7 +120,7 @@ far_dropped kept D F e ranks j a (c ∷ cs) more off =
 -- one kept job more, of which the rank is r
 far_more : (kept : List Bool) (D F : ℕ → Bool) (e : Estimates) (ranks new : List ℕ) (j r a : ℕ) (cs : List JobId) → ((c : ℕ) → F c ≡ (nat_eq j c || D c)) → is_kept kept j ≡ true
     → D j ≡ false → rank new j ≡ r → ((c : ℕ) → D c ≡ true → rank ranks c ≡ rank new c)
-    → reached kept F e new a cs ≡ max (reached kept D e ranks a cs) (cond {A = ℕ} (has j (numbers cs)) (e.move a j + r) 0)
+    → reached kept F e new a cs ≡ max (reached kept D e ranks a cs) (cond {A = ℕ} (has_node j (numbers cs)) (e.move a j + r) 0)
 far_more kept D F e ranks new j r a [] more is fresh at same = omega arith
 far_more kept D F e ranks new j r a (c ∷ cs) more is fresh at same =
     head (nat_eq c.0 j) refl (far_more kept D F e ranks new j r a cs more is fresh at same)
@@ -130,9 +130,9 @@ far_more kept D F e ranks new j r a (c ∷ cs) more is fresh at same =
     again false n m = omega arith
 
     head : (t : Bool) → nat_eq c.0 j ≡ t
-        → reached kept F e new a cs ≡ max (reached kept D e ranks a cs) (cond {A = ℕ} (has j (numbers cs)) (e.move a j + r) 0)
+        → reached kept F e new a cs ≡ max (reached kept D e ranks a cs) (cond {A = ℕ} (has_node j (numbers cs)) (e.move a j + r) 0)
         → max (cond {A = ℕ} (is_kept kept c.0 && F c.0) (e.move a c.0 + rank new c.0) 0) (reached kept F e new a cs)
-        ≡ max (max (cond {A = ℕ} (is_kept kept c.0 && D c.0) (e.move a c.0 + rank ranks c.0) 0) (reached kept D e ranks a cs)) (cond {A = ℕ} (t || has j (numbers cs)) (e.move a j + r) 0)
+        ≡ max (max (cond {A = ℕ} (is_kept kept c.0 && D c.0) (e.move a c.0 + rank ranks c.0) 0) (reached kept D e ranks a cs)) (cond {A = ℕ} (t || has_node j (numbers cs)) (e.move a j + r) 0)
     head true h rest =
         let same_job : c.0 ≡ j = eqb-true c.0 j h in
         let inside : (is_kept kept c.0 && F c.0) ≡ true = ap (λ (n : ℕ). is_kept kept n && F n) same_job ∙ ap (λ (t : Bool). t && F j) is ∙ more j ∙ ap (λ (t : Bool). t || D j) (eq-eqb j j refl) in
@@ -140,7 +140,7 @@ far_more kept D F e ranks new j r a (c ∷ cs) more is fresh at same =
         let one : cond {A = ℕ} (is_kept kept c.0 && F c.0) (e.move a c.0 + rank new c.0) 0 ≡ e.move a j + r
         = ap (λ (t : Bool). cond {A = ℕ} t (e.move a c.0 + rank new c.0) 0) inside ∙ ap (λ (n : ℕ). e.move a n + rank new n) same_job ∙ ap (λ (n : ℕ). e.move a j + n) at in
         let two : cond {A = ℕ} (is_kept kept c.0 && D c.0) (e.move a c.0 + rank ranks c.0) 0 ≡ 0 = ap (λ (t : Bool). cond {A = ℕ} t (e.move a c.0 + rank ranks c.0) 0) outside in
-        let three = again (has j (numbers cs)) (e.move a j + r) (reached kept D e ranks a cs) in
+        let three = again (has_node j (numbers cs)) (e.move a j + r) (reached kept D e ranks a cs) in
         omega (arith, one, two, three, rest)
     head false h rest =
         let here : cond {A = ℕ} (is_kept kept c.0 && F c.0) (e.move a c.0 + rank new c.0) 0 ≡ cond {A = ℕ} (is_kept kept c.0 && D c.0) (e.move a c.0 + rank ranks c.0) 0
@@ -156,7 +156,7 @@ far_more kept D F e ranks new j r a (c ∷ cs) more is fresh at same =
         by false k = let zero_one = and_false (is_kept kept c.0) false refl in ap (λ (t : Bool). cond {A = ℕ} t (e.move a c.0 + rank new c.0) 0) zero_one ∙ sym (ap (λ (t : Bool). cond {A = ℕ} t (e.move a c.0 + rank ranks c.0) 0) zero_one)
 
 abbrev pub from_place : Links → ℕ → ℕ → Bool
-from_place g k a = has a (drop k (numbers g.ordered))
+from_place g k a = has_node a (drop k (numbers g.ordered))
 
 -- The jobs from place k of the order on have their ranks, and each other job what comes after it of those.
 pub record AreRankedFrom (g : Links) (kept : List Bool) (e : Estimates) (ranks : List ℕ) (k : ℕ) : Type 0 where
@@ -169,7 +169,7 @@ zero_at (suc n) zero = refl
 zero_at (suc n) (suc a) = zero_at n a
 
 none_from : (g : Links) (k a : ℕ) → length (numbers g.ordered) ≤ k → from_place g k a ≡ false
-none_from g k a past = ap (has a) (drop_all k (numbers g.ordered) past)
+none_from g k a past = ap (has_node a) (drop_all k (numbers g.ordered) past)
 
 pub ranked_none : (g : Links) (kept : List Bool) (e : Estimates) (ranks : List ℕ) (n k : ℕ) → ranks ≡ replicate n 0 → length (numbers g.ordered) ≤ k → AreRankedFrom g kept e ranks k
 ranked_none g kept e ranks n k is past = record {
@@ -177,7 +177,7 @@ ranked_none g kept e ranks n k is past = record {
   rest = λ a there. ap (λ (xs : List ℕ). rank xs a) is ∙ zero_at n a ∙ sym (far_none kept (from_place g k) e ranks a (jobs_at g.children a) (λ c. none_from g k c past));
 }
 
-children_from : (w : Workflow) (g : Links) → IsGraphOf w g → (k a c : ℕ) → from_place g k a ≡ true → has c (numbers (jobs_at g.children a)) ≡ true → from_place g k c ≡ true
+children_from : (w : Workflow) (g : Links) → IsGraphOf w g → (k a c : ℕ) → from_place g k a ≡ true → has_node c (numbers (jobs_at g.children a)) ≡ true → from_place g k c ≡ true
 children_from w g graph k a c there child = after_edge w g graph k a c there (sym (child_edge w g graph a c) ∙ child)
 
 pub ranked_dropped : (w : Workflow) (g : Links) (kept : List Bool) (e : Estimates) (ranks : List ℕ) (k j : ℕ) → IsGraphOf w g → IsNext g k j → is_kept kept j ≡ false → AreRankedFrom g kept e ranks (k + 1) → AreRankedFrom g kept e ranks k
@@ -195,7 +195,7 @@ ranked_dropped w g kept e ranks k j graph next off is = record {
 -- what the ranks become with job j: its own, and what its parents reach
 pub record AreRaised (g : Links) (e : Estimates) (ranks new : List ℕ) (j r : ℕ) : Type 0 where
   pub is : r ≡ cost e j + rank ranks j
-  pub each : (a : ℕ) → rank new a ≡ max (cond {A = ℕ} (nat_eq j a) r (rank ranks a)) (cond {A = ℕ} (has a (numbers (jobs_at g.parents j))) (e.move a j + r) 0)
+  pub each : (a : ℕ) → rank new a ≡ max (cond {A = ℕ} (nat_eq j a) r (rank ranks a)) (cond {A = ℕ} (has_node a (numbers (jobs_at g.parents j))) (e.move a j + r) 0)
 
 pub ranked_more : (w : Workflow) (g : Links) (kept : List Bool) (e : Estimates) (ranks new : List ℕ) (k j r : ℕ) → IsGraphOf w g → IsNext g k j → is_kept kept j ≡ true → AreRankedFrom g kept e ranks (k + 1)
     → AreRaised g e ranks new j r → AreRankedFrom g kept e new k
@@ -213,8 +213,8 @@ ranked_more w g kept e ranks new k j r graph next kept_one is raised = record { 
     or_left false u h = refl
 
     -- no parent stands from place k on
-    no_parent : (a : ℕ) → from_place g k a ≡ true → has a (numbers (jobs_at g.parents j)) ≡ false
-    no_parent a there = by_bool (has a (numbers (jobs_at g.parents j))) (λ t. absurd (let out = next.parents a t in let clash = sym there ∙ out in cc)) (λ f. f)
+    no_parent : (a : ℕ) → from_place g k a ≡ true → has_node a (numbers (jobs_at g.parents j)) ≡ false
+    no_parent a there = by_bool (has_node a (numbers (jobs_at g.parents j))) (λ t. absurd (let out = next.parents a t in let clash = sym there ∙ out in cc)) (λ f. f)
 
     here : from_place g k j ≡ true
     here = next.more j ∙ ap (λ (t : Bool). t || D j) (eq-eqb j j refl)
@@ -222,7 +222,7 @@ ranked_more w g kept e ranks new k j r graph next kept_one is raised = record { 
     at : rank new j ≡ r
     at = let each = raised.each j in
         let one : cond {A = ℕ} (nat_eq j j) r (rank ranks j) ≡ r = ap (λ (t : Bool). cond {A = ℕ} t r (rank ranks j)) (eq-eqb j j refl) in
-        let two : cond {A = ℕ} (has j (numbers (jobs_at g.parents j))) (e.move j j + r) 0 ≡ 0 = ap (λ (t : Bool). cond {A = ℕ} t (e.move j j + r) 0) (no_parent j here) in
+        let two : cond {A = ℕ} (has_node j (numbers (jobs_at g.parents j))) (e.move j j + r) 0 ≡ 0 = ap (λ (t : Bool). cond {A = ℕ} t (e.move j j + r) 0) (no_parent j here) in
         omega (arith, each, one, two)
 
     in_more : (a : ℕ) → D a ≡ true → from_place g k a ≡ true
@@ -238,7 +238,7 @@ ranked_more w g kept e ranks new k j r graph next kept_one is raised = record { 
     same : (a : ℕ) → D a ≡ true → rank ranks a ≡ rank new a
     same a there = let each = raised.each a in
         let one : cond {A = ℕ} (nat_eq j a) r (rank ranks a) ≡ rank ranks a = ap (λ (t : Bool). cond {A = ℕ} t r (rank ranks a)) (other a there) in
-        let two : cond {A = ℕ} (has a (numbers (jobs_at g.parents j))) (e.move a j + r) 0 ≡ 0 = ap (λ (t : Bool). cond {A = ℕ} t (e.move a j + r) 0) (no_parent a (in_more a there)) in
+        let two : cond {A = ℕ} (has_node a (numbers (jobs_at g.parents j))) (e.move a j + r) 0 ≡ 0 = ap (λ (t : Bool). cond {A = ℕ} t (e.move a j + r) 0) (no_parent a (in_more a there)) in
         omega (arith, each, one, two)
 
     done : (a : ℕ) → from_place g k a ≡ true → is_kept kept a ≡ true → rank new a ≡ cost e a + farthest kept e new a (jobs_at g.children a)
@@ -257,7 +257,7 @@ ranked_more w g kept e ranks new k j r graph next kept_one is raised = record { 
         let neither : (nat_eq j a || D a) ≡ false = sym (next.more a) ∙ out in
         let each = raised.each a in
         let one : cond {A = ℕ} (nat_eq j a) r (rank ranks a) ≡ rank ranks a = ap (λ (t : Bool). cond {A = ℕ} t r (rank ranks a)) (or_left (nat_eq j a) (D a) neither) in
-        let two : cond {A = ℕ} (has a (numbers (jobs_at g.parents j))) (e.move a j + r) 0 ≡ cond {A = ℕ} (has j (numbers (jobs_at g.children a))) (e.move a j + r) 0
+        let two : cond {A = ℕ} (has_node a (numbers (jobs_at g.parents j))) (e.move a j + r) 0 ≡ cond {A = ℕ} (has_node j (numbers (jobs_at g.children a))) (e.move a j + r) 0
         = ap (λ (t : Bool). cond {A = ℕ} t (e.move a j + r) 0) (sym (links w g graph a j)) in
         let old = is.rest a (or_right (nat_eq j a) (D a) neither) in
         let more = far_more kept D (from_place g k) e ranks new j r a (jobs_at g.children a) next.more kept_one next.fresh at same in

@@ -6,46 +6,47 @@ use Rattle.std.proofs.lemmas.List.{length-map, length-set, length-replicate, get
 use Rattle.values.specs.declared.numbers.JobId.{JobId}
 use Rattle.values.specs.declared.numbers.SiteId.{SiteId}
 use Rattle.workflow_core.specs.declared.workflow.Workflow.{Workflow}
-use Rattle.workflow_core.specs.WellFormed.{IsWellFormed}
-use Rattle.digraph.specs.Adjacency.{has, times}
+use Rattle.workflow_core.specs.code.WellFormed.{IsWellFormed}
+use Rattle.digraph.specs.Adjacency.{has_node, times}
 use Rattle.dependency_graph.specs.Graph.{IsGraphOf, Links, numbers}
 use Rattle.dependency_graph.specs.Levels.{is_kept}
-use Rattle.dependency_graph.specs.Ranking.{AreOnce}
+use Rattle.dependency_graph.specs.Ranking.{HasNoRepeats}
 use Rattle.dependency_graph.proofs.LevelsLemmas.{tally, tally_more, tally_none}
 use Rattle.dependency_graph.proofs.TestLemmas.{has_at, has_more}
 use Rattle.list_schedule.specs.declared.choice.Slot.{Slot}
 use Rattle.list_schedule.specs.declared.board.Board.{Board}
 use Rattle.list_schedule.specs.Estimates.{Estimates}
 use Rattle.list_schedule.specs.Ranks.{AreRanks, IsRankOrder}
-use Rattle.list_schedule.specs.Schedule.{site_id, IsHeft}
-use Rattle.list_schedule.specs.Arrivals.{finish_of}
-use Rattle.list_schedule.specs.Board.{no_site, IsEmpty, IsPut, IsLong, schedule_at, ArePlaced, IsUntouched, AreSmall}
+use Rattle.list_schedule.specs.Schedule.{IsHeft}
+use Rattle.values.specs.Numbers.{site_id}
+use Rattle.list_schedule.specs.code.Arrivals.{finish_of}
+use Rattle.list_schedule.specs.code.Board.{no_site, IsEmpty, IsPut, IsLong, schedule_at, ArePlaced, IsUntouched, AreSmall}
 use Rattle.list_schedule.proofs.SetLemmas.{set_at, set_small}
 use Rattle.list_schedule.proofs.GraphLemmas.{none_times}
 
 -- ---- an order of few jobs is short
 
-tally_length : (n : ℕ) (ns : List ℕ) → ((a : ℕ) → has a ns ≡ true → a < n) → tally n ns ≡ length ns
+tally_length : (n : ℕ) (ns : List ℕ) → ((a : ℕ) → has_node a ns ≡ true → a < n) → tally n ns ≡ length ns
 tally_length n [] low = tally_none n
-tally_length n (a ∷ ns) low = tally_more n a ns (low a (ap (λ (t : Bool). t || has a ns) (eq-eqb a a refl))) ∙ ap suc (tally_length n ns (λ b there. low b (later (nat_eq a b) (has b ns) there)))
+tally_length n (a ∷ ns) low = tally_more n a ns (low a (ap (λ (t : Bool). t || has_node a ns) (eq-eqb a a refl))) ∙ ap suc (tally_length n ns (λ b there. low b (later (nat_eq a b) (has_node b ns) there)))
   where
     later : (t u : Bool) → u ≡ true → (t || u) ≡ true
     later true u e = refl
     later false u e = e
 
-once_times : (a : ℕ) (ns : List ℕ) → AreOnce ns → times a ns ≤ 1
+once_times : (a : ℕ) (ns : List ℕ) → HasNoRepeats ns → times a ns ≤ 1
 once_times a [] once = omega arith
 once_times a (n ∷ ns) once = by (nat_eq n a) refl (once_times a ns once.1)
   where
     by : (t : Bool) → nat_eq n a ≡ t → times a ns ≤ 1 → cond {A = ℕ} t 1 0 + times a ns ≤ 1
-    by true e rest = let none : times a ns ≡ 0 = none_times a ns (ap (λ (m : ℕ). has m ns) (sym (eqb-true n a e)) ∙ once.0) in omega (arith, none)
+    by true e rest = let none : times a ns ≡ 0 = none_times a ns (ap (λ (m : ℕ). has_node m ns) (sym (eqb-true n a e)) ∙ once.0) in omega (arith, none)
     by false e rest = omega (arith, rest)
 
-tally_few : (n : ℕ) (ns : List ℕ) → AreOnce ns → tally n ns ≤ n
+tally_few : (n : ℕ) (ns : List ℕ) → HasNoRepeats ns → tally n ns ≤ n
 tally_few zero ns once = omega arith
 tally_few (suc n) ns once = let rest = tally_few n ns once in let here = once_times n ns once in omega (arith, rest, here)
 
-pub once_short : (n : ℕ) (ns : List ℕ) → AreOnce ns → ((a : ℕ) → has a ns ≡ true → a < n) → length ns ≤ n
+pub once_short : (n : ℕ) (ns : List ℕ) → HasNoRepeats ns → ((a : ℕ) → has_node a ns ≡ true → a < n) → length ns ≤ n
 once_short n ns once low = let all = tally_length n ns low in let few = tally_few n ns once in omega (arith, all, few)
 
 pub order_short : (kept : List Bool) (ranks : List ℕ) (js : List JobId) → IsRankOrder kept ranks (numbers js) → length js ≤ length kept
@@ -117,8 +118,8 @@ put_small old new j n m slot small wide end low free put = (
   λ s. subst (λ (xs : List ℕ). get_or xs s 0 ≤ m) (sym put.free) (set_small old.free.items slot.site slot.finish m free end (λ b. let few = small.1 b in omega (arith, few, wide)) s),
 )
 
-pub put_untouched : (old new : Board) (js : List JobId) (jobs i : ℕ) (slot : Slot) → i < length js → IsLong old jobs → (get_or js i (record { 0 = 0 })).0 < jobs → ((a : ℕ) → has a (take i (numbers js)) ≡ false → IsUntouched old a)
-    → IsPut old new (get_or js i (record { 0 = 0 })).0 slot → (a : ℕ) → has a (take (i + 1) (numbers js)) ≡ false → IsUntouched new a
+pub put_untouched : (old new : Board) (js : List JobId) (jobs i : ℕ) (slot : Slot) → i < length js → IsLong old jobs → (get_or js i (record { 0 = 0 })).0 < jobs → ((a : ℕ) → has_node a (take i (numbers js)) ≡ false → IsUntouched old a)
+    → IsPut old new (get_or js i (record { 0 = 0 })).0 slot → (a : ℕ) → has_node a (take (i + 1) (numbers js)) ≡ false → IsUntouched new a
 put_untouched old new js jobs i slot low long within before put a out = record {
   at = ap (λ (xs : List (Option SiteId)). get_or xs a None) put.sites ∙ set_at None old.sites.items j (Some (site_id slot.site)) a (omega (arith, within, long.sites)) ∙ ap (λ (t : Bool). cond t (Some (site_id slot.site)) (get_or old.sites.items a None)) other ∙ same.at;
   begins = ap (λ (xs : List ℕ). get_or xs a 0) put.starts ∙ set_at 0 old.starts.items j slot.start a (omega (arith, within, long.starts)) ∙ ap (λ (t : Bool). cond t slot.start (get_or old.starts.items a 0)) other ∙ same.begins;
@@ -128,7 +129,7 @@ put_untouched old new js jobs i slot low long within before put a out = record {
     j : ℕ
     j = (get_or js i (record { 0 = 0 })).0
 
-    neither : (has a (take i (numbers js)) || nat_eq (get_or (numbers js) i 0) a) ≡ false
+    neither : (has_node a (take i (numbers js)) || nat_eq (get_or (numbers js) i 0) a) ≡ false
     neither = sym (has_more (numbers js) i a (let l = length-map js (λ (k : JobId). k.0) in omega (arith, low, l))) ∙ out
 
     or_left : (t u : Bool) → (t || u) ≡ false → t ≡ false
@@ -140,15 +141,15 @@ put_untouched old new js jobs i slot low long within before put a out = record {
     or_right false u h = h
 
     other : nat_eq j a ≡ false
-    other = ap (λ (n : ℕ). nat_eq n a) (walk_at js i low) ∙ or_right (has a (take i (numbers js))) (nat_eq (get_or (numbers js) i 0) a) neither
+    other = ap (λ (n : ℕ). nat_eq n a) (walk_at js i low) ∙ or_right (has_node a (take i (numbers js))) (nat_eq (get_or (numbers js) i 0) a) neither
 
     same : IsUntouched old a
-    same = before a (or_left (has a (take i (numbers js))) (nat_eq (get_or (numbers js) i 0) a) neither)
+    same = before a (or_left (has_node a (take i (numbers js))) (nat_eq (get_or (numbers js) i 0) a) neither)
 
 -- ---- the whole schedule
 
 pub heft_is : (g : Links) (kept : List Bool) (e : Estimates) (ranks : List ℕ) (b : Board) (js : List JobId) → AreRanks g kept e ranks → IsRankOrder kept ranks (numbers js) → IsLong b (length kept) → ArePlaced g kept e b js (length js)
-    → ((a : ℕ) → has a (numbers js) ≡ false → IsUntouched b a) → IsHeft g kept e (schedule_at b js)
+    → ((a : ℕ) → has_node a (numbers js) ≡ false → IsUntouched b a) → IsHeft g kept e (schedule_at b js)
 heft_is g kept e ranks b js are sorted long placed others = record {
   ranks = ranks;
   are_ranks = are;

@@ -2,8 +2,5 @@
 pub mod Estimates
 pub mod Ranks
 pub mod Schedule
-pub mod Law
--- Steps
-pub mod Tables
-pub mod Arrivals
-pub mod Board
+-- What only the code's own contracts say.
+pub mod code

@@ -4,7 +4,7 @@ use Rattle.values.specs.declared.numbers.JobId.{JobId}
 use Rattle.dependency_graph.specs.Edges.{is_among}
 use Rattle.dependency_graph.specs.Graph.{Links, jobs_at}
 use Rattle.dependency_graph.specs.Levels.{is_kept}
-use Rattle.dependency_graph.specs.Ranking.{AreOnce}
+use Rattle.dependency_graph.specs.Ranking.{HasNoRepeats}
 use Rattle.list_schedule.specs.Estimates.{Estimates, cost}
 
 abbrev pub rank : List ℕ → ℕ → ℕ
@@ -30,7 +30,7 @@ comes_first ranks b a =
 
 -- the kept jobs, each once, by falling rank and then by number
 pub record IsRankOrder (kept : List Bool) (ranks : List ℕ) (order : List ℕ) : Type 0 where
-  pub once : AreOnce order
+  pub once : HasNoRepeats order
   pub kept_ones : (a : ℕ) → is_among a order ≡ is_kept kept a
   pub below : (a : ℕ) → is_among a order ≡ true → a < length kept
   pub falling : (i j : ℕ) → i < j → j < length order

@@ -1,5 +1,6 @@
 -- The list schedule of the kept jobs.
 use Rattle.std.specs.Prelude.{◌≡◌, ℕ, ◌+◌, ◌<◌, ◌≤◌, ◌==◌, Bool, false, max, if◌then◌else◌, List, [], ◌∷◌, length, take, get_or, slice_index_or, Option, Some, None}
+use Rattle.values.specs.Numbers.{site_id}
 use Rattle.values.specs.declared.numbers.JobId.{JobId}
 use Rattle.values.specs.declared.numbers.SiteId.{SiteId}
 use Rattle.dependency_graph.specs.Graph.{Links, jobs_at, numbers}
@@ -14,9 +15,6 @@ pub record Schedule : Type 0 where
   pub order : List JobId
   pub starts : List ℕ
   pub finishes : List ℕ
-
-abbrev pub site_id : ℕ → SiteId
-site_id s = record { 0 = s }
 
 abbrev pub site : Schedule → ℕ → Option SiteId
 site h a = slice_index_or h.sites a None

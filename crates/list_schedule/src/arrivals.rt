@@ -3,7 +3,7 @@
 ghost use Rattle.std.specs.Prelude.{◌≡◌, ◌+◌, ◌<◌, ◌≤◌, ◌^◌, ℕ, Bool, true, false, max, length, All};
 ghost use Rattle.values.specs.declared.numbers.JobId.{JobId};
 ghost use Rattle.list_schedule.specs.Schedule.{is_site};
-ghost use Rattle.list_schedule.specs.Arrivals.{latest_at, counted, elsewhere, finish_of};
+ghost use Rattle.list_schedule.specs.code.Arrivals.{latest_at, counted, elsewhere, finish_of};
 
 use values::{JobId, SiteId};
 

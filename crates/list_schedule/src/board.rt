@@ -1,7 +1,7 @@
 //! What is placed so far.
 
 ghost use Rattle.std.specs.Prelude.{◌≡◌, ◌<◌, vec_len, IfOk};
-ghost use Rattle.list_schedule.specs.Board.{IsEmpty, IsPut};
+ghost use Rattle.list_schedule.specs.code.Board.{IsEmpty, IsPut};
 
 use crate::choice::Slot;
 use std::alloc::Global;

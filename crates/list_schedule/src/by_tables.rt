@@ -2,13 +2,13 @@
 
 ghost use Rattle.std.specs.Prelude.{◌≡◌, length, IfOk};
 ghost use Rattle.workflow_core.specs.declared.workflow.Workflow.{Workflow};
-ghost use Rattle.workflow_core.specs.WellFormed.{IsWellFormed};
-ghost use Rattle.digraph.specs.Adjacency.{lists_of};
+ghost use Rattle.workflow_core.specs.code.WellFormed.{IsWellFormed};
+ghost use Rattle.digraph.specs.code.Adjacency.{lists_of};
 ghost use Rattle.dependency_graph.specs.Graph.{IsGraphOf};
 ghost use Rattle.list_schedule.specs.Estimates.{Estimates};
 ghost use Rattle.list_schedule.specs.Schedule.{IsHeft};
-ghost use Rattle.list_schedule.specs.Board.{schedule_of};
-ghost use Rattle.list_schedule.specs.Tables.{AreFull, AreCosts, AreCandidates, AreSites};
+ghost use Rattle.list_schedule.specs.code.Board.{schedule_of};
+ghost use Rattle.list_schedule.specs.code.Tables.{AreFull, AreCosts, AreCandidates, AreSites};
 
 use crate::heft::Heft;
 use crate::order::by_rank;

@@ -1,7 +1,7 @@
 //! The site of one job.
 
 ghost use Rattle.std.specs.Prelude.{◌≡◌, ◌+◌, ◌<◌, ◌≤◌, ◌^◌, ℕ, cond, ltb, length, slice_index_or, All};
-ghost use Rattle.list_schedule.specs.Arrivals.{latest_at, start_at, IsEarliest};
+ghost use Rattle.list_schedule.specs.code.Arrivals.{latest_at, start_at, IsEarliest};
 
 use crate::arrivals::Latest;
 

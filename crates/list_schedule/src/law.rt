@@ -1,6 +1,6 @@
 //! What a schedule comes to.
 
-ghost use Rattle.list_schedule.specs.Law.{StartsAfterParents, RunsAtCandidate, FinishesFirst, NeverOverlaps};
+ghost use Rattle.list_schedule.specs.code.Law.{StartsAfterParents, RunsAtCandidate, FinishesFirst, NeverOverlaps};
 
 /// A kept job begins once each kept parent has ended and what it made is at the job's site. It runs
 /// at one of its candidates, at none of them would it have finished earlier, and of two jobs at one

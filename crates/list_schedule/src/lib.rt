@@ -2,7 +2,9 @@
 //! finishes first, `IsHeft` of `specs/Schedule.antt`.
 //!
 //! It is defined over what jobs are estimated at (`specs/Estimates.antt`), and made from tables of
-//! this: `ranks` finds the upward ranks, `order` the jobs' order by them, `placing` places them.
+//! this by [`schedule_by`]: `ranks` finds the upward ranks, `order` the jobs' order by them, `placing` places them. The
+//! answer, a [`Heft`], has for each job its site and when it begins and ends, in seconds; a law says that a schedule is
+//! sound ([`schedules_are_sound`]).
 #![tactic(auto)]
 
 mod arrivals;

@@ -3,9 +3,9 @@
 ghost use Rattle.std.specs.Prelude.{◌≡◌, ◌≤◌, ◌^◌, ℕ, length, map, IfOk};
 ghost use Rattle.dependency_graph.specs.Graph.{numbers};
 ghost use Rattle.dependency_graph.specs.Levels.{is_kept};
-ghost use Rattle.dependency_graph.specs.Ranking.{leveled, numbers_in};
+ghost use Rattle.dependency_graph.specs.code.Ranking.{leveled, numbers_in};
 ghost use Rattle.list_schedule.specs.Ranks.{rank, IsRankOrder};
-ghost use Rattle.list_schedule.specs.Tables.{depths};
+ghost use Rattle.list_schedule.specs.code.Tables.{depths};
 
 use std::alloc::Global;
 use values::{JobId, Memory};

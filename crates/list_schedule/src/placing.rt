@@ -3,17 +3,18 @@
 ghost use Rattle.std.specs.Prelude.{◌≡◌, ◌+◌, ◌<◌, ◌≤◌, ◌^◌, ℕ, List, true, false, length, vec_len, IfOk, All};
 ghost use Rattle.values.specs.declared.numbers.JobId.{JobId};
 ghost use Rattle.workflow_core.specs.declared.workflow.Workflow.{Workflow};
-ghost use Rattle.workflow_core.specs.WellFormed.{IsWellFormed};
-ghost use Rattle.digraph.specs.Adjacency.{has, lists_of, neighbours};
+ghost use Rattle.workflow_core.specs.code.WellFormed.{IsWellFormed};
+ghost use Rattle.digraph.specs.Adjacency.{has_node, neighbours};
+ghost use Rattle.digraph.specs.code.Adjacency.{lists_of};
 ghost use Rattle.dependency_graph.specs.Graph.{IsGraphOf, jobs_at, numbers};
 ghost use Rattle.dependency_graph.specs.Levels.{is_kept};
 ghost use Rattle.list_schedule.specs.declared.arrivals.Latest.{Latest};
 ghost use Rattle.list_schedule.specs.Estimates.{Estimates};
 ghost use Rattle.list_schedule.specs.Ranks.{AreRanks, IsRankOrder};
 ghost use Rattle.list_schedule.specs.Schedule.{IsHeft};
-ghost use Rattle.list_schedule.specs.Arrivals.{latest_at, elsewhere, finish_of, IsEarliest};
-ghost use Rattle.list_schedule.specs.Board.{AreSmall, schedule_of, IsEmpty, IsLong, ArePlaced, IsUntouched};
-ghost use Rattle.list_schedule.specs.Tables.{AreFull, AreCosts, AreCandidates, AreSites};
+ghost use Rattle.list_schedule.specs.code.Arrivals.{latest_at, elsewhere, finish_of, IsEarliest};
+ghost use Rattle.list_schedule.specs.code.Board.{AreSmall, schedule_of, IsEmpty, IsLong, ArePlaced, IsUntouched};
+ghost use Rattle.list_schedule.specs.code.Tables.{AreFull, AreCosts, AreCandidates, AreSites};
 
 use crate::arrivals::arrivals_of;
 use crate::board::{Board, empty};
@@ -120,7 +121,7 @@ fn place_all(
         → AreCandidates kept.now e (lists_of candidates.now)
         → AreRanks graph.now kept.now e ranks → IsRankOrder kept.now ranks (numbers order.now)
         → ArePlaced graph.now kept.now e board.new order.now (length order.now) }
-    ensures others { (a : ℕ) → has a (numbers order.now) ≡ false → IsUntouched board.new a }
+    ensures others { (a : ℕ) → has_node a (numbers order.now) ≡ false → IsUntouched board.new a }
 {
     for job in order {
         let slot = slot_of(graph, kept, candidates, times, moves, board, *job);

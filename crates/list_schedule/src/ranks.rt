@@ -3,13 +3,14 @@
 ghost use Rattle.std.specs.Prelude.{◌≡◌, ◌+◌, ◌/◌, ◌<◌, ◌≤◌, ◌*◌, ◌^◌, ℕ, max, cond, eqb, true, false, length, sum, replicate, IfOk, All};
 ghost use Rattle.values.specs.declared.numbers.JobId.{JobId};
 ghost use Rattle.workflow_core.specs.declared.workflow.Workflow.{Workflow};
-ghost use Rattle.workflow_core.specs.WellFormed.{IsWellFormed};
-ghost use Rattle.digraph.specs.Adjacency.{lists_of, neighbours};
+ghost use Rattle.workflow_core.specs.code.WellFormed.{IsWellFormed};
+ghost use Rattle.digraph.specs.code.Adjacency.{lists_of};
+ghost use Rattle.digraph.specs.Adjacency.{neighbours};
 ghost use Rattle.dependency_graph.specs.Graph.{IsGraphOf, jobs_at};
 ghost use Rattle.dependency_graph.specs.Levels.{is_kept};
 ghost use Rattle.list_schedule.specs.Estimates.{Estimates};
 ghost use Rattle.list_schedule.specs.Ranks.{rank, AreRanks};
-ghost use Rattle.list_schedule.specs.Tables.{AreFull, AreCosts, reach, rank_by};
+ghost use Rattle.list_schedule.specs.code.Tables.{AreFull, AreCosts, reach, rank_by};
 
 use dependency_graph::Graph;
 use std::alloc::Global;

@@ -1,29 +1,11 @@
 -- Documents under names, and what a fetch answers.
-use Rattle.std.specs.Prelude.{◌≡◌, ℕ, ◌≤◌, List, [], length, nat_lt, if◌then◌else◌, Option, Some, None, Result, Ok, Err, IfSome}
+use Rattle.std.specs.Prelude.{ℕ, List, length, nat_lt, if◌then◌else◌, Result, Ok, Err, unwrap_or, option_map}
 use Rattle.std.specs.FinMap as map
-use Rattle.outside.specs.Counts.{one_done, one_fault, one_miss}
 use Rattle.values.specs.FileMap.{Files}
-use Rattle.outside.specs.declared.counts.Counts.{Counts}
 use Rattle.outside.specs.declared.docs.DocFault.{DocFault}
-use Rattle.outside.specs.declared.docs.DocFault.TheVariants.{Absent, Failed, TooLong, Memory}
+use Rattle.outside.specs.declared.docs.DocFault.TheVariants.{Absent, TooLong}
 
--- the document, or why there is none within the limit
-abbrev pub within : ℕ → Option (List ℕ) → Result (List ℕ) DocFault
-within limit None = Err Absent
-within limit (Some bytes) = if nat_lt limit (length bytes) then Err (TooLong limit) else Ok bytes
-
--- what a fetch gives where the documents are told
+-- what a fetch gives where the documents are told: the document, or why there is none within the limit
 abbrev pub fetched : Files → List ℕ → ℕ → Result (List ℕ) DocFault
-fetched files name limit = within limit (map.get files name)
-
--- The answers of a fetch. Each counts itself, but want of memory. A document that comes is within the limit, told or not.
-abbrev pub Fetched : Option Files → List ℕ → ℕ → Counts → Counts → Result (Unit {0}) DocFault → List ℕ
-    → Type 0
-Fetched told name limit before after (Ok u) into = (after ≡ one_done before) × (length into ≤ limit)
-    × IfSome told (λ files. fetched files name limit ≡ Ok into)
-Fetched told name limit before after (Err Absent) into = (after ≡ one_miss before) × (into ≡ [])
-    × IfSome told (λ files. fetched files name limit ≡ Err Absent)
-Fetched told name limit before after (Err (TooLong n)) into = (after ≡ one_miss before) × (into ≡ [])
-    × (n ≡ limit) × IfSome told (λ files. fetched files name limit ≡ Err (TooLong n))
-Fetched told name limit before after (Err Failed) into = (after ≡ one_fault before) × (into ≡ [])
-Fetched told name limit before after (Err Memory) into = (after ≡ before) × (into ≡ [])
+fetched files name limit = unwrap_or (option_map
+    (λ bytes. if nat_lt limit (length bytes) then Err (TooLong limit) else Ok bytes) (map.get files name)) (Err Absent)

@@ -1,15 +1,3 @@
--- What the traits mean.
-pub mod Counts
-pub mod Store
 pub mod Docs
-pub mod Sink
-pub mod Host
-pub mod Parts
-pub mod Lending
-pub mod Tool
--- What the objects in memory hold, for tests of what stands above.
-pub mod Failing
-pub mod MemoryDocs
-pub mod MemorySink
-pub mod MemoryParts
-pub mod MemoryHost
+-- What only the code's own contracts say.
+pub mod code

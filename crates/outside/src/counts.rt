@@ -1,7 +1,7 @@
 //! Counts of an object's calls.
 
 ghost use Rattle.std.specs.Prelude.{◌≡◌};
-ghost use Rattle.outside.specs.Counts.{IsLater, no_calls, one_done, one_fault, one_miss};
+ghost use Rattle.outside.specs.code.Counts.{IsLater, no_calls, one_done, one_fault, one_miss};
 
 /// How often a call did what it was asked, failed, or found that something was absent or too long.
 /// No number ever falls; at its type's end it stands still. Want of memory isn't counted.

@@ -2,7 +2,7 @@
 
 ghost use Rattle.std.specs.Prelude.{◌≡◌, [], Option};
 ghost use Rattle.outside.specs.declared.docs.DocFault.TheVariants as doc_faults;
-ghost use Rattle.outside.specs.Counts.{IsLater};
+ghost use Rattle.outside.specs.code.Counts.{IsLater};
 ghost use Rattle.values.specs.FileMap.{Files};
 ghost use Rattle.outside.specs.declared.counts.Counts.{Counts};
 
@@ -34,7 +34,7 @@ impl From<Memory> for DocFault {
 
 /// A source of documents.
 pub trait Docs {
-    ghost use Rattle.outside.specs.Docs.{Fetched};
+    ghost use Rattle.outside.specs.code.Docs.{Fetched};
 
     /// The documents, where they are told.
     ghost told: { Self → Option Files };

@@ -2,7 +2,7 @@
 
 ghost use Rattle.std.specs.Prelude.{◌≡◌, None, Option};
 ghost use Rattle.outside.specs.declared.host.HostFault.TheVariants as host_faults;
-ghost use Rattle.outside.specs.Counts.{IsLater};
+ghost use Rattle.outside.specs.code.Counts.{IsLater};
 ghost use Rattle.outside.specs.declared.counts.Counts.{Counts};
 ghost use Rattle.outside.specs.declared.store.Store.{Store};
 
@@ -40,10 +40,10 @@ impl From<Memory> for HostFault {
 pub trait Host: Drop {
     ghost use Rattle.std.specs.Prelude.{IfSome, OnErr, OnOk, option_map};
     ghost use Rattle.std.specs.FinMap as map;
-    ghost use Rattle.outside.specs.Host.{Changes, Empties, Reads};
-    ghost use Rattle.values.specs.SiteMap.{pair_at};
-    ghost use Rattle.outside.specs.Store.{Delivers, Publishes, Removes};
-    ghost use Rattle.outside.specs.Lending.{Makes, Opens, Publishing, with_faults};
+    ghost use Rattle.outside.specs.code.Host.{Changes, Empties, Reads};
+    ghost use Rattle.values.specs.code.SiteMap.{pair_at};
+    ghost use Rattle.outside.specs.code.Store.{Delivers, Publishes, Removes};
+    ghost use Rattle.outside.specs.code.Lending.{Makes, Opens, Publishing, with_faults};
 
     /// A file that is being read.
     type Reading: ReadPart;

@@ -1,7 +1,10 @@
 //! What a run meets outside itself.
 //!
 //! The layers above know documents, sinks, hosts and tools by these traits alone: a meaning that
-//! may be told or not, and a count of faults that never falls. The definitions stand in `specs/`.
+//! may be told or not, and a count of faults that never falls. [`Docs`] fetches a document, a [`Sink`] takes text
+//! ([`write_all`] tries once), a [`Host`] opens readings and drafts ([`ReadPart`], [`WritePart`]), publishes, delivers
+//! and removes, and a [`Tool`] makes outputs of inputs. The objects in memory ([`MemoryDocs`], [`MemorySink`],
+//! [`MemoryHost`]) tell what they hold, and fail at the calls that a [`Failing`] lists: they are for tests and cases.
 //! The plain values of `values` are shown here again.
 #![tactic(auto)]
 

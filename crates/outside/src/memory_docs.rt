@@ -18,9 +18,9 @@ pub struct MemoryDocs {
 }
 
 impl MemoryDocs {
-    ghost use Rattle.outside.specs.Counts.{no_calls};
-    ghost use Rattle.outside.specs.Failing.{calls_made, failing_calls};
-    ghost use Rattle.outside.specs.MemoryDocs.{docs_counts, docs_failing, docs_files};
+    ghost use Rattle.outside.specs.code.Counts.{no_calls};
+    ghost use Rattle.outside.specs.code.Failing.{calls_made, failing_calls};
+    ghost use Rattle.outside.specs.code.MemoryDocs.{docs_counts, docs_failing, docs_files};
 
     /// No document. `failing` lists the fetches that are to fail, by number from 1.
     pub fn new(alloc: Global, failing: Vec<u64>) -> MemoryDocs
@@ -58,10 +58,10 @@ fn copy_into(into: &mut Vec<u8>, bytes: &[u8]) -> Result<(), Memory>
 
 impl Docs for MemoryDocs {
     ghost use Rattle.std.specs.Prelude.{[], ◌↔◌, IsErrOf, Some, true};
-    ghost use Rattle.outside.specs.Counts.{IsLater};
-    ghost use Rattle.outside.specs.Docs.{Fetched};
-    ghost use Rattle.outside.specs.Failing.{IsNextCall, fails_next};
-    ghost use Rattle.outside.specs.MemoryDocs.{docs_counts, docs_failing, docs_files};
+    ghost use Rattle.outside.specs.code.Counts.{IsLater};
+    ghost use Rattle.outside.specs.code.Docs.{Fetched};
+    ghost use Rattle.outside.specs.code.Failing.{IsNextCall, fails_next};
+    ghost use Rattle.outside.specs.code.MemoryDocs.{docs_counts, docs_failing, docs_files};
 
     ghost told = { λ m. Some m.files };
 

@@ -2,12 +2,12 @@
 
 ghost use Rattle.std.specs.Prelude.{◌≡◌, ◌++◌, [], Some, IfOk, IsErrOf, OnOk, OnErr, option_map};
 ghost use Rattle.std.specs.FinMap as map;
-ghost use Rattle.outside.specs.Counts.{IsLater};
-ghost use Rattle.outside.specs.Host.{Reads};
-ghost use Rattle.outside.specs.Store.{changed};
-ghost use Rattle.outside.specs.Lending.{Opens, placing, with_faults};
-ghost use Rattle.outside.specs.Failing.{failing_calls};
-ghost use Rattle.outside.specs.MemoryParts.{listed_for, reading_failing, reading_state};
+ghost use Rattle.outside.specs.code.Counts.{IsLater};
+ghost use Rattle.outside.specs.code.Host.{Reads};
+ghost use Rattle.outside.specs.code.Store.{changed};
+ghost use Rattle.outside.specs.code.Lending.{Opens, placing, with_faults};
+ghost use Rattle.outside.specs.code.Failing.{failing_calls};
+ghost use Rattle.outside.specs.code.MemoryParts.{listed_for, reading_failing, reading_state};
 
 use crate::counts::Counts;
 use crate::failing::Failing;
@@ -30,11 +30,11 @@ pub struct MemoryHost {
 }
 
 impl MemoryHost {
-    ghost use Rattle.outside.specs.Counts.{no_calls};
-    ghost use Rattle.outside.specs.Failing.{calls_made, failing_calls};
-    ghost use Rattle.outside.specs.MemoryHost.{host_counts, host_failing, host_marked, host_parts, host_store, with_replica, with_scratch};
-    ghost use Rattle.values.specs.SiteMap.{pair_at};
-    ghost use Rattle.outside.specs.Store.{blank};
+    ghost use Rattle.outside.specs.code.Counts.{no_calls};
+    ghost use Rattle.outside.specs.code.Failing.{calls_made, failing_calls};
+    ghost use Rattle.outside.specs.code.MemoryHost.{host_counts, host_failing, host_marked, host_parts, host_store, with_replica, with_scratch};
+    ghost use Rattle.values.specs.code.SiteMap.{pair_at};
+    ghost use Rattle.outside.specs.code.Store.{blank};
 
     /// No file. `failing` lists the calls that are to fail, by number from 1.
     pub fn new(alloc: Global, failing: Vec<u64>) -> MemoryHost
@@ -230,14 +230,14 @@ fn copy_place(alloc: Global, place: &Place) -> Result<Place, Memory>
 impl Host for MemoryHost {
     ghost use Rattle.std.specs.Prelude.{◌↔◌, IfOk, IfSome, IsErrOf, None, OnErr, OnOk, Some, option_map, true};
     ghost use Rattle.std.specs.FinMap as map;
-    ghost use Rattle.outside.specs.Counts.{IsLater};
-    ghost use Rattle.outside.specs.Failing.{IsNextCall, calls_made, failing_calls, fails_next};
-    ghost use Rattle.outside.specs.Host.{Changes, Empties, Reads};
-    ghost use Rattle.outside.specs.MemoryHost.{host_counts, host_failing, host_marked, host_parts, host_store};
-    ghost use Rattle.values.specs.SiteMap.{pair_at};
-    ghost use Rattle.outside.specs.Store.{Delivers, Publishes, Removes};
-    ghost use Rattle.outside.specs.Lending.{Makes, Opens, Publishing, with_faults};
-    ghost use Rattle.outside.specs.MemoryParts.{draft_failing, draft_state, listed_for, reading_failing, reading_state};
+    ghost use Rattle.outside.specs.code.Counts.{IsLater};
+    ghost use Rattle.outside.specs.code.Failing.{IsNextCall, calls_made, failing_calls, fails_next};
+    ghost use Rattle.outside.specs.code.Host.{Changes, Empties, Reads};
+    ghost use Rattle.outside.specs.code.MemoryHost.{host_counts, host_failing, host_marked, host_parts, host_store};
+    ghost use Rattle.values.specs.code.SiteMap.{pair_at};
+    ghost use Rattle.outside.specs.code.Store.{Delivers, Publishes, Removes};
+    ghost use Rattle.outside.specs.code.Lending.{Makes, Opens, Publishing, with_faults};
+    ghost use Rattle.outside.specs.code.MemoryParts.{draft_failing, draft_state, listed_for, reading_failing, reading_state};
 
     type Reading = MemoryReading;
 

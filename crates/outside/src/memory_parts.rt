@@ -1,7 +1,7 @@
 //! Parts of a store in memory.
 
 ghost use Rattle.std.specs.Prelude.{◌≡◌, ◌≤◌, ◌<◌, ◌+◌, ◌++◌, ◌↔◌, IfOk, IsErrOf, OnErr, OnOk, Some, drop, length, take, true};
-ghost use Rattle.outside.specs.Parts.{AppendsOn, DraftState, ReadState, ReadsOn};
+ghost use Rattle.outside.specs.code.Parts.{AppendsOn, DraftState, ReadState, ReadsOn};
 
 use crate::failing::Failing;
 use crate::host::HostFault;
@@ -46,8 +46,8 @@ fn copy_next(bytes: &[u8], at: usize, into: &mut [u8]) -> usize
 }
 
 impl ReadPart for MemoryReading {
-    ghost use Rattle.outside.specs.Failing.{IsNextCall, fails_next};
-    ghost use Rattle.outside.specs.MemoryParts.{reading_failing, reading_state};
+    ghost use Rattle.outside.specs.code.Failing.{IsNextCall, fails_next};
+    ghost use Rattle.outside.specs.code.MemoryParts.{reading_failing, reading_state};
     ghost use Rattle.std.specs.Prelude.{◌↔◌, IsErrOf, Some, length, true};
 
     ghost state = { λ r. record {
@@ -90,8 +90,8 @@ fn push_piece(bytes: &mut Vec<u8>, piece: &[u8]) -> Result<(), Memory>
 }
 
 impl WritePart for MemoryDraft {
-    ghost use Rattle.outside.specs.Failing.{IsNextCall, fails_next};
-    ghost use Rattle.outside.specs.MemoryParts.{draft_failing, draft_state};
+    ghost use Rattle.outside.specs.code.Failing.{IsNextCall, fails_next};
+    ghost use Rattle.outside.specs.code.MemoryParts.{draft_failing, draft_state};
     ghost use Rattle.std.specs.Prelude.{◌↔◌, IsErrOf, Some, length, true};
 
     ghost state = { λ d. record {

@@ -21,8 +21,8 @@ pub struct MemorySink {
 }
 
 impl MemorySink {
-    ghost use Rattle.outside.specs.Failing.{calls_made, failing_calls};
-    ghost use Rattle.outside.specs.MemorySink.{sink_bytes, sink_failing, sink_faults, sink_most, sink_room};
+    ghost use Rattle.outside.specs.code.Failing.{calls_made, failing_calls};
+    ghost use Rattle.outside.specs.code.MemorySink.{sink_bytes, sink_failing, sink_faults, sink_most, sink_room};
 
     /// Nothing written. `failing` lists the writes that are to fail, by number from 1.
     pub fn new(
@@ -58,9 +58,9 @@ impl MemorySink {
 
 impl Sink for MemorySink {
     ghost use Rattle.std.specs.Prelude.{◌↔◌, IsErr, Some, true};
-    ghost use Rattle.outside.specs.Failing.{IsNextCall};
-    ghost use Rattle.outside.specs.MemorySink.{counted, refuses_next, sink_bytes, sink_failing, sink_faults, sink_most, sink_room, takes_next};
-    ghost use Rattle.outside.specs.Sink.{Wrote};
+    ghost use Rattle.outside.specs.code.Failing.{IsNextCall};
+    ghost use Rattle.outside.specs.code.MemorySink.{counted, refuses_next, sink_bytes, sink_failing, sink_faults, sink_most, sink_room, takes_next};
+    ghost use Rattle.outside.specs.code.Sink.{Wrote};
 
     ghost written = { λ s. Some s.bytes.items };
 

@@ -7,7 +7,7 @@ use std::alloc::Global;
 
 /// A file that is being read. It was opened at its first byte. It isn't `Drop`: it goes back to its host and nowhere else.
 pub trait ReadPart {
-    ghost use Rattle.outside.specs.Parts.{ReadState, ReadsOn};
+    ghost use Rattle.outside.specs.code.Parts.{ReadState, ReadsOn};
 
     /// Its bytes, where they are told, its place in them, its length, and how many of its calls failed.
     ghost state: { Self → ReadState };
@@ -27,7 +27,7 @@ pub trait ReadPart {
 /// A file that is being written. It is no file of the store before it is published. It isn't `Drop`: it is published or
 /// discarded by its host, and nothing else can become of it.
 pub trait WritePart {
-    ghost use Rattle.outside.specs.Parts.{AppendsOn, DraftState};
+    ghost use Rattle.outside.specs.code.Parts.{AppendsOn, DraftState};
 
     /// Its place and its bytes, where they are told, its length, its limit, and how many of its calls failed.
     ghost state: { Self → DraftState };

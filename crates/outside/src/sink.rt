@@ -13,7 +13,7 @@ pub enum SinkFault {
 
 /// A sink of bytes.
 pub trait Sink {
-    ghost use Rattle.outside.specs.Sink.{Wrote};
+    ghost use Rattle.outside.specs.code.Sink.{Wrote};
 
     /// The bytes written, where they are told.
     ghost written: { Self → Option (List ℕ) };
@@ -31,7 +31,7 @@ pub trait Sink {
         ensures faults { faults self.old ≤ faults self.new };
 }
 
-ghost use Rattle.outside.specs.Sink.{WroteAll};
+ghost use Rattle.outside.specs.code.Sink.{WroteAll};
 
 /// Writes a whole text, in as many pieces as the sink wants.
 pub fn write_all<K: Sink>(out: &mut K, text: &[u8]) -> Result<(), SinkFault>

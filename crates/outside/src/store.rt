@@ -16,8 +16,8 @@ pub struct Store {
 }
 
 impl Store {
-    ghost use Rattle.values.specs.SiteMap.{pair_at};
-    ghost use Rattle.outside.specs.Store.{Delivers, Publishes, Removes, blank, changed};
+    ghost use Rattle.values.specs.code.SiteMap.{pair_at};
+    ghost use Rattle.outside.specs.code.Store.{Delivers, Publishes, Removes, blank, changed};
 
     /// Nothing at all.
     pub fn new(alloc: Global) -> Store

@@ -6,8 +6,10 @@ use Rattle.serde_json.specs.Data.{Data}
 use Rattle.serde_json.specs.View.{view}
 use Rattle.serde_json.specs.declared.value.Value.{Value}
 use Rattle.peg_json.specs.declared.fault.TreeFault.{TreeFault}
-use Rattle.peg_json.specs.Entries.{entry_of, entries_from, seen_members}
-use Rattle.peg_json.specs.Tree.{◌>>=◌, with_front}
+use Rattle.peg_json.specs.Entries.{entry_of, entries_from}
+use Rattle.peg_json.specs.code.Entries.{seen_members}
+use Rattle.peg_json.specs.Tree.{◌>>=◌}
+use Rattle.peg_json.specs.code.Tree.{with_front}
 
 seen_more : {X Y : Type 0} (seen : X → Y) (out : List X) (x : X) (ys : List Y) → map seen (out ++ x ∷ []) ++ ys ≡ map seen out ++ seen x ∷ ys
 seen_more seen [] x ys = refl

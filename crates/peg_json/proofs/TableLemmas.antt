@@ -3,7 +3,8 @@ use Rattle.std.proofs.Common.{◌≡◌, ℕ, Bool, true, false, cond, List, [],
 use Rattle.std.specs.Prelude.{Option, Some, None, Result, Ok, Err}
 use Rattle.serde_json.specs.Data.{Data}
 use Rattle.peg_json.specs.Tree.{◌>>=◌, each}
-use Rattle.peg_json.specs.Table.{Row, row_found, row_member, member_of, members_in, is_kind}
+use Rattle.peg_json.specs.Table.{Row, row_found, row_member, member_of, is_kind}
+use Rattle.peg_json.specs.code.Table.{members_in}
 use Rattle.peg_json.specs.Path.{key_path}
 use Rattle.peg_json.specs.declared.fault.TreeFault.{TreeFault}
 use Rattle.peg_json.specs.declared.fault.TreeFault.TheVariants as faults

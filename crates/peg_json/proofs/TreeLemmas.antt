@@ -10,7 +10,8 @@ use Rattle.serde_json.specs.View.{view, items_view, members_view}
 use Rattle.serde_json.specs.declared.value.Value.{Value}
 use Rattle.peg_json.specs.declared.fault.TreeFault.TheVariants.{Syntax}
 use Rattle.peg_json.specs.Table.{keys_in}
-use Rattle.peg_json.specs.Entries.{members_in_order, seen_members}
+use Rattle.peg_json.specs.Entries.{members_in_order}
+use Rattle.peg_json.specs.code.Entries.{seen_members}
 use Rattle.peg_json.specs.Tree.{tree_of, some_or, elements}
 
 pub is_tree : (bytes : List ℕ) (d : Data) → IsUtf8 bytes → read bytes ≡ Some d → tree_of bytes ≡ Ok d

@@ -1,10 +1,7 @@
 -- Objects whose keys are free: each member read under its own path, in byte order of the keys.
-use Rattle.std.specs.Prelude.{ℕ, List, [], ◌∷◌, map, string_bytes, String, Option, Some, None, Result, Ok, Err}
-use Rattle.std.specs.declared.alloc.Global.{Global}
+use Rattle.std.specs.Prelude.{ℕ, List, [], ◌∷◌, Option, Some, None, Result, Ok, Err}
 use Rattle.serde_json.specs.Data.{Data, Members, no_members, member}
 use Rattle.serde_json.specs.Find as find
-use Rattle.serde_json.specs.View.{view as tree_view}
-use Rattle.serde_json.specs.declared.value.Value.{Value}
 use Rattle.peg_json.specs.declared.fault.TreeFault.{TreeFault}
 use Rattle.peg_json.specs.declared.fault.TreeFault.TheVariants as faults
 use Rattle.peg_json.specs.Path.{key_path}
@@ -39,7 +36,3 @@ entries_among f path (Some ms) = entries_from f path (members_in_order ms)
 abbrev pub entries_in : {B : Type 0} → (List ℕ → Data → Result B TreeFault) → List ℕ → Data
     → Result (List (List ℕ × B)) TreeFault
 entries_in f path d = entries_among f path (find.as_object d)
-
--- a map's entries, as the members of its tree
-abbrev pub seen_members : List (String Global × Value) → List (List ℕ × Data)
-seen_members ms = map (λ m. (string_bytes m.0, tree_view m.1)) ms

@@ -1,16 +1,11 @@
-pub mod ReadFault
-pub mod Count
+pub mod Tree
+pub mod Elements
 pub mod Entries
 pub mod Path
-pub mod Tree
 pub mod Table
 pub mod Typed
-pub mod Listed
 pub mod Versions
-pub mod Lists
 pub mod Refused
-pub mod Duplicates
-pub mod Sites
-pub mod PegasusProfiles
-pub mod SelectorProfiles
 pub mod Profiles
+-- What only the code's own contracts say.
+pub mod code

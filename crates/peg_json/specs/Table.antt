@@ -1,12 +1,11 @@
 -- Which keys an object has, and whether it is as they say.
-use Rattle.std.specs.Prelude.{ℕ, List, [], ◌∷◌, ◌&&◌, ◌||◌, Bool, true, false, not, map, length, nat_lt, if◌then◌else◌, Option, Some, None, option_and_then, is_some, Result, Ok, Err}
+use Rattle.std.specs.Prelude.{ℕ, List, [], ◌∷◌, ◌||◌, Bool, true, false, length, nat_lt, if◌then◌else◌, Option, Some, None, option_and_then, is_some, Result, Ok, Err, unwrap_or, option_map}
 use Rattle.std.specs.List.{list_any}
 use Rattle.std.specs.Str.{bytes_eq}
 use Rattle.serde_json.specs.Data.{Data, Members, no_members, member}
 use Rattle.serde_json.specs.Find as find
 use Rattle.peg_json.specs.Path.{key_path}
 use Rattle.peg_json.specs.Tree.{◌>>=◌, each}
-use Rattle.peg_json.specs.declared.row.KeyRow.{KeyRow}
 use Rattle.peg_json.specs.declared.row.Kind.{Kind}
 use Rattle.peg_json.specs.declared.row.Kind.TheVariants as kinds
 use Rattle.peg_json.specs.declared.fault.TreeFault.{TreeFault}
@@ -18,35 +17,13 @@ pub record Row : Type 0 where
   pub kind : Kind
   pub required : Bool
 
--- a row, without where its key lies
-abbrev pub row_of : KeyRow → Row
-row_of r = record { key = r.key.now; kind = r.kind; required = r.required }
-
--- the rows of a table, without where their keys lie
-abbrev pub rows_of : List KeyRow → List Row
-rows_of rs = map row_of rs
-
--- no key stands twice
-abbrev pub are_distinct : List Row → Bool
-are_distinct [] = true
-are_distinct (r ∷ rs) = not (list_any (λ s. bytes_eq r.key s.key) rs) && are_distinct rs
-
--- a value that is not null
-abbrev pub but_null : Data → Option Data
-but_null d = if is_some (find.as_null d) then None else Some d
-
 -- an object's member of a key; a null counts as absent
 abbrev pub member_of : Data → List ℕ → Option Data
-member_of d key = option_and_then but_null (find.get key d)
-
--- there is a text, and it is not empty
-abbrev pub is_nonempty : Option (List ℕ) → Bool
-is_nonempty None = false
-is_nonempty (Some s) = nat_lt 0 (length s)
+member_of d key = option_and_then (λ v. if is_some (find.as_null v) then None else Some v) (find.get key d)
 
 -- the value is of the kind
 abbrev pub is_kind : Kind → Data → Bool
-is_kind kinds.Name d = is_nonempty (find.as_str d)
+is_kind kinds.Name d = unwrap_or (option_map (λ s. nat_lt 0 (length s)) (find.as_str d)) false
 is_kind kinds.Text d = is_some (find.as_str d)
 is_kind kinds.Number d = is_some (option_and_then find.as_u64 (find.as_number d))
 is_kind kinds.Flag d = is_some (find.as_bool d)
@@ -70,11 +47,6 @@ unfoldable pub members_of : List ℕ → Data → List Row → Result (List (Opt
 members_of path d rows = if is_some (find.as_object d) then each (row_member path d) rows
     else Err (faults.WrongKind path)
 
--- an object's members of its rows' keys
-abbrev pub members_in : Data → List Row → List (Option Data)
-members_in d [] = []
-members_in d (r ∷ rs) = member_of d r.key ∷ members_in d rs
-
 -- an object's own check
 abbrev pub checks : List ℕ → Data → List Row → Result (Unit {0}) TreeFault
 checks path d rows = members_of path d rows >>= λ found. Ok tt
@@ -95,18 +67,3 @@ needs key kind = record { key = key; kind = kind; required = true }
 -- a row of a key that may be absent
 abbrev pub may_have : List ℕ → Kind → Row
 may_have key kind = record { key = key; kind = kind; required = false }
-
--- the paths of those among the keys that no row has
-abbrev pub unknown_paths : List ℕ → List Row → List (List ℕ) → List (List ℕ)
-unknown_paths path rows [] = []
-unknown_paths path rows (k ∷ ks) = if is_key rows k then unknown_paths path rows ks
-    else key_path path k ∷ unknown_paths path rows ks
-
--- those of the members, if there are members
-abbrev pub unknown_among : List ℕ → Option Members → List Row → List (List ℕ)
-unknown_among path None rows = []
-unknown_among path (Some ms) rows = unknown_paths path rows (keys_in ms)
-
--- the paths of an object's keys that no row has
-abbrev pub unknown_in : List ℕ → Data → List Row → List (List ℕ)
-unknown_in path d rows = unknown_among path (find.as_object d) rows

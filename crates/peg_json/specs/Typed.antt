@@ -1,9 +1,10 @@
--- A row's value, in its type.
-use Rattle.std.specs.Prelude.{ℕ, List, Bool, nat_lt, length, decimal, if◌then◌else◌, Option, Some, None, option_and_then, Result, Ok, Err}
+-- Readings of one kind each: names, texts, numbers, flags, and lists that are empty where they are absent.
+use Rattle.std.specs.Option.{option_or}
+use Rattle.std.specs.Prelude.{ℕ, List, Bool, nat_lt, length, decimal, if◌then◌else◌, Option, Some, None, option_and_then, Result, Ok, Err, option_map, [], unwrap_or}
 use Rattle.serde_json.specs.Data.{Data}
 use Rattle.serde_json.specs.Find as find
 use Rattle.peg_json.specs.Path.{key_path}
-use Rattle.peg_json.specs.Tree.{◌>>=◌, some_or}
+use Rattle.peg_json.specs.Tree.{◌>>=◌, some_or, list_in}
 use Rattle.peg_json.specs.Table.{member_of}
 use Rattle.peg_json.specs.declared.fault.TreeFault.{TreeFault}
 use Rattle.peg_json.specs.declared.fault.TreeFault.TheVariants as faults
@@ -55,15 +56,16 @@ abbrev pub number_of : ℕ → List ℕ → Data → Result ℕ TreeFault
 number_of limit path d = some_or (faults.WrongKind path)
     (option_and_then find.as_u64 (find.as_number d)) >>= number_within limit path
 
--- the decimal digits of a number, else the text
-abbrev pub digits_or_text : List ℕ → Option ℕ → Option (List ℕ) → Result (List ℕ) TreeFault
-digits_or_text path (Some n) text = Ok (decimal n)
-digits_or_text path None text = some_or (faults.WrongKind path) text
-
 -- a number as its decimal digits, or any text as it is
 abbrev pub digits_of : List ℕ → Data → Result (List ℕ) TreeFault
-digits_of path d = digits_or_text path (option_and_then find.as_u64 (find.as_number d)) (find.as_str d)
+digits_of path d = some_or (faults.WrongKind path)
+    (option_or (option_map decimal (option_and_then find.as_u64 (find.as_number d))) (find.as_str d))
 
 -- any value
 abbrev pub any_of : List ℕ → Data → Result Data TreeFault
 any_of path d = Ok d
+
+-- a list whose elements f reads, or the empty one
+abbrev pub list_or_none : {B : Type 0} → (List ℕ → Data → Result B TreeFault) → List ℕ → Data → List ℕ
+    → Result (List B) TreeFault
+list_or_none f path d key = optional (list_in f) path d key >>= λ found. Ok (unwrap_or found [])

@@ -1,5 +1,5 @@
 -- Which versions are read.
-use Rattle.std.specs.Prelude.{ℕ, List, codes, take, drop, length, nat_lt, ◌&&◌, ◌||◌, Bool, if◌then◌else◌, Option, Some, None, Result, Ok, Err}
+use Rattle.std.specs.Prelude.{ℕ, List, codes, take, drop, length, nat_lt, ◌&&◌, ◌||◌, Bool, if◌then◌else◌, Result, Ok, Err, unwrap_or, option_map}
 use Rattle.std.specs.Str.{bytes_eq}
 use Rattle.std.specs.List.{list_all}
 use Rattle.std.specs.Char.{is_ascii_digit}
@@ -21,15 +21,10 @@ is_version s = bytes_eq s (codes "5.0") || (bytes_eq (take 4 s) (codes "5.0.") &
 abbrev pub version_named : List ℕ → Result (Unit {0}) TreeFault
 version_named s = if is_version s then Ok tt else Err (faults.BadVersion s)
 
--- the check of a text that may be absent
-abbrev pub version_if_there : Option (List ℕ) → Result (Unit {0}) TreeFault
-version_if_there None = Ok tt
-version_if_there (Some s) = version_named s
-
 -- the check of a version that has to be there
 abbrev pub version_at : List ℕ → Data → List ℕ → Result (Unit {0}) TreeFault
 version_at path d key = required text_of path d key >>= version_named
 
 -- the check of a version that may be absent
 abbrev pub optional_version_at : List ℕ → Data → List ℕ → Result (Unit {0}) TreeFault
-optional_version_at path d key = optional text_of path d key >>= version_if_there
+optional_version_at path d key = optional text_of path d key >>= λ s. unwrap_or (option_map version_named s) (Ok tt)

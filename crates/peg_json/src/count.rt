@@ -1,7 +1,7 @@
 //! Limits on how many elements a document has.
 
 ghost use Rattle.std.specs.Prelude.{◌≡◌};
-ghost use Rattle.peg_json.specs.Count.{few};
+ghost use Rattle.peg_json.specs.Elements.{few};
 
 use crate::read_fault::{Counted, ReadFault};
 

@@ -2,8 +2,9 @@
 
 ghost use Rattle.std.specs.Prelude.{◌≡◌, map};
 ghost use Rattle.serde_json.specs.View.{view as tree_view};
-ghost use Rattle.peg_json.specs.Tree.{Gives};
-ghost use Rattle.peg_json.specs.Entries.{entry_of, entries_from, entries_in, seen_members};
+ghost use Rattle.peg_json.specs.code.Tree.{Gives};
+ghost use Rattle.peg_json.specs.Entries.{entry_of, entries_from, entries_in};
+ghost use Rattle.peg_json.specs.code.Entries.{seen_members};
 
 use crate::fault::TreeFault;
 use crate::path::at_key;

@@ -2,7 +2,7 @@
 
 ghost use Rattle.std.specs.Prelude.{◌≡◌};
 ghost use Rattle.serde_json.specs.View.{view as tree_view};
-ghost use Rattle.peg_json.specs.Tree.{Gives};
+ghost use Rattle.peg_json.specs.code.Tree.{Gives};
 ghost use Rattle.peg_json.specs.Path.{key_path};
 ghost use Rattle.peg_json.specs.Typed.{text_of, name_of, number_of, flag_of, digits_of};
 

@@ -1,4 +1,10 @@
 //! Documents that are JSON texts: their trees, and the keys of their objects.
+//!
+//! [`parse`] answers the tree of a text. Of an object [`checked`] looks at every row of a [`KeyTable`] and answers the
+//! first fault, [`members`] its values in the order of the rows, and [`gather`] adds the paths of the keys that no row
+//! has. What stands at a key is read by [`FromTree`]: one value, a list ([`list_at`], [`list_or_none`]) or the members
+//! of an object whose keys are free ([`entries_at`]). A [`TreeFault`] names the path (RFC 6901) where it was found, a
+//! [`ReadFault`] has besides what is wrong between elements: too many of them, or a name twice ([`check_sites`]).
 #![tactic(auto)]
 
 mod count;

@@ -2,7 +2,8 @@
 
 ghost use Rattle.std.specs.Prelude.{◌≡◌, map};
 ghost use Rattle.serde_json.specs.View.{view as tree_view};
-ghost use Rattle.peg_json.specs.Tree.{Gives, each_from, list_in};
+ghost use Rattle.peg_json.specs.code.Tree.{Gives};
+ghost use Rattle.peg_json.specs.Tree.{each_from, list_in};
 
 use crate::fault::TreeFault;
 use crate::path;

@@ -6,8 +6,11 @@ ghost use Rattle.std.specs.List.Sorted.{IsPermutation, IsSorted};
 ghost use Rattle.std.specs.Ordering.{nat_cmp};
 ghost use Rattle.std.specs.Cmp.Lexicographic.{slice_cmp};
 ghost use Rattle.serde_json.specs.View.{view as tree_view};
-ghost use Rattle.peg_json.specs.Tree.{Gives, each};
-ghost use Rattle.peg_json.specs.Table.{member_of, is_kind, row_of, rows_of, row_member, members_of, members_in, checks, is_key, unknown_paths, unknown_in};
+ghost use Rattle.peg_json.specs.code.Tree.{Gives};
+ghost use Rattle.peg_json.specs.Tree.{each};
+ghost use Rattle.peg_json.specs.Table.{member_of, is_kind, row_member, members_of, checks, is_key};
+ghost use Rattle.peg_json.specs.code.Table.{row_of, rows_of, members_in};
+ghost use Rattle.peg_json.specs.code.Unknown.{unknown_paths, unknown_in};
 
 use crate::fault::TreeFault;
 use crate::path;

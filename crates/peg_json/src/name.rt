@@ -2,7 +2,7 @@
 
 ghost use Rattle.std.specs.Prelude.{◌≡◌};
 ghost use Rattle.serde_json.specs.View.{view as tree_view};
-ghost use Rattle.peg_json.specs.Tree.{Gives};
+ghost use Rattle.peg_json.specs.code.Tree.{Gives};
 ghost use Rattle.peg_json.specs.Typed.{number_of};
 
 use crate::fault::TreeFault;

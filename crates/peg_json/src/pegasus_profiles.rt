@@ -1,8 +1,8 @@
 //! A job's profiles of `pegasus`.
 
 ghost use Rattle.std.specs.Prelude.{◌≡◌};
-ghost use Rattle.peg_json.specs.Table.{rows_of};
-ghost use Rattle.peg_json.specs.PegasusProfiles.{pegasus_rows, no_pegasus};
+ghost use Rattle.peg_json.specs.code.Table.{rows_of};
+ghost use Rattle.peg_json.specs.Profiles.{pegasus_rows, no_pegasus};
 
 use crate::fault::TreeFault;
 use crate::listed::Listed;
@@ -62,7 +62,7 @@ impl PegasusProfiles {
 
 impl FromTree for PegasusProfiles {
     ghost use Rattle.peg_json.specs.declared.pegasus_profiles.PegasusProfiles as declared;
-    ghost use Rattle.peg_json.specs.PegasusProfiles.{pegasus_of};
+    ghost use Rattle.peg_json.specs.Profiles.{pegasus_of};
 
     ghost Seen = { declared.PegasusProfiles };
 
@@ -70,7 +70,7 @@ impl FromTree for PegasusProfiles {
 
     ghost reads = { pegasus_of };
 
-    #[tactic(auto, unfolding(crate::specs::PegasusProfiles::pegasus_of))]
+    #[tactic(auto, unfolding(crate::specs::Profiles::pegasus_of))]
     fn from_tree(alloc: Global, value: &Value, path: &Text) -> Result<PegasusProfiles, TreeFault> {
         checked(alloc, value, path, &pegasus_table())?;
         let label = typed::optional_text(alloc, value, path, "label")?;
@@ -85,11 +85,11 @@ impl FromTree for PegasusProfiles {
 }
 
 impl Listed for PegasusProfiles {
-    ghost use Rattle.peg_json.specs.PegasusProfiles.{unknown_pegasus};
+    ghost use Rattle.peg_json.specs.code.Unknown.{unknown_pegasus};
 
     ghost unknown = { unknown_pegasus };
 
-    #[tactic(auto, unfolding(crate::specs::PegasusProfiles::unknown_pegasus))]
+    #[tactic(auto, unfolding(crate::specs::code::Unknown::unknown_pegasus))]
     fn gather(
         alloc: Global,
         value: &Value,

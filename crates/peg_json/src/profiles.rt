@@ -2,8 +2,8 @@
 
 ghost use Rattle.std.specs.Prelude.{◌≡◌};
 ghost use Rattle.serde_json.specs.View.{view as tree_view};
-ghost use Rattle.peg_json.specs.Tree.{Gives};
-ghost use Rattle.peg_json.specs.Table.{rows_of};
+ghost use Rattle.peg_json.specs.code.Tree.{Gives};
+ghost use Rattle.peg_json.specs.code.Table.{rows_of};
 ghost use Rattle.peg_json.specs.Profiles.{profiles_rows, no_profiles, profiles_or_none};
 
 use crate::fault::TreeFault;
@@ -93,11 +93,11 @@ pub fn profiles_or_none(
 }
 
 impl Listed for Profiles {
-    ghost use Rattle.peg_json.specs.Profiles.{unknown_profiles};
+    ghost use Rattle.peg_json.specs.code.Unknown.{unknown_profiles};
 
     ghost unknown = { unknown_profiles };
 
-    #[tactic(auto, unfolding(crate::specs::Profiles::unknown_profiles))]
+    #[tactic(auto, unfolding(crate::specs::code::Unknown::unknown_profiles))]
     fn gather(
         alloc: Global,
         value: &Value,

@@ -1,8 +1,8 @@
 //! A job's profiles of `selector`.
 
 ghost use Rattle.std.specs.Prelude.{◌≡◌};
-ghost use Rattle.peg_json.specs.Table.{rows_of};
-ghost use Rattle.peg_json.specs.SelectorProfiles.{selector_rows, no_selector};
+ghost use Rattle.peg_json.specs.code.Table.{rows_of};
+ghost use Rattle.peg_json.specs.Profiles.{selector_rows, no_selector};
 
 use crate::fault::TreeFault;
 use crate::listed::Listed;
@@ -44,7 +44,7 @@ impl SelectorProfiles {
 
 impl FromTree for SelectorProfiles {
     ghost use Rattle.peg_json.specs.declared.selector_profiles.SelectorProfiles as declared;
-    ghost use Rattle.peg_json.specs.SelectorProfiles.{selector_of};
+    ghost use Rattle.peg_json.specs.Profiles.{selector_of};
 
     ghost Seen = { declared.SelectorProfiles };
 
@@ -52,7 +52,7 @@ impl FromTree for SelectorProfiles {
 
     ghost reads = { selector_of };
 
-    #[tactic(auto, unfolding(crate::specs::SelectorProfiles::selector_of))]
+    #[tactic(auto, unfolding(crate::specs::Profiles::selector_of))]
     fn from_tree(alloc: Global, value: &Value, path: &Text) -> Result<SelectorProfiles, TreeFault> {
         checked(alloc, value, path, &selector_table())?;
         let site = typed::optional_text(alloc, value, path, "execution.site")?;
@@ -61,11 +61,11 @@ impl FromTree for SelectorProfiles {
 }
 
 impl Listed for SelectorProfiles {
-    ghost use Rattle.peg_json.specs.SelectorProfiles.{unknown_selector};
+    ghost use Rattle.peg_json.specs.code.Unknown.{unknown_selector};
 
     ghost unknown = { unknown_selector };
 
-    #[tactic(auto, unfolding(crate::specs::SelectorProfiles::unknown_selector))]
+    #[tactic(auto, unfolding(crate::specs::code::Unknown::unknown_selector))]
     fn gather(
         alloc: Global,
         value: &Value,

@@ -3,8 +3,8 @@
 ghost use Rattle.std.specs.Prelude.{◌≡◌, List, ℕ, map};
 ghost use Rattle.std.specs.List.{list_any};
 ghost use Rattle.std.specs.Str.{bytes_eq};
-ghost use Rattle.peg_json.specs.ReadFault.{GivesRead};
-ghost use Rattle.peg_json.specs.Sites.{sites_checked};
+ghost use Rattle.peg_json.specs.code.ReadFault.{GivesRead};
+ghost use Rattle.peg_json.specs.Elements.{sites_checked};
 
 use crate::count::at_most;
 use crate::read_fault::{Counted, ReadFault};

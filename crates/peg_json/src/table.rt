@@ -1,7 +1,7 @@
 //! Which keys an object has.
 
 ghost use Rattle.std.specs.Prelude.{◌≡◌, length, true};
-ghost use Rattle.peg_json.specs.Table.{rows_of, are_distinct};
+ghost use Rattle.peg_json.specs.code.Table.{rows_of, are_distinct};
 
 use crate::row::KeyRow;
 

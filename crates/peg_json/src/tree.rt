@@ -3,7 +3,8 @@
 ghost use Rattle.std.specs.Prelude.{List, ℕ, Result};
 ghost use Rattle.serde_json.specs.Data.{Data};
 ghost use Rattle.serde_json.specs.View.{view as tree_view};
-ghost use Rattle.peg_json.specs.Tree.{Gives, tree_of};
+ghost use Rattle.peg_json.specs.code.Tree.{Gives};
+ghost use Rattle.peg_json.specs.Tree.{tree_of};
 ghost use Rattle.peg_json.specs.declared.fault.TreeFault as declared;
 
 use crate::fault::TreeFault;

@@ -2,7 +2,8 @@
 
 ghost use Rattle.std.specs.Prelude.{◌≡◌, map, option_map};
 ghost use Rattle.serde_json.specs.View.{view as tree_view};
-ghost use Rattle.peg_json.specs.Tree.{Gives, list_in};
+ghost use Rattle.peg_json.specs.code.Tree.{Gives};
+ghost use Rattle.peg_json.specs.Tree.{list_in};
 ghost use Rattle.peg_json.specs.Typed.{required, optional, text_of, name_of, number_of, flag_of, digits_of, any_of};
 
 use crate::fault::TreeFault;

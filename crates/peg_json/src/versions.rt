@@ -2,7 +2,7 @@
 
 ghost use Rattle.std.specs.Prelude.{◌≡◌};
 ghost use Rattle.serde_json.specs.View.{view as tree_view};
-ghost use Rattle.peg_json.specs.Tree.{Gives};
+ghost use Rattle.peg_json.specs.code.Tree.{Gives};
 ghost use Rattle.peg_json.specs.Versions.{are_digits as digits, is_version, version_at, optional_version_at};
 
 use crate::fault::TreeFault;

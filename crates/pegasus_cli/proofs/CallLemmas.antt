@@ -2,22 +2,22 @@
 use Rattle.std.proofs.Common.{◌≡◌, true, ℕ, ◌++◌, List, [], take, refl, sym, ap, subst, ◌∙◌, inl, inr}
 use Rattle.std.specs.Prelude.{◌⊎◌, Option, Some, None, Err, is_some, option_map}
 use Rattle.std.specs.Io.KnownBytes.{Appends, Keeps}
-use Rattle.outside.specs.Counts.{Rose}
-use Rattle.outside.specs.Sink.{WroteAll}
+use Rattle.outside.specs.code.Counts.{Rose}
+use Rattle.outside.specs.code.Sink.{WroteAll}
 use Rattle.outside.specs.declared.sink.SinkFault.{SinkFault}
 use Rattle.outside.specs.declared.sink.SinkFault.TheVariants as sink_faults
-use Rattle.pegasus_commands.specs.Commands.{has_line, spec_of}
-use Rattle.pegasus_commands.specs.CommandSpec.{Does, NoneRoseIn}
-use Rattle.pegasus_commands.specs.Fault.{Answer, not_for}
+use Rattle.pegasus_commands.specs.code.Commands.{has_line, spec_of}
+use Rattle.pegasus_commands.specs.code.CommandSpec.{Does, NoneRoseIn}
+use Rattle.pegasus_commands.specs.code.Fault.{Answer, not_for}
 use Rattle.pegasus_commands.specs.declared.fault.CallFault.TheVariants.{Memory}
 use Rattle.pegasus_commands.specs.Moments.{DocsMoment}
-use Rattle.command_words.specs.Words.{Command, command as command_of}
+use Rattle.command_words.specs.code.Words.{Command, command as command_of}
 use Rattle.pegasus_commands.proofs.CommandsLemmas.{Laws, finishes, unbegun}
 use Rattle.pegasus_cli.specs.declared.outcome.Outcome.{Outcome}
 use Rattle.pegasus_cli.specs.declared.outcome.Outcome.TheVariants as outcomes
-use Rattle.pegasus_cli.specs.Call.{Ends, IsAnswered, IsDoneBy, IsDoneOrMemory, IsUsage, NoneRose, doing_of}
+use Rattle.pegasus_cli.specs.code.Call.{Ends, IsAnswered, IsDoneBy, IsDoneOrMemory, IsUsage, NoneRose, doing_of}
 use Rattle.pegasus_cli.specs.Moments.{Call, Output}
-use Rattle.pegasus_cli.specs.Outcome.{IsAnswer, closing, line_of, outcome_of}
+use Rattle.pegasus_cli.specs.code.Outcome.{IsAnswer, closing, line_of, outcome_of}
 use Rattle.pegasus_cli.proofs.OutcomeLemmas.{no_usage, outcome_done}
 
 pub ends_as : (o : Output) (text : List ℕ) (a : Outcome) → (a ≡ outcomes.Memory → ⊥) → IsAnswer a → o.after.faults ≡ o.before.faults → Appends o.before.written o.after.written text → Ends o text a a

@@ -12,26 +12,28 @@ use Rattle.site_yard.specs.Law.{IsDeliveryOf}
 use Rattle.site_yard.specs.Trace.{trace_of}
 use Rattle.plan_run.specs.Moments.{Tools, Work}
 use Rattle.plan_run.specs.Running.{IsRunText}
-use Rattle.pegasus_commands.specs.Commands.{has_line, spec_of, threaded_spec}
-use Rattle.pegasus_commands.specs.Commands.EnsembleRun.{DeliversMembers, RunsJoint, ensemble_by}
-use Rattle.pegasus_commands.specs.Commands.Plan.{task_limit}
-use Rattle.pegasus_commands.specs.Commands.Run.{RunsMany, run}
-use Rattle.pegasus_commands.specs.CommandSpec.{Does}
-use Rattle.pegasus_commands.specs.Ensembles.{GoesOn as GoesOnJointly, Joined, joined}
-use Rattle.pegasus_commands.specs.Fault.{done}
+use Rattle.pegasus_commands.specs.code.Commands.{has_line, spec_of, threaded_spec}
+use Rattle.pegasus_commands.specs.code.Commands.EnsembleRun.{DeliversMembers, RunsJoint, ensemble_by}
+use Rattle.pegasus_commands.specs.code.Commands.Plan.{task_limit}
+use Rattle.pegasus_commands.specs.code.Commands.Run.{RunsMany, run}
+use Rattle.pegasus_commands.specs.code.CommandSpec.{Does}
+use Rattle.pegasus_commands.specs.code.Ensembles.{GoesOn as GoesOnJointly, Joined, joined}
+use Rattle.pegasus_commands.specs.code.Fault.{done}
 use Rattle.pegasus_commands.specs.Moments.{DocsMoment}
-use Rattle.pegasus_commands.specs.PlanRun.{AreHonestIn, AreSet, DeliversRequested, HasRunPlan, IsUnrun, ShownBy, value_in}
-use Rattle.command_words.specs.Words.{Command, EnsembleBy, InThreads, Run, Threaded, command as command_of, threaded_command}
+use Rattle.pegasus_commands.specs.PlanRun.{AreHonestIn, AreSet, ShownBy, value_in}
+use Rattle.pegasus_commands.specs.code.PlanRun.{DeliversRequested, HasRunPlan, IsUnrun}
+use Rattle.command_words.specs.code.Words.{Command, InThreads, command as command_of}
+use Rattle.command_words.specs.Words.{EnsembleBy, Run, Threaded, threaded_command}
 use Rattle.pegasus_commands.proofs.DeliveryLemmas.{set_carried, set_valued, told_so}
 use Rattle.pegasus_commands.proofs.FaultLemmas.{no_fault_is_done}
 use Rattle.pegasus_commands.proofs.PlanRunLemmas.{ended_reports, ended_tells}
 use Rattle.pegasus_cli.specs.declared.outcome.Outcome.{Outcome}
 use Rattle.pegasus_cli.specs.declared.outcome.Outcome.TheVariants as outcomes
-use Rattle.pegasus_cli.specs.Call.{Ends, IsAnswered, IsDoneBy, IsUsage, doing_of}
+use Rattle.pegasus_cli.specs.code.Call.{Ends, IsAnswered, IsDoneBy, IsUsage, doing_of}
 use Rattle.pegasus_cli.specs.Headline.{EndsSo, Headline, HoldsOf}
-use Rattle.pegasus_cli.specs.Joint.{JointEndsSo, JointHoldsOf}
+use Rattle.pegasus_cli.specs.code.Joint.{JointEndsSo, JointHoldsOf}
 use Rattle.pegasus_cli.specs.Moments.{Call}
-use Rattle.pegasus_cli.specs.Outcome.{closing, line_of}
+use Rattle.pegasus_cli.specs.code.Outcome.{closing, line_of}
 use Rattle.pegasus_cli.specs.Read.{IsRead}
 use Rattle.pegasus_cli.proofs.CallLemmas.{same_command}
 use Rattle.pegasus_cli.proofs.OutcomeLemmas.{done_is}

@@ -6,7 +6,8 @@ use Rattle.plan_core.specs.declared.plan.Plan.{Plan}
 use Rattle.plan_core.specs.Numbers.{least, or_else}
 use Rattle.plan_core.specs.Words.{count_tasks, is_clean}
 use Rattle.plan_core.proofs.NumbersLemmas.{least_passes, none_least}
-use Rattle.storage_simulation.specs.Ordering.{AreSteps, IsOpen, IsOrder, IsStep, Progress, comes, goes, is_done}
+use Rattle.storage_simulation.specs.code.Ordering.{AreSteps, IsOpen, IsOrder, IsStep}
+use Rattle.storage_simulation.specs.Ordering.{Progress, comes, goes, is_done}
 use Rattle.storage_simulation.specs.OrderLaw.{all_below, all_placed, and_then, best_below, first_of, fits_after, go_on, is_open, less_by_score, stated_order, step}
 use Rattle.storage_simulation.proofs.FollowingLemmas.{both, have_both}
 use Rattle.storage_simulation.proofs.OrderLawLemmas.{comes_open, fits_is, is_fits, opens_come}

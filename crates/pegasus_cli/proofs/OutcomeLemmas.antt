@@ -2,11 +2,11 @@
 use Rattle.std.proofs.Common.{◌≡◌, refl}
 use Rattle.std.specs.Prelude.{Some, None, Ok, Err}
 use Rattle.pegasus_commands.specs.declared.fault.CallFault.TheVariants.{Memory, DocAbsent, DocTooLong, DocFailed, Refused, Exceeds, Failed, BadRecord, IllegalRecord, RefusedEnsemble, RefusedMember}
-use Rattle.pegasus_commands.specs.Fault.{Answer, IsDoneOrMemory, done}
+use Rattle.pegasus_commands.specs.code.Fault.{Answer, IsDoneOrMemory, done}
 use Rattle.pegasus_cli.specs.declared.outcome.Outcome.{Outcome}
 use Rattle.pegasus_cli.specs.declared.outcome.Outcome.TheVariants as outcomes
-use Rattle.pegasus_cli.specs.Call.{IsDoneOrMemory as IsDone}
-use Rattle.pegasus_cli.specs.Outcome.{outcome_of}
+use Rattle.pegasus_cli.specs.code.Call.{IsDoneOrMemory as IsDone}
+use Rattle.pegasus_cli.specs.code.Outcome.{outcome_of}
 
 -- an answer is no outcome of the words or of the sink
 pub no_usage : (a : Answer) → outcomes.Usage ≡ outcome_of a → ⊥

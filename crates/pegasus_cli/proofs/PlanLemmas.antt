@@ -9,36 +9,38 @@ use Rattle.plan_request.specs.declared.request.ClusterMode.TheVariants as modes
 use Rattle.plan_request.specs.declared.request.PlanRequest.{PlanRequest}
 use Rattle.digraph.specs.Cycle.{Returns}
 use Rattle.dependency_graph.specs.Ranking.{IsRanked}
-use Rattle.clustering.specs.Basis.{Basis, basis, first_bad}
-use Rattle.clustering.specs.Clusters.{ClustersAre}
-use Rattle.clustering.specs.Condition.{leads}
-use Rattle.clustering.specs.Labels.{first_apart, labels_of}
-use Rattle.clustering.specs.Singles.{job_numbers}
+use Rattle.clustering.specs.Basis.{ClusteringInput, clustering_input as basis}
+use Rattle.clustering.specs.code.Basis.{first_bad}
+use Rattle.clustering.specs.code.Clusters.{ClustersAre}
+use Rattle.clustering.specs.code.Condition.{leads}
+use Rattle.clustering.specs.code.Labels.{first_apart}
+use Rattle.clustering.specs.Labels.{labels_of}
+use Rattle.dependency_graph.specs.Graph.{numbers as job_numbers}
 use Rattle.plan_core.specs.declared.plan.Plan.{Plan}
-use Rattle.transfer_refiner.specs.Tasks.{first_fault}
+use Rattle.transfer_refiner.specs.code.Tasks.{first_fault}
 use Rattle.planner.specs.declared.inputs.Survey.{Survey}
-use Rattle.planner.specs.Planning.{IsPlanOf, draft}
+use Rattle.planner.specs.code.Planning.{IsPlanOf, draft}
 use Rattle.pegasus_cli.specs.Plan.{IsStatedPlan, parts_of}
 
 -- ---- clusters
 
-record AreParted (mode : ClusterMode) (b : Basis) (kept : List Bool) (c : Clusters) : Type 0 where
+record AreParted (mode : ClusterMode) (b : ClusteringInput) (kept : List Bool) (c : Clusters) : Type 0 where
   pub jobs : List JobId
   pub ranked : IsRanked kept b.levels (job_numbers jobs)
   pub parts : c.parts ≡ parts_of mode b jobs
 
-parted : (mode : ClusterMode) (w : Workflow) (b : Basis) (kept : List Bool) (c : Clusters) → ClustersAre mode w b kept (Ok c) → AreParted mode b kept c
+parted : (mode : ClusterMode) (w : Workflow) (b : ClusteringInput) (kept : List Bool) (c : Clusters) → ClustersAre mode w b kept (Ok c) → AreParted mode b kept c
 parted modes.Horizontal w b kept c h = record { jobs = h.jobs; ranked = h.ranked; parts = h.parts }
 parted modes.Label w b kept c h = record { jobs = h.jobs; ranked = h.ranked; parts = h.parts }
 parted mode w b kept c h = record { jobs = h.jobs; ranked = h.ranked; parts = h.parts }
 
 -- no number of a run is bad; no label is over two sites, and no clusters lead round
-abbrev HaveNoFault : ClusterMode → Workflow → Basis → List JobId → Type 0
+abbrev HaveNoFault : ClusterMode → Workflow → ClusteringInput → List JobId → Type 0
 HaveNoFault modes.Horizontal w b jobs = first_bad b jobs ≡ None
 HaveNoFault modes.Label w b jobs = (first_apart b (labels_of b jobs) jobs ≡ None) × ((a : ℕ) → Returns (leads w (labels_of b jobs)) a → ⊥)
 HaveNoFault mode w b jobs = Unit {0}
 
-clusters_are : (mode : ClusterMode) (w : Workflow) (b : Basis) (kept : List Bool) (c : Clusters) (are : AreParted mode b kept c) → HaveNoFault mode w b are.jobs → ClustersAre mode w b kept (Ok c)
+clusters_are : (mode : ClusterMode) (w : Workflow) (b : ClusteringInput) (kept : List Bool) (c : Clusters) (are : AreParted mode b kept c) → HaveNoFault mode w b are.jobs → ClustersAre mode w b kept (Ok c)
 clusters_are modes.Horizontal w b kept c are fine = record { jobs = are.jobs; ranked = are.ranked; fine = fine; parts = are.parts }
 clusters_are modes.Label w b kept c are fine = record { jobs = are.jobs; ranked = are.ranked; one_site = fine.0; acyclic = fine.1; parts = are.parts }
 clusters_are mode w b kept c are fine = record { jobs = are.jobs; ranked = are.ranked; parts = are.parts }

@@ -3,19 +3,21 @@ use Rattle.std.proofs.Common.{◌≡◌, List, ℕ, refl, sym, ap, subst, ◌∙
 use Rattle.std.specs.Prelude.{Option, Some, None, Result, Ok, Err}
 use Rattle.values.specs.FileMap.{Files}
 use Rattle.values.specs.declared.documents.Documents.{Documents}
-use Rattle.outside.specs.Counts.{one_done}
+use Rattle.outside.specs.code.Counts.{one_done}
 use Rattle.outside.specs.declared.counts.Counts.{Counts}
 use Rattle.peg_json.specs.declared.read_fault.ReadFault.{ReadFault}
-use Rattle.plan_request.specs.Reader.{read_of}
+use Rattle.plan_request.specs.Request.{request_from_text}
 use Rattle.plan_request.specs.declared.request.PlanRequest.{PlanRequest}
-use Rattle.planner.specs.PlanFault.{answered}
+use Rattle.planner.specs.code.PlanFault.{answered}
 use Rattle.planner.specs.declared.document.Document.TheVariants.{Request}
 use Rattle.planner.specs.declared.surveyed.Surveyed.{Surveyed}
 use Rattle.pegasus_commands.specs.declared.course.Requested.{Requested}
 use Rattle.pegasus_commands.specs.declared.fault.CallFault.{CallFault}
-use Rattle.pegasus_commands.specs.Course.{Asks, Course, Gives, IsDocument, documents, if_named, named_documents, plan_answered, ends_then, ◌>>=◌}
+use Rattle.pegasus_commands.specs.code.Course.{Asks, Course, Gives, documents, if_named, named_documents, plan_answered, ends_then}
+use Rattle.pegasus_commands.specs.Course.{IsDocument}
+use Rattle.pegasus_commands.specs.code.Course.{◌>>=◌}
 use Rattle.pegasus_commands.specs.Moments.{DocsMoment}
-use Rattle.pegasus_commands.specs.Survey.{GoesOn}
+use Rattle.pegasus_commands.specs.code.Survey.{GoesOn}
 use Rattle.pegasus_cli.specs.Read.{AreNamed, IsNamed, IsRead, SayThis}
 use Rattle.pegasus_cli.proofs.SaidLemmas.{survey_said}
 
@@ -71,16 +73,16 @@ named_so told r before after x h =
 record IsRequestRead (told : Option Files) (name : List ℕ) (x : Requested) : Type 0 where
   pub bytes : List ℕ
   pub came : IsDocument told name bytes
-  pub says : read_of bytes ≡ Ok x.request
+  pub says : request_from_text bytes ≡ Ok x.request
   pub named : AreNamed told x.request x.documents
 
 request_so : (told : Option Files) (name : List ℕ) (before after : Counts) (x : Requested) → Gives told (documents name) before after (Ok x) → IsRequestRead told name x
-request_so told name before after x h = by (read_of came.bytes) refl came.goes
+request_so told name before after x h = by (request_from_text came.bytes) refl came.goes
   where
-    came : Came told name (λ bytes. ends_then (plan_answered (answered Request (read_of bytes))) named_documents) after x
-    came = asked told name (λ bytes. ends_then (plan_answered (answered Request (read_of bytes))) named_documents) before after x h
+    came : Came told name (λ bytes. ends_then (plan_answered (answered Request (request_from_text bytes))) named_documents) after x
+    came = asked told name (λ bytes. ends_then (plan_answered (answered Request (request_from_text bytes))) named_documents) before after x h
 
-    by : (r : Result PlanRequest ReadFault) → read_of came.bytes ≡ r → Gives told (ends_then (plan_answered (answered Request r)) named_documents) came.mid after (Ok x) → IsRequestRead told name x
+    by : (r : Result PlanRequest ReadFault) → request_from_text came.bytes ≡ r → Gives told (ends_then (plan_answered (answered Request r)) named_documents) came.mid after (Ok x) → IsRequestRead told name x
     by (Err fault) e g = absurd (no_value {A = Requested} x _ g.1)
     by (Ok r) e g =
         let are = named_so told r came.mid after x g in

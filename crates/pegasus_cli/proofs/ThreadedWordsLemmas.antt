@@ -5,7 +5,8 @@ use Rattle.std.specs.List.{list_any}
 use Rattle.std.specs.Str.{bytes_eq}
 use Rattle.std.specs.Cmp.Lexicographic.{bytes_decides}
 use Rattle.std.proofs.lemmas.List.{take-take}
-use Rattle.command_words.specs.Words.{Command, InThreads, Quickly, Quick, Said, One, Two, WithWorkers, Threaded, Run, EnsembleBy, RehearseBy, apart, begins_with, by_workers, command as command_of, command_if, images_in, is_name, is_threaded, joined, quick_command, said_in, threaded_command, threaded_in, workers_in, workers_option}
+use Rattle.command_words.specs.code.Words.{Command, InThreads, Quickly, Quick, command as command_of, command_if, is_threaded, quick_command}
+use Rattle.command_words.specs.Words.{Said, One, Two, WithWorkers, Threaded, Run, EnsembleBy, RehearseBy, apart, begins_with, by_workers, images_in, is_name, joined_option, said_in, threaded_command, threaded_in, workers_in, workers_option}
 use Rattle.command_words.proofs.WordsLemmas.{threaded_is}
 
 -- ---- the option for workers stands among the words
@@ -37,7 +38,7 @@ right_or : (a b : Bool) → b ≡ true → (a || b) ≡ true
 right_or true b h = refl
 right_or false b h = h
 
-joined_has : (word name option : List ℕ) (rest : List (List ℕ)) → (begins_with workers_option option ≡ true → list_any (begins_with workers_option) rest ≡ true) → IfSome (joined word name option) (HasOption word rest)
+joined_has : (word name option : List ℕ) (rest : List (List ℕ)) → (begins_with workers_option option ≡ true → list_any (begins_with workers_option) rest ≡ true) → IfSome (joined_option word name option) (HasOption word rest)
 joined_has word name option rest stands = by (is_name name && begins_with (codes "--workers=") option) refl
   where
     by : (b : Bool) → (is_name name && begins_with (codes "--workers=") option) ≡ b → IfSome (if b then Some (WithWorkers word name (drop 10 option)) else None) (HasOption word rest)
@@ -66,7 +67,7 @@ has_option word (a ∷ []) = by (is_name a)
     by false = tt
 has_option word (a ∷ b ∷ []) = by (is_name a) (is_name b)
   where
-    by : (x y : Bool) → IfSome (if x then (if y then Some (Two word a b) else joined word a b) else joined word b a) (HasOption word (a ∷ b ∷ []))
+    by : (x y : Bool) → IfSome (if x then (if y then Some (Two word a b) else joined_option word a b) else joined_option word b a) (HasOption word (a ∷ b ∷ []))
     by true true = tt
     by true false = joined_has word a b (a ∷ b ∷ []) (among_two a b [])
     by false y = joined_has word b a (a ∷ b ∷ []) (among_one a (b ∷ []))

@@ -7,6 +7,7 @@ use Rattle.plan_core.specs.Words.{task_numbers}
 use Rattle.storage_simulation.specs.Goods.{place_bound, places}
 use Rattle.storage_simulation.specs.Ordering.{at_start}
 use Rattle.storage_simulation.specs.OrderLaw.{stated_order}
+use Rattle.planner.specs.declared.surveyed.Surveyed.{Surveyed}
 use Rattle.run_record.specs.Events.{Event}
 use Rattle.lease_rules.specs.Choice.{Safe}
 use Rattle.lease_rules.specs.Law.{reserved_at, stored_at}
@@ -17,13 +18,12 @@ use Rattle.site_yard.specs.Faults.{AllBelow}
 use Rattle.site_yard.specs.Law.{IsDeliveryOf}
 use Rattle.site_yard.specs.Leaving.{left_in}
 use Rattle.site_yard.specs.Trace.{trace_of}
-use Rattle.planner.specs.declared.surveyed.Surveyed.{Surveyed}
 use Rattle.worker_gate.specs.Telling.{placed_by}
+use Rattle.command_words.specs.Words.{Run, threaded_command}
 use Rattle.plan_run.specs.Moments.{Tools, Work, told_of}
 use Rattle.plan_run.specs.Running.{AreWithinOutput, IsRunText}
 use Rattle.pegasus_commands.specs.PlanRun.{AreHonestIn, AreSet, ShownBy, value_in}
 use Rattle.pegasus_commands.specs.Moments.{DocsMoment}
-use Rattle.command_words.specs.Words.{Run, threaded_command}
 use Rattle.pegasus_cli.specs.Moments.{Call}
 use Rattle.pegasus_cli.specs.Plan.{IsStatedPlan}
 use Rattle.pegasus_cli.specs.Read.{IsRead}

@@ -2,9 +2,6 @@
 pub mod Headline
 pub mod Read
 pub mod Plan
-pub mod Joint
-pub mod Call
 pub mod Moments
--- How a call ends: its outcome, the line of that and its status.
-pub mod Outcome
-pub mod EnsembleLine
+-- What only the code's own contracts say.
+pub mod code

@@ -8,21 +8,22 @@ use Rattle.plan_request.specs.declared.request.ClusterMode.TheVariants.{Horizont
 use Rattle.plan_request.specs.declared.request.PlanRequest.{PlanRequest}
 use Rattle.dependency_graph.specs.Levels.{AreLevels}
 use Rattle.dependency_graph.specs.Ranking.{IsRanked}
+use Rattle.dependency_graph.specs.Graph.{numbers as job_numbers}
 use Rattle.data_reuse.specs.Absent.{absent_in}
 use Rattle.data_reuse.specs.Kept.{AreKept}
-use Rattle.clustering.specs.Basis.{Basis, basis}
+use Rattle.clustering.specs.Basis.{ClusteringInput, clustering_input}
 use Rattle.clustering.specs.Labels.{labels_of}
 use Rattle.clustering.specs.Runs.{runs_of}
-use Rattle.clustering.specs.Singles.{job_numbers, singles}
+use Rattle.clustering.specs.Singles.{singles}
 use Rattle.plan_core.specs.declared.plan.Plan.{Plan}
+use Rattle.cleanup_refiner.specs.Cleans.{with_cleanup}
 use Rattle.transfer_refiner.specs.Draft.{planned}
 use Rattle.transfer_refiner.specs.Refined.{IsRefined}
-use Rattle.cleanup_refiner.specs.Cleans.{cleaned}
 use Rattle.planner.specs.declared.inputs.Survey.{Survey}
 use Rattle.planner.specs.Sites.{AreChosen}
 
 -- the clusters of kept jobs: each by itself, unless they are put together in runs or by label
-abbrev pub parts_of : ClusterMode → Basis → List JobId → List (List JobId)
+abbrev pub parts_of : ClusterMode → ClusteringInput → List JobId → List (List JobId)
 parts_of Horizontal b jobs = runs_of b jobs
 parts_of Label b jobs = labels_of b jobs
 parts_of mode b jobs = singles jobs
@@ -39,7 +40,7 @@ pub record IsStatedPlan (r : PlanRequest) (s : Survey) (p : Plan) : Type 0 where
   pub jobs : List JobId
   pub ranked : IsRanked kept levels (job_numbers jobs)
   pub clusters : Clusters
-  pub clustered : clusters.parts ≡ parts_of r.cluster (basis s.workflow levels sites s.transformations) jobs
+  pub clustered : clusters.parts ≡ parts_of r.cluster (clustering_input s.workflow levels sites s.transformations) jobs
   pub bare : Plan
   pub refined : IsRefined (planned s.workflow clusters sites s.replicas r) bare
-  pub cleaned_is : p ≡ cleaned r.cleanup bare
+  pub cleaned_is : p ≡ with_cleanup r.cleanup bare

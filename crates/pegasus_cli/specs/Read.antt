@@ -3,15 +3,15 @@ use Rattle.std.specs.Prelude.{◌≡◌, ℕ, List, [], codes, map, Option, Some
 use Rattle.serde_json.specs.Data.{Data}
 use Rattle.values.specs.FileMap.{Files}
 use Rattle.values.specs.declared.documents.Documents.{Documents}
-use Rattle.peg_json.specs.Duplicates.{first_unknown}
+use Rattle.peg_json.specs.Elements.{first_unknown}
 use Rattle.peg_json.specs.Path.{key_path}
 use Rattle.peg_json.specs.declared.read_fault.ReadFault.{ReadFault}
-use Rattle.workflow_core.specs.View.{view as workflow_view}
-use Rattle.workflow_reader.specs.Reader as workflows
-use Rattle.site_catalog.specs.Reader as site_reader
-use Rattle.replica_catalog.specs.Reader as replica_reader
-use Rattle.transformation_catalog.specs.Reader as transformation_reader
-use Rattle.plan_request.specs.Reader.{read_of}
+use Rattle.workflow_core.specs.View.{workflow_view}
+use Rattle.workflow_reader.specs.Linking as workflows
+use Rattle.site_catalog.specs.Catalog as site_reader
+use Rattle.replica_catalog.specs.Catalog as replica_reader
+use Rattle.transformation_catalog.specs.Catalog as transformation_reader
+use Rattle.plan_request.specs.Request.{request_from_text}
 use Rattle.plan_request.specs.declared.request.Execution.{Execution}
 use Rattle.plan_request.specs.declared.request.PlanRequest.{PlanRequest}
 use Rattle.dependency_graph.specs.Graph.{IsGraphOf}
@@ -45,16 +45,16 @@ Says read from_tree key None None said absent = absent
 -- This is what the documents say, with a graph of their workflow. Only a catalogue of replicas may be missing, and it is
 -- empty then; each execution site stands in the catalogue of sites.
 pub record SayThis (execute : List Execution) (d : Documents) (s : Survey) : Type 0 where
-  pub workflow : workflows.read_of d.workflow ≡ Ok (workflow_view s.workflow)
-  pub sites : Says site_reader.read_of site_reader.from_tree_of (codes "siteCatalog") d.sites
-      (workflow_view s.workflow).sites (site_reader.view s.sites) ⊥
-  pub replicas : Says replica_reader.read_of replica_reader.from_tree_of (codes "replicaCatalog") d.replicas
-      (workflow_view s.workflow).replicas (replica_reader.view s.replicas)
-      (replica_reader.view s.replicas ≡ replica_reader.no_replicas)
-  pub transformations : Says transformation_reader.read_of transformation_reader.from_tree_of
+  pub workflow : workflows.workflow_from_text d.workflow ≡ Ok (workflow_view s.workflow)
+  pub sites : Says site_reader.site_catalog_from_text site_reader.site_catalog_from_tree (codes "siteCatalog") d.sites
+      (workflow_view s.workflow).sites (site_reader.site_view s.sites) ⊥
+  pub replicas : Says replica_reader.replica_catalog_from_text replica_reader.replica_catalog_from_tree (codes "replicaCatalog") d.replicas
+      (workflow_view s.workflow).replicas (replica_reader.replica_view s.replicas)
+      (replica_reader.replica_view s.replicas ≡ replica_reader.no_replicas)
+  pub transformations : Says transformation_reader.transformation_catalog_from_text transformation_reader.transformation_catalog_from_tree
       (codes "transformationCatalog") d.transformations (workflow_view s.workflow).transformations
-      (transformation_reader.view s.transformations) ⊥
-  pub listed : first_unknown (site_reader.names_of (site_reader.view s.sites))
+      (transformation_reader.transformation_view s.transformations) ⊥
+  pub listed : first_unknown (site_reader.names_of (site_reader.site_view s.sites))
       (map (λ (e : Execution). e.site) execute) ≡ None
   pub graph : IsGraphOf s.workflow s.graph
 
@@ -62,7 +62,7 @@ pub record SayThis (execute : List Execution) (d : Documents) (s : Survey) : Typ
 pub record IsRead (told : Option Files) (name : List ℕ) (s : Surveyed) : Type 0 where
   pub bytes : List ℕ
   pub came : IsDocument told name bytes
-  pub request : read_of bytes ≡ Ok s.request
+  pub request : request_from_text bytes ≡ Ok s.request
   pub documents : Documents
   pub named : AreNamed told s.request documents
   pub say : SayThis s.request.execute documents s.survey

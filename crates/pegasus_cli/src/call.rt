@@ -2,11 +2,11 @@
 
 ghost use Rattle.std.specs.Prelude.{◌≡◌, ◌++◌, drop, false, length, map as list_map, string_bytes};
 ghost use Rattle.craft.specs.declared.crew.Crew.{Crew};
-ghost use Rattle.command_words.specs.Words.{command, is_threaded, members_of};
+ghost use Rattle.command_words.specs.code.Words.{command, is_threaded, members_of};
 ghost use Rattle.pegasus_cli.specs.declared.outcome.Outcome.TheVariants.{Usage as IsNoCommand};
-ghost use Rattle.pegasus_cli.specs.Call.{Ends, IsAnswered};
-ghost use Rattle.pegasus_cli.specs.Moments.{call_of, objects, sink_moment, writing};
-ghost use Rattle.pegasus_cli.specs.Outcome.{IsAnswer, closing, line_of, outcome_of};
+ghost use Rattle.pegasus_cli.specs.code.Call.{Ends, IsAnswered};
+ghost use Rattle.pegasus_cli.specs.code.Moments.{call_of, objects, sink_moment, writing};
+ghost use Rattle.pegasus_cli.specs.code.Outcome.{IsAnswer, closing, line_of, outcome_of};
 
 use crate::outcome::{Outcome, of_answer, push_closing};
 use command_words::quick_command;

@@ -1,8 +1,8 @@
 //! The line of a fault of an ensemble.
 
 ghost use Rattle.std.specs.Prelude.{◌≡◌, ◌++◌, ◌-◌, OnOk, length, take};
-ghost use Rattle.planner.specs.Refused.{many_line, one_name};
-ghost use Rattle.pegasus_cli.specs.EnsembleLine.{behind_refused, ensemble_line, ensemble_read_line, ensemble_tree_line, member_front, member_line};
+ghost use Rattle.planner.specs.code.Refused.{many_line, one_name};
+ghost use Rattle.pegasus_cli.specs.code.EnsembleLine.{behind_refused, ensemble_line, ensemble_read_line, ensemble_tree_line, member_front, member_line};
 
 use ensemble::EnsembleFault;
 use outside::{Memory, Text, Word, push_line};

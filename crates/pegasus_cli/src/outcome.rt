@@ -1,7 +1,7 @@
 //! How a call ends, its line and its status.
 
 ghost use Rattle.std.specs.Prelude.{◌≡◌, ◌++◌, OnOk};
-ghost use Rattle.pegasus_cli.specs.Outcome.{IsAnswer, closing, exceeds_line, line_of, outcome_of};
+ghost use Rattle.pegasus_cli.specs.code.Outcome.{IsAnswer, closing, exceeds_line, line_of, outcome_of};
 
 use crate::ensemble_line::{push_ensemble, push_member};
 use ensemble::EnsembleFault;
@@ -49,7 +49,7 @@ pub enum Outcome {
 }
 
 impl Outcome {
-    ghost use Rattle.pegasus_cli.specs.Outcome.{status_of};
+    ghost use Rattle.pegasus_cli.specs.code.Outcome.{status_of};
 
     /// The status that the program ends with.
     pub fn code(&self) -> u8

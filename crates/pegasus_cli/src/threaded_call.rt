@@ -2,11 +2,11 @@
 
 ghost use Rattle.std.specs.Prelude.{◌≡◌, drop, false, length, map as list_map, string_bytes, true};
 ghost use Rattle.craft.specs.declared.crew.Crew.{Crew};
-ghost use Rattle.command_words.specs.Words.{command, is_threaded, members_of};
-ghost use Rattle.pegasus_cli.specs.Call.{IsAnswered};
+ghost use Rattle.command_words.specs.code.Words.{command, is_threaded, members_of};
+ghost use Rattle.pegasus_cli.specs.code.Call.{IsAnswered};
 ghost use Rattle.pegasus_cli.specs.Headline.{HoldsOf};
-ghost use Rattle.pegasus_cli.specs.Joint.{JointHoldsOf};
-ghost use Rattle.pegasus_cli.specs.Moments.{call_of, objects};
+ghost use Rattle.pegasus_cli.specs.code.Joint.{JointHoldsOf};
+ghost use Rattle.pegasus_cli.specs.code.Moments.{call_of, objects};
 
 use crate::call::{answer, quick, refuse_words};
 use crate::outcome::Outcome;

@@ -2,22 +2,23 @@
 use Rattle.std.proofs.Common.{ℕ, ◌<◌, zero, suc, List, inl, inr, arith}
 use Rattle.std.specs.Prelude.{Option}
 use Rattle.std.proofs.Math.Logic.{∥∥₁_elim, ∥∥₁_map}
-use Rattle.outside.specs.Counts.{Rose}
+use Rattle.outside.specs.code.Counts.{Rose}
 use Rattle.values.specs.declared.numbers.TaskId.{TaskId}
 use Rattle.plan_core.specs.declared.plan.Plan.{Plan}
 use Rattle.plan_core.specs.Words.{task_numbers}
-use Rattle.run_record.specs.Events.{Log}
-use Rattle.planner.specs.Deliveries.{DeliversRequests}
-use Rattle.planner.specs.Meaning.{MeansWorkflow}
+use Rattle.run_record.specs.code.Events.{Log}
+use Rattle.planner.specs.code.Deliveries.{DeliversRequests}
+use Rattle.planner.specs.code.Meaning.{MeansWorkflow}
 use Rattle.planner.specs.declared.surveyed.Surveyed.{Surveyed}
 use Rattle.site_yard.specs.declared.delivered.Delivered.{Delivered}
-use Rattle.plan_run.specs.Finishing.{NoneFailed}
-use Rattle.plan_run.specs.Moments.{Tools, Work, count_of, first_tool}
-use Rattle.plan_run.specs.Running.{End, HasRunAlone, reporting}
-use Rattle.pegasus_commands.specs.Commands.Alone.{HasRunFirst, RunsAlone, alone}
-use Rattle.pegasus_commands.specs.CommandSpec.{Finishes, NoneRoseAtWork}
-use Rattle.pegasus_commands.specs.Fault.{Answer, IsDoneOrMemory, end_answer}
-use Rattle.pegasus_commands.specs.PlanRun.{CanRun, IsReady}
+use Rattle.plan_run.specs.code.Finishing.{NoneFailed}
+use Rattle.plan_run.specs.Moments.{Tools, Work}
+use Rattle.plan_run.specs.code.Moments.{count_of, first_tool}
+use Rattle.plan_run.specs.code.Running.{End, HasRunAlone, reporting}
+use Rattle.pegasus_commands.specs.code.Commands.Alone.{HasRunFirst, RunsAlone, alone}
+use Rattle.pegasus_commands.specs.code.CommandSpec.{Finishes, NoneRoseAtWork}
+use Rattle.pegasus_commands.specs.code.Fault.{Answer, IsDoneOrMemory, end_answer}
+use Rattle.pegasus_commands.specs.code.PlanRun.{CanRun, IsReady}
 use Rattle.pegasus_commands.proofs.FaultLemmas.{done_prop}
 use Rattle.pegasus_commands.proofs.PlanRunLemmas.{HasDeliveryLaws, RunsFinish, plan_run_finishes, run_is, unrun_finishes}
 use Rattle.pegasus_commands.proofs.SurveyLemmas.{survey_finishes}

@@ -11,8 +11,9 @@ use Rattle.planner.specs.declared.surveyed.Surveyed.{Surveyed}
 use Rattle.plan_run.specs.Moments.{Tools, Work}
 use Rattle.plan_run.specs.RunText.{delivered_lines}
 use Rattle.run_record.specs.Events.{Event}
-use Rattle.run_record.specs.Fault.{IsMalformedAt}
-use Rattle.run_record.specs.RecordText.{AreEntries, record_text}
+use Rattle.run_record.specs.code.Fault.{IsMalformedAt}
+use Rattle.run_record.specs.code.RecordText.{AreEntries}
+use Rattle.run_record.specs.RecordText.{record_text}
 use Rattle.lease_rules.specs.Legal.{IsComplete, Legal}
 use Rattle.lease_rules.specs.State.{now}
 use Rattle.record_audit.specs.Part.{record_part}
@@ -25,12 +26,12 @@ use Rattle.record_audit.specs.declared.verdict.Verdict.TheVariants as verdict
 use Rattle.pegasus_commands.specs.declared.fault.CallFault.{CallFault}
 use Rattle.pegasus_commands.specs.declared.fault.CallFault.TheVariants.{BadRecord, IllegalRecord, Memory}
 use Rattle.pegasus_commands.specs.declared.recorded.Recorded.{Recorded}
-use Rattle.pegasus_commands.specs.Commands.Audit.{CanJudge, IsBad, IsJudgment, IsOrdered, IsUnjudged, IsUnread, Judges, PrintsVerdict, SaysOf, audit}
-use Rattle.pegasus_commands.specs.Commands.Plan.{IsRefusal, IsUnplanned}
-use Rattle.pegasus_commands.specs.Commands.Stat.{AddsSums, PrintsSums, stat}
-use Rattle.pegasus_commands.specs.CommandSpec.{Finishes}
-use Rattle.pegasus_commands.specs.Fault.{Answer, IsDoneOrMemory, done, not_for, plan_answer}
-use Rattle.pegasus_commands.specs.PlanRun.{HasRunPlan}
+use Rattle.pegasus_commands.specs.code.Commands.Audit.{CanJudge, IsBad, IsJudgment, IsOrdered, IsUnjudged, IsUnread, Judges, PrintsVerdict, SaysOf, audit}
+use Rattle.pegasus_commands.specs.code.Commands.Plan.{IsRefusal, IsUnplanned}
+use Rattle.pegasus_commands.specs.code.Commands.Stat.{AddsSums, PrintsSums, stat}
+use Rattle.pegasus_commands.specs.code.CommandSpec.{Finishes}
+use Rattle.pegasus_commands.specs.code.Fault.{Answer, IsDoneOrMemory, done, not_for, plan_answer}
+use Rattle.pegasus_commands.specs.code.PlanRun.{HasRunPlan}
 use Rattle.pegasus_commands.proofs.PlanRunLemmas.{ended_reports, ended_tells}
 use Rattle.pegasus_commands.proofs.RecordedLemmas.{record_finishes}
 

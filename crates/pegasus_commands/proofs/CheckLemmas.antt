@@ -3,9 +3,9 @@ use Rattle.std.proofs.Common.{ℕ, List}
 use Rattle.std.specs.Prelude.{Ok, Err}
 use Rattle.planner.specs.declared.inputs.Survey.{Survey}
 use Rattle.pegasus_commands.specs.declared.fault.CallFault.TheVariants.{Memory}
-use Rattle.pegasus_commands.specs.Commands.Check.{Checks, Says, check}
-use Rattle.pegasus_commands.specs.CommandSpec.{Finishes}
-use Rattle.pegasus_commands.specs.Fault.{Answer, IsDoneOrMemory}
+use Rattle.pegasus_commands.specs.code.Commands.Check.{Checks, Says, check}
+use Rattle.pegasus_commands.specs.code.CommandSpec.{Finishes}
+use Rattle.pegasus_commands.specs.code.Fault.{Answer, IsDoneOrMemory}
 use Rattle.pegasus_commands.proofs.SurveyLemmas.{survey_finishes}
 
 says_done : (s : Survey) (text : List ℕ) (a : Answer) → Says s text a → IsDoneOrMemory a

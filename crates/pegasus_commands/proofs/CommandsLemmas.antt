@@ -2,12 +2,13 @@
 use Rattle.std.proofs.Common.{inl, refl, arith}
 use Rattle.std.specs.Prelude.{Err}
 use Rattle.pegasus_commands.specs.declared.fault.CallFault.TheVariants.{Memory}
-use Rattle.pegasus_commands.specs.Course.{Course, IsStep, documents, documents_with}
-use Rattle.pegasus_commands.specs.Ensembles.{ensemble_document}
+use Rattle.pegasus_commands.specs.code.Course.{Course, IsStep, documents, documents_with}
+use Rattle.pegasus_commands.specs.code.Ensembles.{ensemble_document}
 use Rattle.pegasus_commands.specs.Moments.{DocsMoment}
-use Rattle.pegasus_commands.specs.Commands.{quick_spec, spec_of, threaded_spec}
-use Rattle.pegasus_commands.specs.CommandSpec.{Finishes}
-use Rattle.command_words.specs.Words.{Command, Quick, Threaded, Check, Plan, Eval, Alone, Audit, Stat, Resume, Produce, Schedule, Run, Ensemble, EnsembleBy, Rehearse, RehearseBy, Quickly, InThreads}
+use Rattle.pegasus_commands.specs.code.Commands.{quick_spec, spec_of, threaded_spec}
+use Rattle.pegasus_commands.specs.code.CommandSpec.{Finishes}
+use Rattle.command_words.specs.code.Words.{Command, Quick, Check, Plan, Eval, Alone, Audit, Stat, Resume, Produce, Schedule, Ensemble, Rehearse, Quickly, InThreads}
+use Rattle.command_words.specs.Words.{Threaded, Run, EnsembleBy, RehearseBy}
 use Rattle.pegasus_commands.proofs.AloneLemmas.{alone_finishes}
 use Rattle.pegasus_commands.proofs.AuditLemmas.{NoneMalformed, OneRecord, audit_finishes, stat_finishes}
 use Rattle.pegasus_commands.proofs.CheckLemmas.{check_finishes}

@@ -1,15 +1,17 @@
 -- How one step over documents follows another.
 use Rattle.std.proofs.Common.{◌≡◌, ap, [], refl, sym, subst, ◌∙◌, inl, inr, arith}
 use Rattle.std.specs.Prelude.{◌⊎◌, Option, Some, Result, Ok, Err}
-use Rattle.outside.specs.Counts.{IsLater, Rose, one_done, one_fault}
-use Rattle.outside.specs.Docs.{Fetched}
+use Rattle.outside.specs.code.Counts.{IsLater, Rose, one_done, one_fault}
+use Rattle.outside.specs.code.Docs.{Fetched}
 use Rattle.values.specs.FileMap.{Files}
 use Rattle.outside.specs.declared.counts.Counts.{Counts}
 use Rattle.outside.specs.declared.docs.DocFault.{DocFault}
 use Rattle.outside.specs.declared.docs.DocFault.TheVariants as doc_faults
 use Rattle.pegasus_commands.specs.declared.fault.CallFault.{CallFault}
 use Rattle.pegasus_commands.specs.declared.fault.CallFault.TheVariants.{Memory}
-use Rattle.pegasus_commands.specs.Course.{ButMemory, Course, Ends, Asks, Gives, HasFailed, IsStep, ◌>>=◌, doc_answer, document_limit, goes_on, read_from}
+use Rattle.pegasus_commands.specs.code.Course.{ButMemory, Course, Ends, Asks, Gives, HasFailed, IsStep, doc_answer, goes_on, read_from}
+use Rattle.pegasus_commands.specs.Course.{document_limit}
+use Rattle.pegasus_commands.specs.code.Course.{◌>>=◌}
 use Rattle.pegasus_commands.specs.Moments.{DocsMoment}
 
 later_still : (a b c : Counts) → IsLater a b → IsLater b c → IsLater a c

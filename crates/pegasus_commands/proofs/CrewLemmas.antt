@@ -5,10 +5,11 @@ use Rattle.std.specs.Prelude.{Some, slice_set}
 use Rattle.craft.specs.declared.crew.Crew.{Crew}
 use Rattle.craft.specs.declared.gate.Gate as gate
 use Rattle.outside.specs.declared.tool.Tool as tool
-use Rattle.plan_run.specs.Moments.{MemberMoment, crew_moment, first_shown, member_moment}
+use Rattle.plan_run.specs.Moments.{MemberMoment}
+use Rattle.plan_run.specs.code.Moments.{crew_moment, first_shown, member_moment}
 use Rattle.command_words.specs.declared.commands.Quick.{Quick as QuickWords}
 use Rattle.command_words.specs.declared.commands.Quick.TheVariants as quick_words
-use Rattle.command_words.specs.Words.{quick_members, quick_of}
+use Rattle.command_words.specs.code.Words.{quick_members, quick_of}
 
 -- the first member of a crew, before and after it worked
 pub first_is : {A : Type 0} (shown : A → MemberMoment) (crew : List A) (first : A) → length crew ≡ 16 → first ≡ get_or crew 0 first → first_shown (map shown crew) ≡ shown first

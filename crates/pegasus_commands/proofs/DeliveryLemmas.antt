@@ -6,11 +6,13 @@ use Rattle.plan_core.specs.declared.plan.Plan.{Plan}
 use Rattle.planner.specs.declared.surveyed.Surveyed.{Surveyed}
 use Rattle.run_record.specs.Events.{Event}
 use Rattle.site_yard.specs.Changes.{carries}
-use Rattle.site_yard.specs.Law.{AgreesSince, IsDeliveryOf}
+use Rattle.site_yard.specs.code.Law.{AgreesSince}
+use Rattle.site_yard.specs.Law.{IsDeliveryOf}
 use Rattle.plan_run.specs.Moments.{Work}
-use Rattle.plan_run.specs.Running.{IsShown}
-use Rattle.pegasus_commands.specs.Fault.{done}
-use Rattle.pegasus_commands.specs.PlanRun.{AllDelivered, AreHonestIn, AreSet, DeliversRequested, ShownBy, value_in}
+use Rattle.plan_run.specs.code.Running.{IsShown}
+use Rattle.pegasus_commands.specs.code.Fault.{done}
+use Rattle.pegasus_commands.specs.code.PlanRun.{AllDelivered, DeliversRequested}
+use Rattle.pegasus_commands.specs.PlanRun.{AreHonestIn, AreSet, ShownBy, value_in}
 
 pub set_carried : (w : Work) (s : Surveyed) (p : Plan) (r : List Event) (m new : Store) → AllDelivered s p r done → DeliversRequested w s p r m new → AreSet s (IsDeliveryOf p (carries w.apply p m)) m.delivered new.delivered
 set_carried w s p r m new all delivers = record {

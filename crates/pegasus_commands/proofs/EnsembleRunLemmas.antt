@@ -5,12 +5,12 @@ use Rattle.std.specs.List.{AllByRecursion}
 use Rattle.std.specs.FinMap as files
 use Rattle.std.proofs.lemmas.List.{length-append, length-map}
 use Rattle.std.proofs.Math.Logic.{∥∥₁_map}
-use Rattle.outside.specs.Counts.{Rose}
+use Rattle.outside.specs.code.Counts.{Rose}
 use Rattle.values.specs.FileMap.{Files}
 use Rattle.outside.specs.declared.store.Store.{Store}
 use Rattle.workflow_core.specs.Requested.{is_requested}
 use Rattle.plan_request.specs.declared.request.PlanRequest.{PlanRequest}
-use Rattle.planner.specs.Course.{Refuses}
+use Rattle.planner.specs.code.Course.{Refuses}
 use Rattle.planner.specs.Deliveries.{IsRequested}
 use Rattle.planner.specs.declared.plan_fault.PlanFault.{PlanFault}
 use Rattle.planner.specs.declared.surveyed.Surveyed.{Surveyed}
@@ -25,19 +25,21 @@ use Rattle.ensemble.specs.declared.document.MemberEntry.{MemberEntry}
 use Rattle.ensemble.specs.declared.join_fault.JoinFault.{JoinFault}
 use Rattle.ensemble.specs.declared.member.Member.{Member}
 use Rattle.plan_run.specs.Finishing.{replicas_of}
-use Rattle.plan_run.specs.Moments.{Tools, Work, first_tool}
+use Rattle.plan_run.specs.Moments.{Tools, Work}
+use Rattle.plan_run.specs.code.Moments.{first_tool}
 use Rattle.pegasus_commands.specs.declared.course.Requested.{Requested}
 use Rattle.pegasus_commands.specs.declared.fault.CallFault.{CallFault}
 use Rattle.pegasus_commands.specs.declared.fault.CallFault.TheVariants as faults
-use Rattle.pegasus_commands.specs.Commands.Alone.{HasRunFirst, RunsAlone}
-use Rattle.pegasus_commands.specs.Commands.EnsembleRun.{AreDelivered, DeliversMembers, IsAsked, RunsJoint, ensemble, ensemble_by, joint_name, over_ensemble}
-use Rattle.pegasus_commands.specs.Commands.Run.{RunsMany}
-use Rattle.pegasus_commands.specs.CommandSpec.{Does, Doing, Finishes, NoneRoseAtWork, NoneRoseIn}
-use Rattle.pegasus_commands.specs.Course.{IsStep, documents}
-use Rattle.pegasus_commands.specs.Ensembles.{AreRead, AreTold, GoesOn, HasMembers, IsJoinedOf, IsRead, IsSurveyedMember, IsTold, Joined, MayJoin, MayRead, Stops, StopsAt, StopsMember, ensemble_document, joined}
-use Rattle.pegasus_commands.specs.Fault.{Answer, IsDoneOrMemory, done, member_answer, not_for, plan_answer}
+use Rattle.pegasus_commands.specs.code.Commands.Alone.{HasRunFirst, RunsAlone}
+use Rattle.pegasus_commands.specs.code.Commands.EnsembleRun.{AreDelivered, DeliversMembers, IsAsked, RunsJoint, ensemble, ensemble_by, joint_name, over_ensemble}
+use Rattle.pegasus_commands.specs.code.Commands.Run.{RunsMany}
+use Rattle.pegasus_commands.specs.code.CommandSpec.{Does, Doing, Finishes, NoneRoseAtWork, NoneRoseIn}
+use Rattle.pegasus_commands.specs.code.Course.{IsStep, documents}
+use Rattle.pegasus_commands.specs.code.Ensembles.{AreRead, AreTold, GoesOn, HasMembers, IsJoinedOf, IsRead, IsSurveyedMember, IsTold, Joined, MayJoin, MayRead, Stops, StopsAt, StopsMember, ensemble_document, joined}
+use Rattle.pegasus_commands.specs.code.Fault.{Answer, IsDoneOrMemory, done, member_answer, not_for, plan_answer}
 use Rattle.pegasus_commands.specs.Moments.{DocsMoment}
-use Rattle.pegasus_commands.specs.PlanRun.{AreSet, CanRun, DeliversRequested, HasRunPlan, IsUnrun, ShownBy, lfn, value_in}
+use Rattle.pegasus_commands.specs.PlanRun.{AreSet, ShownBy, lfn, value_in}
+use Rattle.pegasus_commands.specs.code.PlanRun.{CanRun, DeliversRequested, HasRunPlan, IsUnrun}
 use Rattle.pegasus_commands.proofs.AloneLemmas.{runs_done as alone_done}
 use Rattle.pegasus_commands.proofs.DeliveryLemmas.{set_valued, told_so}
 use Rattle.pegasus_commands.proofs.EnsemblesLemmas.{IsPassage, passed, read_is_passage, read_passage, stops_passage}

@@ -5,13 +5,13 @@ use Rattle.std.specs.List.{AllByRecursion}
 use Rattle.std.specs.Str.{bytes_eq}
 use Rattle.std.proofs.lemmas.List.{append-nil}
 use Rattle.std.proofs.lemmas.List.Elements.{All-from_recursion}
-use Rattle.outside.specs.Counts.{IsLater}
+use Rattle.outside.specs.code.Counts.{IsLater}
 use Rattle.outside.specs.declared.counts.Counts.{Counts}
 use Rattle.peg_json.specs.declared.fault.TreeFault.TheVariants as trees
 use Rattle.peg_json.specs.declared.read_fault.ReadFault.TheVariants as reads
-use Rattle.workflow_core.specs.WellFormed.{are_distinct}
+use Rattle.workflow_core.specs.code.WellFormed.{are_distinct}
 use Rattle.plan_request.specs.declared.request.PlanRequest.{PlanRequest}
-use Rattle.planner.specs.Course.{Refuses}
+use Rattle.planner.specs.code.Course.{Refuses}
 use Rattle.planner.specs.declared.plan_fault.PlanFault.{PlanFault}
 use Rattle.ensemble.specs.Applying.{of_ensemble}
 use Rattle.ensemble.specs.Joining.{Joins as HasJoint}
@@ -29,9 +29,9 @@ use Rattle.ensemble.specs.declared.member.Member.{Member}
 use Rattle.pegasus_commands.specs.declared.course.Requested.{Requested}
 use Rattle.pegasus_commands.specs.declared.fault.CallFault.{CallFault}
 use Rattle.pegasus_commands.specs.declared.fault.CallFault.TheVariants as faults
-use Rattle.pegasus_commands.specs.Course.{ButMemory, Course, IsStep, documents}
-use Rattle.pegasus_commands.specs.Ensembles.{AreRead, HasMembers, HasNoJoint, IsRead, ReadsMember, Stops, StopsAt, StopsMember, SurveysMember, ensemble_document, ensemble_in_bytes}
-use Rattle.pegasus_commands.specs.Fault.{ensemble_answer, join_answer, member_answer, plan_answer}
+use Rattle.pegasus_commands.specs.code.Course.{ButMemory, Course, IsStep, documents}
+use Rattle.pegasus_commands.specs.code.Ensembles.{AreRead, HasMembers, HasNoJoint, IsRead, ReadsMember, Stops, StopsAt, StopsMember, SurveysMember, ensemble_document, ensemble_in_bytes}
+use Rattle.pegasus_commands.specs.code.Fault.{ensemble_answer, join_answer, member_answer, plan_answer}
 use Rattle.pegasus_commands.specs.Moments.{DocsMoment}
 
 -- ---- the ensemble's own document

@@ -1,7 +1,7 @@
 -- The answers of `eval`.
 use Rattle.std.proofs.Common.{◌≡◌, ℕ, List, [], refl, sym, ap, subst, ◌∙◌}
 use Rattle.std.specs.Prelude.{Ok, Err}
-use Rattle.outside.specs.Counts.{Rose}
+use Rattle.outside.specs.code.Counts.{Rose}
 use Rattle.evaluation.specs.Evaluating.{AllDefined, HasNoValues}
 use Rattle.evaluation.specs.Moments.{Meeting, Subject}
 use Rattle.evaluation.specs.declared.fault.EvaluationFault.{EvaluationFault}
@@ -11,9 +11,9 @@ use Rattle.run_record.specs.declared.run_fault.RunFault.TheVariants as run
 use Rattle.plan_run.specs.Moments.{Tools, Work}
 use Rattle.pegasus_commands.specs.declared.fault.CallFault.{CallFault}
 use Rattle.pegasus_commands.specs.declared.fault.CallFault.TheVariants.{Memory}
-use Rattle.pegasus_commands.specs.Commands.Eval.{CanEvaluate, Evaluates, Says, eval, meeting_of, subject_of}
-use Rattle.pegasus_commands.specs.CommandSpec.{Finishes, NoneRoseAtWork}
-use Rattle.pegasus_commands.specs.Fault.{Answer, IsDoneOrMemory, not_for, value_answer}
+use Rattle.pegasus_commands.specs.code.Commands.Eval.{CanEvaluate, Evaluates, Says, eval, meeting_of, subject_of}
+use Rattle.pegasus_commands.specs.code.CommandSpec.{Finishes, NoneRoseAtWork}
+use Rattle.pegasus_commands.specs.code.Fault.{Answer, IsDoneOrMemory, not_for, value_answer}
 use Rattle.pegasus_commands.proofs.SurveyLemmas.{survey_finishes}
 
 -- nothing but a counted failure, or want of memory, keeps an evaluation from values

@@ -7,7 +7,7 @@ use Rattle.run_record.specs.declared.run_fault.RunFault.{RunFault}
 use Rattle.run_record.specs.declared.run_fault.RunFault.TheVariants as run
 use Rattle.pegasus_commands.specs.declared.fault.CallFault.{CallFault}
 use Rattle.pegasus_commands.specs.declared.fault.CallFault.TheVariants.{Memory, Refused, Failed}
-use Rattle.pegasus_commands.specs.Fault.{Answer, IsDoneOrMemory, done, not_for, plan_answer, run_answer}
+use Rattle.pegasus_commands.specs.code.Fault.{Answer, IsDoneOrMemory, done, not_for, plan_answer, run_answer}
 
 -- a fault that is neither want of memory nor a bound that is passed
 pub plan_answer_else : (fault : PlanFault) → (fault ≡ plan.Memory → ⊥) → ((site : _) (task : _) (needed bound : _) → fault ≡ plan.Exceeds site task needed bound → ⊥) → Refused fault ≡ plan_answer fault

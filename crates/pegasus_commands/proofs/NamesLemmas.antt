@@ -7,11 +7,11 @@ use Rattle.std.proofs.lemmas.List.Elements.{All-from_recursion}
 use Rattle.values.specs.declared.documents.Documents.{Documents}
 use Rattle.serde_json.specs.Data.{Data, Items}
 use Rattle.serde_json.specs.Find as find
-use Rattle.peg_json.specs.Count.{few}
-use Rattle.peg_json.specs.Duplicates.{first_repeat, first_unknown, refused}
-use Rattle.peg_json.specs.Lists.{list_or_none}
+use Rattle.peg_json.specs.Elements.{few}
+use Rattle.peg_json.specs.Elements.{first_repeat, first_unknown, refused}
+use Rattle.peg_json.specs.Typed.{list_or_none}
 use Rattle.peg_json.specs.Path.{index_path, key_path}
-use Rattle.peg_json.specs.ReadFault.{then_read}
+use Rattle.peg_json.specs.Tree.{then_read}
 use Rattle.peg_json.specs.Table.{checks, member_of}
 use Rattle.peg_json.specs.Profiles.{profiles_or_none}
 use Rattle.peg_json.specs.Versions.{version_at}
@@ -22,32 +22,33 @@ use Rattle.peg_json.specs.Typed.{any_of, flag_of, if_found, name_of, nonempty_te
 use Rattle.peg_json.specs.declared.fault.TreeFault.{TreeFault}
 use Rattle.peg_json.specs.declared.fault.TreeFault.TheVariants as faults
 use Rattle.peg_json.specs.declared.read_fault.ReadFault.{ReadFault}
-use Rattle.workflow_core.specs.Names.{distinct}
+use Rattle.values.specs.Distinct.{distinct}
 use Rattle.workflow_core.specs.View.{WorkflowEntry}
-use Rattle.workflow_reader.specs.Document.{DocumentEntry}
-use Rattle.workflow_reader.specs.Files.{files_of, lfns_in, lfns_of}
-use Rattle.workflow_reader.specs.JobEntry.{job_of, job_rows}
+use Rattle.workflow_reader.specs.Workflow.{DocumentEntry}
+use Rattle.workflow_reader.specs.Linking.{files_of, lfns_in, lfns_of_uses}
+use Rattle.workflow_reader.specs.Workflow.{job_of, job_rows}
 use Rattle.workflow_reader.specs.Linking.{all_used_once, ids_in, ids_of, linked}
-use Rattle.workflow_reader.specs.Reader.{from_tree_of, read_of}
-use Rattle.workflow_reader.specs.Root.{document_of, root_rows}
-use Rattle.workflow_reader.specs.UseEntry.{direction_at, use_of, use_rows}
-use Rattle.workflow_reader.specs.Argument.{argument_of}
-use Rattle.workflow_reader.specs.ConstantText.{constant_at}
-use Rattle.workflow_reader.specs.Dependency.{dependency_of}
+use Rattle.workflow_reader.specs.Linking.{workflow_from_tree, workflow_from_text}
+use Rattle.workflow_reader.specs.Workflow.{workflow_document_of, workflow_document_rows}
+use Rattle.workflow_reader.specs.Workflow.{direction_at, use_of, use_rows}
+use Rattle.workflow_reader.specs.Workflow.{argument_of}
+use Rattle.workflow_reader.specs.Workflow.{constant_at}
+use Rattle.workflow_reader.specs.Workflow.{dependency_of}
 use Rattle.workflow_reader.specs.declared.document.JobEntry.{JobEntry}
 use Rattle.workflow_reader.specs.declared.document.Use.{Use}
 use Rattle.plan_request.specs.declared.request.PlanRequest.{PlanRequest}
-use Rattle.planner.specs.Course.{IsSurvey, SurveyEntry, all_listed as all_sites_listed, replicas_in, said_by, sites_in, surveyed, transformations_in, workflow_in}
-use Rattle.planner.specs.PlanFault.{answered}
-use Rattle.planner.specs.Deliveries as planned
-use Rattle.planner.specs.Deliveries.{DeliversRequests, IsRequested}
+use Rattle.planner.specs.code.Course.{IsSurvey, SurveyEntry, all_listed as all_sites_listed, replicas_in, said_by, sites_in, surveyed, transformations_in, workflow_in}
+use Rattle.planner.specs.code.PlanFault.{answered}
+use Rattle.planner.specs.code.Deliveries as planned
+use Rattle.planner.specs.code.Deliveries.{DeliversRequests}
+use Rattle.planner.specs.Deliveries.{IsRequested}
 use Rattle.planner.specs.declared.document.Document.TheVariants.{Workflow}
 use Rattle.planner.specs.declared.inputs.Survey.{Survey}
 use Rattle.plan_core.specs.declared.plan.Plan.{Plan}
 use Rattle.plan_core.specs.Words.{delivers}
 use Rattle.run_record.specs.Events.{Event}
 use Rattle.plan_core.specs.Names.{file_name, lfn_in}
-use Rattle.site_yard.specs.Places.{is_delivered}
+use Rattle.site_yard.specs.code.Places.{is_delivered}
 use Rattle.site_yard.specs.declared.delivered.Delivered.{Delivered}
 
 -- ---- what holds of all that a reading may give
@@ -143,10 +144,10 @@ job_reads path d =
 abbrev AllHaveNames : DocumentEntry → Type 0
 AllHaveNames e = AllByRecursion HasNames e.jobs
 
-document_reads : (path : List ℕ) (d : Data) → IfRead AllHaveNames (document_of path d)
-unfolding document_of
+document_reads : (path : List ℕ) (d : Data) → IfRead AllHaveNames (workflow_document_of path d)
+unfolding workflow_document_of
 document_reads path d =
-    if_then AllHaveNames (checks path d root_rows) _ (λ u _.
+    if_then AllHaveNames (checks path d workflow_document_rows) _ (λ u _.
     if_then AllHaveNames (version_at path d (codes "pegasus")) _ (λ v _.
     if_then AllHaveNames (required text_of path d (codes "name")) _ (λ name _.
     if_then AllHaveNames (required (list_in job_of) path d (codes "jobs")) _ (λ jobs are.
@@ -162,7 +163,7 @@ all_join : (ns ms : List (List ℕ)) → AllByRecursion IsNamed ns → AllByRecu
 all_join [] ms one two = two
 all_join (n ∷ ns) ms one two = (one.0, all_join ns ms one.1 two)
 
-all_used : (us : List Use) → AllByRecursion HasName us → AllByRecursion IsNamed (lfns_of us)
+all_used : (us : List Use) → AllByRecursion HasName us → AllByRecursion IsNamed (lfns_of_uses us)
 all_used [] all = tt
 all_used (u ∷ us) all = (all.0, all_used us all.1)
 
@@ -201,11 +202,11 @@ then_reads : {A B : Type 0} (P : B → Type 0) (r : Result A TreeFault) (f : A �
 then_reads P (Ok x) f h = h x refl
 then_reads P (Err e) f h = tt
 
-workflow_reads : (bytes : List ℕ) → IfRead FilesNamed (read_of bytes)
-unfolding read_of from_tree_of
+workflow_reads : (bytes : List ℕ) → IfRead FilesNamed (workflow_from_text bytes)
+unfolding workflow_from_text workflow_from_tree
 workflow_reads bytes =
-    then_reads FilesNamed (tree_of bytes) (from_tree_of []) (λ d _.
-    then_reads FilesNamed (document_of [] d) linked (λ e is. linked_reads e (if_given AllHaveNames (document_of [] d) e is (document_reads [] d))))
+    then_reads FilesNamed (tree_of bytes) (workflow_from_tree []) (λ d _.
+    then_reads FilesNamed (workflow_document_of [] d) linked (λ e is. linked_reads e (if_given AllHaveNames (workflow_document_of [] d) e is (document_reads [] d))))
 
 answered_reads : (r : Result WorkflowEntry ReadFault) → IfRead FilesNamed r → IfRead FilesNamed (answered Workflow r)
 answered_reads (Ok w) h = h
@@ -218,7 +219,7 @@ survey_reads : (r : PlanRequest) (d : Documents) → IfRead SaidNamed (surveyed 
 unfolding surveyed
 survey_reads r d =
     if_then SaidNamed (workflow_in d.workflow) _ (λ w is.
-    let named : FilesNamed w = if_given FilesNamed (workflow_in d.workflow) w is (answered_reads (read_of d.workflow) (workflow_reads d.workflow)) in
+    let named : FilesNamed w = if_given FilesNamed (workflow_in d.workflow) w is (answered_reads (workflow_from_text d.workflow) (workflow_reads d.workflow)) in
     if_then SaidNamed (sites_in d w) _ (λ sites _.
     if_then SaidNamed (replicas_in d w) _ (λ replicas _.
     if_then SaidNamed (transformations_in d w) _ (λ transformations _.

@@ -6,17 +6,18 @@ use Rattle.values.specs.declared.numbers.TaskId.{TaskId}
 use Rattle.plan_core.specs.declared.plan.Plan.{Plan}
 use Rattle.plan_core.specs.Words.{task_numbers}
 use Rattle.storage_simulation.specs.Goods.{places}
-use Rattle.storage_simulation.specs.Ordering.{IsPeak, at_start}
-use Rattle.planner.specs.Planning.{CannotPlan}
+use Rattle.storage_simulation.specs.code.Ordering.{IsPeak}
+use Rattle.storage_simulation.specs.Ordering.{at_start}
+use Rattle.planner.specs.code.Planning.{CannotPlan}
 use Rattle.planner.specs.declared.plan_fault.PlanFault.{PlanFault}
 use Rattle.planner.specs.declared.plan_fault.PlanFault.TheVariants as plan_faults
 use Rattle.std.specs.Prelude.{Ok, Err}
 use Rattle.planner.specs.declared.surveyed.Surveyed.{Surveyed}
 use Rattle.pegasus_commands.specs.declared.fault.CallFault.{CallFault}
 use Rattle.pegasus_commands.specs.declared.fault.CallFault.TheVariants.{Memory}
-use Rattle.pegasus_commands.specs.Commands.Plan.{ArePeaksOf, HasNoFault, Plans, Says, plan, task_limit}
-use Rattle.pegasus_commands.specs.CommandSpec.{Finishes}
-use Rattle.pegasus_commands.specs.Fault.{Answer, IsDoneOrMemory, not_for, plan_answer}
+use Rattle.pegasus_commands.specs.code.Commands.Plan.{ArePeaksOf, HasNoFault, Plans, Says, plan, task_limit}
+use Rattle.pegasus_commands.specs.code.CommandSpec.{Finishes}
+use Rattle.pegasus_commands.specs.code.Fault.{Answer, IsDoneOrMemory, not_for, plan_answer}
 use Rattle.pegasus_commands.proofs.SurveyLemmas.{survey_finishes}
 
 -- the answer for a fault

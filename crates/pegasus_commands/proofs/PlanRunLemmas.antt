@@ -10,34 +10,38 @@ use Rattle.plan_core.specs.declared.plan.PlanJob.{PlanJob}
 use Rattle.plan_core.specs.declared.plan.TaskKind.{TaskKind}
 use Rattle.plan_core.specs.declared.plan.TaskKind.TheVariants.{Clean, Run, Transfer}
 use Rattle.plan_core.specs.declared.plan.Target.TheVariants.{Delivery, Site}
-use Rattle.plan_core.specs.Kinds.{kind_carries}
-use Rattle.plan_core.specs.Proper.{IsProper}
+use Rattle.plan_core.specs.code.Kinds.{kind_carries}
+use Rattle.plan_core.specs.code.Proper.{IsProper}
 use Rattle.plan_core.specs.Words.{delivers, kind, kind_delivers, retries, task_numbers}
 use Rattle.lease_rules.specs.Legal.{IsComplete, Legal}
 use Rattle.lease_rules.specs.State.{now}
 use Rattle.run_record.specs.Events.{Event}
 use Rattle.run_record.specs.declared.run_fault.RunFault.TheVariants as run
-use Rattle.plan_request.specs.RunPolicy.{IsPolicyInRange}
-use Rattle.planner.specs.Deliveries.{DeliversRequests, IsNamed, IsRequested}
-use Rattle.planner.specs.Meaning.{MeansWorkflow}
-use Rattle.planner.specs.Planning.{CannotPlan, IsPlanOf}
+use Rattle.plan_request.specs.code.RunPolicy.{IsPolicyInRange}
+use Rattle.planner.specs.code.Deliveries.{DeliversRequests, IsNamed}
+use Rattle.planner.specs.Deliveries.{IsRequested}
+use Rattle.planner.specs.code.Meaning.{MeansWorkflow}
+use Rattle.planner.specs.code.Planning.{CannotPlan, IsPlanOf}
 use Rattle.planner.specs.declared.plan_fault.PlanFault.{PlanFault}
 use Rattle.planner.specs.declared.plan_fault.PlanFault.TheVariants as plan_faults
 use Rattle.planner.specs.declared.surveyed.Surveyed.{Surveyed}
 use Rattle.site_yard.specs.Changes.{carries}
-use Rattle.site_yard.specs.Law.{AgreesSince, Holds, IsDeliveryOf}
+use Rattle.site_yard.specs.code.Law.{AgreesSince, Holds}
+use Rattle.site_yard.specs.Law.{IsDeliveryOf}
 use Rattle.plan_core.specs.Names.{file_name, lfn_in}
-use Rattle.site_yard.specs.Places.{IsUndelivered, is_delivered}
-use Rattle.plan_run.specs.Finishing.{CanEnd, IsDoneOrMemory as EndsOrMemory, NoneFailed, replicas_of}
+use Rattle.site_yard.specs.code.Places.{IsUndelivered, is_delivered}
+use Rattle.plan_run.specs.code.Finishing.{CanEnd, IsDoneOrMemory as EndsOrMemory, NoneFailed}
+use Rattle.plan_run.specs.Finishing.{replicas_of}
 use Rattle.plan_run.specs.Moments.{Tools, Work}
 use Rattle.site_yard.proofs.AgreesLemmas.{opening_of_none}
-use Rattle.plan_run.specs.Running.{End, HasRun, IsOpened, IsReport, IsShown, Report, Reports, Tells}
+use Rattle.plan_run.specs.code.Running.{End, HasRun, IsOpened, IsReport, IsShown, Report, Reports, Tells}
 use Rattle.pegasus_commands.specs.declared.fault.CallFault.{CallFault}
 use Rattle.pegasus_commands.specs.declared.fault.CallFault.TheVariants.{Memory}
-use Rattle.pegasus_commands.specs.Commands.Plan.{HasNoFault, task_limit}
-use Rattle.pegasus_commands.specs.Fault.{Answer, IsDoneOrMemory, done, end_answer, not_for, plan_answer, run_answer}
-use Rattle.pegasus_commands.specs.KeptTools.{unknown_tool}
-use Rattle.pegasus_commands.specs.PlanRun.{AllDelivered, CanRun, DeliversRequested, HasRunPlan, IsReady, IsUndone, IsUnrun, RefusedAs, lfn}
+use Rattle.pegasus_commands.specs.code.Commands.Plan.{HasNoFault, task_limit}
+use Rattle.pegasus_commands.specs.code.Fault.{Answer, IsDoneOrMemory, done, end_answer, not_for, plan_answer, run_answer}
+use Rattle.pegasus_commands.specs.code.KeptTools.{unknown_tool}
+use Rattle.pegasus_commands.specs.code.PlanRun.{AllDelivered, CanRun, DeliversRequested, HasRunPlan, IsReady, IsUndone, IsUnrun, RefusedAs}
+use Rattle.pegasus_commands.specs.PlanRun.{lfn}
 use Rattle.pegasus_commands.proofs.FaultLemmas.{no_fault_is_done}
 
 -- ---- what is delivered

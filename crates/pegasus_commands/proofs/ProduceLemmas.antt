@@ -4,26 +4,27 @@ use Rattle.std.specs.Prelude.{Some, None, IfOk, Ok, Err}
 use Rattle.std.proofs.Math.Logic.{∥∥₁_elim, ∥∥₁_map}
 use Rattle.values.specs.declared.numbers.TaskId.{TaskId}
 use Rattle.plan_core.specs.declared.plan.Plan.{Plan}
-use Rattle.plan_core.specs.Proper.{IsProper}
+use Rattle.plan_core.specs.code.Proper.{IsProper}
 use Rattle.plan_core.specs.Words.{task_numbers}
 use Rattle.run_record.specs.Events.{Event}
-use Rattle.lease_rules.specs.Law.{FitsFromStart}
-use Rattle.planner.specs.Deliveries.{DeliversRequests}
-use Rattle.planner.specs.Meaning.{MeansWorkflow}
+use Rattle.lease_rules.specs.code.Law.{FitsFromStart}
+use Rattle.planner.specs.code.Deliveries.{DeliversRequests}
+use Rattle.planner.specs.code.Meaning.{MeansWorkflow}
 use Rattle.planner.specs.declared.inputs.Survey.{Survey}
 use Rattle.planner.specs.declared.surveyed.Surveyed.{Surveyed}
 use Rattle.site_yard.specs.Delivered.{AreFiles, arrivals}
 use Rattle.site_yard.specs.declared.delivered.Delivered.{Delivered}
 use Rattle.replica_writer.specs.Law.{CanBeWritten, FlaggedAreHeld, RunsCanBeWritten, SaysEnough}
 use Rattle.replica_writer.specs.Writer.{CanWrite, CanWrite-prop}
-use Rattle.plan_run.specs.Moments.{Tools, Work, first_tool}
-use Rattle.plan_run.specs.Running.{End, HasRunAlone, Report}
+use Rattle.plan_run.specs.Moments.{Tools, Work}
+use Rattle.plan_run.specs.code.Moments.{first_tool}
+use Rattle.plan_run.specs.code.Running.{End, HasRunAlone, Report}
 use Rattle.pegasus_commands.specs.declared.fault.CallFault.{CallFault}
 use Rattle.pegasus_commands.specs.declared.fault.CallFault.TheVariants.{Memory}
-use Rattle.pegasus_commands.specs.Commands.Produce.{AreFilesNamed, Catalogues, HasProduced, IsCatalogue, IsWritten, Produces, TellsRun, produce}
-use Rattle.pegasus_commands.specs.CommandSpec.{Finishes, NoneRoseAtWork}
-use Rattle.pegasus_commands.specs.Fault.{Answer, IsDoneOrMemory, done, end_answer, not_for, run_answer}
-use Rattle.pegasus_commands.specs.PlanRun.{AllDelivered, CanRun, IsReady}
+use Rattle.pegasus_commands.specs.code.Commands.Produce.{AreFilesNamed, Catalogues, HasProduced, IsCatalogue, IsWritten, Produces, TellsRun, produce}
+use Rattle.pegasus_commands.specs.code.CommandSpec.{Finishes, NoneRoseAtWork}
+use Rattle.pegasus_commands.specs.code.Fault.{Answer, IsDoneOrMemory, done, end_answer, not_for, run_answer}
+use Rattle.pegasus_commands.specs.code.PlanRun.{AllDelivered, CanRun, IsReady}
 use Rattle.pegasus_commands.proofs.AloneLemmas.{none_failed}
 use Rattle.pegasus_commands.proofs.FaultLemmas.{done_prop}
 use Rattle.pegasus_commands.proofs.NamesLemmas.{deliveries_named}

@@ -1,16 +1,16 @@
 -- Commands over the documents of one request and a record: what ends them, and what keeps them from Done.
 use Rattle.std.proofs.Common.{◌≡◌, ℕ, List, [], sym, ap, subst, ◌∙◌, inl, inr}
 use Rattle.std.specs.Prelude.{Ok, Err}
-use Rattle.planner.specs.Course.{Refuses}
+use Rattle.planner.specs.code.Course.{Refuses}
 use Rattle.plan_run.specs.Moments.{Tools, Work}
 use Rattle.pegasus_commands.specs.declared.course.WithRecord.{WithRecord}
 use Rattle.pegasus_commands.specs.declared.fault.CallFault.{CallFault}
 use Rattle.pegasus_commands.specs.declared.fault.CallFault.TheVariants as faults
 use Rattle.pegasus_commands.specs.declared.recorded.Recorded.{Recorded}
-use Rattle.pegasus_commands.specs.CommandSpec.{Does, Doing, Finishes, NoneRoseAtWork, NoneRoseIn}
-use Rattle.pegasus_commands.specs.Course.{documents_with}
-use Rattle.pegasus_commands.specs.Fault.{Answer, IsDoneOrMemory, not_for, plan_answer}
-use Rattle.pegasus_commands.specs.Recorded.{GoesOn, IsRecorded, MayGoOn, Surveys, over_record}
+use Rattle.pegasus_commands.specs.code.CommandSpec.{Does, Doing, Finishes, NoneRoseAtWork, NoneRoseIn}
+use Rattle.pegasus_commands.specs.code.Course.{documents_with}
+use Rattle.pegasus_commands.specs.code.Fault.{Answer, IsDoneOrMemory, not_for, plan_answer}
+use Rattle.pegasus_commands.specs.code.Recorded.{GoesOn, IsRecorded, MayGoOn, Surveys, over_record}
 use Rattle.pegasus_commands.proofs.SurveyLemmas.{came_as, nothing_came, of_memory, refused_short, told_step}
 
 stops_short : (name history : List ℕ) (CanWork : Work → Recorded → Type 0) (d : Doing) (e : CallFault) → MayGoOn name history CanWork d.before.told d.work → NoneRoseIn d → Surveys name history d.before d.after (Err e) → e ≡ faults.Memory

@@ -2,15 +2,15 @@
 use Rattle.std.proofs.Common.{◌≡◌, ℕ, ◌<◌, ◌++◌, zero, suc, Bool, true, List, [], ◌∷◌, length, refl, sym, ap, subst, ◌∙◌, inl, inr, arith}
 use Rattle.std.proofs.Math.Logic.{∥∥₁_elim, ∥∥₁_map}
 use Rattle.std.specs.FinMap as files
-use Rattle.std.specs.Prelude.{Option, Some, None, Ok, Err, option_map, slice_get}
-use Rattle.outside.specs.Counts.{Rose}
-use Rattle.outside.specs.MemoryHost.{host_counts, host_store, with_replica}
+use Rattle.std.specs.Prelude.{Option, Some, None, Ok, Err, option_map, slice_get, unwrap_or}
+use Rattle.outside.specs.code.Counts.{Rose}
+use Rattle.outside.specs.code.MemoryHost.{host_counts, host_store, with_replica}
 use Rattle.std.specs.Cmp.Lexicographic.{slice_cmp}
 use Rattle.std.specs.Ordering.{nat_cmp}
 use Rattle.values.specs.FileMap.{Files}
-use Rattle.values.specs.SiteMap.{Sites, or_empty, pair_at}
+use Rattle.values.specs.code.SiteMap.{Sites, or_empty, pair_at}
 use Rattle.outside.specs.declared.operation.Operation.{Operation}
-use Rattle.outside.specs.Store.{blank}
+use Rattle.outside.specs.code.Store.{blank}
 use Rattle.values.specs.Apply.{Apply}
 use Rattle.outside.specs.declared.counts.Counts.{Counts}
 use Rattle.outside.specs.declared.memory_host.MemoryHost.{MemoryHost}
@@ -18,21 +18,22 @@ use Rattle.values.specs.declared.numbers.TaskId.{TaskId}
 use Rattle.outside.specs.declared.store.Store.{Store}
 use Rattle.plan_core.specs.declared.plan.Plan.{Plan}
 use Rattle.plan_core.specs.declared.plan.PlanSite.{PlanSite}
-use Rattle.plan_core.specs.Words.{bound, bound_in, task_numbers}
+use Rattle.plan_core.specs.Words.{bound, task_numbers}
 use Rattle.storage_simulation.specs.Goods.{places}
-use Rattle.planner.specs.Deliveries.{DeliversRequests}
-use Rattle.planner.specs.Meaning.{MeansWorkflow}
+use Rattle.planner.specs.code.Deliveries.{DeliversRequests}
+use Rattle.planner.specs.code.Meaning.{MeansWorkflow}
 use Rattle.planner.specs.declared.plan_fault.PlanFault.{PlanFault}
 use Rattle.planner.specs.declared.plan_fault.PlanFault.TheVariants as plan_faults
 use Rattle.planner.specs.declared.surveyed.Surveyed.{Surveyed}
-use Rattle.run_record.specs.Events.{Event, Log}
+use Rattle.run_record.specs.Events.{Event}
+use Rattle.run_record.specs.code.Events.{Log}
 use Rattle.run_record.specs.declared.run_fault.RunFault.{RunFault}
 use Rattle.run_record.specs.declared.run_fault.RunFault.TheVariants as run_faults
-use Rattle.site_yard.specs.Faults.{AllCarried}
-use Rattle.site_yard.specs.Law.{AgreesSince}
+use Rattle.site_yard.specs.code.Faults.{AllCarried}
+use Rattle.site_yard.specs.code.Law.{AgreesSince}
 use Rattle.plan_core.specs.Names.{site_name}
-use Rattle.site_yard.specs.Opening.{AreUnused}
-use Rattle.site_yard.specs.Places.{is_delivered}
+use Rattle.site_yard.specs.code.Opening.{AreUnused}
+use Rattle.site_yard.specs.code.Places.{is_delivered}
 use Rattle.site_yard.specs.Trace.{trace_of}
 use Rattle.workload_maker.specs.Jobs.{each}
 use Rattle.workload_maker.specs.Replicas.{image_of}
@@ -40,17 +41,20 @@ use Rattle.rehearsal.specs.Preparing.{IsPrepared, IsSurveyedWorkload, stored, wo
 use Rattle.rehearsal.specs.declared.rehearsal.Rehearsal.{Rehearsal}
 use Rattle.rehearsal.specs.declared.figures.Figures.{Figures}
 use Rattle.plan_run.specs.Finishing.{replicas_of}
-use Rattle.plan_run.specs.Moments.{MemberMoment, Tools, Work, WorkMoment, count_of, first_tool, working}
+use Rattle.plan_run.specs.Moments.{MemberMoment, Tools, Work, WorkMoment}
+use Rattle.plan_run.specs.code.Moments.{count_of, first_tool, working}
 use Rattle.site_yard.specs.declared.delivered.Delivered.{Delivered}
-use Rattle.plan_run.specs.Running.{End, HasRun, HasRunAlone, Report, reporting}
+use Rattle.plan_run.specs.code.Running.{End, HasRun, HasRunAlone, Report, reporting}
 use Rattle.pegasus_commands.specs.declared.fault.CallFault.{CallFault}
 use Rattle.pegasus_commands.specs.declared.fault.CallFault.TheVariants.{Failed, Memory, Refused}
-use Rattle.pegasus_commands.specs.Commands.Rehearse.{AreFigures, CanRehearse, Closes, ClosesOrMemory, FailsBy, HasFailed, HasRehearsed, IsInside, IsOfTools, IsStoreAfter, IsUnmade, Makes, Rehearses, Says, TellsEnd, mosaic_name, prepared, rehearse, rehearse_by}
-use Rattle.pegasus_commands.specs.CommandSpec.{Does, Finishes, doing}
-use Rattle.pegasus_commands.specs.Fault.{Answer, IsDoneOrMemory, done, end_answer, not_for, plan_answer, run_answer}
-use Rattle.pegasus_commands.specs.KeptTools.{unknown_tool}
-use Rattle.pegasus_commands.specs.Moments.{DocsMoment, with_first}
-use Rattle.pegasus_commands.specs.PlanRun.{AreHonestIn, CanRun, DeliversRequested, HasRunPlan, IsReady, RefusedAs, lfn, value_in}
+use Rattle.pegasus_commands.specs.code.Commands.Rehearse.{AreFigures, CanRehearse, Closes, ClosesOrMemory, FailsBy, HasFailed, HasRehearsed, IsInside, IsOfTools, IsStoreAfter, IsUnmade, Makes, Rehearses, Says, TellsEnd, mosaic_name, prepared, rehearse, rehearse_by}
+use Rattle.pegasus_commands.specs.code.CommandSpec.{Does, Finishes, doing}
+use Rattle.pegasus_commands.specs.code.Fault.{Answer, IsDoneOrMemory, done, end_answer, not_for, plan_answer, run_answer}
+use Rattle.pegasus_commands.specs.code.KeptTools.{unknown_tool}
+use Rattle.pegasus_commands.specs.Moments.{DocsMoment}
+use Rattle.pegasus_commands.specs.code.Moments.{with_first}
+use Rattle.pegasus_commands.specs.PlanRun.{AreHonestIn, lfn, value_in}
+use Rattle.pegasus_commands.specs.code.PlanRun.{CanRun, DeliversRequested, HasRunPlan, IsReady, RefusedAs}
 use Rattle.pegasus_commands.proofs.FaultLemmas.{done_prop}
 use Rattle.pegasus_commands.proofs.PlanLemmas.{site_is_place}
 use Rattle.pegasus_commands.proofs.PlanRunLemmas.{HasDeliveryLaws, RunsFinish, ended_reports, plan_run_finishes, refused_short, run_is}
@@ -67,7 +71,7 @@ some_site p site at = site_is_place p 0 (some_in p.sites site at)
 
 pub bound_is : (p : Plan) (site : PlanSite) → slice_get p.sites 0 ≡ Some site → site.bound ≡ bound p 0
 unfolding bound
-bound_is p site at = sym (ap bound_in at)
+bound_is p site at = sym (ap (λ (o : Option PlanSite). unwrap_or (option_map (λ (x : PlanSite). x.bound) o) 0) at)
 
 -- ---- the store of a workload
 

@@ -13,38 +13,43 @@ use Rattle.plan_core.specs.declared.plan.Plan.{Plan}
 use Rattle.plan_core.specs.declared.plan.TaskKind.{TaskKind}
 use Rattle.plan_core.specs.declared.plan.TaskKind.TheVariants as kinds
 use Rattle.plan_core.specs.declared.plan.Target.TheVariants as targets
-use Rattle.plan_core.specs.Proper.{IsProper}
+use Rattle.plan_core.specs.code.Proper.{IsProper}
 use Rattle.plan_core.specs.Words.{delivers, kind, kind_delivers, task_numbers}
 use Rattle.plan_core.proofs.TestLemmas.{either, same_number}
 use Rattle.run_record.specs.Events.{Event, Grant, Arrive, End, Clean, Fail, Again, Regrant}
-use Rattle.run_record.specs.Fault.{IsMalformedAt}
+use Rattle.run_record.specs.code.Fault.{IsMalformedAt}
 use Rattle.run_record.specs.declared.run_fault.RunFault.TheVariants as run
 use Rattle.lease_rules.specs.Legal.{Legal}
-use Rattle.planner.specs.Deliveries.{DeliversRequests, IsNamed, IsRequested}
-use Rattle.planner.specs.Meaning.{MeansWorkflow}
+use Rattle.planner.specs.code.Deliveries.{DeliversRequests, IsNamed}
+use Rattle.planner.specs.Deliveries.{IsRequested}
+use Rattle.planner.specs.code.Meaning.{MeansWorkflow}
 use Rattle.planner.specs.declared.surveyed.Surveyed.{Surveyed}
-use Rattle.site_yard.specs.Changes.{carries, moved}
-use Rattle.site_yard.specs.Kept.{IsOpening}
-use Rattle.site_yard.specs.Law.{AgreesSince, Holds, IsDeliveryOf}
+use Rattle.site_yard.specs.Changes.{carries}
+use Rattle.site_yard.specs.code.Changes.{moved}
+use Rattle.site_yard.specs.code.Kept.{IsOpening}
+use Rattle.site_yard.specs.code.Law.{AgreesSince, Holds}
+use Rattle.site_yard.specs.Law.{IsDeliveryOf}
 use Rattle.plan_core.specs.Names.{file_name}
-use Rattle.site_yard.specs.Places.{IsUndelivered, delivers_file, is_delivered}
-use Rattle.site_yard.specs.Truthful.{IsLongAs, IsTrue, Truthful}
+use Rattle.site_yard.specs.code.Places.{IsUndelivered, delivers_file, is_delivered}
+use Rattle.site_yard.specs.code.Truthful.{IsLongAs, IsTrue, Truthful}
 use Rattle.site_yard.proofs.PlanLemmas.{one_file}
-use Rattle.plan_run.specs.Finishing.{NoneFailed, replicas_of}
+use Rattle.plan_run.specs.code.Finishing.{NoneFailed}
+use Rattle.plan_run.specs.Finishing.{replicas_of}
 use Rattle.plan_run.specs.Moments.{Tools, Work}
 use Rattle.resume_run.specs.Finishing.{CanEnd, IsDoneOrMemory as EndsOrMemory}
 use Rattle.resume_run.specs.Replaying.{without_fails}
-use Rattle.plan_run.specs.Running.{IsShown}
+use Rattle.plan_run.specs.code.Running.{IsShown}
 use Rattle.resume_run.specs.Resuming.{End as Ending, HasResumed, IsUnresumed, Resumes, Tells}
 use Rattle.resume_run.specs.declared.resuming.ResumeFault.TheVariants as resumed
 use Rattle.pegasus_commands.specs.declared.fault.CallFault.{CallFault}
 use Rattle.pegasus_commands.specs.declared.fault.CallFault.TheVariants.{BadRecord, IllegalRecord, Memory, Refused}
 use Rattle.pegasus_commands.specs.declared.recorded.Recorded.{Recorded}
-use Rattle.pegasus_commands.specs.Commands.Audit.{IsUnread}
-use Rattle.pegasus_commands.specs.Commands.Resume.{AllStand, CanResume, HasResumedPlan, IsBadRecord, IsGiven, RefusedWith, ResumesPlan, resume}
-use Rattle.pegasus_commands.specs.CommandSpec.{Finishes, NoneRoseAtWork}
-use Rattle.pegasus_commands.specs.Fault.{Answer, IsDoneOrMemory, done, not_for, resumed_answer}
-use Rattle.pegasus_commands.specs.PlanRun.{AllDelivered, DeliversRequested, IsReady, IsUndone, RefusedAs, ShownBy, lfn}
+use Rattle.pegasus_commands.specs.code.Commands.Audit.{IsUnread}
+use Rattle.pegasus_commands.specs.code.Commands.Resume.{AllStand, CanResume, HasResumedPlan, IsBadRecord, IsGiven, RefusedWith, ResumesPlan, resume}
+use Rattle.pegasus_commands.specs.code.CommandSpec.{Finishes, NoneRoseAtWork}
+use Rattle.pegasus_commands.specs.code.Fault.{Answer, IsDoneOrMemory, done, not_for, resumed_answer}
+use Rattle.pegasus_commands.specs.code.PlanRun.{AllDelivered, DeliversRequested, IsReady, IsUndone, RefusedAs}
+use Rattle.pegasus_commands.specs.PlanRun.{ShownBy, lfn}
 use Rattle.pegasus_commands.proofs.AuditLemmas.{NoneMalformed, OneRecord, no_bad_record, no_illegal_record}
 use Rattle.pegasus_commands.proofs.FaultLemmas.{done_prop}
 use Rattle.pegasus_commands.proofs.PlanRunLemmas.{HasDeliveryLaws, carried_if_delivered, delivered_so, named_in, refused_short, undone_is}

@@ -1,15 +1,15 @@
 -- The answers of `schedule`.
 use Rattle.std.proofs.Common.{◌≡◌, ℕ, List, [], refl, sym, ap, subst, ◌∙◌}
 use Rattle.std.specs.Prelude.{Ok, Err}
-use Rattle.planner.specs.Scheduling.{CannotSchedule}
+use Rattle.planner.specs.code.Scheduling.{CannotSchedule}
 use Rattle.planner.specs.declared.plan_fault.PlanFault.{PlanFault}
 use Rattle.planner.specs.declared.plan_fault.PlanFault.TheVariants as plan_faults
 use Rattle.planner.specs.declared.surveyed.Surveyed.{Surveyed}
 use Rattle.pegasus_commands.specs.declared.fault.CallFault.{CallFault}
 use Rattle.pegasus_commands.specs.declared.fault.CallFault.TheVariants.{Memory}
-use Rattle.pegasus_commands.specs.Commands.Schedule.{HasSites, Says, Schedules, schedule}
-use Rattle.pegasus_commands.specs.CommandSpec.{Finishes}
-use Rattle.pegasus_commands.specs.Fault.{Answer, IsDoneOrMemory, not_for, plan_answer}
+use Rattle.pegasus_commands.specs.code.Commands.Schedule.{HasSites, Says, Schedules, schedule}
+use Rattle.pegasus_commands.specs.code.CommandSpec.{Finishes}
+use Rattle.pegasus_commands.specs.code.Fault.{Answer, IsDoneOrMemory, not_for, plan_answer}
 use Rattle.pegasus_commands.proofs.SurveyLemmas.{survey_finishes}
 
 -- the answer for a fault

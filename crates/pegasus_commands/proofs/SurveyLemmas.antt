@@ -1,15 +1,15 @@
 -- Commands over the documents of one request: what ends them, and what keeps them from Done.
 use Rattle.std.proofs.Common.{◌≡◌, ℕ, List, [], length, refl, sym, ap, subst, ◌∙◌, inl, inr, arith}
 use Rattle.std.specs.Prelude.{◌⊎◌, Some, Result, Ok, Err}
-use Rattle.outside.specs.Counts.{Rose}
+use Rattle.outside.specs.code.Counts.{Rose}
 use Rattle.values.specs.FileMap.{Files}
 use Rattle.values.specs.declared.documents.Documents.{Documents}
-use Rattle.workflow_core.specs.View.{view}
+use Rattle.workflow_core.specs.View.{workflow_view}
 use Rattle.workflow_core.specs.declared.workflow.Workflow.{Workflow}
-use Rattle.dependency_graph.specs.Built.{AreTwoProducers}
+use Rattle.dependency_graph.specs.code.Built.{AreTwoProducers}
 use Rattle.dependency_graph.specs.Graph.{IsSound}
 use Rattle.plan_request.specs.declared.request.PlanRequest.{PlanRequest}
-use Rattle.planner.specs.Course.{GraphRefuses, Refuses, SurveyEntry, surveyed}
+use Rattle.planner.specs.code.Course.{GraphRefuses, Refuses, SurveyEntry, surveyed}
 use Rattle.planner.specs.declared.plan_fault.PlanFault.{PlanFault}
 use Rattle.planner.specs.declared.plan_fault.PlanFault.TheVariants as plan
 use Rattle.planner.specs.declared.surveyed.Surveyed.{Surveyed}
@@ -17,11 +17,11 @@ use Rattle.plan_run.specs.Moments.{Tools, Work}
 use Rattle.pegasus_commands.specs.declared.course.Requested.{Requested}
 use Rattle.pegasus_commands.specs.declared.fault.CallFault.{CallFault}
 use Rattle.pegasus_commands.specs.declared.fault.CallFault.TheVariants as faults
-use Rattle.pegasus_commands.specs.CommandSpec.{Does, Doing, Finishes, NoneRoseAtWork, NoneRoseIn}
-use Rattle.pegasus_commands.specs.Course.{ButMemory, Course, Gives, HasFailed, IsStep, documents, read_from}
-use Rattle.pegasus_commands.specs.Fault.{Answer, IsDoneOrMemory, not_for, plan_answer}
+use Rattle.pegasus_commands.specs.code.CommandSpec.{Does, Doing, Finishes, NoneRoseAtWork, NoneRoseIn}
+use Rattle.pegasus_commands.specs.code.Course.{ButMemory, Course, Gives, HasFailed, IsStep, documents, read_from}
+use Rattle.pegasus_commands.specs.code.Fault.{Answer, IsDoneOrMemory, not_for, plan_answer}
 use Rattle.pegasus_commands.specs.Moments.{DocsMoment}
-use Rattle.pegasus_commands.specs.Survey.{GoesOn, IsSurveyed, MaySurvey, Stops, over_survey}
+use Rattle.pegasus_commands.specs.code.Survey.{GoesOn, IsSurveyed, MaySurvey, Stops, over_survey}
 use Rattle.pegasus_commands.proofs.CourseLemmas.{result_again, told_gives}
 
 -- told documents give what they read, where no fault was counted
@@ -57,7 +57,7 @@ no_fault : (given : Result SurveyEntry PlanFault) (a : SurveyEntry) (fault : Pla
 no_fault given a fault i j = absurd cc
 
 -- what planning may refuse where the documents have no fault and their workflow is sound
-pub refused_short : (r : PlanRequest) (d : Documents) (said : SurveyEntry) (fault : PlanFault) → surveyed r d ≡ Ok said → ((w : Workflow) → view w ≡ said.workflow → IsSound w) → Refuses r d fault → fault ≡ plan.Memory
+pub refused_short : (r : PlanRequest) (d : Documents) (said : SurveyEntry) (fault : PlanFault) → surveyed r d ≡ Ok said → ((w : Workflow) → workflow_view w ≡ said.workflow → IsSound w) → Refuses r d fault → fault ≡ plan.Memory
 refused_short r d said plan.Memory says sound h = refl
 refused_short r d said fault says sound (inl h) = absurd (no_fault (surveyed r d) said fault says h)
 refused_short r d said fault says sound (inr h) = absurd (not_refused fault h.workflow (sound h.workflow (h.is ∙ ap (λ (e : SurveyEntry). e.workflow) (same_entry (surveyed r d) h.said said h.says says))) h.holds)

@@ -2,12 +2,13 @@
 
 ghost use Rattle.std.specs.Prelude.{◌≡◌, [], drop, length, map};
 ghost use Rattle.craft.specs.declared.crew.Crew.{Crew};
-ghost use Rattle.plan_run.specs.Moments.{Tools, counting, crew_moment, first_shown, member_moment, work_moment, working};
-ghost use Rattle.pegasus_commands.specs.Commands.{has_line, quick_spec, threaded_spec};
-ghost use Rattle.pegasus_commands.specs.CommandSpec.{Does, OfFirst, doing};
-ghost use Rattle.pegasus_commands.specs.Fault.{not_for};
-ghost use Rattle.pegasus_commands.specs.Moments.{docs_moment};
-ghost use Rattle.command_words.specs.Words.{AreFew, HasImages, HasImagesBy, Quickly, quick_members, quick_of, threaded_members, threaded_of};
+ghost use Rattle.plan_run.specs.Moments.{Tools};
+ghost use Rattle.plan_run.specs.code.Moments.{counting, crew_moment, first_shown, member_moment, work_moment, working};
+ghost use Rattle.pegasus_commands.specs.code.Commands.{has_line, quick_spec, threaded_spec};
+ghost use Rattle.pegasus_commands.specs.code.CommandSpec.{Does, OfFirst, doing};
+ghost use Rattle.pegasus_commands.specs.code.Fault.{not_for};
+ghost use Rattle.pegasus_commands.specs.code.Moments.{docs_moment};
+ghost use Rattle.command_words.specs.code.Words.{AreFew, HasImages, HasImagesBy, Quickly, quick_members, quick_of, threaded_members, threaded_of};
 
 mod alone;
 mod audit;

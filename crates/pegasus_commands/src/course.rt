@@ -1,10 +1,10 @@
 //! The documents of a call, fetched one after the other.
 
 ghost use Rattle.std.specs.Prelude.{◌≡◌, IfOk, Ok, Err};
-ghost use Rattle.plan_request.specs.Limits.{IsWithinLimits};
-ghost use Rattle.plan_request.specs.Reader.{execute_checked};
-ghost use Rattle.pegasus_commands.specs.Course.{ButMemory, IsStep, all_documents, doc_answer, document, documents, documents_with, if_named, named_documents, request_in_bytes, with_record};
-ghost use Rattle.pegasus_commands.specs.Moments.{docs_moment};
+ghost use Rattle.plan_request.specs.code.Limits.{IsWithinLimits};
+ghost use Rattle.plan_request.specs.Request.{execute_checked};
+ghost use Rattle.pegasus_commands.specs.code.Course.{ButMemory, IsStep, all_documents, doc_answer, document, documents, documents_with, if_named, named_documents, request_in_bytes, with_record};
+ghost use Rattle.pegasus_commands.specs.code.Moments.{docs_moment};
 
 use crate::fault::{CallFault, of_plan_fault};
 use outside::{Blob, DocFault, Docs, Documents, Text};

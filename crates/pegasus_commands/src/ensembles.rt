@@ -1,16 +1,16 @@
 //! The documents of an ensemble, and the joint of its members.
 
 ghost use Rattle.std.specs.Prelude.{◌≡◌, ◌++◌, [], ◌∷◌, false, IfErr, IfOk, OnOk};
-ghost use Rattle.plan_request.specs.Limits.{IsWithinLimits};
+ghost use Rattle.plan_request.specs.code.Limits.{IsWithinLimits};
 ghost use Rattle.ensemble.specs.Applying.{own_request};
 ghost use Rattle.ensemble.specs.Joining.{IsJoint};
 ghost use Rattle.ensemble.specs.Law.{MeansMembers};
 ghost use Rattle.ensemble.specs.Limits.{IsFit};
 ghost use Rattle.ensemble.specs.Member.{AreMembers, IsMember};
 ghost use Rattle.ensemble.specs.MemberEntry.{has_slash};
-ghost use Rattle.pegasus_commands.specs.Course.{ButMemory, IsStep};
-ghost use Rattle.pegasus_commands.specs.Ensembles.{AreRead, HasNoJoint, IsJoinedOf, ReadsMember, Stops, StopsAt, SurveysMember, ensemble_document, ensemble_in_bytes};
-ghost use Rattle.pegasus_commands.specs.Moments.{docs_moment};
+ghost use Rattle.pegasus_commands.specs.code.Course.{ButMemory, IsStep};
+ghost use Rattle.pegasus_commands.specs.code.Ensembles.{AreRead, HasNoJoint, IsJoinedOf, ReadsMember, Stops, StopsAt, SurveysMember, ensemble_document, ensemble_in_bytes};
+ghost use Rattle.pegasus_commands.specs.code.Moments.{docs_moment};
 
 use crate::course::{Requested, fetch, fetch_documents};
 use crate::fault::{CallFault, of_ensemble_fault, of_join_fault, of_member, of_plan_fault};

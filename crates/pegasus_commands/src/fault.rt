@@ -3,7 +3,7 @@
 ghost use Rattle.std.specs.Prelude.{◌≡◌};
 ghost use Rattle.evaluation.specs.declared.fault.EvaluationFault.{EvaluationFault as Unvalued};
 ghost use Rattle.pegasus_commands.specs.declared.fault.CallFault.TheVariants as faults;
-ghost use Rattle.pegasus_commands.specs.Fault.{ensemble_answer, join_answer, member_answer, plan_answer, resume_answer, run_answer, value_answer};
+ghost use Rattle.pegasus_commands.specs.code.Fault.{ensemble_answer, join_answer, member_answer, plan_answer, resume_answer, run_answer, value_answer};
 
 use ensemble::{EnsembleFault, JoinFault};
 use evaluation::EvaluationFault;

@@ -2,8 +2,8 @@
 
 ghost use Rattle.std.specs.Prelude.{◌≤◌, IfErr, IfOk};
 ghost use Rattle.plan_core.specs.Words.{retries, task_numbers};
-ghost use Rattle.run_record.specs.RecordText.{AreEntries};
-ghost use Rattle.pegasus_commands.specs.Commands.Audit.{IsJudgment, IsRecordOf, IsUnjudged, IsUnread};
+ghost use Rattle.run_record.specs.code.RecordText.{AreEntries};
+ghost use Rattle.pegasus_commands.specs.code.Commands.Audit.{IsJudgment, IsRecordOf, IsUnjudged, IsUnread};
 
 use crate::fault::CallFault;
 use crate::ready_plan::plan_request;

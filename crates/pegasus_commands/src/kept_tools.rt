@@ -1,7 +1,7 @@
 //! The tools of a plan's kept jobs.
 
 ghost use Rattle.std.specs.Prelude.{◌≡◌, IfOk};
-ghost use Rattle.pegasus_commands.specs.KeptTools.{lacks_tool, unknown_tool};
+ghost use Rattle.pegasus_commands.specs.code.KeptTools.{lacks_tool, unknown_tool};
 
 use outside::{Memory, Tool};
 use plan_core::{Plan, PlanJob};

@@ -2,10 +2,10 @@
 
 ghost use Rattle.std.specs.Prelude.{◌≡◌, ◌≤◌, [], IfErr, IfOk};
 ghost use Rattle.plan_core.specs.Words.{retries};
-ghost use Rattle.planner.specs.Planning.{IsPlanned};
-ghost use Rattle.pegasus_commands.specs.Commands.Plan.{IsRefusal, task_limit};
-ghost use Rattle.pegasus_commands.specs.Fault.{end_answer, not_for};
-ghost use Rattle.pegasus_commands.specs.PlanRun.{Readies};
+ghost use Rattle.planner.specs.code.Planning.{IsPlanned};
+ghost use Rattle.pegasus_commands.specs.code.Commands.Plan.{IsRefusal, task_limit};
+ghost use Rattle.pegasus_commands.specs.code.Fault.{end_answer, not_for};
+ghost use Rattle.pegasus_commands.specs.code.PlanRun.{Readies};
 
 use crate::commands::{TASK_LIMIT, Told, Worked, at_once};
 use crate::fault::{CallFault, of_plan_fault, of_run_fault};

@@ -1,7 +1,7 @@
 //! The documents of one request, surveyed, with the document of a record.
 
-ghost use Rattle.pegasus_commands.specs.Moments.{docs_moment};
-ghost use Rattle.pegasus_commands.specs.Recorded.{Surveys};
+ghost use Rattle.pegasus_commands.specs.code.Moments.{docs_moment};
+ghost use Rattle.pegasus_commands.specs.code.Recorded.{Surveys};
 
 use crate::course::{Requested, WithRecord, fetch_with_record};
 use crate::fault::{CallFault, of_plan_fault};

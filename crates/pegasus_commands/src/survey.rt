@@ -1,7 +1,7 @@
 //! The documents of one request, surveyed.
 
-ghost use Rattle.pegasus_commands.specs.Moments.{docs_moment};
-ghost use Rattle.pegasus_commands.specs.Survey.{Surveys};
+ghost use Rattle.pegasus_commands.specs.code.Moments.{docs_moment};
+ghost use Rattle.pegasus_commands.specs.code.Survey.{Surveys};
 
 use crate::course::{Requested, fetch_documents};
 use crate::fault::{CallFault, of_plan_fault};

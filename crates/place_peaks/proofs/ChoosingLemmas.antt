@@ -11,7 +11,8 @@ use Rattle.peak_tree.specs.Numbers.{greatest}
 use Rattle.plan_core.specs.declared.plan.Plan.{Plan}
 use Rattle.plan_core.specs.Numbers.{has}
 use Rattle.plan_core.specs.Words.{is_clean, task_numbers}
-use Rattle.storage_simulation.specs.Goods.{place, place_bound}
+use Rattle.storage_simulation.specs.code.Goods.{place}
+use Rattle.storage_simulation.specs.Goods.{place_bound}
 use Rattle.storage_simulation.specs.Standings.{sizes}
 use Rattle.storage_simulation.specs.Usage.{usage}
 use Rattle.place_peaks.specs.declared.peaks.Peaks.{Peaks}

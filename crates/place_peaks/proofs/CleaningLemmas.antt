@@ -16,9 +16,11 @@ use Rattle.storage_simulation.specs.declared.standing.Held.{Held}
 use Rattle.storage_simulation.specs.declared.standing.Held.TheVariants.{Nothing}
 use Rattle.storage_simulation.specs.declared.standing.Phase.{Phase}
 use Rattle.storage_simulation.specs.declared.standing.Phase.TheVariants.{Ended}
-use Rattle.storage_simulation.specs.Change.{held_part, size_part}
-use Rattle.storage_simulation.specs.Following.{AreOnce, Follows}
-use Rattle.storage_simulation.specs.Goods.{lies_at, makes, place, places}
+use Rattle.storage_simulation.specs.code.Change.{held_part, size_part}
+use Rattle.storage_simulation.specs.Following.{AreOnce}
+use Rattle.storage_simulation.specs.code.Following.{Follows}
+use Rattle.storage_simulation.specs.Goods.{lies_at, makes, places}
+use Rattle.storage_simulation.specs.code.Goods.{place}
 use Rattle.storage_simulation.specs.Standings.{held_size, sizes, waits}
 use Rattle.storage_simulation.specs.Usage.{made, sum_of, usage}
 use Rattle.place_peaks.specs.declared.peaks.Peaks.{Peaks}

@@ -7,7 +7,7 @@ use Rattle.std.proofs.lemmas.Bool.{cases_lt}
 use Rattle.std.proofs.lemmas.List.{take-append-le, take_all}
 use Rattle.place_peaks.proofs.Offered.{fit_of, follows_of, follows_without, once_parts, put_at, put_off, safe_grant, without_head}
 use Rattle.lease_rules.specs.Choice.{CanStart, HaveParentsEnded, Safe}
-use Rattle.lease_rules.specs.Law.{IsSoundState}
+use Rattle.lease_rules.specs.code.Law.{IsSoundState}
 use Rattle.lease_rules.specs.State.{State, after, ended, put, reserved_for, without}
 use Rattle.peak_tree.specs.Numbers.{greatest}
 use Rattle.plan_core.specs.declared.plan.Plan.{Plan}
@@ -19,8 +19,10 @@ use Rattle.storage_simulation.specs.declared.standing.Held.TheVariants.{Reserved
 use Rattle.storage_simulation.specs.declared.standing.Phase.{Phase}
 use Rattle.storage_simulation.specs.declared.standing.Phase.TheVariants.{Ended, Runs, Waits}
 use Rattle.storage_simulation.specs.Fitting.{Fits}
-use Rattle.storage_simulation.specs.Following.{AreOnce, Follows}
-use Rattle.storage_simulation.specs.Goods.{good_size, makes, place, place_bound, places}
+use Rattle.storage_simulation.specs.Following.{AreOnce}
+use Rattle.storage_simulation.specs.code.Following.{Follows}
+use Rattle.storage_simulation.specs.Goods.{good_size, makes, place_bound, places}
+use Rattle.storage_simulation.specs.code.Goods.{place}
 use Rattle.storage_simulation.specs.Standings.{held_size, sizes, waits}
 use Rattle.storage_simulation.specs.Usage.{usage}
 use Rattle.place_peaks.specs.Peaks.{HasRules}

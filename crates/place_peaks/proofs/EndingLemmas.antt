@@ -5,7 +5,8 @@ use Rattle.place_peaks.proofs.Offered.{at_place, declared_long, false_of, good_s
 use Rattle.plan_core.specs.declared.plan.Plan.{Plan}
 use Rattle.plan_core.specs.Numbers.{has}
 use Rattle.storage_simulation.specs.Following.{AreOnce}
-use Rattle.storage_simulation.specs.Goods.{IsWithinLimits, good_size, lies_at, makes, place, places}
+use Rattle.storage_simulation.specs.code.Goods.{IsWithinLimits, place}
+use Rattle.storage_simulation.specs.Goods.{good_size, lies_at, makes, places}
 use Rattle.storage_simulation.specs.Standings.{held_size, sizes}
 use Rattle.storage_simulation.specs.Usage.{usage}
 use Rattle.place_peaks.specs.declared.links.Links.{Links}

@@ -5,7 +5,7 @@ use Rattle.std.proofs.lemmas.List.Folds.{list_any-append}
 use Rattle.values.specs.declared.numbers.TaskId.{TaskId}
 use Rattle.place_peaks.proofs.Offered.{absent_filter, by_bool, choice_in, false_of, first_is_choice, has_filter, has_head, is_itself, one_choice, or_left, pair_place, place_of}
 use Rattle.lease_rules.specs.Choice.{HaveParentsEnded, IsChoice}
-use Rattle.lease_rules.specs.Law.{HasStorageLaws}
+use Rattle.lease_rules.specs.code.Law.{HasStorageLaws}
 use Rattle.lease_rules.specs.Legal.{Allowed, MayFail}
 use Rattle.lease_rules.specs.State.{State, after, ended}
 use Rattle.plan_core.specs.declared.plan.Plan.{Plan}
@@ -13,14 +13,15 @@ use Rattle.plan_core.specs.Numbers.{has}
 use Rattle.plan_core.specs.declared.plan.Pair.{Pair}
 use Rattle.plan_core.specs.declared.plan.TaskKind.{TaskKind}
 use Rattle.plan_core.specs.declared.plan.TaskKind.TheVariants.{Transfer, Run, Clean as CleanKind}
-use Rattle.plan_core.specs.Words.{cleans, count_pairs, is_at, is_clean, kind, kind_cleans, pair, parents, site_in, task_numbers}
+use Rattle.plan_core.specs.Words.{cleans, count_pairs, is_at, is_clean, kind, kind_cleans, pair, parents, is_on_site, task_numbers}
 use Rattle.run_record.specs.declared.entry.Cause.{Cause}
 use Rattle.run_record.specs.Events.{Again, Arrive, Clean, End, Fail, Grant}
 use Rattle.storage_simulation.specs.declared.standing.Phase.{Phase}
 use Rattle.storage_simulation.specs.declared.standing.Phase.TheVariants.{Ended, Runs, Waits}
-use Rattle.storage_simulation.specs.Change.{held_part}
+use Rattle.storage_simulation.specs.code.Change.{held_part}
 use Rattle.storage_simulation.specs.Following.{AreOnce}
-use Rattle.storage_simulation.specs.Goods.{IsWithinLimits, kind_place, lies_at, makes, pair_site, place}
+use Rattle.storage_simulation.specs.code.Goods.{IsWithinLimits, kind_place, pair_site, place}
+use Rattle.storage_simulation.specs.Goods.{lies_at, makes}
 use Rattle.storage_simulation.specs.Standings.{sizes, waits}
 use Rattle.place_peaks.specs.declared.peaks.Peaks.{Peaks}
 use Rattle.place_peaks.specs.Cleaning.{CanEnd, CanGive, IsSwept, IsSweptAgain}
@@ -107,11 +108,11 @@ clean_lies : (p : Plan) (t g q : ℕ) → g < count_pairs p → cleans p t g ≡
 unfolding place pair is_at
 clean_lies p t g q low c at = pair_place p g q low ∙ by_kind (kind p t) c at
   where
-    by_pair : (o : Option Pair) → pair_site o ≡ Some q → site_in o q ≡ true
+    by_pair : (o : Option Pair) → pair_site o ≡ Some q → is_on_site o q ≡ true
     by_pair None e = absurd cc
     by_pair (Some x) e = let same : x.site.0 ≡ q = cc in let yes : nat_eq x.site.0 q ≡ true = grind (arith, same) in yes
 
-    by_kind : (o : Option TaskKind) → kind_cleans o g ≡ true → kind_place p o ≡ Some q → site_in (slice_get p.pairs g) q ≡ true
+    by_kind : (o : Option TaskKind) → kind_cleans o g ≡ true → kind_place p o ≡ Some q → is_on_site (slice_get p.pairs g) q ≡ true
     by_kind None c e = absurd cc
     by_kind (Some (Transfer f from to)) c e = absurd cc
     by_kind (Some (Run x js)) c e = absurd cc

@@ -4,16 +4,18 @@ use Rattle.std.specs.Prelude.{filter}
 use Rattle.std.proofs.lemmas.List.Folds.{list_any-append}
 use Rattle.place_peaks.proofs.Offered.{cleaned_held, false_of, follows_of, has_head, has_take, maker_of, not_both, or_case, or_left, or_right, sound_more, without_has, without_head}
 use Rattle.lease_rules.specs.Choice.{HaveParentsEnded}
-use Rattle.lease_rules.specs.Law.{IsSoundState}
+use Rattle.lease_rules.specs.code.Law.{IsSoundState}
 use Rattle.lease_rules.specs.Legal.{Allowed}
 use Rattle.lease_rules.specs.State.{State, after, reserved_for, without}
 use Rattle.plan_core.specs.declared.plan.Plan.{Plan}
 use Rattle.plan_core.specs.Numbers.{has}
 use Rattle.plan_core.specs.Words.{cleans, is_clean, parents}
 use Rattle.run_record.specs.Events.{Clean, Grant}
-use Rattle.storage_simulation.specs.Change.{held_part}
-use Rattle.storage_simulation.specs.Following.{AreOnce, Follows}
-use Rattle.storage_simulation.specs.Goods.{makes, place, places}
+use Rattle.storage_simulation.specs.code.Change.{held_part}
+use Rattle.storage_simulation.specs.Following.{AreOnce}
+use Rattle.storage_simulation.specs.code.Following.{Follows}
+use Rattle.storage_simulation.specs.Goods.{makes, places}
+use Rattle.storage_simulation.specs.code.Goods.{place}
 use Rattle.storage_simulation.specs.Standings.{sizes, waits}
 use Rattle.storage_simulation.specs.Usage.{made, usage}
 use Rattle.place_peaks.specs.declared.peaks.Peaks.{Peaks}

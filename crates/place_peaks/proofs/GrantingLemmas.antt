@@ -13,9 +13,10 @@ use Rattle.run_record.specs.Events.{Grant}
 use Rattle.storage_simulation.specs.declared.standing.Held.{Held}
 use Rattle.storage_simulation.specs.declared.standing.Phase.{Phase}
 use Rattle.storage_simulation.specs.declared.standing.Phase.TheVariants.{Ended, Runs, Waits}
-use Rattle.storage_simulation.specs.Change.{held_part, size_part}
+use Rattle.storage_simulation.specs.code.Change.{held_part, size_part}
 use Rattle.storage_simulation.specs.Following.{AreOnce}
-use Rattle.storage_simulation.specs.Goods.{IsWithinLimits, good_size, lies_at, makes, place, place_bound, places}
+use Rattle.storage_simulation.specs.code.Goods.{IsWithinLimits, place}
+use Rattle.storage_simulation.specs.Goods.{good_size, lies_at, makes, place_bound, places}
 use Rattle.storage_simulation.specs.Standings.{sizes, waits}
 use Rattle.storage_simulation.specs.Usage.{sum_of, usage}
 use Rattle.place_peaks.specs.declared.peaks.Peaks.{Peaks}

@@ -5,23 +5,27 @@ use Rattle.std.proofs.lemmas.Bool.{cases_lt}
 use Rattle.std.proofs.Math.Seq.{get_or-append_seam}
 use Rattle.std.proofs.lemmas.List.{get_or-replicate, get_or_append_left, get_or_past, length-replicate, length-set}
 use Rattle.place_peaks.proofs.Offered.{below_rises, by_bool, few_once, follows_of, front_more, good_small, is_itself, lies_below, once_at, or_left, or_right, rises_once, sound_opened, sum_at_most, total_bound}
-use Rattle.lease_rules.specs.Law.{FitsFromStart}
+use Rattle.lease_rules.specs.code.Law.{FitsFromStart}
 use Rattle.lease_rules.specs.State.{ended, opened}
 use Rattle.plan_core.specs.declared.plan.Plan.{Plan}
 use Rattle.plan_core.specs.Numbers.{below, has}
-use Rattle.plan_core.specs.Proper.{IsProper}
+use Rattle.plan_core.specs.code.Proper.{IsProper}
 use Rattle.plan_core.specs.Words.{count_tasks, parents, task_numbers}
 use Rattle.storage_simulation.specs.declared.standing.Held.TheVariants.{Nothing}
 use Rattle.storage_simulation.specs.declared.standing.Phase.{Phase}
 use Rattle.storage_simulation.specs.declared.standing.Phase.TheVariants.{Waits}
 use Rattle.storage_simulation.specs.declared.standing.Standing.{Standing}
-use Rattle.storage_simulation.specs.Standings.{IsStanding, held_of, phase_of, sizes}
+use Rattle.storage_simulation.specs.code.Standings.{IsStanding, held_of, phase_of}
+use Rattle.storage_simulation.specs.Standings.{sizes}
 use Rattle.std.proofs.Math.Path.{fun_ext}
-use Rattle.storage_simulation.specs.Change.{held_part, size_part}
-use Rattle.storage_simulation.specs.Following.{AreOnce, Follows}
-use Rattle.storage_simulation.specs.Goods.{IsWithinLimits, good_size, goods, lies_at, makes, place, places}
-use Rattle.storage_simulation.specs.Law.{KeepsGoods}
-use Rattle.storage_simulation.specs.Usage.{sum_of, total, usage}
+use Rattle.storage_simulation.specs.code.Change.{held_part, size_part}
+use Rattle.storage_simulation.specs.Following.{AreOnce}
+use Rattle.storage_simulation.specs.code.Following.{Follows}
+use Rattle.storage_simulation.specs.code.Goods.{IsWithinLimits, place}
+use Rattle.storage_simulation.specs.Goods.{good_size, goods, lies_at, makes, places}
+use Rattle.storage_simulation.specs.code.Law.{KeepsGoods}
+use Rattle.storage_simulation.specs.Usage.{sum_of, usage}
+use Rattle.values.specs.Numbers.{total}
 use Rattle.place_peaks.specs.declared.peaks.Peaks.{Peaks}
 use Rattle.place_peaks.specs.declared.seating.Seating.{Seating}
 use Rattle.place_peaks.specs.Peaks.{ArePeaks, HasRules, IsSeating, left_of, line_of}

@@ -6,10 +6,11 @@ use Rattle.plan_core.specs.Numbers.{has}
 use Rattle.plan_core.specs.Words.{cleans, parents}
 use Rattle.peak_tree.specs.Numbers.{greatest}
 use Rattle.storage_simulation.specs.declared.standing.Phase.{Phase}
-use Rattle.storage_simulation.specs.Change.{held_part, size_part}
-use Rattle.storage_simulation.specs.Following.{Follows}
-use Rattle.storage_simulation.specs.Goods.{good_size, lies_at, makes, place, places}
-use Rattle.storage_simulation.specs.Law.{KeepsGoods}
+use Rattle.storage_simulation.specs.code.Change.{held_part, size_part}
+use Rattle.storage_simulation.specs.code.Following.{Follows}
+use Rattle.storage_simulation.specs.Goods.{good_size, lies_at, makes, places}
+use Rattle.storage_simulation.specs.code.Goods.{place}
+use Rattle.storage_simulation.specs.code.Law.{KeepsGoods}
 use Rattle.storage_simulation.specs.Standings.{waits}
 use Rattle.storage_simulation.specs.Usage.{made, sum_of, usage}
 use Rattle.place_peaks.specs.Places.{ChangesOnePlace, brings, held_by, is_place, started, swept, there}

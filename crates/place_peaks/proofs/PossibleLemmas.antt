@@ -9,9 +9,11 @@ use Rattle.plan_core.specs.declared.plan.Plan.{Plan}
 use Rattle.plan_core.specs.Numbers.{has}
 use Rattle.plan_core.specs.Words.{cleans, count_tasks, is_clean, parents, task_numbers}
 use Rattle.storage_simulation.specs.declared.standing.Phase.{Phase}
-use Rattle.storage_simulation.specs.Change.{held_part}
-use Rattle.storage_simulation.specs.Following.{AreOnce, Follows}
-use Rattle.storage_simulation.specs.Goods.{IsWithinLimits, place, places}
+use Rattle.storage_simulation.specs.code.Change.{held_part}
+use Rattle.storage_simulation.specs.Following.{AreOnce}
+use Rattle.storage_simulation.specs.code.Following.{Follows}
+use Rattle.storage_simulation.specs.code.Goods.{IsWithinLimits, place}
+use Rattle.storage_simulation.specs.Goods.{places}
 use Rattle.storage_simulation.specs.Standings.{sizes}
 use Rattle.storage_simulation.specs.Usage.{sum_of, usage}
 use Rattle.place_peaks.specs.declared.peaks.Peaks.{Peaks}

@@ -7,7 +7,7 @@ use Rattle.lease_rules.specs.State.{State}
 use Rattle.plan_core.specs.declared.plan.Plan.{Plan}
 use Rattle.plan_core.specs.Numbers.{has}
 use Rattle.plan_core.specs.Words.{count_tasks, is_clean, parents, task_numbers}
-use Rattle.storage_simulation.specs.Goods.{place}
+use Rattle.storage_simulation.specs.code.Goods.{place}
 use Rattle.place_peaks.specs.declared.peaks.Peaks.{Peaks}
 use Rattle.place_peaks.specs.declared.seating.Seating.{Seating}
 use Rattle.place_peaks.specs.Places.{there}

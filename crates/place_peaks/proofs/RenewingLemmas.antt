@@ -8,7 +8,7 @@ use Rattle.std.proofs.lemmas.List.Folds.{list_any-append}
 use Rattle.values.specs.declared.numbers.TaskId.{TaskId}
 use Rattle.place_peaks.proofs.Offered.{Making, at_place, below_rises, below_test, by_bool, cleaning, count_tasks_in, false_of, few_once, first_is_choice, follows_of, fresh_among, front_more, good_small, has_head, has_without, is_itself, is_waiting, making, not_of, once_filter, once_more, once_parts, or_case, or_left, or_right, rises_once, sound_more}
 use Rattle.lease_rules.specs.Choice.{HasNoChoice, HaveParentsEnded, IsCandidate}
-use Rattle.lease_rules.specs.Law.{HasStorageLaws, IsSoundState}
+use Rattle.lease_rules.specs.code.Law.{HasStorageLaws, IsSoundState}
 use Rattle.lease_rules.specs.Legal.{Allowed}
 use Rattle.lease_rules.specs.State.{State, after, order_or, order_with, put, reserved_for, without}
 use Rattle.peak_tree.specs.Numbers.{filled}
@@ -19,12 +19,15 @@ use Rattle.run_record.specs.Events.{Regrant}
 use Rattle.storage_simulation.specs.declared.standing.Phase.{Phase}
 use Rattle.storage_simulation.specs.declared.standing.Phase.TheVariants.{Runs}
 use Rattle.storage_simulation.specs.declared.standing.Standing.{Standing}
-use Rattle.storage_simulation.specs.Change.{cleaned_part}
-use Rattle.storage_simulation.specs.Following.{AreOnce, Follows}
+use Rattle.storage_simulation.specs.code.Change.{cleaned_part}
+use Rattle.storage_simulation.specs.Following.{AreOnce}
+use Rattle.storage_simulation.specs.code.Following.{Follows}
 use Rattle.storage_simulation.specs.Fitting.{Fits}
-use Rattle.storage_simulation.specs.Goods.{IsWithinLimits, good_size, makes, place, places}
-use Rattle.storage_simulation.specs.Law.{KeepsGoods}
-use Rattle.storage_simulation.specs.Standings.{held_of, held_size, sizes, waits}
+use Rattle.storage_simulation.specs.code.Goods.{IsWithinLimits, place}
+use Rattle.storage_simulation.specs.Goods.{good_size, makes, places}
+use Rattle.storage_simulation.specs.code.Law.{KeepsGoods}
+use Rattle.storage_simulation.specs.code.Standings.{held_of}
+use Rattle.storage_simulation.specs.Standings.{held_size, sizes, waits}
 use Rattle.storage_simulation.specs.Usage.{usage}
 use Rattle.place_peaks.specs.declared.peaks.Peaks.{Peaks}
 use Rattle.place_peaks.specs.Entries.{AreTied}

@@ -5,11 +5,12 @@ use Rattle.plan_core.specs.declared.plan.Plan.{Plan}
 use Rattle.plan_core.specs.Numbers.{has}
 use Rattle.plan_core.specs.Words.{cleans, parents}
 use Rattle.storage_simulation.specs.declared.standing.Phase.{Phase}
-use Rattle.storage_simulation.specs.Change.{held_part}
-use Rattle.storage_simulation.specs.Goods.{good_size, goods, lies_at, makes, place, places}
-use Rattle.storage_simulation.specs.Law.{KeepsGoods}
+use Rattle.storage_simulation.specs.code.Change.{held_part}
+use Rattle.storage_simulation.specs.Goods.{good_size, goods, lies_at, makes, places}
+use Rattle.storage_simulation.specs.code.Goods.{place}
+use Rattle.storage_simulation.specs.code.Law.{KeepsGoods}
 use Rattle.storage_simulation.specs.Standings.{waits}
-use Rattle.storage_simulation.specs.Usage.{cleaned, made, part, usage, weight}
+use Rattle.storage_simulation.specs.Usage.{cleaned, made, usage_of_good, usage, weight}
 use Rattle.place_peaks.proofs.Offered.{by_bool, is_itself, lies_below, one_changed, total_same}
 use Rattle.place_peaks.specs.Places.{ChangesOnePlace, held_by, there}
 use Rattle.place_peaks.specs.Tree.{front_changed}
@@ -25,7 +26,7 @@ resized g n size x = cond (nat_eq g x) n (size x)
 resized_here : (g n : ℕ) (size : ℕ → ℕ) → resized g n size g ≡ n
 resized_here g n size = ap (λ (b : Bool). cond b n (size g)) (is_itself g)
 
-none_past : (p : Plan) (size : ℕ → ℕ) (front : List ℕ) (s g : ℕ) → s < places p → goods p ≤ g → part p size front s g ≡ 0
+none_past : (p : Plan) (size : ℕ → ℕ) (front : List ℕ) (s g : ℕ) → s < places p → goods p ≤ g → usage_of_good p size front s g ≡ 0
 none_past p size front s g l m = by_bool (lies_at p g s)
     (λ e. absurd (let low = lies_below p g s l e in omega (arith, low, m)))
     (λ e. ap (λ (b : Bool). cond b (weight p size front g) 0) e)
@@ -34,11 +35,11 @@ none_past p size front s g l m = by_bool (lies_at p g s)
 pub resized_counts : (p : Plan) (size : ℕ → ℕ) (front : List ℕ) (g n s : ℕ) → s < places p → cleaned p front g ≡ false → made p front g ≡ false
     → usage p (resized g n size) front s + held_part p size s g ≡ usage p size front s + cond (lies_at p g s) n 0
 resized_counts p size front g n s l clean unmade =
-    let all = one_changed (part p (resized g n size) front s) (part p size front s) (goods p) g
+    let all = one_changed (usage_of_good p (resized g n size) front s) (usage_of_good p size front s) (goods p) g
     (λ q off. ap (λ (b : Bool). cond (lies_at p q s) (cond (cleaned p front q) 0 (cond (made p front q) (good_size p q) (cond b n (size q)))) 0) off)
     (none_past p (resized g n size) front s g l) (none_past p size front s g l) in
-    let old : part p size front s g ≡ held_part p size s g = counts (size g) in
-    let new : part p (resized g n size) front s g ≡ cond (lies_at p g s) n 0 = counts (resized g n size g) ∙ ap (λ (m : ℕ). cond (lies_at p g s) m 0) (resized_here g n size) in
+    let old : usage_of_good p size front s g ≡ held_part p size s g = counts (size g) in
+    let new : usage_of_good p (resized g n size) front s g ≡ cond (lies_at p g s) n 0 = counts (resized g n size g) ∙ ap (λ (m : ℕ). cond (lies_at p g s) m 0) (resized_here g n size) in
     omega (arith, all, old, new)
   where
     counts : (x : ℕ) → cond (lies_at p g s) (cond (cleaned p front g) 0 (cond (made p front g) (good_size p g) x)) 0 ≡ cond (lies_at p g s) x 0
@@ -57,7 +58,7 @@ resized_gone p size front g n s clean = usage_same p (resized g n size) size fro
 pub resized_away : (p : Plan) (size : ℕ → ℕ) (front : List ℕ) (g n s : ℕ) → lies_at p g s ≡ false → usage p (resized g n size) front s ≡ usage p size front s
 resized_away p size front g n s off = total_same _ _ (goods p) (λ x l. by x (nat_eq g x) refl)
   where
-    by : (x : ℕ) (b : Bool) → nat_eq g x ≡ b → cond (lies_at p x s) (cond (cleaned p front x) 0 (cond (made p front x) (good_size p x) (cond b n (size x)))) 0 ≡ part p size front s x
+    by : (x : ℕ) (b : Bool) → nat_eq g x ≡ b → cond (lies_at p x s) (cond (cleaned p front x) 0 (cond (made p front x) (good_size p x) (cond b n (size x)))) 0 ≡ usage_of_good p size front s x
     by x false e = refl
     by x true e = let same : g ≡ x = grind (arith, e) in let away : lies_at p x s ≡ false = ap (λ (y : ℕ). lies_at p y s) (sym same) ∙ off in
         ap (λ (b : Bool). cond b (cond (cleaned p front x) 0 (cond (made p front x) (good_size p x) n)) 0) away ∙ sym (ap (λ (b : Bool). cond b (weight p size front x) 0) away)

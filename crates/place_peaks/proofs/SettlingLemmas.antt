@@ -4,7 +4,7 @@ use Rattle.std.specs.Prelude.{filter, replicate}
 use Rattle.std.proofs.Math.Path.{fun_ext}
 use Rattle.std.proofs.lemmas.List.Folds.{list_any-append}
 use Rattle.place_peaks.proofs.Offered.{absent_filter, false_of, has_filter, has_head, has_take, maker_of, once_parts, or_case, or_left, or_right, place_of, rises_once, sound_more, sum_same}
-use Rattle.lease_rules.specs.Law.{IsSoundState}
+use Rattle.lease_rules.specs.code.Law.{IsSoundState}
 use Rattle.lease_rules.specs.Legal.{Allowed, AreDeclared}
 use Rattle.lease_rules.specs.State.{State, after, ended, put, stored_among}
 use Rattle.run_record.specs.Events.{Arrive, End}
@@ -15,9 +15,10 @@ use Rattle.storage_simulation.specs.declared.standing.Held.{Held}
 use Rattle.storage_simulation.specs.declared.standing.Held.TheVariants.{Stored}
 use Rattle.storage_simulation.specs.declared.standing.Phase.{Phase}
 use Rattle.storage_simulation.specs.declared.standing.Phase.TheVariants.{Ended, Runs}
-use Rattle.storage_simulation.specs.Change.{held_part, size_part}
+use Rattle.storage_simulation.specs.code.Change.{held_part, size_part}
 use Rattle.storage_simulation.specs.Following.{AreOnce}
-use Rattle.storage_simulation.specs.Goods.{good_size, lies_at, makes, place, places}
+use Rattle.storage_simulation.specs.Goods.{good_size, lies_at, makes, places}
+use Rattle.storage_simulation.specs.code.Goods.{place}
 use Rattle.storage_simulation.specs.Standings.{held_size, sizes, waits}
 use Rattle.storage_simulation.specs.Usage.{cleaned, made, sum_of, usage}
 use Rattle.place_peaks.specs.declared.links.Links.{Links}

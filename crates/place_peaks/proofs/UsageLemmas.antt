@@ -9,10 +9,12 @@ use Rattle.plan_core.specs.declared.plan.Plan.{Plan}
 use Rattle.plan_core.specs.Numbers.{has}
 use Rattle.plan_core.specs.Words.{cleans, count_tasks, parents}
 use Rattle.storage_simulation.specs.declared.standing.Phase.{Phase}
-use Rattle.storage_simulation.specs.Change.{cleaned_part, held_part, size_part}
-use Rattle.storage_simulation.specs.Following.{AreOnce, Follows, IsReady}
-use Rattle.storage_simulation.specs.Goods.{good_size, goods, lies_at, makes, place, places}
-use Rattle.storage_simulation.specs.Law.{KeepsGoods}
+use Rattle.storage_simulation.specs.code.Change.{cleaned_part, held_part, size_part}
+use Rattle.storage_simulation.specs.Following.{AreOnce, IsReady}
+use Rattle.storage_simulation.specs.code.Following.{Follows}
+use Rattle.storage_simulation.specs.Goods.{good_size, goods, lies_at, makes, places}
+use Rattle.storage_simulation.specs.code.Goods.{place}
+use Rattle.storage_simulation.specs.code.Law.{KeepsGoods}
 use Rattle.storage_simulation.specs.Standings.{waits}
 use Rattle.storage_simulation.specs.Usage.{cleaned, made, sum_of, usage, weight}
 use Rattle.place_peaks.proofs.Offered.{Making, by_bool, cleaning, false_of, making, once_more, once_parts, or_case, or_left, or_right, other_part, total_same}

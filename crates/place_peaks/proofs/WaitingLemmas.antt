@@ -3,7 +3,7 @@ use Rattle.std.proofs.Common.{◌≡◌, ℕ, suc, ◌-◌, ◌<◌, inl, inr, B
 use Rattle.std.specs.Prelude.{filter, not, set}
 use Rattle.place_peaks.proofs.Offered.{false_of, filter_without, follows_of, has_head, is_waiting, or_case, sound_more, sum_same, without_absent, without_has}
 use Rattle.lease_rules.specs.Choice.{HaveParentsEnded, IsChoice}
-use Rattle.lease_rules.specs.Law.{IsSoundState}
+use Rattle.lease_rules.specs.code.Law.{IsSoundState}
 use Rattle.lease_rules.specs.Legal.{Allowed, MayFail}
 use Rattle.lease_rules.specs.State.{State, after, ended, put, without}
 use Rattle.plan_core.specs.declared.plan.Plan.{Plan}
@@ -13,9 +13,11 @@ use Rattle.run_record.specs.declared.entry.Cause.{Cause}
 use Rattle.run_record.specs.Events.{Again, Fail}
 use Rattle.storage_simulation.specs.declared.standing.Phase.{Phase}
 use Rattle.storage_simulation.specs.declared.standing.Phase.TheVariants.{Runs, Waits}
-use Rattle.storage_simulation.specs.Change.{held_part, size_part}
-use Rattle.storage_simulation.specs.Following.{AreOnce, Follows}
-use Rattle.storage_simulation.specs.Goods.{good_size, lies_at, makes, place, places}
+use Rattle.storage_simulation.specs.code.Change.{held_part, size_part}
+use Rattle.storage_simulation.specs.Following.{AreOnce}
+use Rattle.storage_simulation.specs.code.Following.{Follows}
+use Rattle.storage_simulation.specs.Goods.{good_size, lies_at, makes, places}
+use Rattle.storage_simulation.specs.code.Goods.{place}
 use Rattle.storage_simulation.specs.Standings.{held_size, sizes, waits}
 use Rattle.place_peaks.specs.declared.peaks.Peaks.{Peaks}
 use Rattle.place_peaks.specs.Peaks.{AreBehind, ArePeaks, left_of, line_of}

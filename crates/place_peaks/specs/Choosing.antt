@@ -1,10 +1,10 @@
 -- What the trees are asked before a task of a place begins, and the first task that can begin.
 use Rattle.std.specs.Prelude.{◌≡◌, ℕ, ◌≤◌, ◌<◌, min, true, false, [], length, take, get_or, Option, Some, None}
-use Rattle.group_index.specs.Index.{group}
-use Rattle.peak_tree.specs.Numbers.{greatest}
 use Rattle.plan_core.specs.declared.plan.Plan.{Plan}
 use Rattle.plan_core.specs.Words.{is_clean}
+use Rattle.group_index.specs.Index.{group}
 use Rattle.storage_simulation.specs.Goods.{place_bound}
+use Rattle.peak_tree.specs.Numbers.{greatest}
 use Rattle.place_peaks.specs.declared.peaks.Peaks.{Peaks}
 use Rattle.place_peaks.specs.Peaks.{left_of, line_of}
 use Rattle.place_peaks.specs.Tree.{HasRoom}

@@ -1,12 +1,12 @@
 -- What each entry of a record finds, and leaves.
 use Rattle.std.specs.Prelude.{◌≡◌, ℕ, true, List}
-use Rattle.lease_rules.specs.Legal.{Allowed}
-use Rattle.lease_rules.specs.State.{State}
 use Rattle.plan_core.specs.declared.plan.Plan.{Plan}
 use Rattle.plan_core.specs.Words.{cleans}
+use Rattle.storage_simulation.specs.Standings.{sizes}
 use Rattle.run_record.specs.declared.entry.Cause.{Cause}
 use Rattle.run_record.specs.Events.{Event, Again, Clean}
-use Rattle.storage_simulation.specs.Standings.{sizes}
+use Rattle.lease_rules.specs.Legal.{Allowed}
+use Rattle.lease_rules.specs.State.{State}
 use Rattle.place_peaks.specs.declared.peaks.Peaks.{Peaks}
 use Rattle.place_peaks.specs.Peaks.{AreBehind, HasPassed, stack_of}
 use Rattle.place_peaks.specs.Ready.{IsIndexed}

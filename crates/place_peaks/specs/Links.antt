@@ -1,6 +1,6 @@
 -- What follows from a plan once for all.
 use Rattle.std.specs.Prelude.{◌≡◌, ℕ, ◌<◌, true, false, get_or, List, Option, Some, None}
-use Rattle.digraph.specs.Digraph.{count, edge}
+use Rattle.digraph.specs.code.Digraph.{count, edge}
 use Rattle.plan_core.specs.declared.plan.Plan.{Plan}
 use Rattle.plan_core.specs.Numbers.{has}
 use Rattle.plan_core.specs.Words.{cleans, count_tasks, parents}

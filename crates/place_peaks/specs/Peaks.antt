@@ -1,17 +1,18 @@
 -- What the trees of a line of tasks say of a state.
 use Rattle.std.specs.Prelude.{◌≡◌, ℕ, ◌<◌, Bool, true, false, cond, List, [], ◌++◌, length, take, filter, get_or, Some, None}
-use Rattle.lease_rules.specs.Choice.{HaveParentsEnded}
-use Rattle.lease_rules.specs.Law.{HasStorageLaws, IsSoundState}
-use Rattle.lease_rules.specs.State.{State, ended}
 use Rattle.plan_core.specs.declared.plan.Plan.{Plan}
 use Rattle.plan_core.specs.Numbers.{has}
 use Rattle.plan_core.specs.Words.{count_tasks, is_clean, parents, task_numbers}
 use Rattle.storage_simulation.specs.Following.{AreOnce}
-use Rattle.storage_simulation.specs.Goods.{place, places}
-use Rattle.storage_simulation.specs.Law.{KeepsGoods}
+use Rattle.storage_simulation.specs.code.Goods.{place}
+use Rattle.storage_simulation.specs.Goods.{places}
+use Rattle.storage_simulation.specs.code.Law.{KeepsGoods}
 use Rattle.storage_simulation.specs.Standings.{sizes}
 use Rattle.storage_simulation.specs.declared.standing.Phase.{Phase}
 use Rattle.storage_simulation.specs.Usage.{sum_of, usage}
+use Rattle.lease_rules.specs.Choice.{HaveParentsEnded}
+use Rattle.lease_rules.specs.code.Law.{HasStorageLaws, IsSoundState}
+use Rattle.lease_rules.specs.State.{State, ended}
 use Rattle.place_peaks.specs.declared.peaks.Peaks.{Peaks}
 use Rattle.place_peaks.specs.declared.seating.Seating.{Seating}
 use Rattle.place_peaks.specs.Places.{AreSeats, ChangesOnePlace, brings, held_by, there}

@@ -1,8 +1,8 @@
 -- Which tasks can be asked for room: those of the line that are left and of which no parent is open.
 use Rattle.std.specs.Prelude.{◌≡◌, ℕ, ◌+◌, ◌<◌, ◌≤◌, ◌^◌, ◌==◌, ◌&&◌, Bool, false, cond, not, List, map, length, get_or, Option, Some, None}
-use Rattle.group_index.specs.Index.{IsIndex, number}
 use Rattle.plan_core.specs.declared.plan.Plan.{Plan}
 use Rattle.plan_core.specs.Words.{count_tasks, is_clean, task_numbers}
+use Rattle.group_index.specs.Index.{IsIndex, number}
 use Rattle.storage_simulation.specs.Goods.{places}
 use Rattle.place_peaks.specs.declared.peaks.Peaks.{Peaks}
 use Rattle.place_peaks.specs.declared.ready.Ready.{Ready}

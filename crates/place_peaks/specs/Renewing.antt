@@ -1,16 +1,18 @@
 -- A fresh order in place of the one that is kept.
 use Rattle.std.specs.Prelude.{◌≡◌, ℕ, ◌+◌, ◌-◌, ◌<◌, ◌≤◌, true, false, cond, not, List, [], ◌++◌, length, map, take, get_or, replicate, Option, Some, None}
-use Rattle.lease_rules.specs.Legal.{Allowed}
-use Rattle.lease_rules.specs.State.{State, after, order_with}
 use Rattle.plan_core.specs.declared.plan.Plan.{Plan}
 use Rattle.plan_core.specs.Numbers.{below, has}
 use Rattle.plan_core.specs.Words.{count_tasks, is_clean, task_numbers}
-use Rattle.run_record.specs.Events.{Regrant}
 use Rattle.storage_simulation.specs.declared.standing.Standing.{Standing}
-use Rattle.storage_simulation.specs.Following.{Follows}
-use Rattle.storage_simulation.specs.Goods.{IsWithinLimits, good_size, place, places}
-use Rattle.storage_simulation.specs.Standings.{IsStanding, held_of, phase_of, sizes}
+use Rattle.storage_simulation.specs.code.Following.{Follows}
+use Rattle.storage_simulation.specs.code.Goods.{IsWithinLimits, place}
+use Rattle.storage_simulation.specs.Goods.{good_size, places}
+use Rattle.storage_simulation.specs.code.Standings.{IsStanding, held_of, phase_of}
+use Rattle.storage_simulation.specs.Standings.{sizes}
 use Rattle.storage_simulation.specs.Usage.{usage}
+use Rattle.run_record.specs.Events.{Regrant}
+use Rattle.lease_rules.specs.Legal.{Allowed}
+use Rattle.lease_rules.specs.State.{State, after, order_with}
 use Rattle.place_peaks.specs.declared.peaks.Peaks.{Peaks}
 use Rattle.place_peaks.specs.Entries.{AreTied}
 use Rattle.place_peaks.specs.declared.seating.Seating.{Seating}

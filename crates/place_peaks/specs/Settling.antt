@@ -4,11 +4,11 @@ use Rattle.plan_core.specs.declared.plan.Plan.{Plan}
 use Rattle.plan_core.specs.Numbers.{has}
 use Rattle.plan_core.specs.Words.{count_tasks, parents}
 use Rattle.storage_simulation.specs.Goods.{good_size, lies_at, makes, places}
-use Rattle.place_peaks.specs.declared.links.Links.{Links}
-use Rattle.place_peaks.specs.declared.peaks.Peaks.{Peaks}
+use Rattle.storage_simulation.specs.declared.standing.Phase.TheVariants.{Runs}
 use Rattle.lease_rules.specs.Legal.{AreDeclared}
 use Rattle.lease_rules.specs.State.{State}
-use Rattle.storage_simulation.specs.declared.standing.Phase.TheVariants.{Runs}
+use Rattle.place_peaks.specs.declared.links.Links.{Links}
+use Rattle.place_peaks.specs.declared.peaks.Peaks.{Peaks}
 use Rattle.place_peaks.specs.Peaks.{AreBehind, left_of}
 use Rattle.place_peaks.specs.Tree.{AllFirst, CanFall, front_changed}
 

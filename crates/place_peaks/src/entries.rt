@@ -1,11 +1,11 @@
 //! What each entry of a record changes, wherever its task stands.
 
 ghost use Rattle.std.specs.Prelude.{◌≡◌, ℕ, [], true, List, MatchOption};
-ghost use Rattle.plan_core.specs.Proper.{IsProper};
+ghost use Rattle.plan_core.specs.code.Proper.{IsProper};
 ghost use Rattle.plan_core.specs.Words.{is_clean};
 ghost use Rattle.run_record.specs.declared.entry.Cause.{Cause};
 ghost use Rattle.run_record.specs.Events.{Again, Arrive, Clean, End, Grant};
-ghost use Rattle.storage_simulation.specs.Goods.{IsWithinLimits};
+ghost use Rattle.storage_simulation.specs.code.Goods.{IsWithinLimits};
 ghost use Rattle.lease_rules.specs.Legal.{Allowed};
 ghost use Rattle.lease_rules.specs.State.{State, after};
 ghost use Rattle.place_peaks.specs.Entries.{AreTied, CanClean, CanEnter, CanTryAgain, Frees};

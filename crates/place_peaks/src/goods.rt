@@ -1,12 +1,13 @@
 //! The goods that a task makes, one by one, and what they come to.
 
 ghost use Rattle.std.specs.Prelude.{◌≡◌, ◌<◌, ◌^◌, length, get_or};
-ghost use Rattle.storage_simulation.specs.Change.{size_part};
-ghost use Rattle.storage_simulation.specs.Goods.{IsWithinLimits, makes};
+ghost use Rattle.storage_simulation.specs.code.Change.{size_part};
+ghost use Rattle.storage_simulation.specs.code.Goods.{IsWithinLimits};
+ghost use Rattle.storage_simulation.specs.Goods.{makes};
 ghost use Rattle.storage_simulation.specs.Usage.{sum_of};
 
 use plan_core::Plan;
-use storage_simulation::{good_size, is_delivery, lies_at};
+use storage_simulation::{is_delivery, size_at};
 use values::TaskId;
 
 /// How many goods a task makes.
@@ -31,17 +32,6 @@ pub(crate) fn made_at(plan: &Plan, task: TaskId, k: usize) -> u32
         return (plan.pairs.as_slice().len() + task.0 as usize) as u32;
     }
     plan.writes(task)[k].0
-}
-
-/// The declared size of a good at a place.
-pub(crate) fn size_at(plan: &Plan, place: u32, good: u32) -> u64
-    ensures { result ≡ size_part plan.now place good }
-{
-    if lies_at(plan, good, place) {
-        good_size(plan, good)
-    } else {
-        0
-    }
 }
 
 /// The declared sizes at a place of the goods that a task makes.

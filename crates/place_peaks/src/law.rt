@@ -2,7 +2,7 @@
 
 ghost use Rattle.std.specs.Prelude.{ℕ, List};
 ghost use Rattle.plan_core.specs.declared.plan.Plan.{Plan};
-ghost use Rattle.plan_core.specs.Proper.{IsProper};
+ghost use Rattle.plan_core.specs.code.Proper.{IsProper};
 ghost use Rattle.plan_core.specs.Words.{parents};
 ghost use Rattle.storage_simulation.specs.Following.{AreOnce};
 ghost use Rattle.run_record.specs.declared.entry.Cause.{Cause};

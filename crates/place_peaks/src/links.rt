@@ -1,12 +1,14 @@
 //! What follows from a plan once for all: the children of each task, and the Clean of each pair.
 
 ghost use Rattle.std.specs.Prelude.{◌≡◌, ◌<◌, ◌+◌, ◌^◌, ℕ, true, cond, get_or, length, None, IfOk};
-ghost use Rattle.digraph.specs.Adjacency.{lists_of, neighbours};
-ghost use Rattle.digraph.specs.Digraph.{count, edge};
-ghost use Rattle.plan_core.specs.Numbers.{RisesFrom, has};
-ghost use Rattle.plan_core.specs.Proper.{IsProper};
+ghost use Rattle.digraph.specs.code.Adjacency.{lists_of};
+ghost use Rattle.digraph.specs.Adjacency.{neighbours};
+ghost use Rattle.digraph.specs.code.Digraph.{count, edge};
+ghost use Rattle.plan_core.specs.code.Numbers.{RisesFrom};
+ghost use Rattle.plan_core.specs.Numbers.{has};
+ghost use Rattle.plan_core.specs.code.Proper.{IsProper};
 ghost use Rattle.plan_core.specs.Words.{count_pairs, count_tasks, parents, task_numbers};
-ghost use Rattle.storage_simulation.specs.Law.{KeepsGoods};
+ghost use Rattle.storage_simulation.specs.code.Law.{KeepsGoods};
 ghost use Rattle.place_peaks.specs.Links.{AreCleanersBefore, AreLinks, IsCleaner};
 
 use crate::seating::at;

@@ -1,13 +1,15 @@
 //! The trees of an order, before the first entry.
 
 ghost use Rattle.std.specs.Prelude.{◌≡◌, ◌<◌, ◌≤◌, ◌^◌, ℕ, [], length, get_or, None, Some, IfOk};
-ghost use Rattle.plan_core.specs.Proper.{IsProper};
+ghost use Rattle.plan_core.specs.code.Proper.{IsProper};
 ghost use Rattle.plan_core.specs.Words.{count_tasks, parents, task_numbers};
-ghost use Rattle.storage_simulation.specs.Change.{size_part};
-ghost use Rattle.storage_simulation.specs.Goods.{IsWithinLimits, makes, place, places};
-ghost use Rattle.storage_simulation.specs.Standings.{held_of, sizes};
+ghost use Rattle.storage_simulation.specs.code.Change.{size_part};
+ghost use Rattle.storage_simulation.specs.code.Goods.{IsWithinLimits, place};
+ghost use Rattle.storage_simulation.specs.Goods.{makes, places};
+ghost use Rattle.storage_simulation.specs.code.Standings.{held_of};
+ghost use Rattle.storage_simulation.specs.Standings.{sizes};
 ghost use Rattle.storage_simulation.specs.Usage.{sum_of};
-ghost use Rattle.lease_rules.specs.Law.{FitsFromStart};
+ghost use Rattle.lease_rules.specs.code.Law.{FitsFromStart};
 ghost use Rattle.lease_rules.specs.State.{opened};
 ghost use Rattle.place_peaks.specs.Entries.{AreTied, IsWhole};
 ghost use Rattle.place_peaks.specs.Peaks.{ArePeaks};

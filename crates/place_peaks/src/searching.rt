@@ -1,7 +1,8 @@
 //! The first task of the line that can begin, by groups.
 
 ghost use Rattle.std.specs.Prelude.{◌≡◌, ◌<◌, ◌+◌, ℕ};
-ghost use Rattle.storage_simulation.specs.Goods.{IsWithinLimits, places};
+ghost use Rattle.storage_simulation.specs.code.Goods.{IsWithinLimits};
+ghost use Rattle.storage_simulation.specs.Goods.{places};
 ghost use Rattle.place_peaks.specs.Peaks.{AreSeated};
 ghost use Rattle.place_peaks.specs.Choosing.{AtAll, InGroup, InGroupBelow, IsFirst, earlier};
 ghost use Rattle.place_peaks.specs.Ready.{IsIndexed};

@@ -4,7 +4,8 @@ ghost use Rattle.std.specs.Prelude.{◌≡◌, ◌<◌, ◌+◌, ℕ, true, leng
 ghost use Rattle.plan_core.specs.Numbers.{has};
 ghost use Rattle.plan_core.specs.Words.{count_tasks, task_numbers};
 ghost use Rattle.storage_simulation.specs.Following.{AreOnce};
-ghost use Rattle.storage_simulation.specs.Goods.{IsWithinLimits, places};
+ghost use Rattle.storage_simulation.specs.code.Goods.{IsWithinLimits};
+ghost use Rattle.storage_simulation.specs.Goods.{places};
 ghost use Rattle.place_peaks.specs.Places.{AreSeats, ChangesOnePlace};
 
 use crate::choosing::task_at;

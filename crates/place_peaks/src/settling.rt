@@ -1,7 +1,8 @@
 //! A task ends, and what it made is held at its actual sizes.
 
 ghost use Rattle.std.specs.Prelude.{◌≡◌, ◌<◌, ◌≤◌, ◌-◌, ◌^◌, ◌==◌, ◌∷◌, ℕ, [], cond, true, length, get_or, replicate, Some, None};
-ghost use Rattle.storage_simulation.specs.Goods.{IsWithinLimits, good_size, lies_at, makes, place, places};
+ghost use Rattle.storage_simulation.specs.code.Goods.{IsWithinLimits, place};
+ghost use Rattle.storage_simulation.specs.Goods.{good_size, lies_at, makes, places};
 ghost use Rattle.place_peaks.specs.Links.{AreLinks};
 ghost use Rattle.place_peaks.specs.Settling.{AreLowered, CanSettle, CanSettleOne, IsKept, IsSettled, count_at, count_by, lowered, settled};
 ghost use Rattle.place_peaks.specs.Tree.{AllFirst, CanFall, front_changed};

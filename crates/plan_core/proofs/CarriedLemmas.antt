@@ -9,13 +9,14 @@ use Rattle.std.proofs.lemmas.Option.{slice_get_past}
 use Rattle.plan_core.specs.Numbers.{has}
 use Rattle.plan_core.specs.Words.{kind_in, reads, writes, parents, kind, count_tasks}
 use Rattle.plan_core.specs.Kinds.{kind_writes, sweeps, reads_file, writes_file, waits_for}
-use Rattle.plan_core.specs.Proper.{IsProper, is_parent}
-use Rattle.plan_core.specs.Carried.{Bytes, read, carried_by, writer, stored, carried_within, carried, IsCarrying}
+use Rattle.plan_core.specs.code.Proper.{IsProper, is_parent}
+use Rattle.plan_core.specs.Carried.{Bytes, read, carried_by, writer, stored, carried_within, carried}
+use Rattle.plan_core.specs.code.Carried.{IsCarrying}
 use Rattle.plan_core.proofs.TestLemmas.{or_left}
 use Rattle.plan_core.proofs.NumbersLemmas.{any_has, below_has, least_passes, some_least}
 use Rattle.std.proofs.lemmas.Bool.{cases_lt}
 use Rattle.plan_core.proofs.PairLemmas.{listed_read, listed_written, read_stands, has_file_writer}
-use Rattle.plan_core.specs.Grounded.{Grounded, ground}
+use Rattle.plan_core.specs.code.Grounded.{Grounded, ground}
 use Rattle.plan_core.proofs.GroundedLemmas.{all_grounded}
 use Rattle.plan_core.proofs.SettlingLemmas.{IsWorkedOut, settled}
 

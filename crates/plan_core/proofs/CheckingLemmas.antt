@@ -13,9 +13,9 @@ use Rattle.plan_core.specs.declared.listing.Listing.TheVariants.{Reads, Writes, 
 use Rattle.plan_core.specs.Numbers.{has}
 use Rattle.plan_core.specs.Words.{reads, writes, parents, kind, kind_in, count_tasks, count_pairs, cleans, delivers, kind_cleans, kind_delivers}
 use Rattle.plan_core.specs.Kinds.{kind_reads, kind_writes, on_pair}
-use Rattle.plan_core.specs.Proper.{HasTables, IsTask, HasFlow, IsProper, AreParents, is_parent, is_kind_in_range, is_source_below}
-use Rattle.plan_core.specs.Listing.{listed, nodes, cleaned, delivered}
-use Rattle.plan_core.specs.Flow.{HasOneWriter, HasOrder}
+use Rattle.plan_core.specs.code.Proper.{HasTables, IsTask, HasFlow, IsProper, AreParents, is_parent, is_kind_in_range, is_source_below}
+use Rattle.plan_core.specs.code.Listing.{listed, nodes, cleaned, delivered}
+use Rattle.plan_core.specs.code.Flow.{HasOneWriter, HasOrder}
 use Rattle.plan_core.proofs.TestLemmas.{both, same_number}
 use Rattle.plan_core.proofs.NumbersLemmas.{below_has}
 use Rattle.plan_core.proofs.ListingLemmas.{tasks_are_nodes, pairs_are_nodes, files_are_nodes}

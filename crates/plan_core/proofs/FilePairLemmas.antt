@@ -5,11 +5,12 @@ use Rattle.std.specs.List.{list_any}
 use Rattle.std.proofs.lemmas.Bool.{cases_lt}
 use Rattle.std.proofs.lemmas.Option.{slice_get_within}
 use Rattle.plan_core.specs.declared.plan.Pair.{Pair}
-use Rattle.plan_core.specs.Numbers.{has, below, RisesFrom}
-use Rattle.plan_core.specs.Words.{pair_at}
+use Rattle.plan_core.specs.Numbers.{has, below}
+use Rattle.plan_core.specs.code.Numbers.{RisesFrom}
+use Rattle.plan_core.specs.code.Words.{pair_at}
 use Rattle.plan_core.specs.Kinds.{on_pair}
-use Rattle.plan_core.specs.Proper.{is_before, rise_after, are_rising}
-use Rattle.plan_core.specs.Files.{are_pairs}
+use Rattle.plan_core.specs.code.Proper.{is_before, rise_after, are_rising}
+use Rattle.plan_core.specs.code.Files.{are_pairs}
 use Rattle.plan_core.proofs.TestLemmas.{same_number, is_itself, or_left, or_right, both, and_both}
 use Rattle.plan_core.proofs.RisingLemmas.{rising_is_below}
 use Rattle.plan_core.proofs.PairLemmas.{any_place, place_any}

@@ -9,19 +9,20 @@ use Rattle.plan_core.specs.declared.files.SiteFiles.{SiteFiles}
 use Rattle.plan_core.specs.declared.plan.Pair.{Pair}
 use Rattle.plan_core.specs.declared.plan.PlanJob.{PlanJob}
 use Rattle.plan_core.specs.declared.plan.TaskKind.TheVariants.{Run}
-use Rattle.plan_core.specs.Numbers.{has, RisesFrom}
+use Rattle.plan_core.specs.Numbers.{has}
+use Rattle.plan_core.specs.code.Numbers.{RisesFrom}
 use Rattle.plan_core.specs.Words.{inputs, outputs, pair_numbers}
-use Rattle.plan_core.specs.Kinds.{uses, makes, kind_reads, kind_writes}
-use Rattle.plan_core.specs.Files.{AreFilesOf, all_inputs, all_outputs, are_pairs}
+use Rattle.plan_core.specs.Kinds.{jobs_use, jobs_make, kind_reads, kind_writes}
+use Rattle.plan_core.specs.code.Files.{AreFilesOf, all_inputs, all_outputs, are_pairs}
 
 any_flat : {A : Type 0} (test : ℕ → Bool) (g : A → List ℕ) (xs : List A) → list_any test (flat_map g xs) ≡ list_any (λ x. list_any test (g x)) xs
 any_flat test g [] = refl
 any_flat test g (x ∷ xs) = list_any-append test (g x) (flat_map g xs) ∙ ap (λ (b : Bool). list_any test (g x) || b) (any_flat test g xs)
 
-pub used_listed : (jobs : List PlanJob) (js : List JobId) (f : ℕ) → has (all_inputs jobs js) f ≡ uses jobs js f
+pub used_listed : (jobs : List PlanJob) (js : List JobId) (f : ℕ) → has (all_inputs jobs js) f ≡ jobs_use jobs js f
 used_listed jobs js f = any_flat (λ y. nat_eq y f) (λ (j : JobId). inputs jobs j.0) js
 
-pub made_listed : (jobs : List PlanJob) (js : List JobId) (f : ℕ) → has (all_outputs jobs js) f ≡ makes jobs js f
+pub made_listed : (jobs : List PlanJob) (js : List JobId) (f : ℕ) → has (all_outputs jobs js) f ≡ jobs_make jobs js f
 made_listed jobs js f = any_flat (λ y. nat_eq y f) (λ (j : JobId). outputs jobs j.0) js
 
 pub run_writes_are : (jobs : List PlanJob) (js : List JobId) (found : SiteFiles) (list : List ℕ) → list ≡ all_outputs jobs js → RisesFrom 0 found.files.items → ((x : ℕ) → has found.files.items x ≡ has list x) → AreFilesOf (kind_writes jobs (Some (Run found.site js))) found
@@ -37,7 +38,7 @@ run_reads_are jobs js found ins outs used made is os su sm rises same = record {
   rises = rises;
   same = λ s f. ap (λ (b : Bool). nat_eq found.site.0 s && b) (sym (same f
       ∙ ap (λ (b : Bool). b && not (has made f)) (su f ∙ ap (λ (xs : List ℕ). has xs f) is ∙ used_listed jobs js f)
-      ∙ ap (λ (b : Bool). uses jobs js f && not b) (sm f ∙ ap (λ (xs : List ℕ). has xs f) os ∙ made_listed jobs js f)));
+      ∙ ap (λ (b : Bool). jobs_use jobs js f && not b) (sm f ∙ ap (λ (xs : List ℕ). has xs f) os ∙ made_listed jobs js f)));
 }
 
 -- more pairs than files

@@ -8,18 +8,20 @@ use Rattle.std.proofs.lemmas.Bool.{cases_lt}
 use Rattle.std.proofs.lemmas.Option.{slice_get_past}
 use Rattle.std.proofs.lemmas.List.Folds.{list_any-append}
 use Rattle.std.proofs.lemmas.List.Elements.{All-head}
-use Rattle.digraph.specs.Adjacency.{lists_of, neighbours, IsRising, AreNeighbours}
+use Rattle.digraph.specs.code.Adjacency.{lists_of}
+use Rattle.digraph.specs.Adjacency.{neighbours, IsRising, AreNeighbours}
 use Rattle.plan_core.specs.declared.plan.Plan.{Plan}
 use Rattle.plan_core.specs.declared.plan.Task.{Task}
 use Rattle.plan_core.specs.declared.plan.TaskKind.{TaskKind}
 use Rattle.plan_core.specs.declared.plan.TaskKind.TheVariants.{Transfer, Run, Clean}
-use Rattle.plan_core.specs.Numbers.{has, below, RisesFrom}
+use Rattle.plan_core.specs.Numbers.{has, below}
+use Rattle.plan_core.specs.code.Numbers.{RisesFrom}
 use Rattle.plan_core.specs.Words.{reads, writes, parents, reads_in, parents_in, kind_in, is_run, count_tasks, count_pairs}
 use Rattle.plan_core.specs.Kinds.{sweeps, task_waits, waits_for}
-use Rattle.plan_core.specs.Proper.{AreParents}
-use Rattle.plan_core.specs.Listing.{nodes, awaited, swept}
-use Rattle.plan_core.specs.Flow.{HasOneWriter, includes, are_allowed, parents_fit}
-use Rattle.plan_core.specs.Rising.{is_rising}
+use Rattle.plan_core.specs.code.Proper.{AreParents}
+use Rattle.plan_core.specs.code.Listing.{nodes, awaited, swept}
+use Rattle.plan_core.specs.code.Flow.{HasOneWriter, includes, are_allowed, parents_fit}
+use Rattle.plan_core.specs.code.Rising.{is_rising}
 use Rattle.plan_core.proofs.TestLemmas.{is_itself, same_number, or_left, or_right, both, and_both}
 use Rattle.plan_core.proofs.NumbersLemmas.{below_has}
 use Rattle.plan_core.proofs.RisingLemmas.{rising_is_below, below_rises}

@@ -1,7 +1,7 @@
 -- A finite relation without a returning way is grounded: one goes back along it for ever from nowhere.
 use Rattle.std.proofs.Common.{◌≡◌, ◌≢◌, ℕ, zero, suc, ◌+◌, ◌<◌, ◌≤◌, Bool, true, false, cond, ◌||◌, List, [], ◌∷◌, refl, sym, ap, ◌∙◌, nat_eq, arith}
 use Rattle.plan_core.specs.Numbers.{has}
-use Rattle.plan_core.specs.Grounded.{Grounded, ground}
+use Rattle.plan_core.specs.code.Grounded.{Grounded, ground}
 use Rattle.digraph.specs.Distances.{Walk}
 use Rattle.digraph.specs.Cycle.{Returns}
 use Rattle.plan_core.proofs.TestLemmas.{same_number, other_number, not_itself}

@@ -7,13 +7,14 @@ use Rattle.plan_core.specs.declared.plan.Pair.{Pair}
 use Rattle.plan_core.specs.declared.plan.TaskKind.{TaskKind}
 use Rattle.plan_core.specs.declared.plan.TaskKind.TheVariants.{Transfer, Run, Clean}
 use Rattle.plan_core.specs.Numbers.{has, below}
-use Rattle.plan_core.specs.Words.{reads, writes, parents, kind, is_pair, is_clean, is_clean_kind, cleans, kind_cleans, count_pairs, count_tasks}
+use Rattle.plan_core.specs.Words.{reads, writes, parents, kind, is_clean, is_clean_kind, cleans, kind_cleans, count_pairs, count_tasks}
+use Rattle.plan_core.specs.code.Words.{is_pair}
 use Rattle.plan_core.specs.Kinds.{on_pair, kind_reads, kind_writes, reads_file, writes_file, reads_pair, writes_pair, sweeps, waits_for}
-use Rattle.plan_core.specs.Proper.{IsProper, is_parent, is_kind_in_range, is_pair_in_range}
+use Rattle.plan_core.specs.code.Proper.{IsProper, is_parent, is_kind_in_range, is_pair_in_range}
 use Rattle.plan_core.proofs.TestLemmas.{same_number, or_left, or_right, either, by_bool, is_itself, both}
 use Rattle.plan_core.proofs.NumbersLemmas.{below_has, has_below, any_has}
 use Rattle.plan_core.proofs.PairLemmas.{on_this_pair, reads_below, writes_below}
-use Rattle.plan_core.specs.Grounded.{Grounded, ground}
+use Rattle.plan_core.specs.code.Grounded.{Grounded, ground}
 use Rattle.plan_core.proofs.GroundedLemmas.{all_grounded}
 use Rattle.plan_core.proofs.CarriedLemmas.{low_parent}
 use Rattle.plan_core.proofs.FilePairLemmas.{known, number_once, numbers_follow}

@@ -8,14 +8,15 @@ use Rattle.std.proofs.lemmas.Option.{slice_get_past}
 use Rattle.std.proofs.lemmas.List.Folds.{list_any_at}
 use Rattle.std.proofs.lemmas.List.Elements.{All-from_get_or}
 use Rattle.std.proofs.Math.Nat.{le-max_left, le-max_right}
-use Rattle.digraph.specs.Adjacency.{lists_of, neighbours}
+use Rattle.digraph.specs.code.Adjacency.{lists_of}
+use Rattle.digraph.specs.Adjacency.{neighbours}
 use Rattle.plan_core.specs.declared.listing.Listing.{Listing}
 use Rattle.plan_core.specs.declared.listing.Listing.TheVariants.{Reads, Writes, Cleaned, Delivered, Parents}
 use Rattle.plan_core.specs.declared.plan.Plan.{Plan}
 use Rattle.plan_core.specs.declared.plan.Task.{Task}
 use Rattle.plan_core.specs.Numbers.{has}
 use Rattle.plan_core.specs.Words.{reads, writes, parents, kind, reads_in, writes_in, parents_in, kind_in, count_tasks}
-use Rattle.plan_core.specs.Listing.{listed, cleaned, delivered, nodes}
+use Rattle.plan_core.specs.code.Listing.{listed, cleaned, delivered, nodes}
 use Rattle.plan_core.proofs.TestLemmas.{is_itself}
 
 none_past : (vs : List (Vec ℕ Global)) (k : ℕ) → length vs ≤ k → neighbours (lists_of vs) k ≡ []

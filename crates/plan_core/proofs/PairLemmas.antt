@@ -7,9 +7,10 @@ use Rattle.plan_core.specs.declared.plan.Plan.{Plan}
 use Rattle.plan_core.specs.declared.plan.Pair.{Pair}
 use Rattle.plan_core.specs.declared.plan.Task.{Task}
 use Rattle.plan_core.specs.Numbers.{has, below}
-use Rattle.plan_core.specs.Words.{reads, writes, kind, writes_in, is_pair, pair_at, pair_numbers, count_pairs}
+use Rattle.plan_core.specs.Words.{reads, writes, kind, writes_in, pair_numbers, count_pairs}
+use Rattle.plan_core.specs.code.Words.{is_pair, pair_at}
 use Rattle.plan_core.specs.Kinds.{on_pair, reads_file, writes_file, reads_pair, writes_pair}
-use Rattle.plan_core.specs.Proper.{IsProper, stands, is_written}
+use Rattle.plan_core.specs.code.Proper.{IsProper, stands, is_written}
 use Rattle.plan_core.proofs.TestLemmas.{same_number, both, or_left, or_right}
 use Rattle.plan_core.proofs.NumbersLemmas.{has_below, below_has}
 

@@ -2,7 +2,8 @@
 use Rattle.std.proofs.Common.{◌≡◌, ℕ, zero, suc, ◌<◌, ◌≤◌, Bool, true, false, cond, ◌||◌, List, [], ◌∷◌, ◌++◌, refl, sym, ap, ◌∙◌, nat_eq, arith, subst, ◌⊎◌, inl, inr}
 use Rattle.std.proofs.lemmas.Bool.{cases_lt}
 use Rattle.std.proofs.lemmas.List.{append-nil}
-use Rattle.plan_core.specs.Numbers.{has, below, RisesFrom}
+use Rattle.plan_core.specs.Numbers.{has, below}
+use Rattle.plan_core.specs.code.Numbers.{RisesFrom}
 use Rattle.plan_core.proofs.TestLemmas.{same_number, is_itself, not_itself, by_bool, or_left, or_right}
 use Rattle.plan_core.proofs.NumbersLemmas.{below_has, has_below}
 

@@ -12,8 +12,9 @@ use Rattle.std.proofs.lemmas.List.Filters.{dedup_is}
 use Rattle.std.proofs.lemmas.List.Kept.{Contains-dedup_nat, Contains-from_dedup}
 use Rattle.std.proofs.lemmas.Map.Keys.{IsStrictlyIncreasing-dedup}
 use Rattle.std.proofs.lemmas.List.Folds.{list_any-append, list_any_at}
-use Rattle.plan_core.specs.Numbers.{has, RisesFrom}
-use Rattle.plan_core.specs.Rising.{rises_after, is_rising, without}
+use Rattle.plan_core.specs.Numbers.{has}
+use Rattle.plan_core.specs.code.Numbers.{RisesFrom}
+use Rattle.plan_core.specs.code.Rising.{rises_after, is_rising, without}
 use Rattle.plan_core.proofs.TestLemmas.{same_number, is_itself, by_bool, both, and_both}
 use Rattle.plan_core.proofs.PairLemmas.{any_place}
 

@@ -8,8 +8,8 @@ use Rattle.std.proofs.lemmas.List.Folds.{list_any-append}
 use Rattle.plan_core.specs.declared.plan.Plan.{Plan}
 use Rattle.plan_core.specs.declared.plan.PlanFile.{PlanFile}
 use Rattle.plan_core.specs.declared.plan.PlanSite.{PlanSite}
-use Rattle.plan_core.specs.Proper.{HasTables, IsInRange}
-use Rattle.plan_core.specs.Tables.{are_few, are_in_range, are_unknown, tables_pass}
+use Rattle.plan_core.specs.code.Proper.{HasTables, IsInRange}
+use Rattle.plan_core.specs.code.Tables.{are_few, are_in_range, are_unknown, tables_pass}
 use Rattle.plan_core.proofs.TestLemmas.{both, and_both, not_true}
 
 below : (a b : ℕ) → nat_lt a b ≡ true → a < b

@@ -16,10 +16,11 @@ use Rattle.plan_core.specs.declared.plan.TaskKind.{TaskKind}
 use Rattle.plan_core.specs.declared.plan.TaskKind.TheVariants.{Transfer, Run, Clean}
 use Rattle.plan_core.specs.Numbers.{has, below}
 use Rattle.plan_core.specs.Words.{inputs, outputs, reads_in, writes_in, declared}
-use Rattle.plan_core.specs.Kinds.{makes, kind_reads, kind_writes, kind_carries, on_pair}
-use Rattle.plan_core.specs.Proper.{IsTask, are_new, are_rising, is_sequence, is_sequence_kind}
-use Rattle.plan_core.specs.Files.{AreFilesOf, are_pairs}
-use Rattle.plan_core.specs.Tasks.{with_one, with_all, are_fresh, in_sequence, kind_in_sequence, have_sizes, are_jobs_sized, is_kind_sized, HasReads, HasWrites}
+use Rattle.plan_core.specs.Kinds.{jobs_make, kind_reads, kind_writes, on_pair}
+use Rattle.plan_core.specs.code.Kinds.{kind_carries}
+use Rattle.plan_core.specs.code.Proper.{IsTask, are_new, are_rising, is_sequence, is_sequence_kind}
+use Rattle.plan_core.specs.code.Files.{AreFilesOf, are_pairs}
+use Rattle.plan_core.specs.code.Tasks.{with_one, with_all, are_fresh, in_sequence, kind_in_sequence, have_sizes, are_jobs_sized, is_kind_sized, HasReads, HasWrites}
 use Rattle.plan_core.proofs.TestLemmas.{both, and_both, or_left, or_right, same_number, is_itself, either}
 use Rattle.plan_core.proofs.FilePairLemmas.{Passes, listing_is, listing_stands, listing_has}
 
@@ -102,22 +103,22 @@ pub at_all : (test : ℕ → Bool) (xs : List ℕ) → ((x : ℕ) → has xs x �
 at_all test [] h = refl
 at_all test (y ∷ ys) h = and_both (test y) (list_all test ys) (h y (or_left (nat_eq y y) (has ys y) (is_itself y))) (at_all test ys (λ x k. h x (or_right (nat_eq y x) (has ys x) k)))
 
-jobs_sized : (p : Plan) (js : List JobId) → are_jobs_sized p js ≡ true → (f : ℕ) → makes p.jobs js f ≡ true → is_some (declared p f) ≡ true
+jobs_sized : (p : Plan) (js : List JobId) → are_jobs_sized p js ≡ true → (f : ℕ) → jobs_make p.jobs js f ≡ true → is_some (declared p f) ≡ true
 jobs_sized p [] h f k = absurd cc
-jobs_sized p (j ∷ js) h f k = by (either (has (outputs p.jobs j.0) f) (makes p.jobs js f) k) (λ l. jobs_sized p js parts.1 f l)
+jobs_sized p (j ∷ js) h f k = by (either (has (outputs p.jobs j.0) f) (jobs_make p.jobs js f) k) (λ l. jobs_sized p js parts.1 f l)
   where
     parts : (have_sizes p (outputs p.jobs j.0) ≡ true) × (are_jobs_sized p js ≡ true)
     parts = both (have_sizes p (outputs p.jobs j.0)) (are_jobs_sized p js) h
 
-    by : (has (outputs p.jobs j.0) f ≡ true) ⊎ (makes p.jobs js f ≡ true) → (makes p.jobs js f ≡ true → is_some (declared p f) ≡ true) → is_some (declared p f) ≡ true
+    by : (has (outputs p.jobs j.0) f ≡ true) ⊎ (jobs_make p.jobs js f ≡ true) → (jobs_make p.jobs js f ≡ true → is_some (declared p f) ≡ true) → is_some (declared p f) ≡ true
     by (inl l) rest = all_at (λ g. is_some (declared p g)) (outputs p.jobs j.0) parts.0 f l
     by (inr l) rest = rest l
 
-sized_jobs : (p : Plan) (js : List JobId) → ((f : ℕ) → makes p.jobs js f ≡ true → is_some (declared p f) ≡ true) → are_jobs_sized p js ≡ true
+sized_jobs : (p : Plan) (js : List JobId) → ((f : ℕ) → jobs_make p.jobs js f ≡ true → is_some (declared p f) ≡ true) → are_jobs_sized p js ≡ true
 sized_jobs p [] h = refl
 sized_jobs p (j ∷ js) h = and_both (have_sizes p (outputs p.jobs j.0)) (are_jobs_sized p js)
-    (at_all (λ g. is_some (declared p g)) (outputs p.jobs j.0) (λ x k. h x (or_left (has (outputs p.jobs j.0) x) (makes p.jobs js x) k)))
-    (sized_jobs p js (λ f k. h f (or_right (has (outputs p.jobs j.0) f) (makes p.jobs js f) k)))
+    (at_all (λ g. is_some (declared p g)) (outputs p.jobs j.0) (λ x k. h x (or_left (has (outputs p.jobs j.0) x) (jobs_make p.jobs js x) k)))
+    (sized_jobs p js (λ f k. h f (or_right (has (outputs p.jobs j.0) f) (jobs_make p.jobs js f) k)))
 
 pub kind_sized : (p : Plan) (k : TaskKind) → is_kind_sized p k ≡ true → (f : ℕ) → kind_carries p.jobs (Some k) f ≡ true → is_some (declared p f) ≡ true
 kind_sized p (Transfer g from to) h f e = ap (λ (n : ℕ). is_some (declared p n)) (sym (same_number g.0 f e)) ∙ h

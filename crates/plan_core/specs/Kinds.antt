@@ -14,18 +14,18 @@ use Rattle.plan_core.specs.Numbers.{has}
 use Rattle.plan_core.specs.Words.{reads_in, writes_in, kind_in, kind, inputs, outputs}
 
 -- one of the jobs has the file among its inputs; among its outputs
-abbrev pub uses : List PlanJob → List JobId → ℕ → Bool
-uses jobs js f = list_any (λ (j : JobId). has (inputs jobs j.0) f) js
+abbrev pub jobs_use : List PlanJob → List JobId → ℕ → Bool
+jobs_use jobs js f = list_any (λ (j : JobId). has (inputs jobs j.0) f) js
 
-abbrev pub makes : List PlanJob → List JobId → ℕ → Bool
-makes jobs js f = list_any (λ (j : JobId). has (outputs jobs j.0) f) js
+abbrev pub jobs_make : List PlanJob → List JobId → ℕ → Bool
+jobs_make jobs js f = list_any (λ (j : JobId). has (outputs jobs j.0) f) js
 
 -- A Run reads its jobs' inputs that its own jobs don't make. A Transfer from a site reads its file there.
 abbrev pub kind_reads : List PlanJob → Option TaskKind → ℕ → ℕ → Bool
 kind_reads jobs None s f = false
 kind_reads jobs (Some (Transfer g (Pfn x) to)) s f = false
 kind_reads jobs (Some (Transfer g (Site a) to)) s f = (a.0 == s) && (g.0 == f)
-kind_reads jobs (Some (Run a js)) s f = (a.0 == s) && (uses jobs js f && not (makes jobs js f))
+kind_reads jobs (Some (Run a js)) s f = (a.0 == s) && (jobs_use jobs js f && not (jobs_make jobs js f))
 kind_reads jobs (Some (Clean q)) s f = false
 
 -- A Run writes its jobs' outputs. A Transfer to a site writes its file there; a delivery writes no pair.
@@ -33,14 +33,8 @@ abbrev pub kind_writes : List PlanJob → Option TaskKind → ℕ → ℕ → Bo
 kind_writes jobs None s f = false
 kind_writes jobs (Some (Transfer g from (Into a))) s f = (a.0 == s) && (g.0 == f)
 kind_writes jobs (Some (Transfer g from Delivery)) s f = false
-kind_writes jobs (Some (Run a js)) s f = (a.0 == s) && makes jobs js f
+kind_writes jobs (Some (Run a js)) s f = (a.0 == s) && jobs_make jobs js f
 kind_writes jobs (Some (Clean q)) s f = false
-
--- the file that a task carries: what it writes, or delivers
-abbrev pub kind_carries : List PlanJob → Option TaskKind → ℕ → Bool
-kind_carries jobs (Some (Transfer g from to)) f = g.0 == f
-kind_carries jobs (Some (Run a js)) f = makes jobs js f
-kind_carries jobs _ f = false
 
 -- task t reads, writes the file at the site; carries the file
 abbrev pub reads_file : Plan → ℕ → ℕ → ℕ → Bool
@@ -48,9 +42,6 @@ reads_file p t s f = kind_reads p.jobs (kind p t) s f
 
 abbrev pub writes_file : Plan → ℕ → ℕ → ℕ → Bool
 writes_file p t s f = kind_writes p.jobs (kind p t) s f
-
-abbrev pub carries : Plan → ℕ → ℕ → Bool
-carries p t f = kind_carries p.jobs (kind p t) f
 
 -- the same of a pair
 abbrev pub on_pair : (ℕ → ℕ → Bool) → Option Pair → Bool

@@ -1,19 +1,13 @@
 -- The names of a plan's sites, files and pairs, by number; nothing where there is no such number.
-use Rattle.std.specs.Prelude.{ℕ, ◌==◌, Bool, List, [], Option, Some, None, slice_get}
-use Rattle.std.specs.List.{list_any}
+use Rattle.std.specs.Prelude.{ℕ, List, [], Option, Some, None, slice_get, unwrap_or, option_map}
 use Rattle.plan_core.specs.declared.plan.Plan.{Plan}
 use Rattle.plan_core.specs.declared.plan.PlanFile.{PlanFile}
 use Rattle.plan_core.specs.declared.plan.PlanSite.{PlanSite}
 use Rattle.plan_core.specs.declared.plan.Pair.{Pair}
-use Rattle.plan_core.specs.Carried.{stored}
 use Rattle.plan_core.specs.Words.{pair}
 
-abbrev pub name_in : Option PlanSite → List ℕ
-name_in None = []
-name_in (Some s) = s.name
-
 unfoldable pub site_name : Plan → ℕ → List ℕ
-site_name p s = name_in (slice_get p.sites s)
+site_name p s = unwrap_or (option_map (λ (x : PlanSite). x.name) (slice_get p.sites s)) []
 
 abbrev pub lfn_in : Option PlanFile → List ℕ
 lfn_in None = []
@@ -43,11 +37,3 @@ pair_site_name p q = site_name p (pair_site p q)
 
 abbrev pub pair_file_name : Plan → ℕ → List ℕ
 pair_file_name p q = file_name p (pair_file p q)
-
--- a site that has a pair
-unfoldable pub is_used : Plan → ℕ → Bool
-is_used p s = list_any (λ (q : Pair). q.site.0 == s) p.pairs
-
--- what the writer of a pair carries for its file
-abbrev pub content : Plan → (ℕ → ℕ → Option (List ℕ)) → ℕ → Option (List ℕ)
-content p c q = stored p c (pair_site p q) (pair_file p q)

@@ -1,5 +1,5 @@
 -- Lists of numbers.
-use Rattle.std.specs.Prelude.{ℕ, zero, suc, ◌==◌, ◌≤◌, Bool, cond, List, [], ◌∷◌, ◌++◌, Option, Some, None}
+use Rattle.std.specs.Prelude.{ℕ, zero, suc, ◌==◌, Bool, cond, List, [], ◌∷◌, ◌++◌, Option, Some, None}
 use Rattle.std.specs.List.{list_any}
 
 abbrev pub has : List ℕ → ℕ → Bool
@@ -9,11 +9,6 @@ has xs x = list_any (λ y. y == x) xs
 unfoldable pub below : ℕ → (ℕ → Bool) → List ℕ
 below zero test = []
 below (suc n) test = below n test ++ cond (test n) (n ∷ []) []
-
--- in rising order, each once, from b on
-abbrev pub RisesFrom : ℕ → List ℕ → Type 0
-RisesFrom b [] = Unit {0}
-RisesFrom b (x ∷ xs) = (b ≤ x) × RisesFrom (suc x) xs
 
 abbrev pub or_else : {A : Type 0} → Option A → Option A → Option A
 or_else None y = y

@@ -1,5 +1,5 @@
 -- What a plan says of its sites, files, jobs, pairs and tasks by number; nothing where there is no such number.
-use Rattle.std.specs.Prelude.{ℕ, ◌==◌, ◌&&◌, Bool, false, true, List, [], length, map, Option, Some, None, option_and_then, slice_get}
+use Rattle.std.specs.Prelude.{ℕ, ◌==◌, Bool, false, true, List, [], length, map, Option, Some, None, option_and_then, slice_get, unwrap_or, option_map}
 use Rattle.values.specs.Apply.{Apply}
 use Rattle.values.specs.declared.numbers.FileId.{FileId}
 use Rattle.values.specs.declared.numbers.JobId.{JobId}
@@ -111,32 +111,24 @@ unfoldable pub outputs : List PlanJob → ℕ → List ℕ
 outputs jobs j = outputs_in (slice_get jobs j)
 
 -- what a job's tool makes of these inputs
-unfoldable pub made : Apply → List PlanJob → ℕ → List (List ℕ) → Option (List (List ℕ))
-made apply jobs j ins = option_and_then (λ (x : PlanJob). apply x.tool x.arguments ins (length x.outputs))
+unfoldable pub tool_outputs : Apply → List PlanJob → ℕ → List (List ℕ) → Option (List (List ℕ))
+tool_outputs apply jobs j ins = option_and_then (λ (x : PlanJob). apply x.tool x.arguments ins (length x.outputs))
     (slice_get jobs j)
 
 -- pairs
 abbrev pub count_pairs : Plan → ℕ
 count_pairs p = length p.pairs
 
-abbrev pub pair_at : Option Pair → ℕ → ℕ → Bool
-pair_at None s f = false
-pair_at (Some q) s f = (q.site.0 == s) && (q.file.0 == f)
-
 unfoldable pub pair : Plan → ℕ → Option Pair
 pair p q = slice_get p.pairs q
 
--- pair q is this file at this site
-unfoldable pub is_pair : Plan → ℕ → ℕ → ℕ → Bool
-is_pair p q s f = pair_at (slice_get p.pairs q) s f
-
-abbrev pub site_in : Option Pair → ℕ → Bool
-site_in None s = false
-site_in (Some q) s = q.site.0 == s
+abbrev pub is_on_site : Option Pair → ℕ → Bool
+is_on_site None s = false
+is_on_site (Some q) s = q.site.0 == s
 
 -- pair q is at this site
 unfoldable pub is_at : Plan → ℕ → ℕ → Bool
-is_at p q s = site_in (slice_get p.pairs q) s
+is_at p q s = is_on_site (slice_get p.pairs q) s
 
 -- the declared size of a file
 abbrev pub declared_in : Option PlanFile → Option ℕ
@@ -146,13 +138,8 @@ declared_in (Some f) = f.declared
 unfoldable pub declared : Plan → ℕ → Option ℕ
 declared p f = declared_in (slice_get p.files f)
 
--- the bound of a site
-abbrev pub bound_in : Option PlanSite → ℕ
-bound_in None = 0
-bound_in (Some s) = s.bound
-
 unfoldable pub bound : Plan → ℕ → ℕ
-bound p s = bound_in (slice_get p.sites s)
+bound p s = unwrap_or (option_map (λ (x : PlanSite). x.bound) (slice_get p.sites s)) 0
 
 -- the policy
 unfoldable pub retries : Plan → ℕ

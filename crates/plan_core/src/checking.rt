@@ -1,7 +1,7 @@
 //! Whether a plan is proper.
 
 ghost use Rattle.std.specs.Prelude.{◌≡◌, ◌↔◌, true, IfOk};
-ghost use Rattle.plan_core.specs.Proper.{IsProper};
+ghost use Rattle.plan_core.specs.code.Proper.{IsProper};
 
 use crate::flow::has_flow;
 use crate::plan::Plan;

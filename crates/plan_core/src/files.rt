@@ -1,10 +1,11 @@
 //! The files that a task reads and writes, by its kind.
 
 ghost use Rattle.std.specs.Prelude.{◌≡◌, ◌++◌, ◌∷◌, [], Some, IfOk, OnOk, slice_get};
-ghost use Rattle.plan_core.specs.Files.{AreFilesOf, all_inputs, all_outputs, are_pairs};
+ghost use Rattle.plan_core.specs.code.Files.{AreFilesOf, all_inputs, all_outputs, are_pairs};
 ghost use Rattle.plan_core.specs.Kinds.{kind_reads, kind_writes};
-ghost use Rattle.plan_core.specs.Numbers.{RisesFrom};
-ghost use Rattle.plan_core.specs.Words.{file_numbers, inputs, outputs, pair_at, pair_numbers};
+ghost use Rattle.plan_core.specs.code.Numbers.{RisesFrom};
+ghost use Rattle.plan_core.specs.Words.{file_numbers, inputs, outputs, pair_numbers};
+ghost use Rattle.plan_core.specs.code.Words.{pair_at};
 
 use crate::plan::{Pair, PlanJob, Source, Target, TaskKind};
 use crate::rising::{difference, sorted};

@@ -4,13 +4,15 @@ ghost use Rattle.std.specs.Prelude.{◌≡◌, ◌<◌, ◌≤◌, ◌&&◌, ◌
 ghost use Rattle.std.specs.Bool.{Decides};
 ghost use Rattle.std.specs.List.{list_all};
 ghost use Rattle.std.specs.declared.alloc.Global.{Global};
-ghost use Rattle.digraph.specs.Adjacency.{lists_of, neighbours, AreNeighbours};
+ghost use Rattle.digraph.specs.code.Adjacency.{lists_of};
+ghost use Rattle.digraph.specs.Adjacency.{neighbours, AreNeighbours};
 ghost use Rattle.digraph.specs.Cycle.{Returns};
-ghost use Rattle.digraph.specs.Digraph.{count, edge};
-ghost use Rattle.plan_core.specs.Flow.{are_allowed, includes, parents_fit, HasOneWriter, HasOrder};
-ghost use Rattle.plan_core.specs.Listing.{listed, nodes};
-ghost use Rattle.plan_core.specs.Numbers.{has, RisesFrom};
-ghost use Rattle.plan_core.specs.Proper.{is_parent, is_written, AreParents, HasFlow, HasTables, IsTask};
+ghost use Rattle.digraph.specs.code.Digraph.{count, edge};
+ghost use Rattle.plan_core.specs.code.Flow.{are_allowed, includes, parents_fit, HasOneWriter, HasOrder};
+ghost use Rattle.plan_core.specs.code.Listing.{listed, nodes};
+ghost use Rattle.plan_core.specs.Numbers.{has};
+ghost use Rattle.plan_core.specs.code.Numbers.{RisesFrom};
+ghost use Rattle.plan_core.specs.code.Proper.{is_parent, is_written, AreParents, HasFlow, HasTables, IsTask};
 ghost use Rattle.plan_core.specs.Words.{count_pairs, count_tasks, is_run, parents, writes};
 ghost use Rattle.plan_core.specs.Kinds.{waits_for};
 

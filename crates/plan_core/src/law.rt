@@ -4,12 +4,15 @@ ghost use Rattle.std.specs.Prelude.{◌≡◌, ◌<◌, ◌||◌, ℕ, Bool, tru
 ghost use Rattle.values.specs.Apply.{Apply};
 ghost use Rattle.plan_core.specs.declared.plan.Plan.{Plan};
 ghost use Rattle.plan_core.specs.declared.plan.TaskKind.{TaskKind};
-ghost use Rattle.plan_core.specs.Carried.{Bytes, IsCarrying, carried, writer};
-ghost use Rattle.plan_core.specs.Grounded.{Grounded};
+ghost use Rattle.plan_core.specs.Carried.{Bytes, carried, writer};
+ghost use Rattle.plan_core.specs.code.Carried.{IsCarrying};
+ghost use Rattle.plan_core.specs.code.Grounded.{Grounded};
 ghost use Rattle.plan_core.specs.Kinds.{reads_file, writes_file};
-ghost use Rattle.plan_core.specs.Numbers.{RisesFrom, below, has};
-ghost use Rattle.plan_core.specs.Proper.{IsProper, is_kind_in_range, is_parent};
-ghost use Rattle.plan_core.specs.Words.{cleans, count_pairs, count_tasks, is_clean, is_pair, kind, reads, writes};
+ghost use Rattle.plan_core.specs.code.Numbers.{RisesFrom};
+ghost use Rattle.plan_core.specs.Numbers.{below, has};
+ghost use Rattle.plan_core.specs.code.Proper.{IsProper, is_kind_in_range, is_parent};
+ghost use Rattle.plan_core.specs.Words.{cleans, count_pairs, count_tasks, is_clean, kind, reads, writes};
+ghost use Rattle.plan_core.specs.code.Words.{is_pair};
 
 /// A rising list of exactly the numbers below a bound that pass is their list.
 pub fn rising_lists_are_one()

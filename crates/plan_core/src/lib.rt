@@ -2,9 +2,9 @@
 //!
 //! The layers above ask a plan by number, in the words of `specs/Words.antt`, each a method. What a task reads
 //! and writes follows from its kind: `specs/Kinds.antt`. A proper plan is one whose tables, tasks and their order
-//! are right: `specs/Proper.antt`; [`check`] tells exactly whether a plan is proper, and the laws say what
+//! are right: `specs/code/Proper.antt`; [`check`] tells exactly whether a plan is proper, and the laws say what
 //! follows. What a task carries is defined in `specs/Carried.antt`, and [`print`] gives the text of
-//! `specs/Printing.antt`. That no task waits for itself stands on `digraph`.
+//! `specs/code/Printing.antt`. That no task waits for itself stands on `digraph`.
 #![tactic(auto)]
 
 mod checking;

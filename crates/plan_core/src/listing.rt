@@ -2,9 +2,10 @@
 
 ghost use Rattle.std.specs.Prelude.{◌≡◌, ◌<◌, ◌^◌, ◌∷◌, [], ℕ, true, length, Some, slice_get, IfOk};
 ghost use Rattle.std.specs.List.{flat_map};
-ghost use Rattle.digraph.specs.Adjacency.{lists_of, neighbours};
-ghost use Rattle.digraph.specs.Digraph.{count, edge};
-ghost use Rattle.plan_core.specs.Listing.{awaited, cleaned, delivered, listed, nodes, swept};
+ghost use Rattle.digraph.specs.code.Adjacency.{lists_of};
+ghost use Rattle.digraph.specs.Adjacency.{neighbours};
+ghost use Rattle.digraph.specs.code.Digraph.{count, edge};
+ghost use Rattle.plan_core.specs.code.Listing.{awaited, cleaned, delivered, listed, nodes, swept};
 ghost use Rattle.plan_core.specs.Numbers.{has};
 ghost use Rattle.plan_core.specs.Words.{kind, pair_numbers, task_numbers};
 

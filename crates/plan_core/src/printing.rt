@@ -4,7 +4,7 @@ ghost use Rattle.std.specs.Prelude.{◌≡◌, ◌++◌, ℕ, List, map, length,
 ghost use Rattle.std.specs.Fmt.{decimal};
 ghost use Rattle.values.specs.declared.numbers.PairId.{PairId};
 ghost use Rattle.plan_core.specs.declared.plan.Pair.{Pair};
-ghost use Rattle.plan_core.specs.Printing.{file_line, file_number, flag, is_plain, job_line, maybe, numbered, numbers, pair_files, peak_line, plan_text, policy_line, clean_row, run_row, site_line, site_number, spaced, task_line, task_row, transfer_row};
+ghost use Rattle.plan_core.specs.code.Printing.{file_line, file_number, flag, is_plain, job_line, maybe, numbered, numbers, pair_files, peak_line, plan_text, policy_line, clean_row, run_row, site_line, site_number, spaced, task_line, task_row, transfer_row};
 ghost use Rattle.plan_core.specs.Words.{job_numbers, task_numbers};
 
 use crate::plan::{Pair, Plan, PlanFile, PlanJob, PlanSite, Source, Target, Task, TaskKind};
@@ -23,7 +23,7 @@ fn push_numbers(alloc: Global, text: &mut String, numbers: &[u32]) -> Result<(),
     Ok(())
 }
 
-#[tactic(auto, unfolding(crate::specs::Printing::numbers))]
+#[tactic(auto, unfolding(crate::specs::code::Printing::numbers))]
 fn numbers_text(alloc: Global, listed: &[u32]) -> Result<String, Memory>
     ensures { IfOk result (λ t. string_bytes t ≡ numbers listed.now) }
 {
@@ -79,7 +79,7 @@ fn files_text(alloc: Global, pairs: &[Pair], listed: &[PairId]) -> Result<String
     numbers_text(alloc, &files)
 }
 
-#[tactic(auto, unfolding(crate::specs::Printing::maybe))]
+#[tactic(auto, unfolding(crate::specs::code::Printing::maybe))]
 fn maybe_text(alloc: Global, number: Option<u64>) -> Result<String, Memory>
     ensures { IfOk result (λ t. string_bytes t ≡ maybe number) }
 {
@@ -95,7 +95,7 @@ fn is_plain(policy: &Policy) -> bool
     policy.retries == 0 && !policy.fresh && policy.output.is_none()
 }
 
-#[tactic(auto, unfolding(crate::specs::Printing::policy_line))]
+#[tactic(auto, unfolding(crate::specs::code::Printing::policy_line))]
 fn push_policy(alloc: Global, text: &mut Vec<u8>, policy: &Policy) -> Result<(), Memory>
     ensures { OnOk result (text.new.items ≡ text.old.items ++ policy_line policy.now) }
 {
@@ -144,7 +144,7 @@ fn push_each<T: HasLine>(
 impl HasLine for PlanSite {
     ghost line = { λ pairs. site_line };
 
-    #[tactic(auto, unfolding(crate::specs::Printing::site_line))]
+    #[tactic(auto, unfolding(crate::specs::code::Printing::site_line))]
     fn push(
         &self,
         alloc: Global,
@@ -161,7 +161,7 @@ impl HasLine for PlanSite {
 impl HasLine for PlanFile {
     ghost line = { λ pairs. file_line };
 
-    #[tactic(auto, unfolding(crate::specs::Printing::file_line))]
+    #[tactic(auto, unfolding(crate::specs::code::Printing::file_line))]
     fn push(
         &self,
         alloc: Global,
@@ -184,7 +184,7 @@ impl HasLine for PlanFile {
 impl HasLine for PlanJob {
     ghost line = { λ pairs. job_line };
 
-    #[tactic(auto, unfolding(crate::specs::Printing::job_line))]
+    #[tactic(auto, unfolding(crate::specs::code::Printing::job_line))]
     fn push(
         &self,
         alloc: Global,
@@ -205,7 +205,7 @@ impl HasLine for PlanJob {
 }
 
 /// Adds the line of a Run, given the texts of its lists.
-#[tactic(auto, unfolding(crate::specs::Printing::run_row))]
+#[tactic(auto, unfolding(crate::specs::code::Printing::run_row))]
 fn push_run<'a>(
     alloc: Global,
     text: &mut Vec<u8>,
@@ -240,7 +240,7 @@ fn push_run<'a>(
 }
 
 /// Adds the line of a Transfer from a replica.
-#[tactic(auto, unfolding(crate::specs::Printing::transfer_row))]
+#[tactic(auto, unfolding(crate::specs::code::Printing::transfer_row))]
 fn push_from_pfn<'a>(
     alloc: Global,
     text: &mut Vec<u8>,
@@ -296,7 +296,7 @@ fn push_from_pfn<'a>(
 }
 
 /// Adds the line of a Transfer from a site to another one.
-#[tactic(auto, unfolding(crate::specs::Printing::transfer_row))]
+#[tactic(auto, unfolding(crate::specs::code::Printing::transfer_row))]
 fn push_move(
     alloc: Global,
     text: &mut Vec<u8>,
@@ -330,7 +330,7 @@ fn push_move(
 }
 
 /// Adds the line of a delivery from a site.
-#[tactic(auto, unfolding(crate::specs::Printing::transfer_row))]
+#[tactic(auto, unfolding(crate::specs::code::Printing::transfer_row))]
 fn push_delivery(
     alloc: Global,
     text: &mut Vec<u8>,
@@ -381,7 +381,7 @@ fn push_from_site(
 }
 
 /// Adds the line of a Clean.
-#[tactic(auto, unfolding(crate::specs::Printing::clean_row))]
+#[tactic(auto, unfolding(crate::specs::code::Printing::clean_row))]
 fn push_clean(
     alloc: Global,
     text: &mut Vec<u8>,
@@ -458,7 +458,7 @@ fn push_task(
 impl HasLine for Task {
     ghost line = { task_line };
 
-    #[tactic(auto, unfolding(crate::specs::Printing::task_line))]
+    #[tactic(auto, unfolding(crate::specs::code::Printing::task_line))]
     fn push(
         &self,
         alloc: Global,
@@ -473,7 +473,7 @@ impl HasLine for Task {
 impl HasLine for u64 {
     ghost line = { λ pairs. peak_line };
 
-    #[tactic(auto, unfolding(crate::specs::Printing::peak_line))]
+    #[tactic(auto, unfolding(crate::specs::code::Printing::peak_line))]
     fn push(
         &self,
         alloc: Global,
@@ -491,7 +491,7 @@ impl HasLine for u64 {
 }
 
 /// The text of a plan, with an order of its tasks and the greatest usage of each site along it, in bytes.
-#[tactic(auto, unfolding(crate::specs::Printing::plan_text))]
+#[tactic(auto, unfolding(crate::specs::code::Printing::plan_text))]
 pub fn print(alloc: Global, plan: &Plan, order: &[TaskId], peaks: &[u64]) -> Result<Blob, Memory>
     requires { length peaks.now ≡ length plan.now.sites }
     ensures { IfOk result (λ b. b ≡ plan_text plan.now order.now peaks.now) }

@@ -1,8 +1,9 @@
 //! Numbers in rising order, each once.
 
 ghost use Rattle.std.specs.Prelude.{◌≡◌, ◌&&◌, ◌++◌, ◌∷◌, [], ℕ, cond, not, IfOk, OnOk};
-ghost use Rattle.plan_core.specs.Numbers.{RisesFrom, has};
-ghost use Rattle.plan_core.specs.Rising.{is_rising, rises_after, without};
+ghost use Rattle.plan_core.specs.code.Numbers.{RisesFrom};
+ghost use Rattle.plan_core.specs.Numbers.{has};
+ghost use Rattle.plan_core.specs.code.Rising.{is_rising, rises_after, without};
 
 use std::alloc::Global;
 use values::Memory;

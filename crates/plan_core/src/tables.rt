@@ -3,8 +3,8 @@
 ghost use Rattle.std.specs.Prelude.{◌≡◌, ◌^◌, [], map, nat_lt, IfOk};
 ghost use Rattle.std.specs.Bool.{Decides};
 ghost use Rattle.std.specs.List.{list_all};
-ghost use Rattle.plan_core.specs.Tables.{are_few, are_in_range, are_unknown, tables_pass};
-ghost use Rattle.plan_core.specs.Proper.{are_files_below, are_jobs_below, are_rising, is_before, is_job_in_range, is_kind_in_range, is_pair_in_range, is_site_below, is_source_below, is_target_below, rise_after, HasTables};
+ghost use Rattle.plan_core.specs.code.Tables.{are_few, are_in_range, are_unknown, tables_pass};
+ghost use Rattle.plan_core.specs.code.Proper.{are_files_below, are_jobs_below, are_rising, is_before, is_job_in_range, is_kind_in_range, is_pair_in_range, is_site_below, is_source_below, is_target_below, rise_after, HasTables};
 ghost use Rattle.plan_core.specs.declared.plan.PlanFile.{PlanFile};
 ghost use Rattle.plan_core.specs.declared.plan.PlanSite.{PlanSite};
 ghost use Rattle.plan_core.specs.declared.plan.Task.{Task};

@@ -2,9 +2,9 @@
 
 ghost use Rattle.std.specs.Prelude.{◌≡◌, ◌&&◌, ◌++◌, ℕ, [], true, Some, slice_get, IfOk, OnOk};
 ghost use Rattle.std.specs.Bool.{Decides};
-ghost use Rattle.plan_core.specs.Tasks.{are_fresh, are_jobs_sized, have_sizes, HasReads, HasWrites, in_sequence, is_kind_sized, kind_in_sequence, with_all};
-ghost use Rattle.plan_core.specs.Files.{are_pairs};
-ghost use Rattle.plan_core.specs.Proper.{are_rising, IsTask};
+ghost use Rattle.plan_core.specs.code.Tasks.{are_fresh, are_jobs_sized, have_sizes, HasReads, HasWrites, in_sequence, is_kind_sized, kind_in_sequence, with_all};
+ghost use Rattle.plan_core.specs.code.Files.{are_pairs};
+ghost use Rattle.plan_core.specs.code.Proper.{are_rising, IsTask};
 ghost use Rattle.plan_core.specs.Words.{file_numbers, reads_in, writes_in};
 
 use crate::files::{SiteFiles, are_pairs, files_read, files_written, inputs, outputs};

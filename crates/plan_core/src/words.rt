@@ -2,7 +2,8 @@
 
 ghost use Rattle.std.specs.Prelude.{◌≡◌};
 ghost use Rattle.std.specs.Option.{option_copied};
-ghost use Rattle.plan_core.specs.Words.{bound, cleans, declared, delivers, is_at, is_clean, is_fresh, is_pair, is_run, is_transfer, kind, output_bound, pair, pair_numbers, parents, reads, retries, task_numbers, writes};
+ghost use Rattle.plan_core.specs.Words.{bound, cleans, declared, delivers, is_at, is_clean, is_fresh, is_run, is_transfer, kind, output_bound, pair, pair_numbers, parents, reads, retries, task_numbers, writes};
+ghost use Rattle.plan_core.specs.code.Words.{is_pair};
 
 use crate::plan::{Pair, Plan, Target, TaskKind};
 use values::{FileId, PairId, SiteId, TaskId};
@@ -129,7 +130,7 @@ impl Plan {
     }
 
     /// Whether a pair is this file at this site.
-    #[tactic(auto, unfolding(crate::specs::Words::is_pair))]
+    #[tactic(auto, unfolding(crate::specs::code::Words::is_pair))]
     pub fn is_pair(&self, pair: PairId, site: SiteId, file: FileId) -> bool
         ensures { result ≡ is_pair self.now pair.0 site.0 file.0 }
     {

@@ -4,7 +4,7 @@ use Rattle.std.proofs.lemmas.List.{append-nil}
 use Rattle.std.specs.Prelude.{Option}
 use Rattle.std.specs.List.{zip}
 use Rattle.std.specs.Option.{option_or}
-use Rattle.plan_request.specs.Index.{with_entries}
+use Rattle.plan_request.specs.code.Index.{with_entries}
 use Rattle.plan_request.specs.FileSizes.{named_size, size_by, declared_sizes}
 use Rattle.plan_request.specs.declared.request.PlanRequest.{PlanRequest}
 use Rattle.plan_request.specs.declared.request.SizeOf.{SizeOf}

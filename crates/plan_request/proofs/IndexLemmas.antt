@@ -6,7 +6,7 @@ use Rattle.std.specs.Map.{lookup}
 use Rattle.std.specs.Option.{option_or}
 use Rattle.std.specs.Str.{bytes_eq}
 use Rattle.indexmap.specs.IndexMap.{insert_entry}
-use Rattle.plan_request.specs.Index.{with_entry, with_entries}
+use Rattle.plan_request.specs.code.Index.{with_entry, with_entries}
 
 new_last : {V : Type 0} (es : List (List ℕ × V)) (name : List ℕ) (v : V) → is_some (lookup (bytes_eq name) es) ≡ false → insert_entry bytes_eq es name v ≡ es ++ (name, v) ∷ []
 new_last [] name v new = refl

@@ -6,7 +6,7 @@ use Rattle.std.specs.List.{reduce}
 use Rattle.serde_json.specs.View.{members_view}
 use Rattle.serde_json.specs.declared.value.Value.{Value}
 use Rattle.peg_json.specs.Table.{keys_in}
-use Rattle.plan_request.specs.Known.{earlier}
+use Rattle.plan_request.specs.Request.{earlier}
 
 pub keys_view : (ms : List (String Global × Value)) → keys_in (members_view ms) ≡ map string_bytes (map (λ m. m.0) ms)
 keys_view [] = refl

@@ -13,20 +13,21 @@ use Rattle.peg_json.specs.Typed.{required, optional, name_of, number_of, number_
 use Rattle.plan_request.specs.declared.request.Execution.{Execution}
 use Rattle.plan_request.specs.declared.request.PlanRequest.{PlanRequest}
 use Rattle.plan_request.specs.declared.request.SizeOf.{SizeOf}
-use Rattle.plan_request.specs.Execution.{execution_rows, execution_of}
-use Rattle.plan_request.specs.Known.{only_known}
-use Rattle.plan_request.specs.Limits.{IsRuntimeInRange, IsSmallDefault, IsWithinLimits}
-use Rattle.plan_request.specs.Modes.{cluster_at, cleanup_at}
-use Rattle.plan_request.specs.RunPolicy.{IsPolicyInRange, IsSmallBound, policy_of}
-use Rattle.plan_request.specs.Root.{request_rows, request_of}
-use Rattle.plan_request.specs.Selection.{selector_at, rate_given, rate_at, runtimes_or_none}
-use Rattle.plan_request.specs.Positive.{positive}
-use Rattle.plan_request.specs.Runtime.{runtime_rows, runtime_of}
+use Rattle.plan_request.specs.Request.{execution_rows, execution_of}
+use Rattle.plan_request.specs.Request.{only_known}
+use Rattle.plan_request.specs.code.Limits.{IsRuntimeInRange, IsSmallDefault, IsWithinLimits}
+use Rattle.plan_request.specs.Request.{cluster_at, cleanup_at}
+use Rattle.plan_request.specs.code.RunPolicy.{IsPolicyInRange, IsSmallBound}
+use Rattle.plan_request.specs.Request.{policy_of}
+use Rattle.plan_request.specs.Request.{request_rows, request_of}
+use Rattle.plan_request.specs.Request.{selector_at, rate_given, rate_at, runtimes_or_none}
+use Rattle.plan_request.specs.Request.{positive}
+use Rattle.plan_request.specs.Request.{runtime_rows, runtime_of}
 use Rattle.plan_request.specs.declared.request.Runtime.{Runtime}
 use Rattle.peg_json.specs.Path.{key_path}
 use Rattle.std.proofs.lemmas.Bool.{eqb-false}
-use Rattle.plan_request.specs.SizeEntries.{size_of, size_entry, sizes_of, sizes_or_none}
-use Rattle.plan_request.specs.ToolEntries.{tools_or_none}
+use Rattle.plan_request.specs.Request.{size_of, size_entry, size_entries_of, sizes_or_none}
+use Rattle.plan_request.specs.Request.{tools_or_none}
 use Rattle.plan_request.proofs.StepLemmas.{passed, unwrapped, Always, IfThere, required_has, optional_has, list_has, entries_have}
 
 number_small : (limit : ℕ) (path : List ℕ) (n m : ℕ) → number_within limit path n ≡ Ok m → m ≤ limit
@@ -55,16 +56,16 @@ entries_small : (es : List (List ℕ × ℕ)) → AllByRecursion (λ (e : List �
 entries_small [] small = tt
 entries_small (e ∷ es) small = (small.0, entries_small es small.1)
 
-sizes_small : Always sizes_of (AllByRecursion IsSmall)
-unfolding sizes_of
+sizes_small : Always size_entries_of (AllByRecursion IsSmall)
+unfolding size_entries_of
 sizes_small path d ss h =
     let step = passed (entries_in size_of path d) (λ entries. Ok (map size_entry entries)) ss h in
     subst (λ (xs : List SizeOf). AllByRecursion IsSmall xs) (unwrapped (map size_entry step.value) ss step.rest) (entries_small step.value (entries_have size_of (λ m. m ≤ 2 ^ 40) (number_of_small (2 ^ 40)) path d step.value step.is))
 
 sizes_or_none_small : (path : List ℕ) (d : Data) (key : List ℕ) (ss : List SizeOf) → sizes_or_none path d key ≡ Ok ss → AllByRecursion IsSmall ss
 sizes_or_none_small path d key ss h =
-    let step = passed (optional sizes_of path d key) (λ found. Ok (unwrap_or found [])) ss h in
-    subst (λ (xs : List SizeOf). AllByRecursion IsSmall xs) (unwrapped (unwrap_or step.value []) ss step.rest) (by step.value (optional_has sizes_of (AllByRecursion IsSmall) sizes_small path d key step.value step.is))
+    let step = passed (optional size_entries_of path d key) (λ found. Ok (unwrap_or found [])) ss h in
+    subst (λ (xs : List SizeOf). AllByRecursion IsSmall xs) (unwrapped (unwrap_or step.value []) ss step.rest) (by step.value (optional_has size_entries_of (AllByRecursion IsSmall) sizes_small path d key step.value step.is))
   where
     by : (o : Option (List SizeOf)) → IfThere (AllByRecursion IsSmall) o → AllByRecursion IsSmall (unwrap_or o [])
     by None there = tt

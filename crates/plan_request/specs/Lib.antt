@@ -1,15 +1,5 @@
-pub mod Known
-pub mod Execution
-pub mod SizeEntries
-pub mod ToolEntries
-pub mod Modes
-pub mod RunPolicy
-pub mod Positive
-pub mod Runtime
-pub mod Selection
-pub mod Root
-pub mod Reader
-pub mod Index
+pub mod Request
 pub mod FileSizes
 pub mod JobTools
-pub mod Limits
+-- What only the code's own contracts say.
+pub mod code

@@ -1,8 +1,8 @@
 //! A site that runs jobs: its table and its reading.
 
 ghost use Rattle.std.specs.Prelude.{◌≡◌};
-ghost use Rattle.peg_json.specs.Table.{rows_of};
-ghost use Rattle.plan_request.specs.Execution.{execution_rows};
+ghost use Rattle.peg_json.specs.code.Table.{rows_of};
+ghost use Rattle.plan_request.specs.Request.{execution_rows};
 
 use crate::known::only_known;
 use crate::request::Execution;
@@ -32,7 +32,7 @@ fn execution_table() -> KeyTable<2>
 
 impl FromTree for Execution {
     ghost use Rattle.plan_request.specs.declared.request.Execution as declared;
-    ghost use Rattle.plan_request.specs.Execution.{execution_of};
+    ghost use Rattle.plan_request.specs.Request.{execution_of};
 
     ghost Seen = { declared.Execution };
 
@@ -40,7 +40,7 @@ impl FromTree for Execution {
 
     ghost reads = { execution_of };
 
-    #[tactic(auto, unfolding(crate::specs::Execution::execution_of))]
+    #[tactic(auto, unfolding(crate::specs::Request::execution_of))]
     fn from_tree(alloc: Global, value: &Value, path: &Text) -> Result<Execution, TreeFault> {
         checked(alloc, value, path, &execution_table())?;
         only_known(alloc, value, path, &execution_table())?;

@@ -2,7 +2,7 @@
 
 ghost use Rattle.std.specs.Prelude.{◌≡◌, [], length, map, IfOk};
 ghost use Rattle.std.specs.List.{zip};
-ghost use Rattle.plan_request.specs.Index.{with_entries};
+ghost use Rattle.plan_request.specs.code.Index.{with_entries};
 ghost use Rattle.plan_request.specs.FileSizes.{named_size, size_by, declared_sizes};
 
 use crate::index::Index;

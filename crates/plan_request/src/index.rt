@@ -3,7 +3,7 @@
 ghost use Rattle.std.specs.Prelude.{◌≡◌, List, ℕ, [], OnOk, option_copied};
 ghost use Rattle.std.specs.Map.{lookup};
 ghost use Rattle.std.specs.Str.{bytes_eq};
-ghost use Rattle.plan_request.specs.Index.{with_entry};
+ghost use Rattle.plan_request.specs.code.Index.{with_entry};
 
 use indexmap::IndexMap;
 use std::alloc::Global;

@@ -2,7 +2,7 @@
 
 ghost use Rattle.std.specs.Prelude.{◌≡◌, List, [], map, IfOk};
 ghost use Rattle.plan_request.specs.declared.request.ToolOf as declared;
-ghost use Rattle.plan_request.specs.Index.{with_entries};
+ghost use Rattle.plan_request.specs.code.Index.{with_entries};
 ghost use Rattle.plan_request.specs.JobTools.{named_tool, tool_of};
 
 use crate::index::Index;

@@ -3,9 +3,10 @@
 ghost use Rattle.std.specs.Prelude.{◌≡◌, IfOk, map, option_map, string_bytes};
 ghost use Rattle.std.specs.BTreeMap.{keys};
 ghost use Rattle.serde_json.specs.View.{view as tree_view};
-ghost use Rattle.peg_json.specs.Table.{rows_of, is_key};
-ghost use Rattle.peg_json.specs.Tree.{Gives};
-ghost use Rattle.plan_request.specs.Known.{earlier, first_unknown, unknown_refused, only_known};
+ghost use Rattle.peg_json.specs.code.Table.{rows_of};
+ghost use Rattle.peg_json.specs.Table.{is_key};
+ghost use Rattle.peg_json.specs.code.Tree.{Gives};
+ghost use Rattle.plan_request.specs.Request.{earlier, first_unknown_key, unknown_refused, only_known};
 
 use peg_json::{KeyRow, KeyTable, TreeFault, at_key};
 use serde_json::{Map, Value};
@@ -44,7 +45,7 @@ fn first_unknown<'a>(
     rows: &[KeyRow],
 ) -> Result<Option<&'a str>, Memory>
     ensures { IfOk result (λ o. option_map (λ k. k.now) o
-        ≡ first_unknown path.now (rows_of rows.now) (map string_bytes (keys members.now))) }
+        ≡ first_unknown_key path.now (rows_of rows.now) (map string_bytes (keys members.now))) }
 {
     let mut first = None;
     for key in members.keys() {
@@ -65,7 +66,7 @@ fn refuse_unknown(
     rows: &[KeyRow],
 ) -> Result<(), TreeFault>
     ensures { Gives (λ u. u) result (unknown_refused path.now
-        (first_unknown path.now (rows_of rows.now) (map string_bytes (keys members.now)))) }
+        (first_unknown_key path.now (rows_of rows.now) (map string_bytes (keys members.now)))) }
 {
     match first_unknown(alloc, members, path, rows)? {
         Some(key) => {

@@ -1,4 +1,4 @@
-//! Request documents: a request is the one that its document's definition gives, `read_of` of `specs/Reader.antt`.
+//! Request documents: a request is the one that its document's definition gives, `read_of` of `specs/Request.antt`.
 //!
 //! One file for each object of the format (`root`, `execution`, `size_entries`, `tool_entries`, `runtime`).
 //! The format is this project's own, so a key that is in no table is a fault (`known`).

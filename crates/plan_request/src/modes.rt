@@ -2,8 +2,8 @@
 
 ghost use Rattle.std.specs.Prelude.{◌≡◌};
 ghost use Rattle.serde_json.specs.View.{view as tree_view};
-ghost use Rattle.peg_json.specs.Tree.{Gives};
-ghost use Rattle.plan_request.specs.Modes.{cluster_at, cleanup_at};
+ghost use Rattle.peg_json.specs.code.Tree.{Gives};
+ghost use Rattle.plan_request.specs.Request.{cluster_at, cleanup_at};
 
 use crate::request::{Cleanup, ClusterMode};
 use peg_json::{TreeFault, at_key, row};

@@ -1,8 +1,8 @@
 //! A whole request: its table and its reading.
 
 ghost use Rattle.std.specs.Prelude.{◌≡◌};
-ghost use Rattle.peg_json.specs.Table.{rows_of};
-ghost use Rattle.plan_request.specs.Root.{request_rows};
+ghost use Rattle.peg_json.specs.code.Table.{rows_of};
+ghost use Rattle.plan_request.specs.Request.{request_rows};
 
 use crate::known::only_known;
 use crate::modes::{cleanup, cluster};
@@ -112,7 +112,7 @@ fn request_table() -> KeyTable<17>
 
 impl FromTree for PlanRequest {
     ghost use Rattle.plan_request.specs.declared.request.PlanRequest as declared;
-    ghost use Rattle.plan_request.specs.Root.{request_of};
+    ghost use Rattle.plan_request.specs.Request.{request_of};
 
     ghost Seen = { declared.PlanRequest };
 
@@ -120,7 +120,7 @@ impl FromTree for PlanRequest {
 
     ghost reads = { request_of };
 
-    #[tactic(auto, unfolding(crate::specs::Root::request_of))]
+    #[tactic(auto, unfolding(crate::specs::Request::request_of))]
     fn from_tree(alloc: Global, value: &Value, path: &Text) -> Result<PlanRequest, TreeFault> {
         checked(alloc, value, path, &request_table())?;
         only_known(alloc, value, path, &request_table())?;

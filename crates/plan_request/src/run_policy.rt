@@ -2,8 +2,8 @@
 
 ghost use Rattle.std.specs.Prelude.{◌≡◌, ◌≤◌, IfSome};
 ghost use Rattle.serde_json.specs.View.{view as tree_view};
-ghost use Rattle.peg_json.specs.Tree.{Gives};
-ghost use Rattle.plan_request.specs.RunPolicy.{policy_of};
+ghost use Rattle.peg_json.specs.code.Tree.{Gives};
+ghost use Rattle.plan_request.specs.Request.{policy_of};
 
 use peg_json::{TreeFault, row};
 use serde_json::Value;
@@ -11,7 +11,7 @@ use std::alloc::Global;
 use values::{Policy, Text};
 
 /// The policy by the keys `retries`, `fresh` and `output_bound` of a request or an ensemble.
-#[tactic(auto, unfolding(crate::specs::RunPolicy::policy_of))]
+#[tactic(auto, unfolding(crate::specs::Request::policy_of))]
 pub fn policy(alloc: Global, value: &Value, path: &Text) -> Result<Policy, TreeFault>
     ensures { Gives (λ p. p) result (policy_of path.now (tree_view value.now)) }
 {

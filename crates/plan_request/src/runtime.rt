@@ -1,8 +1,8 @@
 //! How long jobs run: the table of an entry and its reading.
 
 ghost use Rattle.std.specs.Prelude.{◌≡◌};
-ghost use Rattle.peg_json.specs.Table.{rows_of};
-ghost use Rattle.plan_request.specs.Runtime.{runtime_rows};
+ghost use Rattle.peg_json.specs.code.Table.{rows_of};
+ghost use Rattle.plan_request.specs.Request.{runtime_rows};
 
 use crate::known::only_known;
 use crate::request::Runtime;
@@ -38,7 +38,7 @@ fn runtime_table() -> KeyTable<3>
 
 impl FromTree for Runtime {
     ghost use Rattle.plan_request.specs.declared.request.Runtime as declared;
-    ghost use Rattle.plan_request.specs.Runtime.{runtime_of};
+    ghost use Rattle.plan_request.specs.Request.{runtime_of};
 
     ghost Seen = { declared.Runtime };
 
@@ -46,7 +46,7 @@ impl FromTree for Runtime {
 
     ghost reads = { runtime_of };
 
-    #[tactic(auto, unfolding(crate::specs::Runtime::runtime_of))]
+    #[tactic(auto, unfolding(crate::specs::Request::runtime_of))]
     fn from_tree(alloc: Global, value: &Value, path: &Text) -> Result<Runtime, TreeFault> {
         checked(alloc, value, path, &runtime_table())?;
         only_known(alloc, value, path, &runtime_table())?;

@@ -2,9 +2,9 @@
 
 ghost use Rattle.std.specs.Prelude.{◌≡◌};
 ghost use Rattle.serde_json.specs.View.{view as tree_view};
-ghost use Rattle.peg_json.specs.Tree.{Gives};
-ghost use Rattle.plan_request.specs.Positive.{positive};
-ghost use Rattle.plan_request.specs.Selection.{selector_at, rate_at, runtimes_or_none};
+ghost use Rattle.peg_json.specs.code.Tree.{Gives};
+ghost use Rattle.plan_request.specs.Request.{positive};
+ghost use Rattle.plan_request.specs.Request.{selector_at, rate_at, runtimes_or_none};
 
 use crate::request::{Runtime, Selector};
 use peg_json::{TreeFault, at_key, row};

@@ -2,8 +2,8 @@
 
 ghost use Rattle.std.specs.Prelude.{◌≡◌, IfOk, map};
 ghost use Rattle.serde_json.specs.View.{view as tree_view};
-ghost use Rattle.peg_json.specs.Tree.{Gives};
-ghost use Rattle.plan_request.specs.SizeEntries.{size_entry, sizes_or_none};
+ghost use Rattle.peg_json.specs.code.Tree.{Gives};
+ghost use Rattle.plan_request.specs.Request.{size_entry, sizes_or_none};
 
 use crate::request::SizeOf;
 use peg_json::{FromTree, TreeFault, entries_at, number_at, row};
@@ -17,7 +17,7 @@ struct Size(u64);
 
 impl FromTree for Size {
     ghost use Rattle.std.specs.Prelude.{ℕ};
-    ghost use Rattle.plan_request.specs.SizeEntries.{size_of};
+    ghost use Rattle.plan_request.specs.Request.{size_of};
 
     ghost Seen = { ℕ };
 
@@ -37,15 +37,15 @@ struct Sizes(Items<SizeOf>);
 impl FromTree for Sizes {
     ghost use Rattle.std.specs.Prelude.{List};
     ghost use Rattle.plan_request.specs.declared.request.SizeOf as declared;
-    ghost use Rattle.plan_request.specs.SizeEntries.{sizes_of};
+    ghost use Rattle.plan_request.specs.Request.{size_entries_of};
 
     ghost Seen = { List declared.SizeOf };
 
     ghost seen = { λ s. s.0 };
 
-    ghost reads = { sizes_of };
+    ghost reads = { size_entries_of };
 
-    #[tactic(auto, unfolding(crate::specs::SizeEntries::sizes_of), using(crate::proofs::EntryLemmas::mapped_twice))]
+    #[tactic(auto, unfolding(crate::specs::Request::size_entries_of), using(crate::proofs::EntryLemmas::mapped_twice))]
     fn from_tree(alloc: Global, value: &Value, path: &Text) -> Result<Sizes, TreeFault> {
         let entries = entries_at::<Size>(alloc, value, path)?;
         Ok(Sizes(stated_sizes(alloc, entries)?))

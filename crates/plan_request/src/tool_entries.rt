@@ -2,8 +2,8 @@
 
 ghost use Rattle.std.specs.Prelude.{◌≡◌, IfOk, map};
 ghost use Rattle.serde_json.specs.View.{view as tree_view};
-ghost use Rattle.peg_json.specs.Tree.{Gives};
-ghost use Rattle.plan_request.specs.ToolEntries.{tool_entry, tools_or_none};
+ghost use Rattle.peg_json.specs.code.Tree.{Gives};
+ghost use Rattle.plan_request.specs.Request.{tool_entry, tools_or_none};
 
 use crate::request::ToolOf;
 use peg_json::{FromTree, Name, TreeFault, entries_at, row};
@@ -18,7 +18,7 @@ struct ToolsOf(Items<ToolOf>);
 impl FromTree for ToolsOf {
     ghost use Rattle.std.specs.Prelude.{List};
     ghost use Rattle.plan_request.specs.declared.request.ToolOf as declared;
-    ghost use Rattle.plan_request.specs.ToolEntries.{tools_of};
+    ghost use Rattle.plan_request.specs.Request.{tools_of};
 
     ghost Seen = { List declared.ToolOf };
 
@@ -26,7 +26,7 @@ impl FromTree for ToolsOf {
 
     ghost reads = { tools_of };
 
-    #[tactic(auto, unfolding(crate::specs::ToolEntries::tools_of), using(crate::proofs::EntryLemmas::mapped_twice))]
+    #[tactic(auto, unfolding(crate::specs::Request::tools_of), using(crate::proofs::EntryLemmas::mapped_twice))]
     fn from_tree(alloc: Global, value: &Value, path: &Text) -> Result<ToolsOf, TreeFault> {
         let entries = entries_at::<Name>(alloc, value, path)?;
         Ok(ToolsOf(stated_tools(alloc, entries)?))

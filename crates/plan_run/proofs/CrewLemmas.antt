@@ -3,11 +3,12 @@ use Rattle.std.proofs.Common.{◌≡◌, ℕ, ◌<◌, ◌++◌, List, [], lengt
 use Rattle.std.proofs.Math.Logic.{∥∥₁_map}
 use Rattle.std.proofs.lemmas.List.{get_or_append_left, length-map, take-append-drop}
 use Rattle.plan_core.specs.declared.plan.Plan.{Plan}
-use Rattle.site_yard.specs.Failures.{RoseBy, tool_faults}
-use Rattle.lease_rules.specs.Owning.{entries_by}
+use Rattle.site_yard.specs.code.Failures.{RoseBy, tool_faults}
+use Rattle.lease_rules.specs.code.Owning.{entries_by}
 use Rattle.worker_gate.specs.Telling.{placed_by}
-use Rattle.plan_run.specs.Moments.{MemberMoment, Tools, Work, asked_of, count_of, counting, first_shown, gateless, shown_of}
-use Rattle.plan_run.specs.Running.{End, HasAsked, HasRun, Report}
+use Rattle.plan_run.specs.Moments.{MemberMoment, Tools, Work, gateless, shown_of}
+use Rattle.plan_run.specs.code.Moments.{asked_of, count_of, counting, first_shown}
+use Rattle.plan_run.specs.code.Running.{End, HasAsked, HasRun, Report}
 use Rattle.plan_run.proofs.MembersLemmas.{first_of_both, map_both}
 
 -- of a run it counts only what its workers show

@@ -2,31 +2,33 @@
 use Rattle.std.proofs.Common.{◌≡◌, ◌⊎◌, ℕ, ◌-◌, ◌^◌, ◌≤◌, ◌<◌, List, ◌∷◌, [], ◌++◌, refl, sym, subst, inl, inr, arith}
 use Rattle.std.proofs.lemmas.Bool.{cases_lt}
 use Rattle.std.specs.Prelude.{Option, Some, None, IfSome, MatchOption, Ok, Err}
-use Rattle.outside.specs.Counts.{Rose}
-use Rattle.values.specs.SiteMap.{IsEmptyAt}
+use Rattle.outside.specs.code.Counts.{Rose}
+use Rattle.values.specs.code.SiteMap.{IsEmptyAt}
 use Rattle.values.specs.Apply.{Apply}
 use Rattle.outside.specs.declared.store.Store.{Store}
 use Rattle.plan_core.specs.declared.plan.Plan.{Plan}
 use Rattle.plan_core.specs.Carried.{Bytes, carried}
-use Rattle.plan_core.specs.Proper.{IsProper}
+use Rattle.plan_core.specs.code.Proper.{IsProper}
 use Rattle.lease_rules.specs.Legal.{Legal}
 use Rattle.run_record.specs.Events.{Event}
 use Rattle.run_record.specs.declared.run_fault.RunFault.{RunFault}
 use Rattle.run_record.specs.declared.run_fault.RunFault.TheVariants as faults
-use Rattle.site_yard.specs.Ending.{first_fault}
-use Rattle.site_yard.specs.Failures.{AreCounted, IsMore, RoseBy, host_faults, tool_faults}
-use Rattle.site_yard.specs.Faults.{AllBelow, AllCarried, HasToolFault, IsCountedFault}
-use Rattle.site_yard.specs.Kept.{IsOpening}
-use Rattle.site_yard.specs.Law.{AgreesSince, Holds}
+use Rattle.site_yard.specs.code.Ending.{first_fault}
+use Rattle.site_yard.specs.code.Failures.{AreCounted, IsMore, RoseBy, host_faults, tool_faults}
+use Rattle.site_yard.specs.Faults.{AllBelow}
+use Rattle.site_yard.specs.code.Faults.{AllCarried, HasToolFault, IsCountedFault}
+use Rattle.site_yard.specs.code.Kept.{IsOpening}
+use Rattle.site_yard.specs.code.Law.{AgreesSince, Holds}
 use Rattle.site_yard.proofs.AgreesLemmas.{opening_of_none}
 use Rattle.plan_core.specs.Names.{site_name}
-use Rattle.site_yard.specs.Opening.{Refuses, fault_of_opening}
-use Rattle.site_yard.specs.Truthful.{Truthful}
+use Rattle.site_yard.specs.code.Opening.{Refuses, fault_of_opening}
+use Rattle.site_yard.specs.code.Truthful.{Truthful}
 use Rattle.site_yard.specs.declared.opening.OpenFault.{OpenFault}
 use Rattle.site_yard.specs.declared.opening.OpenFault.TheVariants as openings
-use Rattle.plan_run.specs.Finishing.{CanEnd, IsDoneOrMemory, NoneFailed, replicas_of}
+use Rattle.plan_run.specs.code.Finishing.{CanEnd, IsDoneOrMemory, NoneFailed}
+use Rattle.plan_run.specs.Finishing.{replicas_of}
 use Rattle.plan_run.specs.Moments.{Tools, Work}
-use Rattle.plan_run.specs.Running.{End, Fresh, HasRun, IsRun, IsShown, IsUnopened, Opening, Report, ShowsFailures, Tells}
+use Rattle.plan_run.specs.code.Running.{End, Fresh, HasRun, IsRun, IsShown, IsUnopened, Opening, Report, ShowsFailures, Tells}
 
 abbrev pub NothingElseFails : Type 0
 NothingElseFails = (apply : Apply) (told : Bytes → Option Bytes) (p : Plan) (order : List ℕ) (first r : List Event) (fault : RunFault) (n : ℕ) → IsProper p → Legal p order (first ++ r) → Truthful apply told p (carried apply told p) (first ++ r) → AllCarried apply told p → AllBelow n r

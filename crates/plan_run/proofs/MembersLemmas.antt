@@ -1,7 +1,8 @@
 -- The counts of a crew, and of the members that are taken out of it.
 use Rattle.std.proofs.Common.{◌≡◌, ℕ, zero, suc, ◌<◌, ◌≤◌, ◌++◌, List, [], ◌∷◌, length, map, take, drop, refl, ap, ◌∙◌, arith}
 use Rattle.std.proofs.lemmas.Slice.{drop-append-drop}
-use Rattle.plan_run.specs.Moments.{MemberMoment, first_shown}
+use Rattle.plan_run.specs.Moments.{MemberMoment}
+use Rattle.plan_run.specs.code.Moments.{first_shown}
 
 pub map_both : {A B : Type 0} (f : A → B) (xs ys : List A) → map f (xs ++ ys) ≡ map f xs ++ map f ys
 map_both f [] ys = refl

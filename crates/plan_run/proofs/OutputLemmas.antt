@@ -13,11 +13,13 @@ use Rattle.storage_simulation.specs.declared.standing.Held.TheVariants.{Nothing,
 use Rattle.storage_simulation.specs.declared.standing.Phase.{Phase}
 use Rattle.storage_simulation.specs.declared.standing.Phase.TheVariants.{Ended, Runs, Waits}
 use Rattle.storage_simulation.specs.Goods.{count_sites, good_size, is_delivery, is_delivery_kind, makes, or_zero, place_bound, places}
-use Rattle.storage_simulation.specs.Law.{KeepsGoods, output_usage}
-use Rattle.storage_simulation.specs.Usage.{total, usage}
+use Rattle.storage_simulation.specs.code.Law.{KeepsGoods, output_usage}
+use Rattle.storage_simulation.specs.Usage.{usage}
+use Rattle.values.specs.Numbers.{total}
 use Rattle.run_record.specs.Events.{Event, Grant, Arrive, End, Clean, Fail, Again, Regrant}
 use Rattle.lease_rules.specs.Choice.{IsChoice}
-use Rattle.lease_rules.specs.Law.{IsSafeState, IsSoundState, stored_at}
+use Rattle.lease_rules.specs.code.Law.{IsSafeState, IsSoundState}
+use Rattle.lease_rules.specs.Law.{stored_at}
 use Rattle.lease_rules.specs.Legal.{Allowed, Legal, LegalFrom, MayFail}
 use Rattle.lease_rules.specs.State.{State, after, ended, now, now_from, opened, put, reserved_for, stored_among, stored_size}
 use Rattle.lease_rules.proofs.SoundLemmas.{choice_in, fresh_among, is_waiting}

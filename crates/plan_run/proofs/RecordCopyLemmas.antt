@@ -1,8 +1,9 @@
 -- A copy of a record, entry by entry.
 use Rattle.std.proofs.Common.{◌≡◌, ℕ, zero, suc, ◌+◌, ◌++◌, true, List, [], ◌∷◌, length, take, refl, ap, ◌∙◌, arith}
 use Rattle.std.specs.Prelude.{Some, slice_get}
-use Rattle.run_record.specs.Events.{Event, is_proper}
-use Rattle.run_record.specs.RecordText.{AreEntries}
+use Rattle.run_record.specs.Events.{Event}
+use Rattle.run_record.specs.code.Events.{is_proper}
+use Rattle.run_record.specs.code.RecordText.{AreEntries}
 
 -- each event of a record may be pushed
 pub entry_proper : (es : List Event) (k : ℕ) (e : Event) → AreEntries es → slice_get es k ≡ Some e → is_proper e ≡ true

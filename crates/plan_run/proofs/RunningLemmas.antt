@@ -3,7 +3,7 @@ use Rattle.std.proofs.Common.{◌≡◌, ◌⊎◌, ℕ, ◌+◌, ◌≤◌, ◌
 use Rattle.std.specs.Prelude.{Option, Some, None, Result, Ok, Err, IfOk, IfSome, MatchOption, is_some}
 use Rattle.std.proofs.Math.Seq.{drop-append_seam}
 use Rattle.std.proofs.lemmas.List.{append-nil, take-append-drop}
-use Rattle.outside.specs.Counts.{IsLater}
+use Rattle.outside.specs.code.Counts.{IsLater}
 use Rattle.values.specs.Apply.{Apply}
 use Rattle.outside.specs.declared.counts.Counts.{Counts}
 use Rattle.values.specs.declared.numbers.TaskId.{TaskId}
@@ -13,34 +13,38 @@ use Rattle.plan_core.specs.Words.{task_numbers}
 use Rattle.storage_simulation.specs.declared.standing.Phase.{Phase}
 use Rattle.storage_simulation.specs.declared.standing.Phase.TheVariants.{Runs, Waits}
 use Rattle.run_record.specs.Events.{Event}
-use Rattle.run_record.specs.RecordText.{AreEntries}
+use Rattle.run_record.specs.code.RecordText.{AreEntries}
 use Rattle.lease_book.specs.declared.book.Book.{Book}
 use Rattle.lease_book.specs.Book.{state_at}
-use Rattle.lease_rules.specs.Law.{IsSafeState, reserved_at, stored_at}
+use Rattle.lease_rules.specs.code.Law.{IsSafeState}
+use Rattle.lease_rules.specs.Law.{reserved_at, stored_at}
 use Rattle.lease_rules.specs.Legal.{IsComplete, Legal}
-use Rattle.lease_rules.specs.Owning.{entries_by}
+use Rattle.lease_rules.specs.code.Owning.{entries_by}
 use Rattle.lease_rules.specs.State.{State, now, opened}
 use Rattle.site_yard.specs.Changes.{carries}
 use Rattle.site_yard.specs.Delivered.{AreDigests, AreFiles, AreLengths, AreOfBytes, arrivals}
-use Rattle.site_yard.specs.Ending.{Ends}
-use Rattle.site_yard.specs.Failures.{AreCounted, AreMore, IsMore, RoseBy, host_faults, host_misses, tool_faults}
+use Rattle.site_yard.specs.code.Ending.{Ends}
+use Rattle.site_yard.specs.code.Failures.{AreCounted, AreMore, IsMore, RoseBy, host_faults, host_misses, tool_faults}
 use Rattle.site_yard.specs.Faults.{AllBelow}
-use Rattle.site_yard.specs.Kept.{IsOpening}
-use Rattle.site_yard.specs.Law.{AgreesSince}
+use Rattle.site_yard.specs.code.Kept.{IsOpening}
+use Rattle.site_yard.specs.code.Law.{AgreesSince}
 use Rattle.site_yard.proofs.AgreesLemmas.{all_since, none_agrees, opening_of_none}
 use Rattle.site_yard.specs.Leaving.{left_in}
-use Rattle.site_yard.specs.Opening.{AreUnused, Refuses, fault_of_opening, looks}
+use Rattle.site_yard.specs.code.Opening.{AreUnused, Refuses, fault_of_opening, looks}
 use Rattle.site_yard.specs.Trace.{trace_of}
 use Rattle.site_yard.specs.declared.delivered.Delivered.{Delivered}
 use Rattle.run_record.specs.declared.run_fault.RunFault.{RunFault}
 use Rattle.run_record.specs.declared.run_fault.RunFault.TheVariants as faults
 use Rattle.site_yard.specs.declared.opening.OpenFault.{OpenFault}
-use Rattle.worker_gate.specs.Alone.{AllBy, IsOver, NoneOpen, WorksAlone, tried}
-use Rattle.worker_gate.specs.Calls.{AddsCalls, AreAllCalls}
-use Rattle.worker_gate.specs.Inputs.{AddsOfInputs, AreOfInputs}
-use Rattle.worker_gate.specs.Telling.{IsToldOf, placed_by}
-use Rattle.plan_run.specs.Moments.{MemberMoment, Tools, Work, asked_of, count_of, first_tool, gateless, told_of}
-use Rattle.plan_run.specs.Running.{AreDeliveries, AreDeliveriesSince, AreWithinOutput, End, EndsAs, Fresh, HasAsked, HasRun, HasRunAlone, IsEmptyReport, IsRefusal, IsReportSince, IsRun, IsShown, IsTextSince, Opening, Report, Reports, ReportsSince, ShowsFailures, TakesCalls, Tells, ended_by, looks_of, marked_if}
+use Rattle.worker_gate.specs.code.Alone.{AllBy, IsOver, NoneOpen, WorksAlone, tried}
+use Rattle.worker_gate.specs.code.Calls.{AddsCalls, AreAllCalls}
+use Rattle.worker_gate.specs.code.Inputs.{AddsOfInputs, AreOfInputs}
+use Rattle.worker_gate.specs.code.Telling.{IsToldOf}
+use Rattle.worker_gate.specs.Telling.{placed_by}
+use Rattle.plan_run.specs.Moments.{MemberMoment, Tools, Work, gateless, told_of}
+use Rattle.plan_run.specs.code.Moments.{asked_of, count_of, first_tool}
+use Rattle.plan_run.specs.Running.{AreDeliveries, AreWithinOutput}
+use Rattle.plan_run.specs.code.Running.{AreDeliveriesSince, End, EndsAs, Fresh, HasAsked, HasRun, HasRunAlone, IsEmptyReport, IsRefusal, IsReportSince, IsRun, IsShown, IsTextSince, Opening, Report, Reports, ReportsSince, ShowsFailures, TakesCalls, Tells, ended_by, looks_of, marked_if}
 use Rattle.plan_run.specs.RunText.{run_text}
 
 -- what the laws of lease_book and site_yard say of a record

@@ -8,16 +8,18 @@ use Rattle.outside.specs.declared.tool.Tool as tool
 use Rattle.outside.specs.declared.store.Store.{Store}
 use Rattle.plan_core.specs.declared.plan.Plan.{Plan}
 use Rattle.run_record.specs.Events.{Event}
-use Rattle.lease_rules.specs.Owning.{entries_by}
+use Rattle.lease_rules.specs.code.Owning.{entries_by}
 use Rattle.lease_rules.specs.State.{now}
-use Rattle.site_yard.specs.Failures.{RoseBy, tool_faults}
-use Rattle.worker_gate.specs.Alone.{IsOver}
-use Rattle.worker_gate.specs.Asking.{AreGatesAsked}
-use Rattle.worker_gate.specs.Inputs.{AreOfInputs}
-use Rattle.worker_gate.specs.Telling.{AreGatesTold, placed_by}
-use Rattle.worker_gate.specs.Many.{AreToolsCounted, WorksMany}
-use Rattle.plan_run.specs.Moments.{Tools, Work, asked_of, count_of, crew_moment, told_of}
-use Rattle.plan_run.specs.Running.{HasAsked}
+use Rattle.site_yard.specs.code.Failures.{RoseBy, tool_faults}
+use Rattle.worker_gate.specs.code.Alone.{IsOver}
+use Rattle.worker_gate.specs.code.Asking.{AreGatesAsked}
+use Rattle.worker_gate.specs.code.Inputs.{AreOfInputs}
+use Rattle.worker_gate.specs.code.Telling.{AreGatesTold}
+use Rattle.worker_gate.specs.Telling.{placed_by}
+use Rattle.worker_gate.specs.code.Many.{AreToolsCounted, WorksMany}
+use Rattle.plan_run.specs.Moments.{Tools, Work, told_of}
+use Rattle.plan_run.specs.code.Moments.{asked_of, count_of, crew_moment}
+use Rattle.plan_run.specs.code.Running.{HasAsked}
 use Rattle.plan_run.proofs.RunningLemmas.{IsYardEnd}
 
 over_so : (p : Plan) (order : List ℕ) (r : List Event) (unstarted : Bool) → (unstarted ≡ true → r ≡ []) → (unstarted ≡ false → IsOver p (now p order r)) → (r ≡ []) ⊎ IsOver p (now p order r)

@@ -4,3 +4,5 @@ pub mod Running
 pub mod RunText
 -- What keeps a run from its end.
 pub mod Finishing
+-- What only the code's own contracts say.
+pub mod code

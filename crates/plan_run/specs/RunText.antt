@@ -4,9 +4,9 @@ use Rattle.std.specs.Fmt.{decimal}
 use Rattle.hex.specs.Hex.{encode_lower}
 use Rattle.values.specs.Printed.{printed_name}
 use Rattle.plan_core.specs.declared.plan.Plan.{Plan}
+use Rattle.plan_core.specs.Names.{file_name}
 use Rattle.run_record.specs.Events.{Event}
 use Rattle.run_record.specs.RecordText.{record_text}
-use Rattle.plan_core.specs.Names.{file_name}
 use Rattle.site_yard.specs.declared.delivered.Delivered.{Delivered}
 
 -- the line of a delivered file: its name, its length and its digest

@@ -2,13 +2,14 @@
 
 ghost use Rattle.std.specs.Prelude.{ℕ, List};
 ghost use Rattle.plan_core.specs.declared.plan.Plan.{Plan};
-ghost use Rattle.plan_core.specs.Proper.{IsProper};
+ghost use Rattle.plan_core.specs.code.Proper.{IsProper};
 ghost use Rattle.run_record.specs.Events.{Event};
-ghost use Rattle.lease_rules.specs.Law.{FitsFromStart};
+ghost use Rattle.lease_rules.specs.code.Law.{FitsFromStart};
 ghost use Rattle.lease_rules.specs.Legal.{Legal};
-ghost use Rattle.plan_run.specs.Finishing.{CanEnd, IsDoneOrMemory, NoneFailed};
+ghost use Rattle.plan_run.specs.code.Finishing.{CanEnd, IsDoneOrMemory, NoneFailed};
 ghost use Rattle.plan_run.specs.Moments.{Tools, Work};
-ghost use Rattle.plan_run.specs.Running.{AreWithinOutput, End, HasRun, Report};
+ghost use Rattle.plan_run.specs.Running.{AreWithinOutput};
+ghost use Rattle.plan_run.specs.code.Running.{End, HasRun, Report};
 
 use lease_rules::{allowed_entries_keep_safe, legal_records_are_safe};
 use site_yard::nothing_else_fails;

@@ -1,7 +1,7 @@
 //! A copy of a record.
 
 ghost use Rattle.std.specs.Prelude.{◌≡◌, ◌<◌, ◌≤◌, IfOk, length, true};
-ghost use Rattle.run_record.specs.Events.{sizes_in};
+ghost use Rattle.run_record.specs.code.Events.{sizes_in};
 
 use outside::Memory;
 use run_record::{Entry, Record};

@@ -5,8 +5,8 @@ ghost use Rattle.plan_core.specs.Words.{retries, task_numbers};
 ghost use Rattle.lease_book.specs.Book.{state_at};
 ghost use Rattle.lease_rules.specs.Legal.{IsComplete};
 ghost use Rattle.run_record.specs.declared.run_fault.RunFault.TheVariants as faults;
-ghost use Rattle.plan_run.specs.Moments.{member_moment, work_moment, working};
-ghost use Rattle.plan_run.specs.Running.{EndsAs, HasRunAlone, IsEmptyReport, IsRefusal, IsReportSince, ReportsSince, ended_by, marked_if, reporting};
+ghost use Rattle.plan_run.specs.code.Moments.{member_moment, work_moment, working};
+ghost use Rattle.plan_run.specs.code.Running.{EndsAs, HasRunAlone, IsEmptyReport, IsRefusal, IsReportSince, ReportsSince, ended_by, marked_if, reporting};
 
 use crate::law::deliveries_stay_within_the_output;
 use crate::record_copy::copy_of;

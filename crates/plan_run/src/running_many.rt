@@ -4,8 +4,8 @@ ghost use Rattle.std.specs.Prelude.{◌≡◌, ◌<◌, ◌≤◌, ◌⊎◌, []
 ghost use Rattle.plan_core.specs.Words.{retries, task_numbers};
 ghost use Rattle.lease_book.specs.Book.{state_at};
 ghost use Rattle.lease_rules.specs.Legal.{IsComplete};
-ghost use Rattle.plan_run.specs.Moments.{counting, crew_moment, first_shown, work_moment, working};
-ghost use Rattle.plan_run.specs.Running.{EndsAs, HasRun, ReportsSince, marked_if, reporting};
+ghost use Rattle.plan_run.specs.code.Moments.{counting, crew_moment, first_shown, work_moment, working};
+ghost use Rattle.plan_run.specs.code.Running.{EndsAs, HasRun, ReportsSince, marked_if, reporting};
 
 use crate::law::deliveries_stay_within_the_output;
 use crate::members::{put_back, take_members};

@@ -2,19 +2,19 @@
 use Rattle.std.proofs.Common.{◌≡◌, List, refl, inl, inr}
 use Rattle.std.specs.Prelude.{Result, Ok, Err}
 use Rattle.values.specs.declared.documents.Documents.{Documents}
-use Rattle.workflow_core.specs.View.{WorkflowEntry, view as workflow_view}
+use Rattle.workflow_core.specs.View.{WorkflowEntry, workflow_view}
 use Rattle.workflow_core.specs.declared.workflow.Workflow.{Workflow}
 use Rattle.site_catalog.specs.declared.catalog.SiteEntry.{SiteEntry}
-use Rattle.replica_catalog.specs.Reader.{CatalogEntry}
+use Rattle.replica_catalog.specs.Catalog.{CatalogEntry}
 use Rattle.transformation_catalog.specs.declared.catalog.TransformationEntry.{TransformationEntry}
 use Rattle.plan_request.specs.declared.request.PlanRequest.{PlanRequest}
-use Rattle.dependency_graph.specs.Built.{Builds}
+use Rattle.dependency_graph.specs.code.Built.{Builds}
 use Rattle.dependency_graph.specs.declared.fault.GraphFault.{GraphFault}
 use Rattle.dependency_graph.specs.declared.fault.GraphFault.TheVariants as graph
 use Rattle.planner.specs.declared.plan_fault.PlanFault.{PlanFault}
 use Rattle.planner.specs.declared.plan_fault.PlanFault.TheVariants as plan
-use Rattle.planner.specs.Course.{Refuses, SurveyEntry, all_listed, replicas_in, sites_in, surveyed, transformations_in, workflow_in}
-use Rattle.planner.specs.PlanFault.{FailsPlan, graph_fault}
+use Rattle.planner.specs.code.Course.{Refuses, SurveyEntry, all_listed, replicas_in, sites_in, surveyed, transformations_in, workflow_in}
+use Rattle.planner.specs.code.PlanFault.{FailsPlan, graph_fault}
 
 fails_as : {X Y : Type 0} (fault : PlanFault) (a : Result X PlanFault) (b : Result Y PlanFault) → FailsPlan fault a → (a ≡ Err fault → b ≡ Err fault) → FailsPlan fault b
 fails_as plan.Memory a b h next = tt

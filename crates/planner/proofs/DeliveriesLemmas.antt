@@ -14,7 +14,7 @@ use Rattle.plan_core.specs.Numbers.{below}
 use Rattle.plan_core.specs.Words.{count_tasks, delivers, kind, kind_delivers, kind_in}
 use Rattle.plan_core.proofs.TestLemmas.{is_itself}
 use Rattle.transfer_refiner.specs.Draft.{Draft, moves}
-use Rattle.transfer_refiner.specs.Tasks.{count_files, count_sites, delivery, grid, kinds_of, planned_file, run, transfer}
+use Rattle.transfer_refiner.specs.Tasks.{count_files, count_execution_sites, delivery, grid, kinds_of, planned_file, run, transfer}
 use Rattle.transfer_refiner.specs.Refined.{IsRefined}
 use Rattle.transfer_refiner.proofs.SliceLemmas.{map_place, place_below, place_left, place_right}
 use Rattle.transfer_refiner.proofs.SortLemmas.{Sort, a_delivery, a_run, a_transfer, kind_is, sorted}
@@ -22,8 +22,8 @@ use Rattle.transfer_refiner.proofs.TableLemmas.{all_long}
 use Rattle.cleanup_refiner.specs.Cleans.{clean_of, with_cleans}
 use Rattle.cleanup_refiner.proofs.CleanTaskLemmas.{New, Old, Past, Standing, old_kind, standing}
 use Rattle.planner.specs.declared.inputs.Survey.{Survey}
-use Rattle.planner.specs.Deliveries.{DeliversRequests, IsDelivered}
-use Rattle.planner.specs.Planning.{IsPlanOf, draft}
+use Rattle.planner.specs.code.Deliveries.{DeliversRequests, IsDelivered}
+use Rattle.planner.specs.code.Planning.{IsPlanOf, draft}
 use Rattle.planner.proofs.MeaningLemmas.{with_strategy}
 
 -- ---- names
@@ -73,7 +73,7 @@ unfolding kinds_of
 the_delivery d p refined f l asked =
     let found = place_below (count_files d) (is_requested d.workflow) f l asked in
     let runs : List TaskKind = map (run d) d.parts in
-    let transfers : List TaskKind = map (transfer d) (grid (count_files d) (count_sites d) (moves d)) in
+    let transfers : List TaskKind = map (transfer d) (grid (count_files d) (count_execution_sites d) (moves d)) in
     let deliveries : List TaskKind = map (delivery d) (below (count_files d) (is_requested d.workflow)) in (
       length runs + (length transfers + found.0),
       kind_is d p refined (length runs + (length transfers + found.0))

@@ -7,11 +7,11 @@ use Rattle.workflow_core.specs.declared.clusters.Clusters.{Clusters}
 use Rattle.workflow_core.specs.declared.workflow.Workflow.{Workflow}
 use Rattle.digraph.specs.Cycle.{Returns}
 use Rattle.dependency_graph.specs.Levels.{is_kept}
-use Rattle.clustering.specs.Condition.{AreParts, BeginsKept, part_of}
+use Rattle.clustering.specs.code.Condition.{AreParts, BeginsKept, part_of}
 use Rattle.plan_request.specs.declared.request.PlanRequest.{PlanRequest}
 use Rattle.replica_catalog.specs.declared.catalog.ReplicaCatalog.{ReplicaCatalog}
-use Rattle.transfer_refiner.specs.Draft.{Draft, planned, site_in, site_of}
-use Rattle.transfer_refiner.specs.Conditions.{IsDraft, leads}
+use Rattle.transfer_refiner.specs.Draft.{Draft, planned, number_of_site, site_of}
+use Rattle.transfer_refiner.specs.code.Conditions.{IsDraft, leads}
 
 abbrev pub no_parts : Clusters
 no_parts = record { parts = [] }
@@ -54,4 +54,4 @@ with_parts w c sites rs r kept bare long parts below placed = record {
     at_first [] h = absurd h
     at_first (j ∷ js) h =
         let site = placed j.0 h (subst (λ (m : ℕ). j.0 < m) long (kept_below kept j.0 h)) in
-        subst (λ (o : Option (Option SiteId)). site_in o < length r.execute) (sym site.1) (below j.0 site.0 site.1)
+        subst (λ (o : Option (Option SiteId)). number_of_site o < length r.execute) (sym site.1) (below j.0 site.0 site.1)

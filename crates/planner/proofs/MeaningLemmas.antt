@@ -12,11 +12,11 @@ use Rattle.workflow_core.specs.declared.workflow.Output.{Output}
 use Rattle.workflow_core.specs.declared.workflow.Workflow.{Workflow}
 use Rattle.workflow_core.specs.Requested.{is_requested, requests}
 use Rattle.workflow_core.specs.WellFormed.{outputs_of}
-use Rattle.dependency_graph.specs.Built.{name_of}
+use Rattle.dependency_graph.specs.Built.{workflow_file_name}
 use Rattle.dependency_graph.specs.Edges.{is_among, written_by}
-use Rattle.dependency_graph.specs.Flow.{FlowsAlong}
+use Rattle.dependency_graph.specs.code.Flow.{FlowsAlong}
 use Rattle.dependency_graph.specs.Levels.{is_kept}
-use Rattle.dependency_graph.specs.Value.{made_by}
+use Rattle.dependency_graph.specs.code.Value.{made_by}
 use Rattle.data_reuse.specs.Kept.{IsKept}
 use Rattle.data_reuse.specs.Absent.{absent_in}
 use Rattle.replica_catalog.specs.declared.catalog.Pfn.{Pfn}
@@ -27,22 +27,22 @@ use Rattle.plan_request.specs.declared.request.Cleanup.TheVariants as cleanup
 use Rattle.plan_request.specs.declared.request.PlanRequest.{PlanRequest}
 use Rattle.plan_request.specs.declared.request.ToolOf.{ToolOf}
 use Rattle.plan_request.specs.JobTools.{tool_of}
-use Rattle.clustering.specs.Singles.{job_numbers}
+use Rattle.dependency_graph.specs.Graph.{numbers as job_numbers}
 use Rattle.plan_core.specs.declared.plan.Plan.{Plan}
 use Rattle.plan_core.specs.Numbers.{has}
 use Rattle.plan_core.proofs.NumbersLemmas.{any_has}
 use Rattle.plan_core.proofs.TestLemmas.{and_both, both, by_bool, either, or_left, or_right}
-use Rattle.transfer_refiner.specs.Draft.{Draft, entry_in, makes}
-use Rattle.transfer_refiner.specs.Meaning.{AreAtHand, AreHeld, AreValues}
-use Rattle.transfer_refiner.specs.Tasks.{is_made}
+use Rattle.transfer_refiner.specs.Draft.{Draft, entry_in, part_makes}
+use Rattle.transfer_refiner.specs.code.Meaning.{AreAtHand, AreHeld, AreValues}
+use Rattle.transfer_refiner.specs.code.Tasks.{is_made}
 use Rattle.transfer_refiner.proofs.MakersLemmas.{any_number}
 use Rattle.transfer_refiner.proofs.MeaningLemmas.{writes_at}
 use Rattle.transfer_refiner.proofs.SliceLemmas.{place_of_any}
-use Rattle.cleanup_refiner.specs.Cleans.{cleaned, with_cleans}
+use Rattle.cleanup_refiner.specs.Cleans.{with_cleanup, with_cleans}
 use Rattle.planner.specs.declared.inputs.Survey.{Survey}
 use Rattle.planner.specs.Meaning.{AreHonest, IsHonest, Told, basis_of, value_of}
-use Rattle.planner.specs.Planning.{draft}
-use Rattle.planner.specs.Sites.{AreLeveled}
+use Rattle.planner.specs.code.Planning.{draft}
+use Rattle.planner.specs.code.Sites.{AreLeveled}
 
 -- ---- requested files are at hand
 
@@ -90,13 +90,13 @@ unmade_registered r s kept levels parts d same are leveled clustered f h unmade 
     absent : ℕ → Bool
     absent = absent_in s.workflow s.replicas.entries r.force
 
-    made_there : (js : List JobId) → is_among job.a (job_numbers js) ≡ true → makes d js f ≡ true
+    made_there : (js : List JobId) → is_among job.a (job_numbers js) ≡ true → part_makes d js f ≡ true
     made_there js e = any_number (λ j. has (written_by d.workflow j) f) js job.a e (ap (λ (w : Workflow). has (written_by w job.a) f) same ∙ job.makes_it)
 
     contradiction : is_kept kept job.a ≡ true → ⊥
     contradiction k =
-        let made = any_more (λ (js : List JobId). is_among job.a (job_numbers js)) (λ (js : List JobId). makes d js f) parts made_there (clustered job.a k) in
-        let x : true ≡ false = sym made ∙ ap (list_any (λ (js : List JobId). makes d js f)) (sym are) ∙ unmade in cc
+        let made = any_more (λ (js : List JobId). is_among job.a (job_numbers js)) (λ (js : List JobId). part_makes d js f) parts made_there (clustered job.a k) in
+        let x : true ≡ false = sym made ∙ ap (list_any (λ (js : List JobId). part_makes d js f)) (sym are) ∙ unmade in cc
 
     kept_if : absent f ≡ true → IsKept absent s.workflow job.a
     kept_if e = record { steps = 0; last = job.a; way = refl; wanted = any_has (λ g. absent g && is_requested s.workflow g) f (written_by s.workflow job.a) job.makes_it (and_both (absent f) (is_requested s.workflow f) e h) }
@@ -107,7 +107,7 @@ unmade_registered r s kept levels parts d same are leveled clustered f h unmade 
 pub at_hand : (r : PlanRequest) (s : Survey) (sites : List (Option SiteId)) (clusters : Clusters) (kept : List Bool) (levels : List ℕ) → AreLeveled r s kept levels
     → ((a : ℕ) → is_kept kept a ≡ true → list_any (λ (js : List JobId). is_among a (job_numbers js)) clusters.parts ≡ true) → AreAtHand (draft r s sites clusters)
 at_hand r s sites clusters kept levels leveled clustered f h unmade =
-    not_absent r.force (is_registered s.replicas.entries (name_of s.workflow f)) (unmade_registered r s kept levels clusters.parts (draft r s sites clusters) refl refl leveled clustered f h unmade)
+    not_absent r.force (is_registered s.replicas.entries (workflow_file_name s.workflow f)) (unmade_registered r s kept levels clusters.parts (draft r s sites clusters) refl refl leveled clustered f h unmade)
 
 -- ---- values, and replicas that hold them
 
@@ -136,7 +136,7 @@ replicas_hold apply told r s sites clusters honest f =
 
 -- ---- Cleans
 
-pub with_strategy : (P : Plan → Type 0) (strategy : Cleanup) (bare : Plan) → P bare → P (with_cleans bare) → P (cleaned strategy bare)
+pub with_strategy : (P : Plan → Type 0) (strategy : Cleanup) (bare : Plan) → P bare → P (with_cleans bare) → P (with_cleanup strategy bare)
 with_strategy P cleanup.None bare h k = h
 with_strategy P cleanup.Inplace bare h k = k
 with_strategy P cleanup.Constraint bare h k = k

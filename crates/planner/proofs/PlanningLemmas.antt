@@ -14,15 +14,15 @@ use Rattle.plan_core.specs.declared.plan.Plan.{Plan}
 use Rattle.transfer_refiner.specs.declared.fault.RefineFault.{RefineFault}
 use Rattle.transfer_refiner.specs.declared.fault.RefineFault.TheVariants as refine
 use Rattle.transfer_refiner.specs.Draft.{Draft}
-use Rattle.transfer_refiner.specs.Refined.{Refines}
+use Rattle.transfer_refiner.specs.code.Refined.{Refines}
 use Rattle.planner.specs.declared.inputs.Survey.{Survey}
 use Rattle.planner.specs.declared.plan_fault.PlanFault.{PlanFault}
 use Rattle.planner.specs.declared.plan_fault.PlanFault.TheVariants as plan
-use Rattle.planner.specs.Course.{IsSurvey, Refuses}
-use Rattle.planner.specs.PlanFault.{cluster_fault, refine_fault, select_fault}
-use Rattle.planner.specs.Ordering.{CannotOrder}
-use Rattle.planner.specs.Planning.{AreClustered, ArePlaced, CannotPlace, CannotPlan, CannotRefine, Fails, IsPlanOf, draft}
-use Rattle.planner.specs.Sites.{AreLeveled, AreSelected, Chooses}
+use Rattle.planner.specs.code.Course.{IsSurvey, Refuses}
+use Rattle.planner.specs.code.PlanFault.{cluster_fault, refine_fault, select_fault}
+use Rattle.planner.specs.code.Ordering.{CannotOrder}
+use Rattle.planner.specs.code.Planning.{AreClustered, ArePlaced, CannotPlace, CannotPlan, CannotRefine, Fails, IsPlanOf, draft}
+use Rattle.planner.specs.code.Sites.{AreLeveled, AreSelected, Chooses}
 
 -- the id of the job at a place, and none where there is no job
 abbrev pub id_in : Option Job → List ℕ

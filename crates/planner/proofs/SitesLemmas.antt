@@ -9,15 +9,18 @@ use Rattle.plan_request.specs.declared.request.PlanRequest.{PlanRequest}
 use Rattle.plan_request.specs.declared.request.Selector.{Selector}
 use Rattle.plan_request.specs.declared.request.Selector.TheVariants as selectors
 use Rattle.dependency_graph.specs.Levels.{is_kept}
-use Rattle.site_selector.specs.Selecting.{IsSelected, Selection, Selects}
+use Rattle.site_selector.specs.Selecting.{IsSelected, Selection}
+use Rattle.site_selector.specs.code.Selecting.{Selects}
 use Rattle.list_schedule.specs.declared.heft.Heft.{Heft}
-use Rattle.list_schedule.specs.Board.{schedule_of}
+use Rattle.list_schedule.specs.code.Board.{schedule_of}
 use Rattle.list_schedule.specs.Schedule.{IsHeft}
-use Rattle.heft_selector.specs.Selecting.{estimates, KeptJobsHaveSites, SelectsHeft, SitesAreBelow}
+use Rattle.heft_selector.specs.Selecting.{estimates}
+use Rattle.heft_selector.specs.code.Selecting.{KeptJobsHaveSites, SelectsHeft, SitesAreBelow}
 use Rattle.planner.specs.declared.inputs.Survey.{Survey}
-use Rattle.planner.specs.Sites.{AreChosen, AreExecutionSites, Chooses, selection_of}
-use Rattle.planner.specs.PlanFault.{select_fault}
-use Rattle.planner.specs.Scheduling.{AreKeptOf, CannotSchedule, IsScheduled}
+use Rattle.planner.specs.Sites.{AreChosen, selection_of}
+use Rattle.planner.specs.code.Sites.{AreExecutionSites, Chooses}
+use Rattle.planner.specs.code.PlanFault.{select_fault}
+use Rattle.planner.specs.code.Scheduling.{AreKeptOf, CannotSchedule, IsScheduled}
 
 pub in_turns : (r : PlanRequest) (s : Survey) (kept : List Bool) (levels : List ℕ)
     (x : Result (Vec (Option SiteId) Global) SelectFault) → Selects (selection_of r s kept levels) x

@@ -1,13 +1,5 @@
-pub mod Document
-pub mod PlanFault
-pub mod Refused
-pub mod Catalogue
-pub mod Course
 pub mod Sites
-pub mod Ordering
-pub mod Planning
 pub mod Meaning
-pub mod Surveyed
-pub mod Scheduling
 pub mod Deliveries
-pub mod SurveyText
+-- What only the code's own contracts say.
+pub mod code

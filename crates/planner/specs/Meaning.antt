@@ -4,15 +4,12 @@ use Rattle.std.specs.List.{AllByRecursion}
 use Rattle.sha2.specs.Sha256.{sha256}
 use Rattle.values.specs.Apply.{Apply}
 use Rattle.workflow_core.specs.declared.workflow.Job.{Job}
-use Rattle.dependency_graph.specs.Value.{Basis, basis, value}
 use Rattle.replica_catalog.specs.declared.catalog.Pfn.{Pfn}
 use Rattle.replica_catalog.specs.declared.catalog.Replica.{Replica}
 use Rattle.replica_catalog.specs.Lookup.{is_of, pfns_in}
 use Rattle.plan_request.specs.declared.request.PlanRequest.{PlanRequest}
 use Rattle.plan_request.specs.JobTools.{tool_of}
-use Rattle.plan_core.specs.declared.plan.Plan.{Plan}
-use Rattle.plan_core.specs.Carried.{carried}
-use Rattle.plan_core.specs.Kinds.{carries}
+use Rattle.dependency_graph.specs.Value.{Basis, basis, value}
 use Rattle.transfer_refiner.specs.Draft.{entry_in}
 use Rattle.planner.specs.declared.inputs.Survey.{Survey}
 
@@ -21,8 +18,8 @@ abbrev pub Told : Type 0
 Told = List ℕ → Option (List ℕ)
 
 -- the entry that registers a file
-abbrev pub entry_of : Survey → ℕ → Option Replica
-entry_of s f = entry_in s.replicas.entries (slice_get s.workflow.files f)
+abbrev pub replica_in_survey : Survey → ℕ → Option Replica
+replica_in_survey s f = entry_in s.replicas.entries (slice_get s.workflow.files f)
 
 -- the bytes at the first of some pfns
 abbrev pub first_told : Told → List Pfn → Option (List ℕ)
@@ -55,9 +52,4 @@ IsHonest told v e = (x : Pfn) (xs : List Pfn) → e.pfns ≡ x ∷ xs → HoldsV
 
 -- the registered replicas hold the values of their files
 abbrev pub AreHonest : Apply → Told → PlanRequest → Survey → Type 0
-AreHonest apply told r s = (f : ℕ) → IfSome (entry_of s f) (IsHonest told (value_of apply told r s f))
-
--- Where the replicas are honest, each task of the plan carries the values of its files, one undefined where the other is.
-abbrev pub MeansWorkflow : PlanRequest → Survey → Plan → Type 0
-MeansWorkflow r s p = (apply : Apply) (told : Told) → AreHonest apply told r s → (t f : ℕ)
-    → carries p t f ≡ true → carried apply told p t f ≡ value_of apply told r s f
+AreHonest apply told r s = (f : ℕ) → IfSome (replica_in_survey s f) (IsHonest told (value_of apply told r s f))

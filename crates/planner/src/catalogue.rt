@@ -3,10 +3,10 @@
 ghost use Rattle.std.specs.Prelude.{◌≡◌, List, ℕ, Result, option_map, IfOk, IfSome};
 ghost use Rattle.serde_json.specs.Data.{Data};
 ghost use Rattle.serde_json.specs.View.{view as tree_view};
-ghost use Rattle.peg_json.specs.ReadFault.{GivesRead};
+ghost use Rattle.peg_json.specs.code.ReadFault.{GivesRead};
 ghost use Rattle.peg_json.specs.declared.read_fault.ReadFault as declared;
-ghost use Rattle.planner.specs.Catalogue.{IsListing, held, held_unknown};
-ghost use Rattle.planner.specs.PlanFault.{GivesPlan};
+ghost use Rattle.planner.specs.code.Catalogue.{IsListing, held, held_unknown};
+ghost use Rattle.planner.specs.code.PlanFault.{GivesPlan};
 
 use crate::document::Document;
 use crate::plan_fault::{PlanFault, of_read_fault};
@@ -78,22 +78,22 @@ pub(crate) fn held<C: Catalogue>(
 
 impl Catalogue for SiteCatalog {
     ghost use Rattle.site_catalog.specs.declared.catalog.SiteEntry.{SiteEntry};
-    ghost use Rattle.site_catalog.specs.Reader as sites;
-    ghost use Rattle.site_catalog.specs.Root as site_root;
+    ghost use Rattle.site_catalog.specs.Catalog as sites;
+    ghost use Rattle.site_catalog.specs.code.Unknown as site_keys;
 
     ghost Entry = { List SiteEntry };
 
-    ghost says = { sites.view };
+    ghost says = { sites.site_view };
 
     ghost ignored = { λ c. c.ignored };
 
-    ghost read_of = { sites.read_of };
+    ghost read_of = { sites.site_catalog_from_text };
 
-    ghost from_tree_of = { sites.from_tree_of };
+    ghost from_tree_of = { sites.site_catalog_from_tree };
 
-    ghost unknown_in_text = { sites.unknown_in_text };
+    ghost unknown_in_text = { site_keys.unknown_in_text };
 
-    ghost unknown_of = { site_root.unknown_of };
+    ghost unknown_of = { site_keys.unknown_of };
 
     fn read(alloc: Global, bytes: &[u8]) -> Result<SiteCatalog, ReadFault> {
         site_catalog::read(alloc, bytes)
@@ -105,22 +105,22 @@ impl Catalogue for SiteCatalog {
 }
 
 impl Catalogue for ReplicaCatalog {
-    ghost use Rattle.replica_catalog.specs.Reader as replicas;
-    ghost use Rattle.replica_catalog.specs.Root as replica_root;
+    ghost use Rattle.replica_catalog.specs.Catalog as replicas;
+    ghost use Rattle.replica_catalog.specs.code.Unknown as replica_keys;
 
     ghost Entry = { replicas.CatalogEntry };
 
-    ghost says = { replicas.view };
+    ghost says = { replicas.replica_view };
 
     ghost ignored = { λ c. c.ignored };
 
-    ghost read_of = { replicas.read_of };
+    ghost read_of = { replicas.replica_catalog_from_text };
 
-    ghost from_tree_of = { replicas.from_tree_of };
+    ghost from_tree_of = { replicas.replica_catalog_from_tree };
 
-    ghost unknown_in_text = { replicas.unknown_in_text };
+    ghost unknown_in_text = { replica_keys.unknown_in_text };
 
-    ghost unknown_of = { replica_root.unknown_of };
+    ghost unknown_of = { replica_keys.unknown_of };
 
     fn read(alloc: Global, bytes: &[u8]) -> Result<ReplicaCatalog, ReadFault> {
         replica_catalog::read(alloc, bytes)
@@ -133,22 +133,22 @@ impl Catalogue for ReplicaCatalog {
 
 impl Catalogue for TransformationCatalog {
     ghost use Rattle.transformation_catalog.specs.declared.catalog.TransformationEntry.{TransformationEntry};
-    ghost use Rattle.transformation_catalog.specs.Reader as transformations;
-    ghost use Rattle.transformation_catalog.specs.Root as transformation_root;
+    ghost use Rattle.transformation_catalog.specs.Catalog as transformations;
+    ghost use Rattle.transformation_catalog.specs.code.Unknown as transformation_keys;
 
     ghost Entry = { List TransformationEntry };
 
-    ghost says = { transformations.view };
+    ghost says = { transformations.transformation_view };
 
     ghost ignored = { λ c. c.ignored };
 
-    ghost read_of = { transformations.read_of };
+    ghost read_of = { transformations.transformation_catalog_from_text };
 
-    ghost from_tree_of = { transformations.from_tree_of };
+    ghost from_tree_of = { transformations.transformation_catalog_from_tree };
 
-    ghost unknown_in_text = { transformations.unknown_in_text };
+    ghost unknown_in_text = { transformation_keys.unknown_in_text };
 
-    ghost unknown_of = { transformation_root.unknown_of };
+    ghost unknown_of = { transformation_keys.unknown_of };
 
     fn read(alloc: Global, bytes: &[u8]) -> Result<TransformationCatalog, ReadFault> {
         transformation_catalog::read(alloc, bytes)

@@ -3,16 +3,17 @@
 ghost use Rattle.std.specs.Prelude.{◌≡◌, List, ℕ, [], map, option_map, IfOk};
 ghost use Rattle.std.specs.List.{list_any};
 ghost use Rattle.std.specs.Str.{bytes_eq};
-ghost use Rattle.workflow_core.specs.View.{view as workflow_view};
-ghost use Rattle.workflow_core.specs.WellFormed.{IsWellFormed};
-ghost use Rattle.workflow_reader.specs.Reader.{read_of as workflow_of, unknown_in_text as unknown_in_workflow};
-ghost use Rattle.site_catalog.specs.Reader.{names_of, view as site_view};
+ghost use Rattle.workflow_core.specs.View.{workflow_view};
+ghost use Rattle.workflow_core.specs.code.WellFormed.{IsWellFormed};
+ghost use Rattle.workflow_reader.specs.Linking.{workflow_from_text as workflow_of};
+ghost use Rattle.workflow_reader.specs.code.Unknown.{unknown_in_text as unknown_in_workflow};
+ghost use Rattle.site_catalog.specs.Catalog.{names_of, site_view};
 ghost use Rattle.site_catalog.specs.declared.catalog.SiteEntry.{SiteEntry};
-ghost use Rattle.replica_catalog.specs.Reader.{view as replica_view};
-ghost use Rattle.transformation_catalog.specs.Reader.{view as transformation_view};
-ghost use Rattle.planner.specs.Catalogue.{IsListing};
-ghost use Rattle.planner.specs.PlanFault.{GivesPlan};
-ghost use Rattle.planner.specs.Course as defined;
+ghost use Rattle.replica_catalog.specs.Catalog.{replica_view};
+ghost use Rattle.transformation_catalog.specs.Catalog.{transformation_view};
+ghost use Rattle.planner.specs.code.Catalogue.{IsListing};
+ghost use Rattle.planner.specs.code.PlanFault.{GivesPlan};
+ghost use Rattle.planner.specs.code.Course as defined;
 ghost use Rattle.planner.specs.declared.document.Document.TheVariants as documents;
 
 use crate::catalogue::held;
@@ -150,7 +151,7 @@ struct ReadDocuments {
 }
 
 /// Reads the documents of a request, the workflow first.
-#[tactic(auto, unfolding(crate::specs::Course::surveyed))]
+#[tactic(auto, unfolding(crate::specs::code::Course::surveyed))]
 fn read_documents(
     alloc: Global,
     request: &PlanRequest,

@@ -1,7 +1,7 @@
 //! The documents of a call.
 
 ghost use Rattle.std.specs.Prelude.{◌≡◌};
-ghost use Rattle.planner.specs.Document.{document_word};
+ghost use Rattle.planner.specs.code.Document.{document_word};
 
 #[derive(Clone, Copy, PartialEq, Eq)]
 pub enum Document {

@@ -3,18 +3,18 @@
 ghost use Rattle.std.specs.Prelude.{◌≡◌, ◌≤◌, ℕ, Bool, List, length, Ok, Option};
 ghost use Rattle.values.specs.declared.numbers.SiteId.{SiteId};
 ghost use Rattle.workflow_core.specs.declared.clusters.Clusters.{Clusters};
-ghost use Rattle.workflow_core.specs.WellFormed.{IsWellFormed};
+ghost use Rattle.workflow_core.specs.code.WellFormed.{IsWellFormed};
 ghost use Rattle.dependency_graph.specs.Graph.{IsGraphOf};
 ghost use Rattle.plan_request.specs.declared.request.PlanRequest.{PlanRequest};
-ghost use Rattle.plan_request.specs.Limits.{IsWithinLimits as IsRequestWithinLimits};
-ghost use Rattle.plan_request.specs.Reader.{execute_checked};
+ghost use Rattle.plan_request.specs.code.Limits.{IsWithinLimits as IsRequestWithinLimits};
+ghost use Rattle.plan_request.specs.Request.{execute_checked};
 ghost use Rattle.plan_core.specs.declared.plan.Plan.{Plan};
-ghost use Rattle.plan_core.specs.Proper.{IsProper};
-ghost use Rattle.storage_simulation.specs.Goods.{IsWithinLimits};
-ghost use Rattle.transfer_refiner.specs.Conditions.{IsDraft};
+ghost use Rattle.plan_core.specs.code.Proper.{IsProper};
+ghost use Rattle.storage_simulation.specs.code.Goods.{IsWithinLimits};
+ghost use Rattle.transfer_refiner.specs.code.Conditions.{IsDraft};
 ghost use Rattle.planner.specs.declared.inputs.Survey.{Survey};
-ghost use Rattle.planner.specs.Planning.{ArePlaced, IsPlanOf, draft};
-ghost use Rattle.planner.specs.Sites.{AreExecutionSites, AreSelected};
+ghost use Rattle.planner.specs.code.Planning.{ArePlaced, IsPlanOf, draft};
+ghost use Rattle.planner.specs.code.Sites.{AreExecutionSites, AreSelected};
 
 use cleanup_refiner::cleaned_plan_is_proper;
 use clustering::clusters_are_parts;

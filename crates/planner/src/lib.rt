@@ -1,8 +1,8 @@
 //! From a request and its documents to its plan, or to the first fault.
 //!
-//! `survey` reads the documents in their course, which `specs/Course.antt` states: the workflow, the
+//! `survey` reads the documents in their course, which `specs/code/Course.antt` states: the workflow, the
 //! catalogues that hold, the execution sites, the graph. `plan` goes on from there, as
-//! `specs/Planning.antt` says: the kept jobs, their sites by the request's selector
+//! `specs/code/Planning.antt` says: the kept jobs, their sites by the request's selector
 //! (`specs/Sites.antt`), their clusters, the tasks, the Cleans, the order. A [`Surveyed`] keeps what
 //! is known of a request and its survey, so that no caller says it again. `PlanFault` has every
 //! reason why planning ends, and `push_refused` its line; `check_text` tells what a survey has,

@@ -1,14 +1,14 @@
 //! What a plan means: its tasks carry what the workflow's files are worth.
 
 ghost use Rattle.std.specs.Prelude.{◌≡◌, ◌≤◌, ℕ, Ok};
-ghost use Rattle.workflow_core.specs.WellFormed.{IsWellFormed};
+ghost use Rattle.workflow_core.specs.code.WellFormed.{IsWellFormed};
 ghost use Rattle.dependency_graph.specs.Graph.{IsGraphOf};
 ghost use Rattle.plan_request.specs.declared.request.PlanRequest.{PlanRequest};
-ghost use Rattle.plan_request.specs.Reader.{execute_checked};
+ghost use Rattle.plan_request.specs.Request.{execute_checked};
 ghost use Rattle.plan_core.specs.declared.plan.Plan.{Plan};
 ghost use Rattle.planner.specs.declared.inputs.Survey.{Survey};
-ghost use Rattle.planner.specs.Meaning.{MeansWorkflow};
-ghost use Rattle.planner.specs.Planning.{IsPlanOf};
+ghost use Rattle.planner.specs.code.Meaning.{MeansWorkflow};
+ghost use Rattle.planner.specs.code.Planning.{IsPlanOf};
 
 use crate::law::placed_jobs_are_a_draft;
 use cleanup_refiner::cleaned_plan_means_the_same;

@@ -1,12 +1,13 @@
 //! The order of a plan.
 
 ghost use Rattle.std.specs.Prelude.{◌≡◌, IfErr, IfOk};
-ghost use Rattle.plan_core.specs.Proper.{IsProper};
+ghost use Rattle.plan_core.specs.code.Proper.{IsProper};
 ghost use Rattle.plan_core.specs.Words.{task_numbers};
-ghost use Rattle.storage_simulation.specs.Goods.{IsWithinLimits};
-ghost use Rattle.storage_simulation.specs.Ordering.{IsOrder, at_start};
-ghost use Rattle.planner.specs.Ordering.{CannotOrder};
-ghost use Rattle.planner.specs.PlanFault.{exceeds_fault, place_name};
+ghost use Rattle.storage_simulation.specs.code.Goods.{IsWithinLimits};
+ghost use Rattle.storage_simulation.specs.code.Ordering.{IsOrder};
+ghost use Rattle.storage_simulation.specs.Ordering.{at_start};
+ghost use Rattle.planner.specs.code.Ordering.{CannotOrder};
+ghost use Rattle.planner.specs.code.PlanFault.{exceeds_fault, place_name};
 
 use crate::plan_fault::PlanFault;
 use plan_core::Plan;

@@ -1,7 +1,7 @@
 //! Why no plan is made of a request and its documents.
 
 ghost use Rattle.std.specs.Prelude.{◌≡◌};
-ghost use Rattle.planner.specs.PlanFault.{cluster_fault, graph_fault, read_fault, refine_fault, tree_fault};
+ghost use Rattle.planner.specs.code.PlanFault.{cluster_fault, graph_fault, read_fault, refine_fault, tree_fault};
 
 use crate::document::Document;
 use clustering::ClusterFault;

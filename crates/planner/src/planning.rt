@@ -1,17 +1,17 @@
 //! From what the documents of a request say to its plan.
 
 ghost use Rattle.std.specs.Prelude.{◌≡◌, ◌<◌, ◌≤◌, ◌^◌, Ok, IfErr, IfOk, length};
-ghost use Rattle.workflow_core.specs.WellFormed.{IsWellFormed};
+ghost use Rattle.workflow_core.specs.code.WellFormed.{IsWellFormed};
 ghost use Rattle.dependency_graph.specs.Graph.{IsGraphOf};
-ghost use Rattle.plan_request.specs.Limits.{IsWithinLimits};
-ghost use Rattle.plan_request.specs.Reader.{execute_checked};
-ghost use Rattle.plan_core.specs.Proper.{IsProper};
-ghost use Rattle.transfer_refiner.specs.Conditions.{IsDraft};
-ghost use Rattle.cleanup_refiner.specs.Cleans.{cleaned};
+ghost use Rattle.plan_request.specs.code.Limits.{IsWithinLimits};
+ghost use Rattle.plan_request.specs.Request.{execute_checked};
+ghost use Rattle.plan_core.specs.code.Proper.{IsProper};
+ghost use Rattle.transfer_refiner.specs.code.Conditions.{IsDraft};
+ghost use Rattle.cleanup_refiner.specs.Cleans.{with_cleanup};
 ghost use Rattle.planner.specs.declared.plan_fault.PlanFault.TheVariants as faults;
-ghost use Rattle.planner.specs.Meaning.{MeansWorkflow};
-ghost use Rattle.planner.specs.Planning.{AreClustered, ArePlaced, CannotPlace, CannotPlan, CannotRefine, IsFineFor, IsPlanOf, OfSurvey, Plans, PlansDocuments, draft};
-ghost use Rattle.planner.specs.Sites.{AreLeveled, AreSelected};
+ghost use Rattle.planner.specs.code.Meaning.{MeansWorkflow};
+ghost use Rattle.planner.specs.code.Planning.{AreClustered, ArePlaced, CannotPlace, CannotPlan, CannotRefine, IsFineFor, IsPlanOf, OfSurvey, Plans, PlansDocuments, draft};
+ghost use Rattle.planner.specs.code.Sites.{AreLeveled, AreSelected};
 
 use crate::course::survey;
 use crate::inputs::Survey;
@@ -133,7 +133,7 @@ fn refined(
 
 fn with_cleans(alloc: Global, plan: Plan, strategy: Cleanup) -> Result<Plan, PlanFault>
     requires { IsProper plan }
-    ensures plan { IfOk result (λ p. p ≡ cleaned strategy plan) }
+    ensures plan { IfOk result (λ p. p ≡ with_cleanup strategy plan) }
     ensures fault { IfErr result (λ f. f ≡ faults.Memory) }
 {
     match add_cleans(alloc, plan, strategy) {

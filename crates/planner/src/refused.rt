@@ -1,7 +1,7 @@
 //! The line of a refusal.
 
 ghost use Rattle.std.specs.Prelude.{◌≡◌, ◌++◌, OnOk};
-ghost use Rattle.planner.specs.Refused.{counted_word as word_of_counted, cycle_line, found_line, many_line, one_name, refused_line, three_names, tree_line, two_names};
+ghost use Rattle.planner.specs.code.Refused.{counted_word as word_of_counted, cycle_line, found_line, many_line, one_name, refused_line, three_names, tree_line, two_names};
 
 use crate::document::Document;
 use crate::plan_fault::PlanFault;

@@ -4,9 +4,9 @@ ghost use Rattle.std.specs.Prelude.{◌≡◌, ◌++◌, IfOk, OnOk, slice_index
 ghost use Rattle.std.specs.Fmt.{decimal};
 ghost use Rattle.std.specs.List.{flat_map};
 ghost use Rattle.dependency_graph.specs.Graph.{numbers};
-ghost use Rattle.list_schedule.specs.Board.{schedule_of};
+ghost use Rattle.list_schedule.specs.code.Board.{schedule_of};
 ghost use Rattle.list_schedule.specs.Schedule.{site};
-ghost use Rattle.planner.specs.Scheduling.{job_row, schedule_line, schedule_lines, site_number};
+ghost use Rattle.planner.specs.code.Scheduling.{job_row, schedule_line, schedule_lines, site_number};
 
 use crate::sites::id_of;
 use heft_selector::Heft;
@@ -41,7 +41,7 @@ fn digits_of(alloc: Global, number: u128) -> Result<String, Memory>
     Ok(digits)
 }
 
-#[tactic(auto, unfolding(crate::specs::Scheduling::job_row))]
+#[tactic(auto, unfolding(crate::specs::code::Scheduling::job_row))]
 fn push_row<'a>(
     alloc: Global,
     text: &mut Vec<u8>,

@@ -1,11 +1,11 @@
 //! The list schedule of a survey's kept jobs.
 
 ghost use Rattle.std.specs.Prelude.{◌≡◌, Ok};
-ghost use Rattle.workflow_core.specs.WellFormed.{IsWellFormed};
+ghost use Rattle.workflow_core.specs.code.WellFormed.{IsWellFormed};
 ghost use Rattle.dependency_graph.specs.Graph.{IsGraphOf};
-ghost use Rattle.plan_request.specs.Limits.{IsWithinLimits};
-ghost use Rattle.plan_request.specs.Reader.{execute_checked};
-ghost use Rattle.planner.specs.Scheduling.{AreKeptOf, Schedules};
+ghost use Rattle.plan_request.specs.code.Limits.{IsWithinLimits};
+ghost use Rattle.plan_request.specs.Request.{execute_checked};
+ghost use Rattle.planner.specs.code.Scheduling.{AreKeptOf, Schedules};
 
 use crate::inputs::Survey;
 use crate::plan_fault::PlanFault;

@@ -1,15 +1,15 @@
 //! The sites of the kept jobs.
 
 ghost use Rattle.std.specs.Prelude.{◌≡◌, ℕ, List, Ok, IfErr, IfOk, length};
-ghost use Rattle.workflow_core.specs.WellFormed.{IsWellFormed};
-ghost use Rattle.dependency_graph.specs.Built.{id_of};
+ghost use Rattle.workflow_core.specs.code.WellFormed.{IsWellFormed};
+ghost use Rattle.dependency_graph.specs.code.Built.{id_of};
 ghost use Rattle.dependency_graph.specs.Graph.{IsGraphOf};
-ghost use Rattle.plan_request.specs.Limits.{IsWithinLimits};
-ghost use Rattle.plan_request.specs.Reader.{execute_checked};
+ghost use Rattle.plan_request.specs.code.Limits.{IsWithinLimits};
+ghost use Rattle.plan_request.specs.Request.{execute_checked};
 ghost use Rattle.plan_request.specs.declared.request.Selector.TheVariants as selectors;
-ghost use Rattle.planner.specs.PlanFault.{select_fault};
-ghost use Rattle.planner.specs.Planning.{CannotPlace};
-ghost use Rattle.planner.specs.Sites.{AreLeveled, AreSelected, Chooses};
+ghost use Rattle.planner.specs.code.PlanFault.{select_fault};
+ghost use Rattle.planner.specs.code.Planning.{CannotPlace};
+ghost use Rattle.planner.specs.code.Sites.{AreLeveled, AreSelected, Chooses};
 
 use crate::inputs::Survey;
 use crate::plan_fault::PlanFault;

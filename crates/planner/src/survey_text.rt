@@ -2,7 +2,7 @@
 
 ghost use Rattle.std.specs.Prelude.{◌≡◌, ◌++◌, List, ℕ, IfOk, OnOk};
 ghost use Rattle.std.specs.List.{flat_map};
-ghost use Rattle.planner.specs.SurveyText.{all_ignored_lines, check_lines, counted_line, directory_line, directory_lines, has_lines, ignored_line, ignored_lines, server_lines, site_line, site_lines, workflow_line};
+ghost use Rattle.planner.specs.code.SurveyText.{all_ignored_lines, check_lines, counted_line, directory_line, directory_lines, has_lines, ignored_line, ignored_lines, server_lines, site_line, site_lines, workflow_line};
 
 use crate::document::Document;
 use crate::inputs::Survey;
@@ -11,7 +11,7 @@ use std::alloc::Global;
 use values::{Memory, Text, Word, push_line};
 use workflow_core::Workflow;
 
-#[tactic(auto, unfolding(crate::specs::SurveyText::workflow_line))]
+#[tactic(auto, unfolding(crate::specs::code::SurveyText::workflow_line))]
 fn push_workflow(alloc: Global, text: &mut Vec<u8>, workflow: &Workflow) -> Result<(), Memory>
     ensures { OnOk result (text.new.items ≡ text.old.items ++ workflow_line workflow.now) }
 {
@@ -42,7 +42,7 @@ fn push_each<T: Lines>(alloc: Global, text: &mut Vec<u8>, all: &[T]) -> Result<(
 impl Lines for FileServer {
     ghost lines = { server_lines };
 
-    #[tactic(auto, unfolding(crate::specs::SurveyText::server_lines))]
+    #[tactic(auto, unfolding(crate::specs::code::SurveyText::server_lines))]
     fn push(&self, alloc: Global, text: &mut Vec<u8>) -> Result<(), Memory> {
         let operation = Word::Name(self.operation.as_bytes());
         let url = Word::Name(self.url.as_bytes());
@@ -68,7 +68,7 @@ fn push_directory(alloc: Global, text: &mut Vec<u8>, directory: &Directory) -> R
 impl Lines for Directory {
     ghost lines = { directory_lines };
 
-    #[tactic(auto, unfolding(crate::specs::SurveyText::directory_lines))]
+    #[tactic(auto, unfolding(crate::specs::code::SurveyText::directory_lines))]
     fn push(&self, alloc: Global, text: &mut Vec<u8>) -> Result<(), Memory> {
         push_directory(alloc, text, self)?;
         push_each(alloc, text, self.servers.as_slice())
@@ -84,14 +84,14 @@ fn push_site(alloc: Global, text: &mut Vec<u8>, site: &SiteEntry) -> Result<(), 
 impl Lines for SiteEntry {
     ghost lines = { site_lines };
 
-    #[tactic(auto, unfolding(crate::specs::SurveyText::site_lines))]
+    #[tactic(auto, unfolding(crate::specs::code::SurveyText::site_lines))]
     fn push(&self, alloc: Global, text: &mut Vec<u8>) -> Result<(), Memory> {
         push_site(alloc, text, self)?;
         push_each(alloc, text, self.directories.as_slice())
     }
 }
 
-#[tactic(auto, unfolding(crate::specs::SurveyText::counted_line))]
+#[tactic(auto, unfolding(crate::specs::code::SurveyText::counted_line))]
 fn push_counted(
     alloc: Global,
     text: &mut Vec<u8>,
@@ -103,7 +103,7 @@ fn push_counted(
     push_line(alloc, text, which.word(), &[Word::Number(count)])
 }
 
-#[tactic(auto, unfolding(crate::specs::SurveyText::ignored_line))]
+#[tactic(auto, unfolding(crate::specs::code::SurveyText::ignored_line))]
 fn push_ignored(
     alloc: Global,
     text: &mut Vec<u8>,

@@ -1,12 +1,12 @@
 //! A request, and what its documents say.
 
 ghost use Rattle.std.specs.Prelude.{◌≡◌, IfErr, IfOk, Ok};
-ghost use Rattle.workflow_core.specs.WellFormed.{IsWellFormed};
+ghost use Rattle.workflow_core.specs.code.WellFormed.{IsWellFormed};
 ghost use Rattle.dependency_graph.specs.Graph.{IsGraphOf};
-ghost use Rattle.plan_request.specs.Limits.{IsWithinLimits};
-ghost use Rattle.plan_request.specs.Reader.{execute_checked};
-ghost use Rattle.planner.specs.Course.{IsSurvey, Refuses};
-ghost use Rattle.planner.specs.Surveyed.{IsGraphOf-prop, IsWellFormed-prop, IsWithinLimits-prop, PlansMeanWorkflow, PlansMeanWorkflow-prop};
+ghost use Rattle.plan_request.specs.code.Limits.{IsWithinLimits};
+ghost use Rattle.plan_request.specs.Request.{execute_checked};
+ghost use Rattle.planner.specs.code.Course.{IsSurvey, Refuses};
+ghost use Rattle.planner.specs.code.Surveyed.{IsGraphOf-prop, IsWellFormed-prop, IsWithinLimits-prop, PlansMeanWorkflow, PlansMeanWorkflow-prop};
 
 use crate::course::survey;
 use crate::inputs::Survey;

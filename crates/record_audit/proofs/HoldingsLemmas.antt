@@ -6,11 +6,13 @@ use Rattle.std.proofs.lemmas.Option.{slice_get_past}
 use Rattle.plan_core.specs.declared.plan.Pair.{Pair}
 use Rattle.plan_core.specs.declared.plan.Plan.{Plan}
 use Rattle.plan_core.specs.Numbers.{has}
-use Rattle.plan_core.specs.Words.{count_pairs, count_tasks, is_at, output_bound, pair, site_in, writes}
+use Rattle.plan_core.specs.Words.{count_pairs, count_tasks, is_at, output_bound, pair, is_on_site, writes}
 use Rattle.storage_simulation.specs.declared.standing.Held.{Held}
 use Rattle.storage_simulation.specs.declared.standing.Held.TheVariants.{Nothing, Reserved, Stored}
-use Rattle.storage_simulation.specs.Goods.{IsWithinLimits, count_sites, goods, is_delivery, lies_at, makes}
-use Rattle.storage_simulation.specs.Standings.{at_in, held_size}
+use Rattle.storage_simulation.specs.code.Goods.{IsWithinLimits}
+use Rattle.storage_simulation.specs.Goods.{count_sites, goods, is_delivery, lies_at, makes}
+use Rattle.storage_simulation.specs.code.Standings.{at_in}
+use Rattle.storage_simulation.specs.Standings.{held_size}
 use Rattle.storage_simulation.proofs.FollowingLemmas.{is_itself}
 use Rattle.lease_rules.specs.State.{State, put, reserved_size, stored_among, stored_size}
 use Rattle.lease_book.proofs.ArrayLemmas.{has_at}
@@ -26,7 +28,7 @@ and_off true b h = h
 and_off false b h = refl
 
 -- a pair lies at its site, and no other good at any
-pub site_lies : (p : Plan) (g q : ℕ) → q < count_sites p → lies_at p g q ≡ site_in (pair p g) q
+pub site_lies : (p : Plan) (g q : ℕ) → q < count_sites p → lies_at p g q ≡ is_on_site (pair p g) q
 unfolding lies_at is_at pair
 site_lies p g q l = by_range (nat_lt g (count_pairs p)) refl
   where
@@ -34,19 +36,19 @@ site_lies p g q l = by_range (nat_lt g (count_pairs p)) refl
     off = and_off (is_delivery p (g - count_pairs p)) (nat_eq q (count_sites p)) (ne_eqb q (count_sites p) (λ e. omega (arith, l, e)))
 
     by_range : (b : Bool) → nat_lt g (count_pairs p) ≡ b
-        → cond b (site_in (slice_get p.pairs g) q) (is_delivery p (g - count_pairs p) && nat_eq q (count_sites p)) ≡ site_in (slice_get p.pairs g) q
+        → cond b (is_on_site (slice_get p.pairs g) q) (is_delivery p (g - count_pairs p) && nat_eq q (count_sites p)) ≡ is_on_site (slice_get p.pairs g) q
     by_range true e = refl
-    by_range false e = off ∙ sym (ap (λ (o : Option Pair). site_in o q) (slice_get_past p.pairs g (ltb-false g (count_pairs p) e)))
+    by_range false e = off ∙ sym (ap (λ (o : Option Pair). is_on_site o q) (slice_get_past p.pairs g (ltb-false g (count_pairs p) e)))
 
 pub no_pair_lies : (p : Plan) (g q : ℕ) → count_pairs p ≤ g → q < count_sites p → lies_at p g q ≡ false
 unfolding pair
-no_pair_lies p g q past l = site_lies p g q l ∙ ap (λ (o : Option Pair). site_in o q) (slice_get_past p.pairs g past)
+no_pair_lies p g q past l = site_lies p g q l ∙ ap (λ (o : Option Pair). is_on_site o q) (slice_get_past p.pairs g past)
 
 pub lies_none : (p : Plan) (g q : ℕ) → pair p g ≡ None → q < count_sites p → lies_at p g q ≡ false
-lies_none p g q none l = site_lies p g q l ∙ ap (λ (o : Option Pair). site_in o q) none
+lies_none p g q none l = site_lies p g q l ∙ ap (λ (o : Option Pair). is_on_site o q) none
 
 pub lies_there : (p : Plan) (g q : ℕ) (x : Pair) → pair p g ≡ Some x → q < count_sites p → lies_at p g q ≡ nat_eq x.site.0 q
-lies_there p g q x some l = site_lies p g q l ∙ ap (λ (o : Option Pair). site_in o q) some
+lies_there p g q x some l = site_lies p g q l ∙ ap (λ (o : Option Pair). is_on_site o q) some
 
 pub lies_beyond : (p : Plan) (g q : ℕ) (x : Pair) → pair p g ≡ Some x → count_sites p ≤ x.site.0 → q < count_sites p → lies_at p g q ≡ false
 lies_beyond p g q x some far l = lies_there p g q x some l ∙ ne_eqb x.site.0 q (λ e. omega (arith, far, l, e))

@@ -10,13 +10,15 @@ use Rattle.plan_core.specs.declared.plan.TaskKind.{TaskKind}
 use Rattle.plan_core.specs.declared.plan.TaskKind.TheVariants.{Transfer, Run, Clean}
 use Rattle.plan_core.specs.Kinds.{kind_writes, writes_file}
 use Rattle.plan_core.specs.Numbers.{has}
-use Rattle.plan_core.specs.Proper.{IsProper}
-use Rattle.plan_core.specs.Words.{count_pairs, count_tasks, is_pair, is_run, is_run_kind, is_transfer, is_transfer_kind, kind, pair_at, retries, task_numbers, writes}
-use Rattle.storage_simulation.specs.Goods.{IsWithinLimits, is_delivery, is_delivery_kind, makes}
+use Rattle.plan_core.specs.code.Proper.{IsProper}
+use Rattle.plan_core.specs.Words.{count_pairs, count_tasks, is_run, is_run_kind, is_transfer, is_transfer_kind, kind, retries, task_numbers, writes}
+use Rattle.plan_core.specs.code.Words.{is_pair, pair_at}
+use Rattle.storage_simulation.specs.code.Goods.{IsWithinLimits}
+use Rattle.storage_simulation.specs.Goods.{is_delivery, is_delivery_kind, makes}
 use Rattle.run_record.specs.Events.{Event, Again, Arrive, Clean as Sweep, End, Fail, Grant, Regrant}
-use Rattle.lease_rules.specs.Law.{FitsFromStart, IsConsistent, IsSoundState}
+use Rattle.lease_rules.specs.code.Law.{FitsFromStart, IsConsistent, IsSoundState}
 use Rattle.lease_rules.specs.Legal.{Allowed, AreDeclared, IsComplete, Legal, LegalFrom}
-use Rattle.lease_rules.specs.Room.{entries_room}
+use Rattle.lease_rules.specs.code.Room.{entries_room}
 use Rattle.lease_rules.specs.State.{State, after, now, now_from, opened}
 use Rattle.std.specs.Prelude.{Vec}
 use Rattle.std.specs.declared.alloc.Global.{Global}

@@ -5,9 +5,10 @@ use Rattle.std.specs.Str.{bytes_eq}
 use Rattle.std.proofs.Math.Seq.{take-add}
 use Rattle.std.proofs.lemmas.List.{append-nil, append_assoc, drop-drop}
 use Rattle.std.proofs.lemmas.Slice.Eq.{bytes_eq-Decides}
-use Rattle.run_record.specs.Lines.{first_line, line_length, lines}
+use Rattle.run_record.specs.code.Lines.{first_line, line_length, lines}
 use Rattle.run_record.specs.Events.{Event, is_second}
-use Rattle.run_record.specs.RecordText.{AreEntries, closed_line, entry_line, record_lines, record_text, version_line}
+use Rattle.run_record.specs.code.RecordText.{AreEntries}
+use Rattle.run_record.specs.RecordText.{closed_line, entry_line, record_lines, record_text, version_line}
 use Rattle.run_record.proofs.LineLemmas.{lines_from_first}
 use Rattle.run_record.proofs.OneTextLemmas.{entry_lines, not_closed, version_cut}
 use Rattle.run_record.proofs.RecordTextLemmas.{lines_closed}

@@ -4,12 +4,12 @@ use Rattle.std.specs.Prelude.{Some, Vec, count_by, slice_get, sum_by}
 use Rattle.std.specs.declared.alloc.Global.{Global}
 use Rattle.plan_core.specs.declared.plan.Plan.{Plan}
 use Rattle.storage_simulation.specs.Goods.{goods, lies_at}
-use Rattle.storage_simulation.specs.Standings.{at_in}
+use Rattle.storage_simulation.specs.code.Standings.{at_in}
 use Rattle.run_record.specs.Events.{Event}
 use Rattle.lease_rules.specs.State.{State, held_after, now, opened}
 use Rattle.std.proofs.lemmas.List.Sums.{count_by-le-length, sum_by-append}
 use Rattle.storage_simulation.specs.declared.standing.Held.{Held}
-use Rattle.storage_simulation.specs.Usage.{total}
+use Rattle.values.specs.Numbers.{total}
 use Rattle.lease_rules.proofs.TotalLemmas.{total_bound}
 use Rattle.record_audit.specs.Holdings.{AddsUp, AreSizes, Shows}
 use Rattle.record_audit.specs.declared.holdings.Holdings.{Holdings}

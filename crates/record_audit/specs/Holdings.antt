@@ -1,11 +1,12 @@
 -- What is held of each pair, and what it comes to at each site.
 use Rattle.std.specs.Prelude.{◌≡◌, ℕ, ◌<◌, ◌≤◌, ◌==◌, ◌^◌, Bool, false, cond, get_or, List, [], ◌∷◌, length, Option, Some, None}
+use Rattle.values.specs.Numbers.{total}
 use Rattle.plan_core.specs.declared.plan.Plan.{Plan}
 use Rattle.plan_core.specs.Words.{count_pairs, writes}
 use Rattle.storage_simulation.specs.declared.standing.Held.{Held}
 use Rattle.storage_simulation.specs.Goods.{count_sites, goods, is_delivery, lies_at}
-use Rattle.storage_simulation.specs.Standings.{at_in, held_size}
-use Rattle.storage_simulation.specs.Usage.{total}
+use Rattle.storage_simulation.specs.code.Standings.{at_in}
+use Rattle.storage_simulation.specs.Standings.{held_size}
 use Rattle.run_record.specs.Events.{Event, Arrive, End}
 use Rattle.record_audit.specs.declared.holdings.Holdings.{Holdings}
 

@@ -2,7 +2,7 @@
 use Rattle.std.specs.Prelude.{ℕ, List, [], ◌∷◌, if◌then◌else◌}
 use Rattle.std.specs.List.{concat}
 use Rattle.std.specs.Str.{bytes_eq}
-use Rattle.run_record.specs.Lines.{lines}
+use Rattle.run_record.specs.code.Lines.{lines}
 use Rattle.run_record.specs.RecordText.{closed_line}
 
 -- the lines up to the first line `closed`, with that one; all, where there is none

@@ -6,7 +6,7 @@ ghost use Rattle.values.specs.declared.numbers.FileId.{FileId};
 ghost use Rattle.values.specs.declared.numbers.JobId.{JobId};
 ghost use Rattle.plan_core.specs.Numbers.{has};
 ghost use Rattle.plan_core.specs.Words.{file_numbers, job_numbers, kind, outputs};
-ghost use Rattle.run_record.specs.Events.{may_publish};
+ghost use Rattle.run_record.specs.code.Events.{may_publish};
 ghost use Rattle.lease_rules.specs.Legal.{CauseFits, checksum, differs_from, has_job, is_from_pfn, is_too_long, is_too_long_for, is_wrong_for};
 ghost use Rattle.record_audit.specs.Causes.{is_oversize};
 

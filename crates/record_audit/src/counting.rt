@@ -2,7 +2,7 @@
 
 ghost use Rattle.std.specs.Prelude.{◌≡◌, ◌≤◌, ◌<◌, ℕ, IfOk, get_or, length, max};
 ghost use Rattle.plan_core.specs.Words.{retries, task_numbers};
-ghost use Rattle.storage_simulation.specs.Standings.{at_in};
+ghost use Rattle.storage_simulation.specs.code.Standings.{at_in};
 ghost use Rattle.lease_rules.specs.Legal.{Legal};
 ghost use Rattle.record_audit.specs.Sums.{AreSums};
 

@@ -2,12 +2,14 @@
 
 ghost use Rattle.std.specs.Prelude.{◌≡◌, ◌<◌, ◌≤◌, ◌^◌, ℕ, IfOk, IfSome, cond, false, get_or, length, true};
 ghost use Rattle.plan_core.specs.Numbers.{has};
-ghost use Rattle.plan_core.specs.Proper.{IsProper};
+ghost use Rattle.plan_core.specs.code.Proper.{IsProper};
 ghost use Rattle.plan_core.specs.Words.{cleans, count_pairs, writes};
 ghost use Rattle.storage_simulation.specs.declared.standing.Held.{Held};
-ghost use Rattle.storage_simulation.specs.Goods.{IsWithinLimits, count_sites, good_size, lies_at};
-ghost use Rattle.storage_simulation.specs.Standings.{at_in};
-ghost use Rattle.run_record.specs.Events.{Arrive, Clean, End, Event, Grant, event};
+ghost use Rattle.storage_simulation.specs.code.Goods.{IsWithinLimits};
+ghost use Rattle.storage_simulation.specs.Goods.{count_sites, good_size, lies_at};
+ghost use Rattle.storage_simulation.specs.code.Standings.{at_in};
+ghost use Rattle.run_record.specs.Events.{Arrive, Clean, End, Event, Grant};
+ghost use Rattle.run_record.specs.code.Events.{event};
 ghost use Rattle.lease_rules.specs.State.{held_after, put};
 ghost use Rattle.record_audit.specs.Holdings.{AddsUp, IsSized, Shows, is_this, size_among};
 

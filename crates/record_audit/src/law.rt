@@ -2,16 +2,17 @@
 
 ghost use Rattle.std.specs.Prelude.{◌≡◌, ◌≤◌, ◌*◌, ◌^◌, ◌++◌, ℕ, List, length, sum_by};
 ghost use Rattle.plan_core.specs.declared.plan.Plan.{Plan};
-ghost use Rattle.plan_core.specs.Proper.{IsProper};
+ghost use Rattle.plan_core.specs.code.Proper.{IsProper};
 ghost use Rattle.plan_core.specs.Words.{retries};
-ghost use Rattle.storage_simulation.specs.Goods.{IsWithinLimits};
+ghost use Rattle.storage_simulation.specs.code.Goods.{IsWithinLimits};
 ghost use Rattle.run_record.specs.Events.{Event};
-ghost use Rattle.lease_rules.specs.Law.{FitsFromStart, IsConsistent};
+ghost use Rattle.lease_rules.specs.code.Law.{FitsFromStart, IsConsistent};
 ghost use Rattle.lease_rules.specs.Legal.{Allowed, Legal};
 ghost use Rattle.lease_rules.specs.State.{State, now};
 ghost use Rattle.record_audit.specs.Holdings.{IsSized};
 ghost use Rattle.record_audit.specs.Sums.{arrived};
-ghost use Rattle.run_record.specs.RecordText.{AreEntries, record_text};
+ghost use Rattle.run_record.specs.code.RecordText.{AreEntries};
+ghost use Rattle.run_record.specs.RecordText.{record_text};
 ghost use Rattle.lease_rules.specs.Legal.{IsComplete};
 ghost use Rattle.record_audit.specs.Part.{record_part};
 ghost use Rattle.record_audit.specs.Verdict.{IsJudged};

@@ -4,6 +4,10 @@
 //! there is the first illegal one. What is allowed, and when a record is complete, are definitions
 //! of `lease_book`; what is said of a record here is in `specs/Verdict.antt` and `specs/Sums.antt`,
 //! and which part of a document is read as a record in `specs/Part.antt`.
+//!
+//! [`audit`] answers the [`Verdict`]: complete, legal, or the first illegal entry; [`statistics`] what the entries of a
+//! legal record come to; [`replay`] adds one entry to a book. A law says that a legal and complete record has no other
+//! verdict, and one that what a run printed is read as its record.
 #![tactic(auto)]
 
 mod causes;

@@ -1,7 +1,7 @@
 //! The part of a document that is read as a record.
 
 ghost use Rattle.std.specs.Prelude.{◌≡◌, ◌≤◌, length, take};
-ghost use Rattle.run_record.specs.Lines.{line_length};
+ghost use Rattle.run_record.specs.code.Lines.{line_length};
 ghost use Rattle.record_audit.specs.Part.{record_part};
 
 /// The length of a text's first line, with its line feed.

@@ -1,11 +1,12 @@
 //! One entry of a record, replayed on a book.
 
 ghost use Rattle.std.specs.Prelude.{◌≡◌, ◌++◌, ◌∷◌, [], List, true, Decides};
-ghost use Rattle.plan_core.specs.Proper.{IsProper};
+ghost use Rattle.plan_core.specs.code.Proper.{IsProper};
 ghost use Rattle.plan_core.specs.Words.{task_numbers};
-ghost use Rattle.run_record.specs.Events.{Event, Arrive, Clean, End, event, is_second};
+ghost use Rattle.run_record.specs.Events.{Event, Arrive, Clean, End, is_second};
+ghost use Rattle.run_record.specs.code.Events.{event};
 ghost use Rattle.lease_book.specs.Book.{state_at};
-ghost use Rattle.lease_rules.specs.Law.{FitsFromStart};
+ghost use Rattle.lease_rules.specs.code.Law.{FitsFromStart};
 ghost use Rattle.lease_rules.specs.Legal.{Allowed};
 ghost use Rattle.record_audit.specs.Replaying.{EndsSo, Grew, failing, granting};
 

@@ -1,7 +1,7 @@
 //! What the entries of a record come to.
 
 ghost use Rattle.std.specs.Prelude.{◌≡◌, ◌<◌, ◌+◌, ◌^◌, ℕ, IfOk, get_or, length};
-ghost use Rattle.run_record.specs.Events.{event};
+ghost use Rattle.run_record.specs.code.Events.{event};
 ghost use Rattle.record_audit.specs.Sums.{AreSmall, HasNone, IsCounted, arrived};
 
 use run_record::Entry;

@@ -11,15 +11,15 @@ use Rattle.std.proofs.lemmas.Cmp.{nat_list_cmp_total}
 use Rattle.std.proofs.lemmas.List.{drop_more, get_or-map}
 use Rattle.std.proofs.lemmas.Option.{get_or_from_slice_get, slice_get_within}
 use Rattle.sha2.specs.Sha256.{sha256}
-use Rattle.outside.specs.Counts.{no_calls}
-use Rattle.outside.specs.MemoryHost.{host_counts, host_store, with_replica}
-use Rattle.outside.specs.Store.{blank}
+use Rattle.outside.specs.code.Counts.{no_calls}
+use Rattle.outside.specs.code.MemoryHost.{host_counts, host_store, with_replica}
+use Rattle.outside.specs.code.Store.{blank}
 use Rattle.values.specs.Apply.{Apply}
 use Rattle.values.specs.declared.documents.Documents.{Documents}
 use Rattle.outside.specs.declared.memory_host.MemoryHost.{MemoryHost}
 use Rattle.outside.specs.declared.store.Store.{Store}
 use Rattle.workflow_core.specs.declared.workflow.Job.{Job}
-use Rattle.plan_request.specs.Reader.{read_of}
+use Rattle.plan_request.specs.Request.{request_from_text}
 use Rattle.plan_request.specs.declared.request.PlanRequest.{PlanRequest}
 use Rattle.replica_catalog.specs.Lookup.{is_of, pfns_in}
 use Rattle.replica_catalog.specs.declared.catalog.Pfn.{Pfn}
@@ -32,10 +32,10 @@ use Rattle.workload_maker.specs.Making.{IsMontage}
 use Rattle.workload_maker.specs.Replicas.{image_of, replicas_text}
 use Rattle.workload_maker.specs.Workflow.{workflow_text}
 use Rattle.workload_maker.specs.declared.making.Workload.{Workload}
-use Rattle.planner.specs.Course.{IsSurvey, Refuses}
+use Rattle.planner.specs.code.Course.{IsSurvey, Refuses}
 use Rattle.planner.specs.Meaning.{AreHonest, HoldsValue, IsHonest, Told, base, basis_of, first_told, value_of}
 use Rattle.transfer_refiner.specs.Draft.{entry_in as entry_named}
-use Rattle.planner.specs.PlanFault.{FailsPlan, answered}
+use Rattle.planner.specs.code.PlanFault.{FailsPlan, answered}
 use Rattle.planner.specs.declared.document.Document.TheVariants.{Request}
 use Rattle.planner.specs.declared.inputs.Survey.{Survey}
 use Rattle.planner.specs.declared.plan_fault.PlanFault.{PlanFault}
@@ -150,12 +150,12 @@ are_honest xs r s registers apply f = by (slice_get s.workflow.files f) refl
 -- ---- refusals
 
 -- the request can't be read
-pub refuses_request : (n : ℕ) (fault : PlanFault) → FailsPlan fault (answered Request (read_of (request_text n))) → RefusesWorkload n fault
+pub refuses_request : (n : ℕ) (fault : PlanFault) → FailsPlan fault (answered Request (request_from_text (request_text n))) → RefusesWorkload n fault
 refuses_request n Memory h = tt
 refuses_request n fault h = inl h
 
 -- its documents have a fault
-pub refuses_documents : (n : ℕ) (request : PlanRequest) (fault : PlanFault) → answered Request (read_of (request_text n)) ≡ Ok request → Refuses request (documents_of n) fault → RefusesWorkload n fault
+pub refuses_documents : (n : ℕ) (request : PlanRequest) (fault : PlanFault) → answered Request (request_from_text (request_text n)) ≡ Ok request → Refuses request (documents_of n) fault → RefusesWorkload n fault
 refuses_documents n request Memory asked h = tt
 refuses_documents n request fault asked h = inr (record { request = request; asked = asked; refuses = h })
 
@@ -181,15 +181,15 @@ pub montage_documents : (n : ℕ) (w : Workload) → IsMontage n w → w.documen
 montage_documents n w is = documents_are w.documents (workflow_text n) (Some sites_text) (Some (replicas_text n)) (Some transformations_text) is.workflow is.sites is.replicas is.transformations
 
 -- its request, as it is read
-pub montage_request : (n : ℕ) (w : Workload) (request : PlanRequest) → IsMontage n w → answered Request (read_of w.request) ≡ Ok request → answered Request (read_of (request_text n)) ≡ Ok request
-montage_request n w request is asked = ap (λ (text : List ℕ). answered Request (read_of text)) (sym is.request) ∙ asked
+pub montage_request : (n : ℕ) (w : Workload) (request : PlanRequest) → IsMontage n w → answered Request (request_from_text w.request) ≡ Ok request → answered Request (request_from_text (request_text n)) ≡ Ok request
+montage_request n w request is asked = ap (λ (text : List ℕ). answered Request (request_from_text text)) (sym is.request) ∙ asked
 
-pub is_prepared : (n : ℕ) (w : Workload) (request : PlanRequest) (s : Surveyed) (h : MemoryHost) → IsMontage n w → answered Request (read_of w.request) ≡ Ok request → s.request ≡ request
+pub is_prepared : (n : ℕ) (w : Workload) (request : PlanRequest) (s : Surveyed) (h : MemoryHost) → IsMontage n w → answered Request (request_from_text w.request) ≡ Ok request → s.request ≡ request
     → IsSurvey request w.documents s.survey → RegistersImages s.survey.workflow s.survey.replicas.entries w.replicas.items → HasMosaic s → host_store h ≡ stored w.replicas.items blank → host_counts h ≡ no_calls
     → IsPrepared n (record { surveyed = s; host = h })
 is_prepared n w request s h is asked same survey registers mosaic store counts = record {
   surveyed = record {
-    request = subst (λ (r : PlanRequest). answered Request (read_of (request_text n)) ≡ Ok r) (sym same) (montage_request n w request is asked);
+    request = subst (λ (r : PlanRequest). answered Request (request_from_text (request_text n)) ≡ Ok r) (sym same) (montage_request n w request is asked);
     survey = subst (λ (r : PlanRequest). IsSurvey r (documents_of n) s.survey) (sym same) (subst (λ (d : Documents). IsSurvey request d s.survey) (montage_documents n w is) survey);
   };
   store = store ∙ ap (λ (xs : List (List ℕ × List ℕ)). stored xs blank) is.images;

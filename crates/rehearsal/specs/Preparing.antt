@@ -1,26 +1,26 @@
 -- The workload of n images, surveyed, and a store that holds its images alone.
 use Rattle.std.specs.Prelude.{◌≡◌, ◌⊎◌, ℕ, List, [], ◌∷◌, codes, slice_index_or, Option, Some, Ok, Err}
 use Rattle.std.specs.FinMap as files
-use Rattle.outside.specs.Counts.{no_calls}
-use Rattle.outside.specs.MemoryHost.{host_counts, host_store, with_replica}
-use Rattle.outside.specs.Store.{blank}
 use Rattle.values.specs.Apply.{Apply}
 use Rattle.values.specs.declared.documents.Documents.{Documents}
+use Rattle.outside.specs.code.Counts.{no_calls}
+use Rattle.outside.specs.code.MemoryHost.{host_counts, host_store, with_replica}
+use Rattle.outside.specs.code.Store.{blank}
 use Rattle.outside.specs.declared.store.Store.{Store}
-use Rattle.workload_maker.specs.Catalogues.{request_text, sites_text, transformations_text}
-use Rattle.workload_maker.specs.Jobs.{each}
-use Rattle.workload_maker.specs.Replicas.{image_of, replicas_text}
-use Rattle.workload_maker.specs.Workflow.{workflow_text}
-use Rattle.plan_request.specs.Reader.{read_of}
+use Rattle.plan_request.specs.Request.{request_from_text}
 use Rattle.plan_request.specs.declared.request.PlanRequest.{PlanRequest}
-use Rattle.planner.specs.Course.{IsSurvey, Refuses}
+use Rattle.planner.specs.code.Course.{IsSurvey, Refuses}
 use Rattle.planner.specs.Deliveries.{IsRequested}
 use Rattle.planner.specs.Meaning.{AreHonest}
-use Rattle.planner.specs.PlanFault.{answered}
+use Rattle.planner.specs.code.PlanFault.{answered}
 use Rattle.planner.specs.declared.document.Document.TheVariants.{Request}
 use Rattle.planner.specs.declared.plan_fault.PlanFault.{PlanFault}
 use Rattle.planner.specs.declared.plan_fault.PlanFault.TheVariants.{Memory}
 use Rattle.planner.specs.declared.surveyed.Surveyed.{Surveyed}
+use Rattle.workload_maker.specs.Catalogues.{request_text, sites_text, transformations_text}
+use Rattle.workload_maker.specs.Jobs.{each}
+use Rattle.workload_maker.specs.Replicas.{image_of, replicas_text}
+use Rattle.workload_maker.specs.Workflow.{workflow_text}
 use Rattle.rehearsal.specs.declared.preparing.Prepared.{Prepared}
 
 -- ---- the documents and the store of the workload
@@ -50,20 +50,20 @@ told_by m pfn = files.get m.replicas pfn
 
 -- This is what the workload's request and documents say.
 pub record IsSurveyedWorkload (n : ℕ) (s : Surveyed) : Type 0 where
-  pub request : answered Request (read_of (request_text n)) ≡ Ok s.request
+  pub request : answered Request (request_from_text (request_text n)) ≡ Ok s.request
   pub survey : IsSurvey s.request (documents_of n) s.survey
 
 -- The workload's request is read, and its documents are refused for this reason.
 pub record RefusesDocuments (n : ℕ) (fault : PlanFault) : Type 0 where
   pub request : PlanRequest
-  pub asked : answered Request (read_of (request_text n)) ≡ Ok request
+  pub asked : answered Request (request_from_text (request_text n)) ≡ Ok request
   pub refuses : Refuses request (documents_of n) fault
 
 -- when each fault comes
 abbrev pub RefusesWorkload : ℕ → PlanFault → Type 0
 RefusesWorkload n Memory = Unit {0}
 RefusesWorkload n fault =
-    (answered Request (read_of (request_text n)) ≡ Err fault) ⊎ RefusesDocuments n fault
+    (answered Request (request_from_text (request_text n)) ≡ Err fault) ⊎ RefusesDocuments n fault
 
 -- One file is requested, mosaic.txt.
 pub record HasMosaic (s : Surveyed) : Type 0 where

@@ -1,12 +1,12 @@
 //! The workload of so many images, surveyed, and the store of its images.
 
 ghost use Rattle.std.specs.Prelude.{◌≡◌, ◌≤◌, IfErr, IfOk, Ok, OnOk};
-ghost use Rattle.outside.specs.Counts.{no_calls};
-ghost use Rattle.outside.specs.MemoryHost.{host_counts, host_store};
-ghost use Rattle.outside.specs.Store.{blank};
-ghost use Rattle.plan_request.specs.Limits.{IsWithinLimits};
-ghost use Rattle.plan_request.specs.Reader.{execute_checked, read_of};
-ghost use Rattle.planner.specs.PlanFault.{GivesPlan, answered};
+ghost use Rattle.outside.specs.code.Counts.{no_calls};
+ghost use Rattle.outside.specs.code.MemoryHost.{host_counts, host_store};
+ghost use Rattle.outside.specs.code.Store.{blank};
+ghost use Rattle.plan_request.specs.code.Limits.{IsWithinLimits};
+ghost use Rattle.plan_request.specs.Request.{execute_checked, request_from_text};
+ghost use Rattle.planner.specs.code.PlanFault.{GivesPlan, answered};
 ghost use Rattle.planner.specs.declared.document.Document.TheVariants.{Request};
 ghost use Rattle.rehearsal.specs.Preparing.{HasMosaic, IsPrepared, RefusesWorkload, stored};
 ghost use Rattle.rehearsal.specs.Registered.{RegistersImages};
@@ -28,7 +28,7 @@ pub struct Prepared {
 
 /// The request that a workload's text says.
 fn read_request(alloc: Global, text: &Blob) -> Result<PlanRequest, PlanFault>
-    ensures answer { GivesPlan (λ r. r) result (answered Request (read_of text.now)) }
+    ensures answer { GivesPlan (λ r. r) result (answered Request (request_from_text text.now)) }
     ensures sites { IfOk result (λ r. execute_checked r.execute ≡ Ok tt) }
     ensures limits { IfOk result (λ r. IsWithinLimits r) }
 {

@@ -11,8 +11,9 @@ use Rattle.std.proofs.lemmas.List.Concat.{flat_map-append}
 use Rattle.std.proofs.lemmas.List.Elements.{filter-append}
 use Rattle.replica_catalog.specs.declared.catalog.Pfn.{Pfn}
 use Rattle.replica_catalog.specs.declared.catalog.Replica.{Replica}
-use Rattle.replica_catalog.specs.Joining.{lfns_of, distinct, entries_with, first_checksum, pfns_of, joined_entry, joined}
-use Rattle.replica_catalog.specs.Merged.{absorbed, with_entry, with_entries}
+use Rattle.replica_catalog.specs.Lookup.{lfns_of, entries_with, first_checksum, pfns_of_entries, joined_entry, joined}
+use Rattle.values.specs.Distinct.{distinct}
+use Rattle.replica_catalog.specs.code.Merged.{absorbed, with_entry, with_entries}
 
 -- ---- one more entry
 
@@ -143,12 +144,12 @@ or_last (f ∷ es) e = by f.checksum (or_last es e)
 
 -- one entry of some
 abbrev made : List ℕ → List Replica → Replica
-made n es = record { lfn = n; pfns = pfns_of es; checksum = first_checksum es }
+made n es = record { lfn = n; pfns = pfns_of_entries es; checksum = first_checksum es }
 
 made_more : (n : List ℕ) (es : List Replica) (e : Replica) → made n (es ++ e ∷ []) ≡ absorbed (made n es) e
 made_more n es e =
-    ap (λ (ps : List Pfn). record { lfn = n; pfns = ps; checksum = first_checksum (es ++ e ∷ []) }) (flat_map-append (λ (f : Replica). f.pfns) es (e ∷ []) ∙ ap (λ (ps : List Pfn). pfns_of es ++ ps) (append-nil e.pfns))
-    ∙ ap (λ (o : Option (List ℕ)). record { lfn = n; pfns = pfns_of es ++ e.pfns; checksum = o }) (or_last es e)
+    ap (λ (ps : List Pfn). record { lfn = n; pfns = ps; checksum = first_checksum (es ++ e ∷ []) }) (flat_map-append (λ (f : Replica). f.pfns) es (e ∷ []) ∙ ap (λ (ps : List Pfn). pfns_of_entries es ++ ps) (append-nil e.pfns))
+    ∙ ap (λ (o : Option (List ℕ)). record { lfn = n; pfns = pfns_of_entries es ++ e.pfns; checksum = o }) (or_last es e)
 
 -- an lfn's entry after one more entry
 grown : (es : List Replica) (e : Replica) (n : List ℕ) → joined_entry (es ++ e ∷ []) n ≡ cond (bytes_eq e.lfn n) (absorbed (joined_entry es n) e) (joined_entry es n)

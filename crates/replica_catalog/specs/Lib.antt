@@ -1,8 +1,4 @@
-pub mod Pfn
-pub mod Checksum
-pub mod Replica
-pub mod Root
-pub mod Joining
-pub mod Reader
-pub mod Merged
+pub mod Catalog
 pub mod Lookup
+-- What only the code's own contracts say.
+pub mod code

@@ -1,7 +1,7 @@
 //! What a replica catalogue says.
 
 ghost use Rattle.std.specs.Prelude.{◌≡◌, [], IfOk};
-ghost use Rattle.replica_catalog.specs.Reader.{view, no_replicas};
+ghost use Rattle.replica_catalog.specs.Catalog.{replica_view, no_replicas};
 
 use std::alloc::Global;
 use values::{Items, Text};
@@ -36,7 +36,7 @@ pub struct Pfn {
 impl ReplicaCatalog {
     /// The catalogue that says nothing.
     pub fn empty(alloc: Global) -> ReplicaCatalog
-        ensures says { view result ≡ no_replicas }
+        ensures says { replica_view result ≡ no_replicas }
         ensures ignored { result.ignored ≡ [] }
     {
         ReplicaCatalog {

@@ -2,9 +2,9 @@
 
 ghost use Rattle.std.specs.Prelude.{◌≡◌};
 ghost use Rattle.peg_json.specs.Path.{key_path};
-ghost use Rattle.peg_json.specs.Table.{rows_of};
-ghost use Rattle.peg_json.specs.Tree.{Gives};
-ghost use Rattle.replica_catalog.specs.Checksum.{checksum_rows, digest_of, digest_if_there};
+ghost use Rattle.peg_json.specs.code.Table.{rows_of};
+ghost use Rattle.peg_json.specs.code.Tree.{Gives};
+ghost use Rattle.replica_catalog.specs.Catalog.{checksum_rows, digest_of, digest_if_there};
 
 use hex::FromHex;
 use peg_json::{FromTree, KeyRow, KeyTable, Kind, Listed, TreeFault, at_key, checked, gather, row};
@@ -56,7 +56,7 @@ fn optional_digest(
 
 impl FromTree for Checksum {
     ghost use Rattle.std.specs.Prelude.{Option, List, ℕ};
-    ghost use Rattle.replica_catalog.specs.Checksum.{checksum_of};
+    ghost use Rattle.replica_catalog.specs.Catalog.{checksum_of};
 
     ghost Seen = { Option (List ℕ) };
 
@@ -64,7 +64,7 @@ impl FromTree for Checksum {
 
     ghost reads = { checksum_of };
 
-    #[tactic(auto, unfolding(crate::specs::Checksum::checksum_of))]
+    #[tactic(auto, unfolding(crate::specs::Catalog::checksum_of))]
     fn from_tree(alloc: Global, value: &Value, path: &Text) -> Result<Checksum, TreeFault> {
         checked(alloc, value, path, &checksum_table())?;
         let digits = row!(alloc, value, path, "sha256", optional Text);
@@ -74,11 +74,11 @@ impl FromTree for Checksum {
 }
 
 impl Listed for Checksum {
-    ghost use Rattle.replica_catalog.specs.Checksum.{unknown_checksum};
+    ghost use Rattle.replica_catalog.specs.code.Unknown.{unknown_checksum};
 
     ghost unknown = { unknown_checksum };
 
-    #[tactic(auto, unfolding(crate::specs::Checksum::unknown_checksum))]
+    #[tactic(auto, unfolding(crate::specs::code::Unknown::unknown_checksum))]
     fn gather(
         alloc: Global,
         value: &Value,

@@ -1,8 +1,8 @@
 //! Entries of one lfn, joined.
 
 ghost use Rattle.std.specs.Prelude.{◌≡◌, [], OnOk, IfOk};
-ghost use Rattle.replica_catalog.specs.Joining.{lfns_of, joined};
-ghost use Rattle.replica_catalog.specs.Merged.{with_entry, with_entries};
+ghost use Rattle.replica_catalog.specs.Lookup.{lfns_of, joined};
+ghost use Rattle.replica_catalog.specs.code.Merged.{with_entry, with_entries};
 
 use crate::catalog::Replica;
 use crate::merged::Merged;

@@ -1,7 +1,7 @@
 //! An entry that others of its lfn are still added to.
 
 ghost use Rattle.std.specs.Prelude.{◌≡◌, OnOk};
-ghost use Rattle.replica_catalog.specs.Merged.{absorbed};
+ghost use Rattle.replica_catalog.specs.code.Merged.{absorbed};
 
 use crate::catalog::{Pfn, Replica};
 use std::marker::Model;

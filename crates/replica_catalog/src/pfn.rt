@@ -1,8 +1,8 @@
 //! A pfn with its site: its table, its reading, and the keys that are in no table.
 
 ghost use Rattle.std.specs.Prelude.{◌≡◌};
-ghost use Rattle.peg_json.specs.Table.{rows_of};
-ghost use Rattle.replica_catalog.specs.Pfn.{pfn_rows};
+ghost use Rattle.peg_json.specs.code.Table.{rows_of};
+ghost use Rattle.replica_catalog.specs.Catalog.{pfn_rows};
 
 use crate::catalog::Pfn;
 use peg_json::{FromTree, KeyRow, KeyTable, Kind, Listed, TreeFault, checked, gather, row};
@@ -31,7 +31,7 @@ fn pfn_table() -> KeyTable<2>
 
 impl FromTree for Pfn {
     ghost use Rattle.replica_catalog.specs.declared.catalog.Pfn as declared;
-    ghost use Rattle.replica_catalog.specs.Pfn.{pfn_of};
+    ghost use Rattle.replica_catalog.specs.Catalog.{pfn_of};
 
     ghost Seen = { declared.Pfn };
 
@@ -39,7 +39,7 @@ impl FromTree for Pfn {
 
     ghost reads = { pfn_of };
 
-    #[tactic(auto, unfolding(crate::specs::Pfn::pfn_of))]
+    #[tactic(auto, unfolding(crate::specs::Catalog::pfn_of))]
     fn from_tree(alloc: Global, value: &Value, path: &Text) -> Result<Pfn, TreeFault> {
         checked(alloc, value, path, &pfn_table())?;
         let site = row!(alloc, value, path, "site", Name);
@@ -49,11 +49,11 @@ impl FromTree for Pfn {
 }
 
 impl Listed for Pfn {
-    ghost use Rattle.replica_catalog.specs.Pfn.{unknown_pfn};
+    ghost use Rattle.replica_catalog.specs.code.Unknown.{unknown_pfn};
 
     ghost unknown = { unknown_pfn };
 
-    #[tactic(auto, unfolding(crate::specs::Pfn::unknown_pfn))]
+    #[tactic(auto, unfolding(crate::specs::code::Unknown::unknown_pfn))]
     fn gather(
         alloc: Global,
         value: &Value,

@@ -5,9 +5,10 @@ ghost use Rattle.std.specs.List.Sorted.{IsPermutation, IsSorted};
 ghost use Rattle.std.specs.Ordering.{nat_cmp};
 ghost use Rattle.std.specs.Cmp.Lexicographic.{slice_cmp};
 ghost use Rattle.serde_json.specs.View.{view as tree_view};
-ghost use Rattle.peg_json.specs.ReadFault.{GivesRead};
-ghost use Rattle.replica_catalog.specs.Reader.{view, from_tree_of, read_of, unknown_in_text};
-ghost use Rattle.replica_catalog.specs.Root.{unknown_of};
+ghost use Rattle.peg_json.specs.code.ReadFault.{GivesRead};
+ghost use Rattle.replica_catalog.specs.Catalog.{replica_view, replica_catalog_from_tree, replica_catalog_from_text};
+ghost use Rattle.replica_catalog.specs.code.Unknown.{unknown_in_text};
+ghost use Rattle.replica_catalog.specs.code.Unknown.{unknown_of};
 
 use crate::catalog::ReplicaCatalog;
 use crate::joining::joined;
@@ -19,9 +20,9 @@ use values::{Items, Text};
 
 /// Reads the tree of a replica catalogue, which stands under a path: that of the document's root, or of the key at
 /// which a workflow has it.
-#[tactic(auto, unfolding(crate::specs::Reader::from_tree_of))]
+#[tactic(auto, unfolding(crate::specs::Catalog::replica_catalog_from_tree))]
 pub fn from_tree(alloc: Global, value: &Value, path: &Text) -> Result<ReplicaCatalog, ReadFault>
-    ensures answer { GivesRead view result (from_tree_of path.now (tree_view value.now)) }
+    ensures answer { GivesRead replica_view result (replica_catalog_from_tree path.now (tree_view value.now)) }
     ensures ignored { IfOk result
         (λ c. IsPermutation (unknown_of path.now (tree_view value.now)) c.ignored) }
     ensures order { IfOk result (λ c. IsSorted (slice_cmp nat_cmp) c.ignored) }
@@ -37,9 +38,9 @@ pub fn from_tree(alloc: Global, value: &Value, path: &Text) -> Result<ReplicaCat
 }
 
 /// Reads a replica catalogue.
-#[tactic(auto, unfolding(crate::specs::Reader::read_of, crate::specs::Reader::unknown_in_text))]
+#[tactic(auto, unfolding(crate::specs::Catalog::replica_catalog_from_text, crate::specs::code::Unknown::unknown_in_text))]
 pub fn read(alloc: Global, bytes: &[u8]) -> Result<ReplicaCatalog, ReadFault>
-    ensures answer { GivesRead view result (read_of bytes.now) }
+    ensures answer { GivesRead replica_view result (replica_catalog_from_text bytes.now) }
     ensures ignored { IfOk result
         (λ c. IsPermutation (unknown_in_text bytes.now) c.ignored) }
     ensures order { IfOk result (λ c. IsSorted (slice_cmp nat_cmp) c.ignored) }

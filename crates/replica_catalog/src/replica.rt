@@ -2,9 +2,9 @@
 
 ghost use Rattle.std.specs.Prelude.{◌≡◌};
 ghost use Rattle.serde_json.specs.View.{view as tree_view};
-ghost use Rattle.peg_json.specs.Table.{rows_of};
-ghost use Rattle.peg_json.specs.Tree.{Gives};
-ghost use Rattle.replica_catalog.specs.Replica.{replica_rows, checksum_or_none};
+ghost use Rattle.peg_json.specs.code.Table.{rows_of};
+ghost use Rattle.peg_json.specs.code.Tree.{Gives};
+ghost use Rattle.replica_catalog.specs.Catalog.{replica_rows, checksum_or_none};
 
 use crate::catalog::{Pfn, Replica};
 use crate::checksum::Checksum;
@@ -62,7 +62,7 @@ fn checksum(
 
 impl FromTree for Replica {
     ghost use Rattle.replica_catalog.specs.declared.catalog.Replica as declared;
-    ghost use Rattle.replica_catalog.specs.Replica.{replica_of};
+    ghost use Rattle.replica_catalog.specs.Catalog.{replica_of};
 
     ghost Seen = { declared.Replica };
 
@@ -70,7 +70,7 @@ impl FromTree for Replica {
 
     ghost reads = { replica_of };
 
-    #[tactic(auto, unfolding(crate::specs::Replica::replica_of))]
+    #[tactic(auto, unfolding(crate::specs::Catalog::replica_of))]
     fn from_tree(alloc: Global, value: &Value, path: &Text) -> Result<Replica, TreeFault> {
         checked(alloc, value, path, &replica_table())?;
         let lfn = row!(alloc, value, path, "lfn", Name);
@@ -86,11 +86,11 @@ impl FromTree for Replica {
 }
 
 impl Listed for Replica {
-    ghost use Rattle.replica_catalog.specs.Replica.{unknown_replica};
+    ghost use Rattle.replica_catalog.specs.code.Unknown.{unknown_replica};
 
     ghost unknown = { unknown_replica };
 
-    #[tactic(auto, unfolding(crate::specs::Replica::unknown_replica))]
+    #[tactic(auto, unfolding(crate::specs::code::Unknown::unknown_replica))]
     fn gather(
         alloc: Global,
         value: &Value,

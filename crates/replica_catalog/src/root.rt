@@ -1,8 +1,8 @@
 //! A whole document: its table, its reading, and the keys that are in no table.
 
 ghost use Rattle.std.specs.Prelude.{◌≡◌};
-ghost use Rattle.peg_json.specs.Table.{rows_of};
-ghost use Rattle.replica_catalog.specs.Root.{root_rows};
+ghost use Rattle.peg_json.specs.code.Table.{rows_of};
+ghost use Rattle.replica_catalog.specs.Catalog.{replica_document_rows};
 
 use crate::catalog::Replica;
 use peg_json::{
@@ -33,7 +33,7 @@ const ROOT: [KeyRow; 2] = [
 ];
 
 fn root_table() -> KeyTable<2>
-    ensures { rows_of result.rows.now ≡ root_rows }
+    ensures { rows_of result.rows.now ≡ replica_document_rows }
 {
     KeyTable { rows: &ROOT }
 }
@@ -41,15 +41,15 @@ fn root_table() -> KeyTable<2>
 impl FromTree for Document {
     ghost use Rattle.std.specs.Prelude.{List};
     ghost use Rattle.replica_catalog.specs.declared.catalog.Replica as declared;
-    ghost use Rattle.replica_catalog.specs.Root.{document_of};
+    ghost use Rattle.replica_catalog.specs.Catalog.{replica_document_of};
 
     ghost Seen = { List declared.Replica };
 
     ghost seen = { λ d. d.replicas.items };
 
-    ghost reads = { document_of };
+    ghost reads = { replica_document_of };
 
-    #[tactic(auto, unfolding(crate::specs::Root::document_of))]
+    #[tactic(auto, unfolding(crate::specs::Catalog::replica_document_of))]
     fn from_tree(alloc: Global, value: &Value, path: &Text) -> Result<Document, TreeFault> {
         checked(alloc, value, path, &root_table())?;
         optional_version(alloc, value, path, "pegasus")?;
@@ -59,11 +59,11 @@ impl FromTree for Document {
 }
 
 impl Listed for Document {
-    ghost use Rattle.replica_catalog.specs.Root.{unknown_of};
+    ghost use Rattle.replica_catalog.specs.code.Unknown.{unknown_of};
 
     ghost unknown = { unknown_of };
 
-    #[tactic(auto, unfolding(crate::specs::Root::unknown_of))]
+    #[tactic(auto, unfolding(crate::specs::code::Unknown::unknown_of))]
     fn gather(
         alloc: Global,
         value: &Value,

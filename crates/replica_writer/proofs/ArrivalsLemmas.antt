@@ -10,15 +10,15 @@ use Rattle.plan_core.specs.declared.plan.Plan.{Plan}
 use Rattle.plan_core.specs.declared.plan.TaskKind.{TaskKind}
 use Rattle.plan_core.specs.declared.plan.TaskKind.TheVariants.{Transfer, Run, Clean as CleanTask}
 use Rattle.plan_core.specs.declared.plan.Target.TheVariants.{Site as Into, Delivery}
-use Rattle.plan_core.specs.Proper.{is_kind_in_range, is_source_below, is_target_below}
+use Rattle.plan_core.specs.code.Proper.{is_kind_in_range, is_source_below, is_target_below}
 use Rattle.plan_core.specs.Words.{delivers, kind, kind_delivers}
 use Rattle.plan_core.proofs.TestLemmas.{both, either, is_itself, or_left, or_right, same_number}
 use Rattle.run_record.specs.Events.{Event, Arrive}
 use Rattle.lease_rules.specs.Legal.{Allowed, Legal, LegalFrom}
-use Rattle.lease_rules.specs.Reading.{IsRead, ends}
+use Rattle.lease_rules.specs.code.Reading.{IsRead, ends}
 use Rattle.lease_rules.specs.State.{State, after, ended, now, now_from, opened}
 use Rattle.site_yard.specs.Delivered.{Arrival, arrival_at, arrivals, arrivals_of, delivered_file}
-use Rattle.site_yard.specs.Places.{delivers_file, is_delivered}
+use Rattle.site_yard.specs.code.Places.{delivers_file, is_delivered}
 
 abbrev pub files_of : List Arrival → List ℕ
 files_of arrived = map (λ (a : Arrival). a.file) arrived

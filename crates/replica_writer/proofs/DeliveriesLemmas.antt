@@ -12,15 +12,15 @@ use Rattle.std.proofs.lemmas.Map.Keys.{IsDistinct-cons, IsDistinct-head, IsDisti
 use Rattle.plan_core.specs.declared.plan.Plan.{Plan}
 use Rattle.plan_core.specs.declared.plan.PlanFile.{PlanFile}
 use Rattle.plan_core.specs.declared.plan.TaskKind.{TaskKind}
-use Rattle.plan_core.specs.Proper.{IsProper, is_kind_in_range}
+use Rattle.plan_core.specs.code.Proper.{IsProper, is_kind_in_range}
 use Rattle.plan_core.specs.Words.{kind}
 use Rattle.plan_core.proofs.TestLemmas.{other_number}
 use Rattle.run_record.specs.Events.{Event}
-use Rattle.lease_rules.specs.Law.{FitsFromStart}
+use Rattle.lease_rules.specs.code.Law.{FitsFromStart}
 use Rattle.lease_rules.specs.Legal.{Legal}
-use Rattle.lease_rules.specs.Reading.{IsRead}
+use Rattle.lease_rules.specs.code.Reading.{IsRead}
 use Rattle.lease_rules.specs.State.{now}
-use Rattle.site_yard.specs.Places.{is_delivered}
+use Rattle.site_yard.specs.code.Places.{is_delivered}
 use Rattle.plan_core.specs.Names.{file_name, lfn_in}
 use Rattle.site_yard.specs.declared.delivered.Delivered.{Delivered}
 use Rattle.replica_writer.specs.Law.{RunsCanBeWritten, has_file}

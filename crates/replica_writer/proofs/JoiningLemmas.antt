@@ -5,7 +5,8 @@ use Rattle.std.specs.Str.{bytes_eq}
 use Rattle.std.specs.Cmp.Lexicographic.{bytes_decides, nat_list_eq_equiv}
 use Rattle.std.proofs.lemmas.Map.Keys.{IsDistinct-head, IsDistinct-tail}
 use Rattle.replica_catalog.specs.declared.catalog.Replica.{Replica}
-use Rattle.replica_catalog.specs.Joining.{distinct, entries_with, first_checksum, joined, joined_entry, lfns_of, pfns_of}
+use Rattle.replica_catalog.specs.Lookup.{entries_with, first_checksum, joined, joined_entry, lfns_of, pfns_of_entries}
+use Rattle.values.specs.Distinct.{distinct}
 use Rattle.replica_writer.specs.Document.{Registration, replica}
 
 abbrev pub IsFar : List ℕ → List (List ℕ) → Type 0
@@ -46,7 +47,7 @@ each_joined : (es : List Replica) (rs : List Registration) → AreAlone es (map 
 each_joined es [] all = refl
 each_joined es (r ∷ rs) all =
     ap₂ (λ (e : Replica) (l : List Replica). e ∷ l)
-    (ap (λ (l : List Replica). record { lfn = r.lfn; pfns = pfns_of l; checksum = first_checksum l }) all.0)
+    (ap (λ (l : List Replica). record { lfn = r.lfn; pfns = pfns_of_entries l; checksum = first_checksum l }) all.0)
     (each_joined es rs all.1)
 
 lfns_are : (rs : List Registration) → lfns_of (map replica rs) ≡ map (λ (r : Registration). r.lfn) rs

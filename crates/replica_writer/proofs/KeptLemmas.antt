@@ -8,15 +8,15 @@ use Rattle.plan_core.specs.declared.plan.Plan.{Plan}
 use Rattle.plan_core.proofs.TestLemmas.{and_both, both, either, or_left, or_right, same_number}
 use Rattle.workflow_core.specs.declared.workflow.Workflow.{Workflow}
 use Rattle.workflow_core.specs.Requested.{is_requested, requests}
-use Rattle.workflow_core.specs.WellFormed.{IsJobOver}
+use Rattle.workflow_core.specs.code.WellFormed.{IsJobOver}
 use Rattle.workflow_core.specs.declared.workflow.Job.{Job}
 use Rattle.workflow_core.specs.declared.workflow.Output.{Output}
-use Rattle.dependency_graph.specs.Built.{name_of}
+use Rattle.dependency_graph.specs.Built.{workflow_file_name}
 use Rattle.dependency_graph.specs.Edges.{written_by}
 use Rattle.peg_json.specs.declared.read_fault.ReadFault.{ReadFault}
 use Rattle.replica_catalog.specs.declared.catalog.Replica.{Replica}
 use Rattle.replica_catalog.specs.Lookup.{has_pfn, is_of, is_registered, pfns_in}
-use Rattle.replica_catalog.specs.Reader.{CatalogEntry}
+use Rattle.replica_catalog.specs.Catalog.{CatalogEntry}
 use Rattle.data_reuse.specs.Absent.{absent_in}
 use Rattle.plan_core.specs.Names.{file_name}
 use Rattle.site_yard.specs.declared.delivered.Delivered.{Delivered}
@@ -34,7 +34,7 @@ never_both false false all h = cc
 none_wanted : (w : Workflow) (es : List Replica) → RegisterRequested w es → (fs : List ℕ) → list_any (λ f. absent_in w es false f && is_requested w f) fs ≡ true → ⊥
 none_wanted w es all [] h = cc
 none_wanted w es all (f ∷ fs) h = elim (either (absent_in w es false f && is_requested w f) (list_any (λ g. absent_in w es false g && is_requested w g) fs) h) [
-  | inl here ↦ never_both (is_registered es (name_of w f)) (is_requested w f) (all f) here
+  | inl here ↦ never_both (is_registered es (workflow_file_name w f)) (is_requested w f) (all f) here
   | inr there ↦ none_wanted w es all fs there
 ]
 
@@ -65,7 +65,7 @@ entries_in _ = []
 
 -- what a catalogue says
 pub says_enough : (w : Workflow) (p : Plan) (ds : List Delivered) → SaysEnough w p ds
-says_enough w p ds held = keeps_nothing w (map replica (registrations p ds)) (λ f asked. registers_flagged p (name_of w f) ds ∙ held f asked)
+says_enough w p ds held = keeps_nothing w (map replica (registrations p ds)) (λ f asked. registers_flagged p (workflow_file_name w f) ds ∙ held f asked)
 
 enough : (bytes : Plan → List Delivered → List ℕ) → ((p : Plan) (ds : List Delivered) → ReadsBack bytes p ds) → (w : Workflow) (p : Plan) (ds : List Delivered) → ReadsEnough bytes w p ds
 enough bytes reads w p ds apart named digests held c is = subst (KeepsNothing w) same (says_enough w p ds held)
@@ -95,16 +95,16 @@ job_below n f (j ∷ js) all h = elim (either (requests f j) (list_any (requests
   | inr there ↦ job_below n f js all.1 there
 ]
 
-flagged_here : (p : Plan) (w : Workflow) (f g : ℕ) → f ≡ g → file_name p f ≡ name_of w f → is_flagged p f ≡ true → (is_flagged p g && bytes_eq (name_of w f) (file_name p g)) ≡ true
+flagged_here : (p : Plan) (w : Workflow) (f g : ℕ) → f ≡ g → file_name p f ≡ workflow_file_name w f → is_flagged p f ≡ true → (is_flagged p g && bytes_eq (workflow_file_name w f) (file_name p g)) ≡ true
 flagged_here p w f g same named flag =
-    subst (λ x. (is_flagged p x && bytes_eq (name_of w f) (file_name p x)) ≡ true) same
-    (and_both (is_flagged p f) (bytes_eq (name_of w f) (file_name p f)) flag ((bytes_decides (name_of w f) (file_name p f)).1 (sym named)))
+    subst (λ x. (is_flagged p x && bytes_eq (workflow_file_name w f) (file_name p x)) ≡ true) same
+    (and_both (is_flagged p f) (bytes_eq (workflow_file_name w f) (file_name p f)) flag ((bytes_decides (workflow_file_name w f) (file_name p f)).1 (sym named)))
 
-flagged_in : (w : Workflow) (p : Plan) (f : ℕ) → file_name p f ≡ name_of w f → is_flagged p f ≡ true → (ds : List Delivered) → has_file f ds ≡ true → list_any (is_flagged_as p (name_of w f)) ds ≡ true
+flagged_in : (w : Workflow) (p : Plan) (f : ℕ) → file_name p f ≡ workflow_file_name w f → is_flagged p f ≡ true → (ds : List Delivered) → has_file f ds ≡ true → list_any (is_flagged_as p (workflow_file_name w f)) ds ≡ true
 flagged_in w p f named flag [] h = absurd cc
 flagged_in w p f named flag (d ∷ ds) h = elim (either (nat_eq d.file.0 f) (has_file f ds) h) [
-  | inl here ↦ or_left (is_flagged_as p (name_of w f) d) (list_any (is_flagged_as p (name_of w f)) ds) (flagged_here p w f d.file.0 (sym (same_number d.file.0 f here)) named flag)
-  | inr there ↦ or_right (is_flagged_as p (name_of w f) d) (list_any (is_flagged_as p (name_of w f)) ds) (flagged_in w p f named flag ds there)
+  | inl here ↦ or_left (is_flagged_as p (workflow_file_name w f) d) (list_any (is_flagged_as p (workflow_file_name w f)) ds) (flagged_here p w f d.file.0 (sym (same_number d.file.0 f here)) named flag)
+  | inr there ↦ or_right (is_flagged_as p (workflow_file_name w f) d) (list_any (is_flagged_as p (workflow_file_name w f)) ds) (flagged_in w p f named flag ds there)
 ]
 
 pub flagged_are_held : (w : Workflow) (p : Plan) (ds : List Delivered) → FlaggedAreHeld w p ds

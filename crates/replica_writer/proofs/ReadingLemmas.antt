@@ -10,10 +10,10 @@ use Rattle.peg_json.specs.Table.{members_of}
 use Rattle.peg_json.specs.Tree.{◌>>=◌, each_from, elements}
 use Rattle.peg_json.specs.declared.fault.TreeFault.{TreeFault}
 use Rattle.replica_catalog.specs.declared.catalog.Replica.{Replica}
-use Rattle.replica_catalog.specs.Checksum.{checksum_of, decoded_or}
-use Rattle.replica_catalog.specs.Pfn.{pfn_of as pfn_in}
-use Rattle.replica_catalog.specs.Replica.{replica_of}
-use Rattle.replica_catalog.specs.Root.{document_of}
+use Rattle.replica_catalog.specs.Catalog.{checksum_of, decoded_or}
+use Rattle.replica_catalog.specs.Catalog.{pfn_of as pfn_in}
+use Rattle.replica_catalog.specs.Catalog.{replica_of}
+use Rattle.replica_catalog.specs.Catalog.{replica_document_of}
 use Rattle.replica_writer.specs.Document.{Registration, checksum_tree, document_tree, entry_tree, pfn_tree, replica}
 use Rattle.replica_writer.specs.Pfn.{pfn_of}
 use Rattle.replica_writer.specs.Writer.{IsDigest}
@@ -54,8 +54,8 @@ elements_of : (ds : List Data) → elements (items_of ds) ≡ ds
 elements_of [] = refl
 elements_of (d ∷ ds) = ap (λ (l : List Data). d ∷ l) (elements_of ds)
 
-pub document_read : (rs : List Registration) → AllByRecursion IsReadable rs → document_of [] (document_tree (map entry_tree rs)) ≡ Ok (map replica rs)
-unfolding document_of members_of
+pub document_read : (rs : List Registration) → AllByRecursion IsReadable rs → replica_document_of [] (document_tree (map entry_tree rs)) ≡ Ok (map replica rs)
+unfolding replica_document_of members_of
 document_read rs all =
     ap (λ (ds : List Data). each_from replica_of (key_path [] (codes "replicas")) 0 ds >>= λ replicas. Ok replicas) (elements_of (map entry_tree rs))
     ∙ ap (λ (read : Result (List Replica) TreeFault). read >>= λ replicas. Ok replicas) (entries_read (key_path [] (codes "replicas")) 0 rs all)

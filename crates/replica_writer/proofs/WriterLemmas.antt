@@ -7,13 +7,13 @@ use Rattle.std.proofs.lemmas.Str.{IsUtf8-append, IsUtf8-from_is_utf8}
 use Rattle.json.proofs.Printed.Utf8.{IsUtf8-are_ascii}
 use Rattle.serde_json.specs.Data.{Data}
 use Rattle.serde_json.specs.Read.{read}
-use Rattle.peg_json.specs.ReadFault.{then_read}
+use Rattle.peg_json.specs.Tree.{then_read}
 use Rattle.peg_json.specs.Tree.{some_or, tree_of}
 use Rattle.peg_json.specs.declared.fault.TreeFault.{TreeFault}
 use Rattle.peg_json.specs.declared.fault.TreeFault.TheVariants as faults
 use Rattle.peg_json.proofs.TreeLemmas.{is_tree}
 use Rattle.replica_catalog.specs.declared.catalog.Replica.{Replica}
-use Rattle.replica_catalog.specs.Reader.{CatalogEntry, catalog_of, from_tree_of, read_of}
+use Rattle.replica_catalog.specs.Catalog.{CatalogEntry, catalog_of, replica_catalog_from_tree, replica_catalog_from_text}
 use Rattle.replica_writer.specs.Document.{Registration, document_text, document_tree, entry_tree, replica, says}
 use Rattle.plan_core.specs.declared.plan.Plan.{Plan}
 use Rattle.serde_json.specs.Written.{compact_text, has_float}
@@ -29,10 +29,10 @@ use Rattle.replica_writer.proofs.TreeLemmas.{document_plain, line_back, text_bac
 says_so : (rs : List Registration) → IsDistinct bytes_eq (map (λ (r : Registration). r.lfn) rs) → catalog_of (map replica rs) ≡ says rs
 says_so rs apart = ap₂ (λ (es : List Replica) (n : ℕ). record { entries = es; listed = n }) (joined_same rs apart) (length-map rs replica)
 
-bytes_say : (rs : List Registration) (bytes : List ℕ) → read bytes ≡ Some (document_tree (map entry_tree rs)) → AllByRecursion IsReadable rs → IsDistinct bytes_eq (map (λ (r : Registration). r.lfn) rs) → IsUtf8 bytes → read_of bytes ≡ Ok (says rs)
-unfolding read_of from_tree_of
+bytes_say : (rs : List Registration) (bytes : List ℕ) → read bytes ≡ Some (document_tree (map entry_tree rs)) → AllByRecursion IsReadable rs → IsDistinct bytes_eq (map (λ (r : Registration). r.lfn) rs) → IsUtf8 bytes → replica_catalog_from_text bytes ≡ Ok (says rs)
+unfolding replica_catalog_from_text replica_catalog_from_tree
 bytes_say rs bytes back all apart utf8 =
-    ap (λ (tree : Result Data TreeFault). then_read tree (from_tree_of [])) (is_tree bytes (document_tree (map entry_tree rs)) utf8 back)
+    ap (λ (tree : Result Data TreeFault). then_read tree (replica_catalog_from_tree [])) (is_tree bytes (document_tree (map entry_tree rs)) utf8 back)
     ∙ ap (λ (es : Result (List Replica) TreeFault). then_read es (λ es. Ok (catalog_of es))) (document_read rs all)
     ∙ ap Ok (says_so rs apart)
 
@@ -49,11 +49,11 @@ line_reads_back p ds apart named digests utf8 =
     bytes_say (registrations p ds) (catalogue_line p ds) (line_back (registrations p ds)) (all_readable p ds named digests) (apart_kept p ds apart) utf8
 
 -- bytes that are read are a text
-pub read_utf8 : (bytes : List ℕ) (c : CatalogEntry) → read_of bytes ≡ Ok c → IsUtf8 bytes
-unfolding read_of tree_of
+pub read_utf8 : (bytes : List ℕ) (c : CatalogEntry) → replica_catalog_from_text bytes ≡ Ok c → IsUtf8 bytes
+unfolding replica_catalog_from_text tree_of
 read_utf8 bytes c is = by (is_utf8 bytes) refl is
   where
-    by : (b : Bool) → is_utf8 bytes ≡ b → then_read (cond b (some_or faults.Syntax (read bytes)) (Err faults.Syntax)) (from_tree_of []) ≡ Ok c → IsUtf8 bytes
+    by : (b : Bool) → is_utf8 bytes ≡ b → then_read (cond b (some_or faults.Syntax (read bytes)) (Err faults.Syntax)) (replica_catalog_from_tree []) ≡ Ok c → IsUtf8 bytes
     by true e h = IsUtf8-from_is_utf8 bytes e
     by false e h = absurd cc
 
@@ -68,7 +68,7 @@ pub text_utf8 : (bytes result text : List ℕ) → result ≡ bytes → result �
 text_utf8 bytes result text same is utf8 = subst IsUtf8 (sym same ∙ is) utf8
 
 pub result_read : (p : Plan) (ds : List Delivered) (result : List ℕ) → AreApart p ds → AreNamed p ds → AreDigests ds → result ≡ catalogue_text p ds → IsUtf8 (catalogue_text p ds) → AreReadAs result p ds
-result_read p ds result apart named digests is utf8 = ap read_of is ∙ text_reads_back p ds apart named digests utf8
+result_read p ds result apart named digests is utf8 = ap replica_catalog_from_text is ∙ text_reads_back p ds apart named digests utf8
 
 pub line_read : (p : Plan) (ds : List Delivered) → AreApart p ds → AreNamed p ds → AreDigests ds → IsUtf8 (catalogue_text p ds) → AreReadAs (catalogue_line p ds) p ds
 line_read p ds apart named digests utf8 =

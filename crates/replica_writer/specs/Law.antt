@@ -4,21 +4,21 @@ use Rattle.std.specs.List.{All, list_any}
 use Rattle.std.specs.Str.{IsUtf8, bytes_eq}
 use Rattle.workflow_core.specs.declared.workflow.Workflow.{Workflow}
 use Rattle.workflow_core.specs.Requested.{is_requested}
-use Rattle.workflow_core.specs.WellFormed.{IsWellFormed}
-use Rattle.dependency_graph.specs.Built.{name_of}
+use Rattle.workflow_core.specs.code.WellFormed.{IsWellFormed}
 use Rattle.replica_catalog.specs.declared.catalog.Replica.{Replica}
 use Rattle.replica_catalog.specs.Lookup.{is_registered}
-use Rattle.replica_catalog.specs.Reader.{CatalogEntry, read_of}
+use Rattle.replica_catalog.specs.Catalog.{CatalogEntry, replica_catalog_from_text}
+use Rattle.dependency_graph.specs.Built.{workflow_file_name}
 use Rattle.data_reuse.specs.Absent.{absent_in}
 use Rattle.data_reuse.specs.Kept.{IsKept}
 use Rattle.plan_core.specs.declared.plan.Plan.{Plan}
-use Rattle.plan_core.specs.Proper.{IsProper}
+use Rattle.plan_core.specs.code.Proper.{IsProper}
+use Rattle.plan_core.specs.Names.{file_name}
 use Rattle.run_record.specs.Events.{Event}
-use Rattle.lease_rules.specs.Law.{FitsFromStart}
+use Rattle.lease_rules.specs.code.Law.{FitsFromStart}
 use Rattle.lease_rules.specs.Legal.{Legal}
 use Rattle.site_yard.specs.Delivered.{AreFiles, arrivals}
-use Rattle.plan_core.specs.Names.{file_name}
-use Rattle.site_yard.specs.Places.{is_delivered}
+use Rattle.site_yard.specs.code.Places.{is_delivered}
 use Rattle.site_yard.specs.declared.delivered.Delivered.{Delivered}
 use Rattle.replica_writer.specs.Writer.{AreApart, AreDigests, AreInRange, AreNamed, catalogue_says, delivered_name, has_flag, is_flagged}
 
@@ -26,7 +26,7 @@ use Rattle.replica_writer.specs.Writer.{AreApart, AreDigests, AreInRange, AreNam
 
 -- These bytes are read as exactly the delivered files that have their flag, in order.
 abbrev pub AreReadAs : List ℕ → Plan → List Delivered → Type 0
-AreReadAs bytes p ds = read_of bytes ≡ Ok (catalogue_says p ds)
+AreReadAs bytes p ds = replica_catalog_from_text bytes ≡ Ok (catalogue_says p ds)
 
 abbrev pub ReadsBack : (Plan → List Delivered → List ℕ) → Plan → List Delivered → Type 0
 ReadsBack bytes p ds =
@@ -36,7 +36,7 @@ ReadsBack bytes p ds =
 
 -- these entries register every requested file
 abbrev pub RegisterRequested : Workflow → List Replica → Type 0
-RegisterRequested w es = (f : ℕ) → is_requested w f ≡ true → is_registered es (name_of w f) ≡ true
+RegisterRequested w es = (f : ℕ) → is_requested w f ≡ true → is_registered es (workflow_file_name w f) ≡ true
 
 abbrev pub KeepsNothing : Workflow → List Replica → Type 0
 KeepsNothing w es = (a : ℕ) → IsKept (absent_in w es false) w a → ⊥
@@ -48,7 +48,7 @@ is_flagged_as p name d = has_flag p d && bytes_eq name (delivered_name p d)
 -- every requested file was delivered, and has its flag
 abbrev pub HoldRequested : Workflow → Plan → List Delivered → Type 0
 HoldRequested w p ds =
-    (f : ℕ) → is_requested w f ≡ true → list_any (is_flagged_as p (name_of w f)) ds ≡ true
+    (f : ℕ) → is_requested w f ≡ true → list_any (is_flagged_as p (workflow_file_name w f)) ds ≡ true
 
 -- No job is kept with the entries of the catalogue, where it holds every requested file.
 abbrev pub SaysEnough : Workflow → Plan → List Delivered → Type 0
@@ -58,7 +58,7 @@ SaysEnough w p ds = HoldRequested w p ds → KeepsNothing w (catalogue_says p ds
 abbrev pub ReadsEnough : (Plan → List Delivered → List ℕ) → Workflow → Plan → List Delivered → Type 0
 ReadsEnough bytes w p ds =
     AreApart p ds → AreNamed p ds → AreDigests ds → HoldRequested w p ds
-    → (c : CatalogEntry) → read_of (bytes p ds) ≡ Ok c → KeepsNothing w c.entries
+    → (c : CatalogEntry) → replica_catalog_from_text (bytes p ds) ≡ Ok c → KeepsNothing w c.entries
 
 -- ---- what a run delivered
 
@@ -79,7 +79,7 @@ RunsCanBeWritten p order r ds =
 
 -- A plan's files have the workflow's names, those that are requested have their flags and are among the delivered ones.
 pub record DeliversFlagged (w : Workflow) (p : Plan) (ds : List Delivered) : Type 0 where
-  pub named : (f : ℕ) → f < length w.files → file_name p f ≡ name_of w f
+  pub named : (f : ℕ) → f < length w.files → file_name p f ≡ workflow_file_name w f
   pub flagged : (f : ℕ) → f < length w.files → is_requested w f ≡ true → is_flagged p f ≡ true
   pub held : (f : ℕ) → f < length w.files → is_requested w f ≡ true → has_file f ds ≡ true
 

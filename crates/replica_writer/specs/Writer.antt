@@ -6,9 +6,9 @@ use Rattle.std.proofs.Props.{props}
 use Rattle.std.proofs.lemmas.Map.Keys.{IsDistinct-prop}
 use Rattle.hex.specs.Hex.{IsBytes}
 use Rattle.serde_json.specs.Data.{Data}
+use Rattle.replica_catalog.specs.Catalog.{CatalogEntry}
 use Rattle.plan_core.specs.declared.plan.Plan.{Plan}
 use Rattle.plan_core.specs.declared.plan.PlanFile.{PlanFile}
-use Rattle.replica_catalog.specs.Reader.{CatalogEntry}
 use Rattle.plan_core.specs.Names.{file_name}
 use Rattle.site_yard.specs.declared.delivered.Delivered.{Delivered}
 use Rattle.replica_writer.specs.Document.{Registration, document_text, entry_tree, says}

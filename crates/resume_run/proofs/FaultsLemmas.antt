@@ -3,9 +3,10 @@ use Rattle.std.proofs.Common.{◌≡◌, ℕ, zero, suc, ◌+◌, ◌<◌, ◌�
 use Rattle.std.specs.Prelude.{slice_set}
 use Rattle.plan_core.proofs.TestLemmas.{by_bool}
 use Rattle.run_record.specs.Events.{Event, Grant, Arrive, End, Clean, Fail, Again, Regrant}
-use Rattle.site_yard.specs.Failures.{RoseBy, tool_fault_in, tool_faults, tool_faults_of}
-use Rattle.worker_gate.specs.Tending.{IsDone}
-use Rattle.plan_run.specs.Moments.{MemberMoment, count_of}
+use Rattle.site_yard.specs.code.Failures.{RoseBy, tool_fault_in, tool_faults, tool_faults_of}
+use Rattle.worker_gate.specs.code.Tending.{IsDone}
+use Rattle.plan_run.specs.Moments.{MemberMoment}
+use Rattle.plan_run.specs.code.Moments.{count_of}
 use Rattle.resume_run.specs.Redoing.{HasRisen}
 
 -- ---- entries

@@ -1,10 +1,10 @@
 -- What keeps a resumed run from its end.
 use Rattle.std.proofs.Common.{◌≡◌, ℕ, ◌-◌, List, length, sym, ap, subst, ◌∙◌, inl, inr, arith}
 use Rattle.std.specs.Prelude.{Option, Some, None, Ok, Err, option_map}
-use Rattle.outside.specs.Counts.{Rose}
+use Rattle.outside.specs.code.Counts.{Rose}
 use Rattle.outside.specs.declared.store.Store.{Store}
 use Rattle.plan_core.specs.declared.plan.Plan.{Plan}
-use Rattle.plan_core.specs.Proper.{IsProper}
+use Rattle.plan_core.specs.code.Proper.{IsProper}
 use Rattle.storage_simulation.specs.declared.standing.Held.{Held}
 use Rattle.lease_rules.specs.Legal.{Legal}
 use Rattle.lease_rules.specs.State.{opened}
@@ -12,14 +12,14 @@ use Rattle.run_record.specs.Events.{Event}
 use Rattle.run_record.specs.declared.run_fault.RunFault.{RunFault}
 use Rattle.run_record.specs.declared.run_fault.RunFault.TheVariants as faults
 use Rattle.record_audit.proofs.LawLemmas.{legal_at}
-use Rattle.site_yard.specs.Loan.{at_pair}
-use Rattle.site_yard.specs.Opening.{fault_of_opening}
-use Rattle.site_yard.specs.Reopening.{AreRecorded, IsLackingAt, IsLongAt, RefusesAgain}
+use Rattle.site_yard.specs.code.Loan.{at_pair}
+use Rattle.site_yard.specs.code.Opening.{fault_of_opening}
+use Rattle.site_yard.specs.code.Reopening.{AreRecorded, IsLackingAt, IsLongAt, RefusesAgain}
 use Rattle.site_yard.specs.declared.opening.OpenFault.{OpenFault}
 use Rattle.site_yard.specs.declared.opening.OpenFault.TheVariants as openings
-use Rattle.plan_run.specs.Finishing.{NoneFailed}
+use Rattle.plan_run.specs.code.Finishing.{NoneFailed}
 use Rattle.plan_run.specs.Moments.{Tools, Work}
-use Rattle.plan_run.specs.Running.{Continued, IsUnopened}
+use Rattle.plan_run.specs.code.Running.{Continued, IsUnopened}
 use Rattle.plan_run.proofs.FinishingLemmas.{NothingElseFails, more_rose, no_fail}
 use Rattle.resume_run.specs.Finishing.{CanEnd, IsDoneOrMemory}
 use Rattle.resume_run.specs.Replaying.{without_fails}

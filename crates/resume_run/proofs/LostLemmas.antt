@@ -7,7 +7,8 @@ use Rattle.storage_simulation.specs.declared.standing.Phase.{Phase}
 use Rattle.storage_simulation.specs.declared.standing.Phase.TheVariants.{Ended, Runs, Waits}
 use Rattle.run_record.specs.Events.{Event, Grant, Arrive, End, Clean, Fail, Again, Regrant}
 use Rattle.lease_rules.specs.Legal.{IsOpen, LegalFrom}
-use Rattle.lease_rules.specs.State.{State, after, now_from, put, runs}
+use Rattle.lease_rules.specs.State.{State, after, now_from, put}
+use Rattle.lease_rules.specs.code.State.{runs}
 use Rattle.resume_run.specs.declared.lost.Lost.{Lost}
 use Rattle.resume_run.specs.Lost.{HaveFewWorkers, lost_below, lost_of, owner}
 

@@ -14,18 +14,19 @@ use Rattle.run_record.specs.Events.{Event, Grant, Arrive, End, Clean, Fail, Agai
 use Rattle.lease_book.specs.declared.book.Book.{Book}
 use Rattle.lease_book.specs.Book.{state_at}
 use Rattle.lease_rules.specs.Legal.{IsOpen}
-use Rattle.lease_rules.specs.Reading.{is_fail}
-use Rattle.lease_rules.specs.State.{State, after, now, opened, put, runs}
+use Rattle.lease_rules.specs.code.Reading.{is_fail}
+use Rattle.lease_rules.specs.State.{State, after, now, opened, put}
+use Rattle.lease_rules.specs.code.State.{runs}
 use Rattle.record_audit.proofs.LawLemmas.{now_more}
-use Rattle.worker_gate.specs.Alone.{NoneOpen}
-use Rattle.worker_gate.specs.Tending.{IsDone}
+use Rattle.worker_gate.specs.code.Alone.{NoneOpen}
+use Rattle.worker_gate.specs.code.Tending.{IsDone}
 use Rattle.plan_run.specs.Moments.{MemberMoment}
 use Rattle.resume_run.specs.declared.lost.Lost.{Lost}
 use Rattle.resume_run.specs.Lost.{lost_below, lost_of, owner}
 use Rattle.resume_run.specs.Redoing.{AddsFaults, AreDone, EndAtFail, HasRisen, Redoes, RedoesOne}
 use Rattle.resume_run.proofs.FaultsLemmas.{counts_more, counts_none}
 use Rattle.resume_run.proofs.LostLemmas.{few_from, opened_for, owner_found}
-use Rattle.site_yard.specs.Failures.{tool_faults}
+use Rattle.site_yard.specs.code.Failures.{tool_faults}
 
 -- ---- lists
 

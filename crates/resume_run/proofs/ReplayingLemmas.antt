@@ -9,9 +9,9 @@ use Rattle.storage_simulation.specs.declared.standing.Phase.TheVariants.{Runs, W
 use Rattle.run_record.specs.Events.{Event}
 use Rattle.lease_book.specs.declared.book.Book.{Book}
 use Rattle.lease_book.specs.Book.{state_at}
-use Rattle.lease_rules.specs.Law.{FitsFromStart}
+use Rattle.lease_rules.specs.code.Law.{FitsFromStart}
 use Rattle.lease_rules.specs.Legal.{Allowed, Legal, LegalFrom}
-use Rattle.lease_rules.specs.Reading.{is_fail}
+use Rattle.lease_rules.specs.code.Reading.{is_fail}
 use Rattle.lease_rules.specs.State.{State, after, now, now_from, opened}
 use Rattle.record_audit.proofs.LawLemmas.{legal_take, take_all, take_next, take_none}
 use Rattle.resume_run.specs.Lost.{HaveFewWorkers}

@@ -16,19 +16,20 @@ use Rattle.lease_book.specs.declared.book.Book.{Book}
 use Rattle.lease_book.specs.Book.{state_at}
 use Rattle.lease_rules.specs.Legal.{Legal}
 use Rattle.lease_rules.specs.State.{State, now}
-use Rattle.site_yard.specs.Ending.{failed_in, first_failed, first_fault, fault_of}
+use Rattle.site_yard.specs.code.Ending.{failed_in, first_failed, first_fault, fault_of}
 use Rattle.site_yard.specs.declared.ending.Failed.{Failed}
 use Rattle.site_yard.specs.Faults.{AllBelow}
-use Rattle.site_yard.specs.Opening.{fault_of_opening}
-use Rattle.site_yard.specs.Reopening.{RefusesAgain}
+use Rattle.site_yard.specs.code.Opening.{fault_of_opening}
+use Rattle.site_yard.specs.code.Reopening.{RefusesAgain}
 use Rattle.site_yard.specs.declared.opening.OpenFault.{OpenFault}
-use Rattle.worker_gate.specs.Alone.{IsOver}
-use Rattle.worker_gate.specs.Inputs.{AddsOfInputs, AreOfInputs}
+use Rattle.worker_gate.specs.code.Alone.{IsOver}
+use Rattle.worker_gate.specs.code.Inputs.{AddsOfInputs, AreOfInputs}
 use Rattle.craft.specs.declared.crew.Crew.{Crew}
 use Rattle.craft.specs.declared.gate.Gate as gate
 use Rattle.outside.specs.declared.tool.Tool as tool
-use Rattle.plan_run.specs.Moments.{MemberMoment, Tools, Work, asked_of, crew_moment}
-use Rattle.plan_run.specs.Running.{End as RunEnd, EndsAs, IsEmptyReport, IsRefusal, IsRefused, Report, ReportsSince, TakesCalls, WasRefused, ended_by, marked_if}
+use Rattle.plan_run.specs.Moments.{MemberMoment, Tools, Work}
+use Rattle.plan_run.specs.code.Moments.{asked_of, crew_moment}
+use Rattle.plan_run.specs.code.Running.{End as RunEnd, EndsAs, IsEmptyReport, IsRefusal, IsRefused, Report, ReportsSince, TakesCalls, WasRefused, ended_by, marked_if}
 use Rattle.plan_run.proofs.RunningLemmas.{AreParts, HasLaws, IsYardEnd, ShowsRecord, empty_run, reports_from, run_so, state_is}
 use Rattle.resume_run.specs.Replaying.{HasFollowed, without_fails}
 use Rattle.resume_run.specs.Resuming.{HasGoneOn, IsReopened, Tells, continued, held_after, resumed_end}

@@ -6,9 +6,10 @@ use Rattle.std.proofs.lemmas.List.{append-nil}
 use Rattle.plan_core.proofs.TestLemmas.{by_bool}
 use Rattle.run_record.specs.Events.{Event, Grant, Arrive, End, Clean, Fail, Again, Regrant}
 use Rattle.lease_rules.specs.Owning.{worker}
-use Rattle.worker_gate.specs.Alone.{AllBy}
-use Rattle.worker_gate.specs.Telling.{IsToldOf, placed_by}
-use Rattle.worker_gate.specs.Tending.{IsDone}
+use Rattle.worker_gate.specs.code.Alone.{AllBy}
+use Rattle.worker_gate.specs.code.Telling.{IsToldOf}
+use Rattle.worker_gate.specs.Telling.{placed_by}
+use Rattle.worker_gate.specs.code.Tending.{IsDone}
 use Rattle.worker_gate.proofs.TellingLemmas.{told_both, told_nothing}
 use Rattle.plan_run.specs.Moments.{MemberMoment, told_of}
 use Rattle.resume_run.specs.Redoing.{AreToldOf}

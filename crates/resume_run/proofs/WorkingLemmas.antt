@@ -12,9 +12,10 @@ use Rattle.lease_book.specs.declared.book.Book.{Book}
 use Rattle.lease_book.specs.Book.{state_at}
 use Rattle.lease_rules.specs.Owning.{worker}
 use Rattle.lease_rules.specs.State.{State, now}
-use Rattle.site_yard.specs.Failures.{RoseBy, tool_fault_in, tool_faults, tool_faults_of}
-use Rattle.worker_gate.specs.Alone.{AllBy, NoneOpen, TakeFirst, WorksAlone}
-use Rattle.plan_run.specs.Moments.{MemberMoment, count_of}
+use Rattle.site_yard.specs.code.Failures.{RoseBy, tool_fault_in, tool_faults, tool_faults_of}
+use Rattle.worker_gate.specs.code.Alone.{AllBy, NoneOpen, TakeFirst, WorksAlone}
+use Rattle.plan_run.specs.Moments.{MemberMoment}
+use Rattle.plan_run.specs.code.Moments.{count_of}
 use Rattle.resume_run.specs.declared.lost.Lost.{Lost}
 use Rattle.resume_run.specs.Lost.{lost_below}
 use Rattle.resume_run.specs.Redoing.{AddsFaults, AreDone, EndAtFail, HasRisen, Redoes}

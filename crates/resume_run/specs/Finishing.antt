@@ -5,9 +5,9 @@ use Rattle.plan_core.specs.declared.plan.Plan.{Plan}
 use Rattle.run_record.specs.Events.{Event}
 use Rattle.run_record.specs.declared.run_fault.RunFault.TheVariants as faults
 use Rattle.lease_rules.specs.Legal.{Legal}
-use Rattle.site_yard.specs.Faults.{AllCarried}
-use Rattle.site_yard.specs.Kept.{IsOpening}
-use Rattle.site_yard.specs.Reopening.{AreRecorded}
+use Rattle.site_yard.specs.code.Faults.{AllCarried}
+use Rattle.site_yard.specs.code.Kept.{IsOpening}
+use Rattle.site_yard.specs.code.Reopening.{AreRecorded}
 use Rattle.plan_run.specs.Finishing.{replicas_of}
 use Rattle.plan_run.specs.Moments.{Work}
 use Rattle.resume_run.specs.Replaying.{without_fails}

@@ -1,7 +1,8 @@
 -- The tasks that were open when a run stopped.
 use Rattle.std.specs.Prelude.{◌≡◌, ◌&&◌, ℕ, zero, suc, ◌<◌, cond, not, List, [], ◌∷◌, ◌++◌, Option, Some, None}
 use Rattle.storage_simulation.specs.declared.standing.Phase.TheVariants.{Runs}
-use Rattle.lease_rules.specs.State.{State, runs}
+use Rattle.lease_rules.specs.State.{State}
+use Rattle.lease_rules.specs.code.State.{runs}
 use Rattle.resume_run.specs.declared.lost.Lost.{Lost}
 
 -- the worker for whom a task is open: it runs and has no Fail, and its last grant names this worker

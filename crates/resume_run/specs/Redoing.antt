@@ -2,13 +2,14 @@
 use Rattle.std.specs.Prelude.{◌≡◌, ◌⊎◌, ℕ, ◌≤◌, Bool, true, false, List, [], ◌∷◌, ◌++◌, length}
 use Rattle.plan_core.specs.declared.plan.Plan.{Plan}
 use Rattle.run_record.specs.Events.{Event}
-use Rattle.lease_rules.specs.Reading.{is_fail}
+use Rattle.lease_rules.specs.code.Reading.{is_fail}
 use Rattle.lease_rules.specs.State.{now}
-use Rattle.site_yard.specs.Failures.{RoseBy, tool_faults, tool_faults_of}
-use Rattle.worker_gate.specs.Alone.{NoneOpen}
-use Rattle.worker_gate.specs.Tending.{IsDone}
-use Rattle.worker_gate.specs.Telling.{IsToldOf}
-use Rattle.plan_run.specs.Moments.{MemberMoment, count_of, told_of}
+use Rattle.site_yard.specs.code.Failures.{RoseBy, tool_faults, tool_faults_of}
+use Rattle.worker_gate.specs.code.Alone.{NoneOpen}
+use Rattle.worker_gate.specs.code.Tending.{IsDone}
+use Rattle.worker_gate.specs.code.Telling.{IsToldOf}
+use Rattle.plan_run.specs.Moments.{MemberMoment, told_of}
+use Rattle.plan_run.specs.code.Moments.{count_of}
 use Rattle.resume_run.specs.declared.lost.Lost.{Lost}
 
 -- one entry for each of the tasks, in order, by which its own worker is done with it; fewer only at the end

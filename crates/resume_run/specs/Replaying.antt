@@ -3,10 +3,10 @@ use Rattle.std.specs.Prelude.{◌≡◌, ℕ, not, filter, List, Result, Ok, Err
 use Rattle.plan_core.specs.declared.plan.Plan.{Plan}
 use Rattle.plan_core.specs.Words.{count_tasks, task_numbers}
 use Rattle.run_record.specs.Events.{Event}
+use Rattle.lease_rules.specs.Legal.{Legal}
+use Rattle.lease_rules.specs.code.Reading.{is_fail}
 use Rattle.lease_book.specs.declared.book.Book.{Book}
 use Rattle.lease_book.specs.Book.{state_at}
-use Rattle.lease_rules.specs.Legal.{Legal}
-use Rattle.lease_rules.specs.Reading.{is_fail}
 use Rattle.record_audit.specs.Verdict.{IsIllegalAt}
 use Rattle.resume_run.specs.Lost.{lost_below}
 use Rattle.resume_run.specs.declared.lost.Lost.{Lost}

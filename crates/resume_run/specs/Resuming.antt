@@ -3,16 +3,17 @@
 use Rattle.std.specs.Prelude.{◌≡◌, ◌⊎◌, ℕ, ◌++◌, List, [], Some, Result, Ok, Err}
 use Rattle.plan_core.specs.declared.plan.Plan.{Plan}
 use Rattle.storage_simulation.specs.declared.standing.Held.{Held}
-use Rattle.lease_rules.specs.Legal.{IsComplete, Legal}
-use Rattle.lease_rules.specs.State.{now}
 use Rattle.run_record.specs.Events.{Event}
 use Rattle.run_record.specs.declared.run_fault.RunFault.{RunFault}
 use Rattle.run_record.specs.declared.run_fault.RunFault.TheVariants as faults
+use Rattle.lease_rules.specs.Legal.{IsComplete, Legal}
+use Rattle.lease_rules.specs.State.{now}
+use Rattle.site_yard.specs.code.Ending.{first_fault}
+use Rattle.site_yard.specs.code.Reopening.{AreRecorded}
 use Rattle.record_audit.specs.Verdict.{IsIllegalAt}
-use Rattle.site_yard.specs.Ending.{first_fault}
-use Rattle.site_yard.specs.Reopening.{AreRecorded}
-use Rattle.plan_run.specs.Moments.{Tools, Work, asked_of}
-use Rattle.plan_run.specs.Running.{AsksNothingElse, Continued, IsRun, IsTextSince, IsUnopened, Opening}
+use Rattle.plan_run.specs.Moments.{Tools, Work}
+use Rattle.plan_run.specs.code.Moments.{asked_of}
+use Rattle.plan_run.specs.code.Running.{AsksNothingElse, Continued, IsRun, IsTextSince, IsUnopened, Opening}
 use Rattle.plan_run.specs.RunText.{run_text}
 use Rattle.resume_run.specs.Replaying.{without_fails}
 use Rattle.resume_run.specs.Working.{IsInOrder}

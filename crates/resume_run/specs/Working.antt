@@ -4,9 +4,10 @@ use Rattle.plan_core.specs.declared.plan.Plan.{Plan}
 use Rattle.plan_core.specs.Words.{count_tasks}
 use Rattle.run_record.specs.Events.{Event}
 use Rattle.lease_rules.specs.State.{now}
-use Rattle.site_yard.specs.Failures.{RoseBy, tool_faults}
-use Rattle.worker_gate.specs.Alone.{AllBy, IsOver, TakeFirst}
-use Rattle.plan_run.specs.Moments.{MemberMoment, count_of}
+use Rattle.site_yard.specs.code.Failures.{RoseBy, tool_faults}
+use Rattle.worker_gate.specs.code.Alone.{AllBy, IsOver, TakeFirst}
+use Rattle.plan_run.specs.Moments.{MemberMoment}
+use Rattle.plan_run.specs.code.Moments.{count_of}
 use Rattle.resume_run.specs.Lost.{lost_below}
 use Rattle.resume_run.specs.Redoing.{AreDone, EndAtFail}
 

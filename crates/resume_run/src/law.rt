@@ -2,10 +2,10 @@
 
 ghost use Rattle.std.specs.Prelude.{ℕ, List};
 ghost use Rattle.plan_core.specs.declared.plan.Plan.{Plan};
-ghost use Rattle.plan_core.specs.Proper.{IsProper};
+ghost use Rattle.plan_core.specs.code.Proper.{IsProper};
 ghost use Rattle.run_record.specs.Events.{Event};
 ghost use Rattle.lease_rules.specs.Legal.{Legal};
-ghost use Rattle.plan_run.specs.Finishing.{NoneFailed};
+ghost use Rattle.plan_run.specs.code.Finishing.{NoneFailed};
 ghost use Rattle.plan_run.specs.Moments.{Tools, Work};
 ghost use Rattle.resume_run.specs.Finishing.{CanEnd, IsDoneOrMemory};
 ghost use Rattle.resume_run.specs.Replaying.{without_fails};

@@ -2,9 +2,9 @@
 //!
 //! [`replay`] makes a book whose record is the given one without its Fails, and tells which tasks were lost: those that
 //! are open in it. What that is, and when a record is refused, is said in `specs/Replaying.antt` and `specs/Lost.antt`.
-//! [`redo`] does these tasks, each as its own worker (`specs/Redoing.antt`). [`resume_plan`] is the whole of it: it replays
-//! the record, opens a yard with it, does the lost tasks and then what is left, as one worker, until all is done or
-//! something failed (`specs/Resuming.antt`).
+//! [`redo`] does these tasks, each as its own worker (`specs/Redoing.antt`). [`resume_plan`] is the whole of it: it
+//! replays the record, opens a yard with it, does the lost tasks and then what is left, as one worker, until all is
+//! done or something failed (`specs/Resuming.antt`).
 #![tactic(auto)]
 
 mod law;

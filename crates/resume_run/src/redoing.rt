@@ -6,11 +6,11 @@ ghost use Rattle.plan_core.specs.Words.{count_tasks, task_numbers};
 ghost use Rattle.run_record.specs.Events.{Event};
 ghost use Rattle.lease_book.specs.Book.{state_at};
 ghost use Rattle.lease_rules.specs.Legal.{IsOpen};
-ghost use Rattle.lease_rules.specs.Reading.{is_fail};
-ghost use Rattle.site_yard.specs.Yard.{IsSameYard};
-ghost use Rattle.worker_gate.specs.Calls.{AddsCalls};
-ghost use Rattle.worker_gate.specs.Inputs.{AddsOfInputs};
-ghost use Rattle.plan_run.specs.Moments.{crew_moment};
+ghost use Rattle.lease_rules.specs.code.Reading.{is_fail};
+ghost use Rattle.site_yard.specs.code.Yard.{IsSameYard};
+ghost use Rattle.worker_gate.specs.code.Calls.{AddsCalls};
+ghost use Rattle.worker_gate.specs.code.Inputs.{AddsOfInputs};
+ghost use Rattle.plan_run.specs.code.Moments.{crew_moment};
 ghost use Rattle.resume_run.specs.Lost.{lost_below};
 ghost use Rattle.resume_run.specs.Redoing.{AddsFaults, AreToldOf, Redoes, RedoesOne};
 

@@ -1,13 +1,13 @@
 //! The replay of a record without its Fails.
 
 ghost use Rattle.std.specs.Prelude.{◌≡◌, ◌≤◌, ◌++◌, ◌∷◌, [], IfOk};
-ghost use Rattle.plan_core.specs.Proper.{IsProper};
+ghost use Rattle.plan_core.specs.code.Proper.{IsProper};
 ghost use Rattle.plan_core.specs.Words.{retries, task_numbers};
-ghost use Rattle.run_record.specs.Events.{event};
+ghost use Rattle.run_record.specs.code.Events.{event};
 ghost use Rattle.lease_book.specs.Book.{state_at};
-ghost use Rattle.lease_rules.specs.Law.{FitsFromStart};
+ghost use Rattle.lease_rules.specs.code.Law.{FitsFromStart};
 ghost use Rattle.lease_rules.specs.Legal.{Allowed, Legal};
-ghost use Rattle.lease_rules.specs.Reading.{is_fail};
+ghost use Rattle.lease_rules.specs.code.Reading.{is_fail};
 ghost use Rattle.resume_run.specs.Replaying.{HasFollowed, IsReplayed, Replays, without_fails};
 
 use crate::law::records_without_fails_are_legal;

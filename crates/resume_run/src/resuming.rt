@@ -4,7 +4,7 @@ ghost use Rattle.std.specs.Prelude.{◌≡◌, ◌≤◌, [], Err, false, length
 ghost use Rattle.craft.specs.declared.crew.Crew.{Crew};
 ghost use Rattle.plan_core.specs.Words.{count_tasks, retries, task_numbers};
 ghost use Rattle.lease_book.specs.Book.{state_at};
-ghost use Rattle.plan_run.specs.Moments.{counting, crew_moment, first_shown, work_moment, working};
+ghost use Rattle.plan_run.specs.code.Moments.{counting, crew_moment, first_shown, work_moment, working};
 ghost use Rattle.resume_run.specs.Lost.{lost_below};
 ghost use Rattle.resume_run.specs.Resuming.{HasGoneOn, Resumes, resumed_end};
 

@@ -4,10 +4,11 @@ use Rattle.std.proofs.Math.Bool.{or-true}
 use Rattle.std.proofs.lemmas.List.{append-nil, map-append}
 use Rattle.std.specs.List.{concat, list_any, list_all, onto_first}
 use Rattle.run_record.specs.Events.{Event, Regrant, is_second}
-use Rattle.run_record.specs.RecordText.{IsEntry, AreEntries, entry_line, closed_line, version_line, record_lines, record_text}
-use Rattle.run_record.specs.Lines.{lines, line_length, first_line}
-use Rattle.run_record.specs.Parser.{IsRead, IsNoEntry, fits_version}
-use Rattle.run_record.specs.Fault.{SharesLines, IsMalformedAt}
+use Rattle.run_record.specs.code.RecordText.{IsEntry, AreEntries}
+use Rattle.run_record.specs.RecordText.{entry_line, closed_line, version_line, record_lines, record_text}
+use Rattle.run_record.specs.code.Lines.{lines, line_length, first_line}
+use Rattle.run_record.specs.code.Parser.{IsRead, IsNoEntry, fits_version}
+use Rattle.run_record.specs.code.Fault.{SharesLines, IsMalformedAt}
 use Rattle.run_record.proofs.OneTextLemmas.{one_event, not_closed, entry_lines, text_lines, version_cut}
 use Rattle.run_record.proofs.RecordTextLemmas.{AreEntries-append, lines_closed}
 use Rattle.run_record.proofs.LineLemmas.{lines_from_first}

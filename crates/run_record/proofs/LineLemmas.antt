@@ -9,9 +9,9 @@ use Rattle.std.proofs.lemmas.List.Folds.{list_all-append}
 use Rattle.std.proofs.lemmas.List.Splits.{slice_split_at, slice_split_none}
 use Rattle.std.proofs.lemmas.Str.{IsUtf8-from_ascii}
 use Rattle.std.proofs.lemmas.Str.Ascii.{IsAscii-from_all}
-use Rattle.run_record.specs.RecordText.{Word, word_text, spaced, joined}
-use Rattle.run_record.specs.Words.{words_of}
-use Rattle.run_record.specs.Lines.{lines, line_length}
+use Rattle.run_record.specs.RecordText.{Word, word_text, spaced, joined_words}
+use Rattle.run_record.specs.code.Words.{words_of}
+use Rattle.run_record.specs.code.Lines.{lines, line_length}
 use Rattle.run_record.proofs.WordTextLemmas.{visible, AllVisible}
 
 pub line_within : (text : List ℕ) → line_length text ≤ length text
@@ -28,10 +28,10 @@ not_space b h = let l = ltb-true 32 b (and_parts (ltb 32 b) (ltb b 128) h).0 in 
 no_space : (xs : List ℕ) → list_all visible xs ≡ true → All (λ (x : ℕ). (x == 32) ≡ false) xs
 no_space xs h = λ k d l. not_space (slice_index_or xs k d) (AllPass-from_list_all visible xs h k d l)
 
-pub words_are : (w : Word) (ws : List Word) → AllVisible (w ∷ ws) → words_of (joined (w ∷ ws)) ≡ map word_text (w ∷ ws)
+pub words_are : (w : Word) (ws : List Word) → AllVisible (w ∷ ws) → words_of (joined_words (w ∷ ws)) ≡ map word_text (w ∷ ws)
 words_are w [] h = ap words_of (append-nil (word_text w)) ∙ slice_split_none (λ (b : ℕ). b == 32) (word_text w) (no_space (word_text w) h.0)
 words_are w (v ∷ ws) h =
-    slice_split_at (λ (b : ℕ). b == 32) (word_text w) 32 (joined (v ∷ ws)) (no_space (word_text w) h.0) refl
+    slice_split_at (λ (b : ℕ). b == 32) (word_text w) 32 (joined_words (v ∷ ws)) (no_space (word_text w) h.0) refl
     ∙ ap (λ (l : List (List ℕ)). word_text w ∷ l) (words_are v ws h.1)
 
 -- a visible byte or a space
@@ -50,7 +50,7 @@ spaced_plain : (ws : List Word) → AllVisible ws → list_all plain (spaced ws)
 spaced_plain [] h = refl
 spaced_plain (w ∷ ws) h = list_all-append plain (word_text w) (spaced ws) ∙ and_from (list_all plain (word_text w)) (list_all plain (spaced ws)) (visible_plain (word_text w) h.0) (spaced_plain ws h.1)
 
-pub joined_plain : (ws : List Word) → AllVisible ws → list_all plain (joined ws) ≡ true
+pub joined_plain : (ws : List Word) → AllVisible ws → list_all plain (joined_words ws) ≡ true
 joined_plain [] h = refl
 joined_plain (w ∷ ws) h = list_all-append plain (word_text w) (spaced ws) ∙ and_from (list_all plain (word_text w)) (list_all plain (spaced ws)) (visible_plain (word_text w) h.0) (spaced_plain ws h.1)
 

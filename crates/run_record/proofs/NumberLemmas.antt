@@ -7,7 +7,7 @@ use Rattle.std.specs.Fmt.{decimal}
 use Rattle.std.specs.Str.Parse.{AllDigits, IsNumeral, ParsesUnsigned, digits_value, without_leading_plus}
 use Rattle.std.proofs.lemmas.Bool.{and_parts, and_from, ltb-true, lt-ltb}
 use Rattle.std.proofs.lemmas.Fmt.{parse-decimal}
-use Rattle.run_record.specs.Reading.{is_numeral, numeral_value, number_of}
+use Rattle.run_record.specs.code.Reading.{is_numeral, numeral_value, number_of}
 
 digits_to : (ds : List ℕ) → list_all (λ (b : ℕ). ltb (digit_value b) 10) ds ≡ true → AllDigits 10 ds
 digits_to [] h = tt

@@ -3,10 +3,11 @@ use Rattle.std.proofs.Common.{◌≡◌, ℕ, ◌≤◌, ◌++◌, Bool, true, f
 use Rattle.std.specs.List.{concat, list_any}
 use Rattle.std.proofs.lemmas.List.{append_cancel_right}
 use Rattle.run_record.specs.Events.{Event, Grant, Arrive, End, Clean, Fail, Again, Regrant, is_second}
-use Rattle.run_record.specs.RecordText.{Word, IsEntry, AreEntries, word_text, joined, entry_words, entry_line, closed_line, version_line, record_lines, record_text}
-use Rattle.run_record.specs.Reading.{event_in}
-use Rattle.run_record.specs.Words.{words_of}
-use Rattle.run_record.specs.Lines.{lines}
+use Rattle.run_record.specs.RecordText.{Word, word_text, joined_words, entry_words, entry_line, closed_line, version_line, record_lines, record_text}
+use Rattle.run_record.specs.code.RecordText.{IsEntry, AreEntries}
+use Rattle.run_record.specs.code.Reading.{event_in}
+use Rattle.run_record.specs.code.Words.{words_of}
+use Rattle.run_record.specs.code.Lines.{lines}
 use Rattle.run_record.proofs.WordTextLemmas.{AllVisible, entry_visible}
 use Rattle.run_record.proofs.LineLemmas.{words_are, joined_plain, lines_from_first}
 use Rattle.run_record.proofs.ReadingLemmas.{event_is}
@@ -21,16 +22,16 @@ three_words (Fail w t c ns) = omega arith
 three_words (Again w t c ns) = omega arith
 three_words (Regrant w t) = omega arith
 
-pub words_back : (ws : List Word) → 3 ≤ length (map word_text ws) → AllVisible ws → words_of (joined ws) ≡ map word_text ws
+pub words_back : (ws : List Word) → 3 ≤ length (map word_text ws) → AllVisible ws → words_of (joined_words ws) ≡ map word_text ws
 words_back [] l h = absurd (omega (arith, l))
 words_back (w ∷ ws) l h = words_are w ws h
 
-pub read_back : (e : Event) → IsEntry e → event_in (words_of (joined (entry_words e))) ≡ Some e
+pub read_back : (e : Event) → IsEntry e → event_in (words_of (joined_words (entry_words e))) ≡ Some e
 read_back e h = ap event_in (words_back (entry_words e) (three_words e) (entry_visible e h)) ∙ event_is e h
 
-front_same : (d e : Event) → entry_line d ≡ entry_line e → joined (entry_words d) ≡ joined (entry_words e)
+front_same : (d e : Event) → entry_line d ≡ entry_line e → joined_words (entry_words d) ≡ joined_words (entry_words e)
 unfolding entry_line
-front_same d e h = append_cancel_right (joined (entry_words d)) (joined (entry_words e)) (codes "\n") h
+front_same d e h = append_cancel_right (joined_words (entry_words d)) (joined_words (entry_words e)) (codes "\n") h
 
 same_some : (d e : Event) → Some d ≡ Some e → d ≡ e
 same_some d e h = cc h
@@ -42,7 +43,7 @@ one_event d e p q h =
 pub not_closed : (e : Event) → IsEntry e → entry_line e ≡ closed_line → ⊥
 unfolding entry_line
 not_closed e p h =
-    let front = append_cancel_right (joined (entry_words e)) (codes "closed") (codes "\n") h in
+    let front = append_cancel_right (joined_words (entry_words e)) (codes "closed") (codes "\n") h in
     let count = ap length (sym (words_back (entry_words e) (three_words e) (entry_visible e p)) ∙ ap words_of front) in
     let l = three_words e in
     omega (arith, count, l)
@@ -61,7 +62,7 @@ unfolding entry_line
 entry_lines [] rest p = refl
 entry_lines (e ∷ es) rest p =
     let more = concat (map entry_line es) in
-    let xs = joined (entry_words e) in
+    let xs = joined_words (entry_words e) in
     ap lines (append_assoc (entry_line e) more rest ∙ append_assoc xs (codes "\n") (more ++ rest))
     ∙ lines_from_first xs (more ++ rest) (joined_plain (entry_words e) (entry_visible e p.0))
     ∙ ap (λ (l : List (List ℕ)). entry_line e ∷ l) (entry_lines es rest p.1)

@@ -6,18 +6,19 @@ use Rattle.std.proofs.lemmas.Bool.{and_from, eqb-true}
 use Rattle.std.proofs.lemmas.List.Folds.{concat-append, list_all-append}
 use Rattle.std.proofs.lemmas.List.{append_cancel_right, append-nil, map-append, nil_from_length, take-append-drop, length-take, length-drop}
 use Rattle.run_record.specs.Events.{Event}
-use Rattle.run_record.specs.RecordText.{AreEntries, IsEntry, closed_line, version_line, entry_line, entry_words, joined}
-use Rattle.run_record.specs.Reading.{event_in, event_with, listed_words, sizes_of}
-use Rattle.run_record.specs.Words.{words_of}
-use Rattle.run_record.specs.Lines.{first_line, line_length}
-use Rattle.run_record.specs.Parser.{AddsEntry, IsLineOf, IsNoEntry, IsRead, fits_version}
+use Rattle.run_record.specs.code.RecordText.{AreEntries, IsEntry}
+use Rattle.run_record.specs.RecordText.{closed_line, version_line, entry_line, entry_words, joined_words}
+use Rattle.run_record.specs.code.Reading.{event_in, event_with, listed_words, sizes_of}
+use Rattle.run_record.specs.code.Words.{words_of}
+use Rattle.run_record.specs.code.Lines.{first_line, line_length}
+use Rattle.run_record.specs.code.Parser.{AddsEntry, IsLineOf, IsNoEntry, IsRead, fits_version}
 use Rattle.run_record.proofs.OneTextLemmas.{read_back}
 use Rattle.run_record.proofs.WordTextLemmas.{entry_visible}
 use Rattle.run_record.proofs.LineLemmas.{joined_plain, plain_utf8}
 
-front_is : (e : Event) (text : List ℕ) → entry_line e ≡ text ++ codes "\n" → joined (entry_words e) ≡ text
+front_is : (e : Event) (text : List ℕ) → entry_line e ≡ text ++ codes "\n" → joined_words (entry_words e) ≡ text
 unfolding entry_line
-front_is e text h = append_cancel_right (joined (entry_words e)) text (codes "\n") h
+front_is e text h = append_cancel_right (joined_words (entry_words e)) text (codes "\n") h
 
 read_as : (e : Event) (text line : List ℕ) → IsEntry e → text ++ codes "\n" ≡ line → entry_line e ≡ line → event_in (words_of text) ≡ Some e
 read_as e text line p t h = ap (λ (l : List ℕ). event_in (words_of l)) (sym (front_is e text (h ∙ sym t))) ∙ read_back e p
@@ -42,12 +43,12 @@ other_read second text line sizes d t s n none e p l =
 -- the line of an entry ends with a line feed, and is text
 pub ends_line : (line : List ℕ) → ((front : List ℕ) → line ≡ front ++ codes "\n" → ⊥) → (e : Event) → IsEntry e → entry_line e ≡ line → ⊥
 unfolding entry_line
-ends_line line none e p h = none (joined (entry_words e)) (sym h)
+ends_line line none e p h = none (joined_words (entry_words e)) (sym h)
 
 pub is_text : (front line : List ℕ) → line ≡ front ++ codes "\n" → (IsUtf8 front → ⊥) → (e : Event) → IsEntry e → entry_line e ≡ line → ⊥
 is_text front line t none e p h =
     let same = front_is e front (h ∙ t) in
-    let text : IsUtf8 (joined (entry_words e)) = plain_utf8 (joined (entry_words e)) (joined_plain (entry_words e) (entry_visible e p)) in
+    let text : IsUtf8 (joined_words (entry_words e)) = plain_utf8 (joined_words (entry_words e)) (joined_plain (entry_words e) (entry_visible e p)) in
     none (subst IsUtf8 same text)
 
 pub entry_read : (second : Bool) (es more : List Event) (rest text : List ℕ) → concat (map entry_line es) ++ rest ≡ text → AddsEntry second (first_line rest) es more
@@ -67,7 +68,7 @@ version_kept second es more line h a =
 
 line_not_empty : (e : Event) (line : List ℕ) → entry_line e ≡ line → 0 < length line
 unfolding entry_line
-line_not_empty e line h = let l = sym (ap length h) ∙ length-append (joined (entry_words e)) (codes "\n") in omega (arith, l)
+line_not_empty e line h = let l = sym (ap length h) ∙ length-append (joined_words (entry_words e)) (codes "\n") in omega (arith, l)
 
 pub less_left : (second : Bool) (es more : List Event) (rest : List ℕ) → AddsEntry second (first_line rest) es more → length (drop (line_length rest) rest) < length rest
 less_left second es more rest a =

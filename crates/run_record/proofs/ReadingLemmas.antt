@@ -8,10 +8,12 @@ use Rattle.hex.specs.Hex.{encode_lower, IsBytes}
 use Rattle.hex.proofs.HexLemmas.{decode_sized-encode_lower}
 use Rattle.run_record.specs.declared.entry.Cause.{Cause}
 use Rattle.run_record.specs.declared.entry.Cause.TheVariants as cause
-use Rattle.run_record.specs.Events.{Event, Grant, Arrive, End, Clean, Fail, Again, Regrant, may_publish, may_retry, is_empty}
-use Rattle.run_record.specs.RecordText.{Word, Size, AllFit, IsEntry, word_text, cause_words, entry_words}
-use Rattle.run_record.specs.Reading.{number_of, with_size, sizes_of, sizes_place, published_place, digest_at, cause_of, event_named, event_with, event_in, job}
-use Rattle.run_record.specs.Words.{word_at}
+use Rattle.run_record.specs.Events.{Event, Grant, Arrive, End, Clean, Fail, Again, Regrant, may_retry}
+use Rattle.run_record.specs.code.Events.{may_publish, is_empty}
+use Rattle.run_record.specs.RecordText.{Word, Size, word_text, cause_words, entry_words}
+use Rattle.run_record.specs.code.RecordText.{AllFit, IsEntry}
+use Rattle.run_record.specs.code.Reading.{number_of, with_size, sizes_of, sizes_place, published_place, digest_at, cause_of, event_named, event_with, event_in, job}
+use Rattle.run_record.specs.code.Words.{word_at}
 use Rattle.run_record.proofs.NumberLemmas.{number_back}
 
 number_is : (n : ℕ) → n < 2 ^ 32 → number_of 32 (decimal n) ≡ Some n

@@ -3,7 +3,8 @@ use Rattle.std.proofs.Common.{◌≡◌, ℕ, zero, suc, ◌+◌, ◌^◌, ◌<�
 use Rattle.std.specs.List.{list_any, concat, slice_get}
 use Rattle.std.proofs.lemmas.List.Folds.{concat-append}
 use Rattle.run_record.specs.Events.{Event, is_second}
-use Rattle.run_record.specs.RecordText.{Word, Size, AllFit, IsEntry, AreEntries, word_text, spaced, entry_line, closed_line}
+use Rattle.run_record.specs.RecordText.{Word, Size, word_text, spaced, entry_line, closed_line}
+use Rattle.run_record.specs.code.RecordText.{AllFit, IsEntry, AreEntries}
 
 pub sizes_fit : (ns : List ℕ) → ((i : ℕ) → get_or ns i 0 < 2 ^ 64) → AllFit (map Size ns)
 sizes_fit [] h = tt

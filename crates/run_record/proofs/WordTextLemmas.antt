@@ -11,7 +11,8 @@ use Rattle.hex.specs.Hex.{encode_lower, encode_with, lower_digits, IsBytes}
 use Rattle.run_record.specs.declared.entry.Cause.{Cause}
 use Rattle.run_record.specs.declared.entry.Cause.TheVariants as cause
 use Rattle.run_record.specs.Events.{Event, Grant, Arrive, End, Clean, Fail, Again, Regrant}
-use Rattle.run_record.specs.RecordText.{Word, Size, AllFit, IsEntry, word_text, cause_words, entry_words}
+use Rattle.run_record.specs.RecordText.{Word, Size, word_text, cause_words, entry_words}
+use Rattle.run_record.specs.code.RecordText.{AllFit, IsEntry}
 
 -- a visible ASCII byte
 abbrev pub visible : ℕ → Bool

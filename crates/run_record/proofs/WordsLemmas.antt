@@ -5,8 +5,8 @@ use Rattle.std.proofs.lemmas.Bool.{ne_eqb}
 use Rattle.std.proofs.lemmas.List.{drop-drop, drop_all, length-drop, get_or_default}
 use Rattle.std.proofs.Math.Seq.{drop-length}
 use Rattle.std.proofs.lemmas.List.Splits.{slice_split_first, slice_split_none}
-use Rattle.run_record.specs.Reading.{number_of, sizes_of, with_size}
-use Rattle.run_record.specs.Words.{words_of, word_at}
+use Rattle.run_record.specs.code.Reading.{number_of, sizes_of, with_size}
+use Rattle.run_record.specs.code.Words.{words_of, word_at}
 
 pub cut_word : (bs front after : List ℕ) → position_or_len (λ (b : ℕ). b == 32) bs < length bs
     → front ≡ before_first (λ (b : ℕ). b == 32) bs → after ≡ after_first (λ (b : ℕ). b == 32) bs → words_of bs ≡ front ∷ words_of after

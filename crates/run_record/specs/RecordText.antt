@@ -1,11 +1,11 @@
 -- The text of a record: a line of its version, a line for each entry, and the line `closed`.
-use Rattle.std.specs.Prelude.{◌≡◌, ℕ, ◌^◌, ◌<◌, ◌++◌, Bool, true, if◌then◌else◌, List, [], ◌∷◌, map, length, codes, ⊤}
+use Rattle.std.specs.Prelude.{ℕ, ◌++◌, Bool, if◌then◌else◌, List, [], ◌∷◌, map, codes}
 use Rattle.std.specs.List.{list_any, concat}
 use Rattle.std.specs.Fmt.{decimal}
-use Rattle.hex.specs.Hex.{encode_lower, IsBytes}
+use Rattle.hex.specs.Hex.{encode_lower}
 use Rattle.run_record.specs.declared.entry.Cause.{Cause}
 use Rattle.run_record.specs.declared.entry.Cause.TheVariants as cause
-use Rattle.run_record.specs.Events.{Event, Grant, Arrive, End, Clean, Fail, Again, Regrant, is_proper, is_second}
+use Rattle.run_record.specs.Events.{Event, Grant, Arrive, End, Clean, Fail, Again, Regrant, is_second}
 
 -- a word of a line: as it is, a number or a size in decimal digits without a leading zero, or the 64
 -- lower-case hexadecimal digits of a digest
@@ -20,17 +20,6 @@ word_text (Plain text) = text
 word_text (Number n) = decimal n
 word_text (Size n) = decimal n
 word_text (Digest bytes) = encode_lower bytes
-
--- numbers are below 2^32, sizes below 2^64, and a digest has 32 bytes
-abbrev pub FitsWord : Word → Type 0
-FitsWord (Plain text) = ⊤
-FitsWord (Number n) = n < 2 ^ 32
-FitsWord (Size n) = n < 2 ^ 64
-FitsWord (Digest bytes) = (length bytes ≡ 32) × IsBytes bytes
-
-abbrev pub AllFit : List Word → Type 0
-AllFit [] = ⊤
-AllFit (w ∷ ws) = FitsWord w × AllFit ws
 
 abbrev pub cause_words : Cause → List Word
 cause_words cause.Absent = Plain (codes "absent") ∷ []
@@ -52,27 +41,18 @@ entry_words (Fail w t c ns) = Plain (codes "fail") ∷ Number w ∷ Number t ∷
 entry_words (Again w t c ns) = Plain (codes "again") ∷ Number w ∷ Number t ∷ cause_words c ++ map Size ns
 entry_words (Regrant w t) = Plain (codes "regrant") ∷ Number w ∷ Number t ∷ []
 
--- the events that entries are
-pub record IsEntry (e : Event) : Type 0 where
-  pub fits : AllFit (entry_words e)
-  pub proper : is_proper e ≡ true
-
-abbrev pub AreEntries : List Event → Type 0
-AreEntries [] = ⊤
-AreEntries (e ∷ es) = IsEntry e × AreEntries es
-
 -- words, a space before each
 abbrev pub spaced : List Word → List ℕ
 spaced [] = []
 spaced (w ∷ ws) = codes " " ++ word_text w ++ spaced ws
 
 -- words, a space between
-abbrev pub joined : List Word → List ℕ
-joined [] = []
-joined (w ∷ ws) = word_text w ++ spaced ws
+abbrev pub joined_words : List Word → List ℕ
+joined_words [] = []
+joined_words (w ∷ ws) = word_text w ++ spaced ws
 
 unfoldable pub entry_line : Event → List ℕ
-entry_line e = joined (entry_words e) ++ codes "\n"
+entry_line e = joined_words (entry_words e) ++ codes "\n"
 
 -- version 2 exactly where an entry of retries or fresh orders stands
 abbrev pub version_line : Bool → List ℕ

@@ -2,7 +2,7 @@
 
 ghost use Rattle.std.specs.Prelude.{◌≡◌, ◌++◌, OnOk};
 ghost use Rattle.run_record.specs.declared.run_fault.RunFault.TheVariants.{ChecksumDiffers, LengthDiffers, Oversize};
-ghost use Rattle.run_record.specs.FailedLine.{failed_line};
+ghost use Rattle.run_record.specs.code.FailedLine.{failed_line};
 
 use crate::run_fault::RunFault;
 use hex::encode;

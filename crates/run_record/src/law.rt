@@ -2,8 +2,9 @@
 
 ghost use Rattle.std.specs.Prelude.{◌≡◌, List, ℕ};
 ghost use Rattle.run_record.specs.Events.{Event};
-ghost use Rattle.run_record.specs.Fault.{IsMalformedAt};
-ghost use Rattle.run_record.specs.RecordText.{AreEntries, record_text};
+ghost use Rattle.run_record.specs.code.Fault.{IsMalformedAt};
+ghost use Rattle.run_record.specs.code.RecordText.{AreEntries};
+ghost use Rattle.run_record.specs.RecordText.{record_text};
 
 /// No two records have the same text.
 pub fn text_is_of_one_record()

@@ -1,10 +1,12 @@
 //! The lines of a text, and which of them are those of entries.
 
 ghost use Rattle.std.specs.Prelude.{◌≡◌, ◌++◌, IfOk, IfSome, IfNone, IsTrue, codes, drop, false};
-ghost use Rattle.run_record.specs.Events.{Event, event};
-ghost use Rattle.run_record.specs.Lines.{first_line, line_length};
-ghost use Rattle.run_record.specs.Parser.{AddsEntry, IsLineOf, IsNoEntry};
-ghost use Rattle.run_record.specs.RecordText.{IsEntry, entry_line};
+ghost use Rattle.run_record.specs.Events.{Event};
+ghost use Rattle.run_record.specs.code.Events.{event};
+ghost use Rattle.run_record.specs.code.Lines.{first_line, line_length};
+ghost use Rattle.run_record.specs.code.Parser.{AddsEntry, IsLineOf, IsNoEntry};
+ghost use Rattle.run_record.specs.code.RecordText.{IsEntry};
+ghost use Rattle.run_record.specs.RecordText.{entry_line};
 
 use crate::entry::Entry;
 use crate::history::Record;

@@ -3,10 +3,11 @@
 ghost use Rattle.std.specs.Prelude.{◌≡◌, ◌++◌, Bool, IfErr, IfNone, IfOk, IfSome, IsTrue, List, OnOk, [], map, false, true, ℕ};
 ghost use Rattle.std.specs.List.{concat, list_all, list_any};
 ghost use Rattle.run_record.specs.Events.{Event, is_second};
-ghost use Rattle.run_record.specs.Fault.{IsFaultOf, IsReadBack};
-ghost use Rattle.run_record.specs.Lines.{first_line};
-ghost use Rattle.run_record.specs.Parser.{IsEndOf, IsNoEntry, IsRead, fits_version};
-ghost use Rattle.run_record.specs.RecordText.{AreEntries, closed_line, entry_line, record_text, version_line};
+ghost use Rattle.run_record.specs.code.Fault.{IsFaultOf, IsReadBack};
+ghost use Rattle.run_record.specs.code.Lines.{first_line};
+ghost use Rattle.run_record.specs.code.Parser.{IsEndOf, IsNoEntry, IsRead, fits_version};
+ghost use Rattle.run_record.specs.code.RecordText.{AreEntries};
+ghost use Rattle.run_record.specs.RecordText.{closed_line, entry_line, record_text, version_line};
 
 use crate::fault::RecordFault;
 use crate::history::Record;

@@ -2,8 +2,9 @@
 
 ghost use Rattle.std.specs.Prelude.{◌≡◌, ◌++◌, ◌∷◌, [], IfOk, OnOk, map};
 ghost use Rattle.std.specs.List.{concat, list_any};
-ghost use Rattle.run_record.specs.Events.{event, is_second};
-ghost use Rattle.run_record.specs.RecordText.{Digest, Number, Plain, Size, cause_words, entry_line, entry_words, joined, record_text, spaced};
+ghost use Rattle.run_record.specs.code.Events.{event};
+ghost use Rattle.run_record.specs.Events.{is_second};
+ghost use Rattle.run_record.specs.RecordText.{Digest, Number, Plain, Size, cause_words, entry_line, entry_words, joined_words, record_text, spaced};
 
 use crate::entry::{Cause, Entry};
 use crate::history::Record;
@@ -113,7 +114,7 @@ fn push_failure(
 }
 
 fn push_words(alloc: Global, text: &mut Vec<u8>, entry: &Entry<'_>) -> Result<(), Memory>
-    ensures { OnOk result (text.new.items ≡ text.old.items ++ joined (entry_words (event entry.now))) }
+    ensures { OnOk result (text.new.items ≡ text.old.items ++ joined_words (entry_words (event entry.now))) }
 {
     match entry {
         Entry::Grant { worker, task } => push_head(alloc, text, "grant", *worker, *task),

@@ -2,8 +2,9 @@
 
 ghost use Rattle.std.specs.Prelude.{◌≡◌, ◌<◌, ◌^◌, length, map};
 ghost use Rattle.hex.specs.Hex.{IsBytes};
-ghost use Rattle.run_record.specs.Events.{event};
-ghost use Rattle.run_record.specs.RecordText.{AllFit, Size, cause_words, entry_words};
+ghost use Rattle.run_record.specs.code.Events.{event};
+ghost use Rattle.run_record.specs.code.RecordText.{AllFit};
+ghost use Rattle.run_record.specs.RecordText.{Size, cause_words, entry_words};
 
 use crate::entry::{Cause, Entry};
 use values::TaskId;

@@ -3,9 +3,9 @@
 ghost use Rattle.std.specs.Prelude.{◌≡◌, ◌++◌, ◌||◌, codes, OnOk, option_map};
 ghost use Rattle.std.specs.Option.{option_copied};
 ghost use Rattle.std.specs.Str.{bytes_eq};
-ghost use Rattle.run_record.specs.Events.{event};
-ghost use Rattle.run_record.specs.Reading.{cause_of, digest_at, event_with, listed_words, number_at, number_of, oversize, published_words, size_at, sizes_of};
-ghost use Rattle.run_record.specs.Words.{words_in, words_of};
+ghost use Rattle.run_record.specs.code.Events.{event};
+ghost use Rattle.run_record.specs.code.Reading.{cause_of, digest_at, event_with, listed_words, number_at, number_of, oversize, published_words, size_at, sizes_of};
+ghost use Rattle.run_record.specs.code.Words.{words_in, words_of};
 
 use crate::entry::{Cause, Entry};
 use crate::words::{first_word, skip_words, word};
@@ -32,7 +32,7 @@ fn size(line: &str, place: usize) -> Option<u64>
     size_of(word(line, place))
 }
 
-#[tactic(auto, unfolding(crate::specs::Reading::digest_at))]
+#[tactic(auto, unfolding(crate::specs::code::Reading::digest_at))]
 fn digest(line: &str, place: usize) -> Option<[u8; 32]>
     ensures { result ≡ digest_at (words_of line.now) place }
 {
@@ -101,7 +101,7 @@ fn oversize(line: &str) -> Option<Cause>
     Some(Cause::Oversize(JobId(job), FileId(file), length))
 }
 
-#[tactic(auto, unfolding(crate::specs::Reading::cause_of))]
+#[tactic(auto, unfolding(crate::specs::code::Reading::cause_of))]
 fn cause(line: &str) -> Option<Cause>
     ensures { result ≡ cause_of (words_of line.now) }
 {
@@ -119,7 +119,7 @@ fn cause(line: &str) -> Option<Cause>
 }
 
 /// The entry that a line may be, with sizes that were read from it.
-#[tactic(auto, unfolding(crate::specs::Reading::event_with))]
+#[tactic(auto, unfolding(crate::specs::code::Reading::event_with))]
 pub fn entry<'a>(line: &str, sizes: &'a [u64]) -> Option<Entry<'a>>
     ensures { option_map event result ≡ event_with sizes.now (words_of line.now) }
 {

@@ -2,7 +2,7 @@
 
 ghost use Rattle.std.specs.Prelude.{◌≡◌, ◌∷◌, drop};
 ghost use Rattle.std.specs.Option.{option_copied};
-ghost use Rattle.run_record.specs.Words.{word_at, words_in, words_of};
+ghost use Rattle.run_record.specs.code.Words.{word_at, words_in, words_of};
 
 /// The first word, and what follows its space.
 pub fn first_word(text: &str) -> (&str, Option<&str>)

@@ -1,5 +1,3 @@
-pub mod FileServer
-pub mod Directory
-pub mod SiteEntry
-pub mod Root
-pub mod Reader
+pub mod Catalog
+-- What only the code's own contracts say.
+pub mod code

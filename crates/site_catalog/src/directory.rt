@@ -1,8 +1,8 @@
 //! A directory: its table, its reading, and the keys that are in no table.
 
 ghost use Rattle.std.specs.Prelude.{◌≡◌};
-ghost use Rattle.peg_json.specs.Table.{rows_of};
-ghost use Rattle.site_catalog.specs.Directory.{directory_rows};
+ghost use Rattle.peg_json.specs.code.Table.{rows_of};
+ghost use Rattle.site_catalog.specs.Catalog.{directory_rows};
 
 use crate::catalog::{Directory, FileServer};
 use peg_json::{
@@ -39,7 +39,7 @@ fn directory_table() -> KeyTable<3>
 
 impl FromTree for Directory {
     ghost use Rattle.site_catalog.specs.declared.catalog.Directory as declared;
-    ghost use Rattle.site_catalog.specs.Directory.{directory_of};
+    ghost use Rattle.site_catalog.specs.Catalog.{directory_of};
 
     ghost Seen = { declared.Directory };
 
@@ -47,7 +47,7 @@ impl FromTree for Directory {
 
     ghost reads = { directory_of };
 
-    #[tactic(auto, unfolding(crate::specs::Directory::directory_of))]
+    #[tactic(auto, unfolding(crate::specs::Catalog::directory_of))]
     fn from_tree(alloc: Global, value: &Value, path: &Text) -> Result<Directory, TreeFault> {
         checked(alloc, value, path, &directory_table())?;
         let kind = row!(alloc, value, path, "type", Text);
@@ -62,11 +62,11 @@ impl FromTree for Directory {
 }
 
 impl Listed for Directory {
-    ghost use Rattle.site_catalog.specs.Directory.{unknown_directory};
+    ghost use Rattle.site_catalog.specs.code.Unknown.{unknown_directory};
 
     ghost unknown = { unknown_directory };
 
-    #[tactic(auto, unfolding(crate::specs::Directory::unknown_directory))]
+    #[tactic(auto, unfolding(crate::specs::code::Unknown::unknown_directory))]
     fn gather(
         alloc: Global,
         value: &Value,

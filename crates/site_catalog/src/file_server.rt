@@ -1,8 +1,8 @@
 //! A file server: its table, its reading, and the keys that are in no table.
 
 ghost use Rattle.std.specs.Prelude.{◌≡◌};
-ghost use Rattle.peg_json.specs.Table.{rows_of};
-ghost use Rattle.site_catalog.specs.FileServer.{server_rows};
+ghost use Rattle.peg_json.specs.code.Table.{rows_of};
+ghost use Rattle.site_catalog.specs.Catalog.{server_rows};
 
 use crate::catalog::FileServer;
 use peg_json::{FromTree, KeyRow, KeyTable, Kind, Listed, TreeFault, checked, gather, row};
@@ -31,7 +31,7 @@ fn server_table() -> KeyTable<2>
 
 impl FromTree for FileServer {
     ghost use Rattle.site_catalog.specs.declared.catalog.FileServer as declared;
-    ghost use Rattle.site_catalog.specs.FileServer.{server_of};
+    ghost use Rattle.site_catalog.specs.Catalog.{server_of};
 
     ghost Seen = { declared.FileServer };
 
@@ -39,7 +39,7 @@ impl FromTree for FileServer {
 
     ghost reads = { server_of };
 
-    #[tactic(auto, unfolding(crate::specs::FileServer::server_of))]
+    #[tactic(auto, unfolding(crate::specs::Catalog::server_of))]
     fn from_tree(alloc: Global, value: &Value, path: &Text) -> Result<FileServer, TreeFault> {
         checked(alloc, value, path, &server_table())?;
         let operation = row!(alloc, value, path, "operation", Text);
@@ -49,11 +49,11 @@ impl FromTree for FileServer {
 }
 
 impl Listed for FileServer {
-    ghost use Rattle.site_catalog.specs.FileServer.{unknown_server};
+    ghost use Rattle.site_catalog.specs.code.Unknown.{unknown_server};
 
     ghost unknown = { unknown_server };
 
-    #[tactic(auto, unfolding(crate::specs::FileServer::unknown_server))]
+    #[tactic(auto, unfolding(crate::specs::code::Unknown::unknown_server))]
     fn gather(
         alloc: Global,
         value: &Value,

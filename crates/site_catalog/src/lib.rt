@@ -1,4 +1,4 @@
-//! Site catalogues: a catalogue is the one that its document's definition gives, `read_of` of `specs/Reader.antt`.
+//! Site catalogues: a catalogue is the one that its document's definition gives, `read_of` of `specs/Catalog.antt`.
 //!
 //! Each object of the format has a file with its table, its reading and its unknown keys (`root`, `site_entry`,
 //! `directory`, `file_server`), over `peg_json`. Site names are distinct, and there are at most 64.

@@ -5,10 +5,11 @@ ghost use Rattle.std.specs.List.Sorted.{IsPermutation, IsSorted};
 ghost use Rattle.std.specs.Ordering.{nat_cmp};
 ghost use Rattle.std.specs.Cmp.Lexicographic.{slice_cmp};
 ghost use Rattle.serde_json.specs.View.{view as tree_view};
-ghost use Rattle.peg_json.specs.ReadFault.{GivesRead};
-ghost use Rattle.peg_json.specs.Sites.{sites_checked};
-ghost use Rattle.site_catalog.specs.Reader.{view, names_of, few_distinct, from_tree_of, read_of, unknown_in_text};
-ghost use Rattle.site_catalog.specs.Root.{unknown_of};
+ghost use Rattle.peg_json.specs.code.ReadFault.{GivesRead};
+ghost use Rattle.peg_json.specs.Elements.{sites_checked};
+ghost use Rattle.site_catalog.specs.Catalog.{site_view, names_of, few_distinct, site_catalog_from_tree, site_catalog_from_text};
+ghost use Rattle.site_catalog.specs.code.Unknown.{unknown_in_text};
+ghost use Rattle.site_catalog.specs.code.Unknown.{unknown_of};
 
 use crate::catalog::{SiteCatalog, SiteEntry};
 use crate::root::Document;
@@ -23,7 +24,7 @@ fn catalog_of(
     sites: Items<SiteEntry>,
     ignored: Vec<Text>,
 ) -> Result<SiteCatalog, ReadFault>
-    ensures answer { GivesRead view result (few_distinct sites) }
+    ensures answer { GivesRead site_view result (few_distinct sites) }
     ensures ignored { IfOk result (λ c. c.ignored ≡ ignored.items) }
     ensures distinct { IfOk result (λ c. sites_checked (names_of c.sites) ≡ Ok tt) }
 {
@@ -36,9 +37,9 @@ fn catalog_of(
 
 /// Reads the tree of a site catalogue, which stands under a path: that of the document's root, or of the key at which
 /// a workflow has it.
-#[tactic(auto, unfolding(crate::specs::Reader::from_tree_of))]
+#[tactic(auto, unfolding(crate::specs::Catalog::site_catalog_from_tree))]
 pub fn from_tree(alloc: Global, value: &Value, path: &Text) -> Result<SiteCatalog, ReadFault>
-    ensures answer { GivesRead view result (from_tree_of path.now (tree_view value.now)) }
+    ensures answer { GivesRead site_view result (site_catalog_from_tree path.now (tree_view value.now)) }
     ensures ignored { IfOk result
         (λ c. IsPermutation (unknown_of path.now (tree_view value.now)) c.ignored) }
     ensures order { IfOk result (λ c. IsSorted (slice_cmp nat_cmp) c.ignored) }
@@ -51,9 +52,9 @@ pub fn from_tree(alloc: Global, value: &Value, path: &Text) -> Result<SiteCatalo
 }
 
 /// Reads a site catalogue of at most 64 sites.
-#[tactic(auto, unfolding(crate::specs::Reader::read_of, crate::specs::Reader::unknown_in_text))]
+#[tactic(auto, unfolding(crate::specs::Catalog::site_catalog_from_text, crate::specs::code::Unknown::unknown_in_text))]
 pub fn read(alloc: Global, bytes: &[u8]) -> Result<SiteCatalog, ReadFault>
-    ensures answer { GivesRead view result (read_of bytes.now) }
+    ensures answer { GivesRead site_view result (site_catalog_from_text bytes.now) }
     ensures ignored { IfOk result
         (λ c. IsPermutation (unknown_in_text bytes.now) c.ignored) }
     ensures order { IfOk result (λ c. IsSorted (slice_cmp nat_cmp) c.ignored) }

@@ -1,8 +1,8 @@
 //! A site: its table, its reading, and the keys that are in no table.
 
 ghost use Rattle.std.specs.Prelude.{◌≡◌};
-ghost use Rattle.peg_json.specs.Table.{rows_of};
-ghost use Rattle.site_catalog.specs.SiteEntry.{site_rows};
+ghost use Rattle.peg_json.specs.code.Table.{rows_of};
+ghost use Rattle.site_catalog.specs.Catalog.{site_entry_rows};
 
 use crate::catalog::{Directory, SiteEntry};
 use peg_json::{
@@ -27,7 +27,7 @@ const SITE: [KeyRow; 2] = [
 ];
 
 fn site_table() -> KeyTable<2>
-    ensures { rows_of result.rows.now ≡ site_rows }
+    ensures { rows_of result.rows.now ≡ site_entry_rows }
 {
     KeyTable { rows: &SITE }
 }
@@ -42,15 +42,15 @@ impl SiteNamed for SiteEntry {
 
 impl FromTree for SiteEntry {
     ghost use Rattle.site_catalog.specs.declared.catalog.SiteEntry as declared;
-    ghost use Rattle.site_catalog.specs.SiteEntry.{site_of};
+    ghost use Rattle.site_catalog.specs.Catalog.{site_entry_of};
 
     ghost Seen = { declared.SiteEntry };
 
     ghost seen = { λ s. s };
 
-    ghost reads = { site_of };
+    ghost reads = { site_entry_of };
 
-    #[tactic(auto, unfolding(crate::specs::SiteEntry::site_of))]
+    #[tactic(auto, unfolding(crate::specs::Catalog::site_entry_of))]
     fn from_tree(alloc: Global, value: &Value, path: &Text) -> Result<SiteEntry, TreeFault> {
         checked(alloc, value, path, &site_table())?;
         let name = row!(alloc, value, path, "name", Name);
@@ -60,11 +60,11 @@ impl FromTree for SiteEntry {
 }
 
 impl Listed for SiteEntry {
-    ghost use Rattle.site_catalog.specs.SiteEntry.{unknown_site};
+    ghost use Rattle.site_catalog.specs.code.Unknown.{unknown_site};
 
     ghost unknown = { unknown_site };
 
-    #[tactic(auto, unfolding(crate::specs::SiteEntry::unknown_site))]
+    #[tactic(auto, unfolding(crate::specs::code::Unknown::unknown_site))]
     fn gather(
         alloc: Global,
         value: &Value,

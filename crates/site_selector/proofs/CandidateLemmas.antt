@@ -4,8 +4,10 @@ use Rattle.std.specs.Prelude.{Option}
 use Rattle.std.proofs.Math.Seq.{get_or-append_seam}
 use Rattle.transformation_catalog.specs.declared.catalog.TransformationSite.{TransformationSite}
 use Rattle.plan_request.specs.declared.request.Execution.{Execution}
-use Rattle.site_selector.specs.Offers.{are_offered_at, names_of, offer_flags}
-use Rattle.site_selector.specs.Candidates.{is_allowed, is_candidate, candidates_from, candidates, listed_from}
+use Rattle.site_selector.specs.Offers.{are_offered_at}
+use Rattle.site_selector.specs.code.Offers.{names_of, offer_flags}
+use Rattle.site_selector.specs.Candidates.{is_allowed, is_candidate, candidates_from, candidates}
+use Rattle.site_selector.specs.code.Candidates.{listed_from}
 
 -- flags before those of the rest of the sites
 listed_after : (sites : List TransformationSite) (pinned : Option (List ℕ)) (before : List Bool) (s : ℕ) (es : List Execution) → length before ≡ s → listed_from (before ++ offer_flags (names_of es) sites) pinned s es ≡ candidates_from (is_candidate sites pinned) s es

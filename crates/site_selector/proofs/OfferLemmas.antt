@@ -8,18 +8,20 @@ use Rattle.std.specs.Str.{bytes_eq}
 use Rattle.std.specs.Cmp.Lexicographic.{bytes_decides}
 use Rattle.std.proofs.lemmas.Option.{slice_get-map}
 use Rattle.peg_json.specs.Tree.{◌>>=◌}
-use Rattle.peg_json.specs.Duplicates.{first_repeat, refused}
+use Rattle.peg_json.specs.Elements.{first_repeat, refused}
 use Rattle.peg_json.specs.declared.read_fault.ReadFault.{ReadFault}
 use Rattle.peg_json.specs.declared.read_fault.ReadFault.TheVariants.{DuplicateSite, TooMany}
 use Rattle.peg_json.specs.declared.read_fault.Counted.TheVariants.{Sites}
-use Rattle.workflow_core.specs.Names.{number, with_names}
+use Rattle.workflow_core.specs.Names.{number}
+use Rattle.workflow_core.specs.code.Names.{with_names}
 use Rattle.workflow_core.specs.declared.workflow.Transformation.{Transformation}
 use Rattle.transformation_catalog.specs.declared.catalog.TransformationEntry.{TransformationEntry}
 use Rattle.transformation_catalog.specs.declared.catalog.TransformationSite.{TransformationSite}
 use Rattle.transformation_catalog.specs.Lookup.{place_of}
 use Rattle.plan_request.specs.declared.request.Execution.{Execution}
-use Rattle.plan_request.specs.Reader.{execute_checked}
-use Rattle.site_selector.specs.Offers.{is_installed_at, is_stageable, sites_in, sites_at, names_of, installed_flags, offer_flags, marked, flags_in, offer_table, AreDistinct, Offered, IsFound}
+use Rattle.plan_request.specs.Request.{execute_checked}
+use Rattle.site_selector.specs.Offers.{is_installed_at, is_stageable, sites_in, sites_at}
+use Rattle.site_selector.specs.code.Offers.{names_of, installed_flags, offer_flags, marked, flags_in, offer_table, AreDistinct, Offered, IsFound}
 use Rattle.dependency_graph.proofs.TestLemmas.{any_more, or_right, or_left}
 
 -- ---- distinct names

@@ -11,7 +11,8 @@ use Rattle.dependency_graph.specs.Levels.{is_kept}
 use Rattle.dependency_graph.proofs.TestLemmas.{by_bool}
 use Rattle.site_selector.specs.Turns.{turn_of}
 use Rattle.site_selector.specs.Offers.{sites_of}
-use Rattle.site_selector.specs.Candidates.{candidates, candidates_from, chosen, chosen_unless, is_candidate, site_id, unknown_site}
+use Rattle.site_selector.specs.Candidates.{candidates, candidates_from, round_robin_site, chosen_unless, is_candidate, unknown_site}
+use Rattle.values.specs.Numbers.{site_id}
 use Rattle.site_selector.specs.Selecting.{Selection, answer_of, Gets, IsSelected}
 
 candidate_below : (test : Execution → Bool) (s : ℕ) (es : List Execution) (k : ℕ) → k < length (candidates_from test s es) → get_or (candidates_from test s es) k 0 < s + length es
@@ -26,7 +27,7 @@ candidate_below test s (e ∷ es) k l = by (test e) (candidate_below test (suc s
     by true less (suc k) l = let here = less k (omega (arith, l)) in omega (arith, here)
     by false less k l = let here = less k l in omega (arith, here)
 
-chosen_below : (a turn n : ℕ) (cs : List ℕ) (s : SiteId) → ((k : ℕ) → k < length cs → get_or cs k 0 < n) → chosen a turn cs ≡ Ok s → s.0 < n
+chosen_below : (a turn n : ℕ) (cs : List ℕ) (s : SiteId) → ((k : ℕ) → k < length cs → get_or cs k 0 < n) → round_robin_site a turn cs ≡ Ok s → s.0 < n
 chosen_below a turn n [] s below h = absurd cc
 chosen_below a turn n (c ∷ cs) s below h =
     let at : site_id (get_or (c ∷ cs) (turn % length (c ∷ cs)) 0) ≡ s = cc in

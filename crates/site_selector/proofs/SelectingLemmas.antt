@@ -14,15 +14,17 @@ use Rattle.dependency_graph.specs.Levels.{is_kept}
 use Rattle.dependency_graph.specs.Ranking.{IsRanked}
 use Rattle.dependency_graph.proofs.TestLemmas.{has}
 use Rattle.site_selector.specs.Turns.{turn_of}
-use Rattle.site_selector.specs.Candidates.{site_of, IsAnswer}
-use Rattle.site_selector.specs.Selecting.{Selection, answer_of, Gets, IsSelected, IsFirstFault, Selects}
+use Rattle.site_selector.specs.Candidates.{selected_site}
+use Rattle.site_selector.specs.code.Candidates.{IsAnswer}
+use Rattle.site_selector.specs.Selecting.{Selection, answer_of, Gets, IsSelected}
+use Rattle.site_selector.specs.code.Selecting.{IsFirstFault, Selects}
 use Rattle.dependency_graph.proofs.TestLemmas.{by_bool, has_at, has_more}
 use Rattle.site_selector.proofs.TurnLemmas.{turn_is, stands, stands_before}
 
 -- the answer at a turn to the job of a number, if there is one
 abbrev pub answer_in : Selection → ℕ → ℕ → Option Job → Result SiteId SelectFault
 answer_in c turn a None = Err Memory
-answer_in c turn a (Some j) = site_of c.execute c.entries turn a j
+answer_in c turn a (Some j) = selected_site c.execute c.entries turn a j
 
 abbrev pub answer_at : Selection → ℕ → Result SiteId SelectFault
 answer_at c a = answer_in c (turn_of c.kept c.levels a) a (slice_get c.jobs a)
@@ -41,7 +43,7 @@ pub record ArePlaced (c : Selection) (order : List ℕ) (sites : List (Option Si
 pub record IsNext (c : Selection) (order : List ℕ) (k : ℕ) (j : Job) (r : Result SiteId SelectFault) : Type 0 where
   pub below : k < length order
   pub at : slice_get c.jobs (get_or order k 0) ≡ Some j
-  pub answer : site_of c.execute c.entries k (get_or order k 0) j ≡ r
+  pub answer : selected_site c.execute c.entries k (get_or order k 0) j ≡ r
 
 -- a job of the order is one of the jobs
 pub number_below : (kept : List Bool) (levels order : List ℕ) (k n : ℕ) → IsRanked kept levels order → length kept ≡ n → k < length order → get_or order k 0 < n
@@ -51,7 +53,7 @@ known_answer : (c : Selection) (b : ℕ) (j : Job) → slice_get c.jobs b ≡ So
 known_answer c b j at = ap (λ (o : Option Job). answer_in c (turn_of c.kept c.levels b) b o) at
 
 next_answer : (c : Selection) (order : List ℕ) (k : ℕ) (j : Job) (r : Result SiteId SelectFault) → IsRanked c.kept c.levels order → IsNext c order k j r → answer_of c (get_or order k 0) j ≡ r
-next_answer c order k j r sorted next = ap (λ (n : ℕ). site_of c.execute c.entries n (get_or order k 0) j) (turn_is c.kept c.levels order k sorted next.below) ∙ next.answer
+next_answer c order k j r sorted next = ap (λ (n : ℕ). selected_site c.execute c.entries n (get_or order k 0) j) (turn_is c.kept c.levels order k sorted next.below) ∙ next.answer
 
 abbrev no_site : Option SiteId
 no_site = None
@@ -113,7 +115,7 @@ first_fault c order sites k j e sorted placed next = record {
 
 -- a fault that one job's answer is
 pub refused_is : (c : Selection) (order : List ℕ) (sites : List (Option SiteId)) (k : ℕ) (j : Job) (e : SelectFault) → IsRanked c.kept c.levels order → ArePlaced c order sites k → k < length order → slice_get c.jobs (get_or order k 0) ≡ Some j
-    → IsAnswer (site_of c.execute c.entries k (get_or order k 0) j) (Err e) → Selects c (Err e)
+    → IsAnswer (selected_site c.execute c.entries k (get_or order k 0) j) (Err e) → Selects c (Err e)
 refused_is c order sites k j Memory sorted placed below at is = tt
 refused_is c order sites k j (NoSite a name) sorted placed below at is = first_fault c order sites k j (NoSite a name) sorted placed (record { below = below; at = at; answer = is })
 refused_is c order sites k j (NoTransformation a) sorted placed below at is = first_fault c order sites k j (NoTransformation a) sorted placed (record { below = below; at = at; answer = is })

@@ -1,7 +1,7 @@
 -- Sums over the numbers below a bound.
 use Rattle.std.proofs.Common.{◌≡◌, ℕ, zero, suc, ◌+◌, ◌<◌, ◌≢◌, Bool, true, false, eqb, eqb-true, refl, sym, ap, arith}
 use Rattle.std.proofs.lemmas.Bool.{eqb-false}
-use Rattle.site_selector.specs.Turns.{total}
+use Rattle.values.specs.Numbers.{total}
 
 pub total_same : (v w : ℕ → ℕ) (n : ℕ) → ((q : ℕ) → q < n → v q ≡ w q) → total n v ≡ total n w
 unfolding total

@@ -5,9 +5,10 @@ use Rattle.std.proofs.lemmas.Bool.{cases_order}
 use Rattle.std.proofs.lemmas.List.{take_all, take_more}
 use Rattle.std.proofs.lemmas.List.Sums.{sum_by-cons, sum_by_push}
 use Rattle.dependency_graph.specs.Levels.{is_kept}
-use Rattle.dependency_graph.specs.Ranking.{AreOnce, comes_before, IsRanked}
+use Rattle.dependency_graph.specs.Ranking.{HasNoRepeats, comes_before, IsRanked}
 use Rattle.dependency_graph.proofs.TestLemmas.{has}
-use Rattle.site_selector.specs.Turns.{total, turn_of}
+use Rattle.site_selector.specs.Turns.{turn_of}
+use Rattle.values.specs.Numbers.{total}
 use Rattle.site_selector.proofs.TotalLemmas.{total_same, total_change}
 use Rattle.dependency_graph.proofs.TestLemmas.{or_left, or_right, or_case, by_bool}
 
@@ -35,7 +36,7 @@ or_neither true c h k = absurd cc
 or_neither false c h k = k
 
 -- sums that differ at the numbers of a list alone
-pub total_over : (v w : ℕ → ℕ) (n : ℕ) (xs : List ℕ) → AreOnce xs → ((q : ℕ) → has xs q ≡ true → q < n) → ((q : ℕ) → has xs q ≡ false → v q ≡ w q) → total n v + sum_by w xs ≡ total n w + sum_by v xs
+pub total_over : (v w : ℕ → ℕ) (n : ℕ) (xs : List ℕ) → HasNoRepeats xs → ((q : ℕ) → has xs q ≡ true → q < n) → ((q : ℕ) → has xs q ≡ false → v q ≡ w q) → total n v + sum_by w xs ≡ total n w + sum_by v xs
 total_over v w n [] once below off = let same = total_same v w n (λ q l. off q refl) in omega (arith, same)
 total_over v w n (x ∷ xs) once below off =
     let m : ℕ → ℕ = λ q. cond (eqb x q) (w q) (v q) in
@@ -60,7 +61,7 @@ zero_over : (xs : List ℕ) → sum_by (λ c. 0) xs ≡ 0
 zero_over [] = refl
 zero_over (x ∷ xs) = omega (arith, zero_over xs, sum_by-cons (λ c. 0) x xs)
 
-pub total_listed : (w : ℕ → ℕ) (n : ℕ) (xs : List ℕ) → AreOnce xs → ((c : ℕ) → has xs c ≡ true → c < n) → total n (λ c. cond (has xs c) (w c) 0) ≡ sum_by w xs
+pub total_listed : (w : ℕ → ℕ) (n : ℕ) (xs : List ℕ) → HasNoRepeats xs → ((c : ℕ) → has xs c ≡ true → c < n) → total n (λ c. cond (has xs c) (w c) 0) ≡ sum_by w xs
 total_listed w n xs once below =
     let all = total_over (λ c. cond (has xs c) (w c) 0) (λ c. 0) n xs once below (λ c h. cond_false (has xs c) (w c) 0 h) in
     let here = over_same (λ c. cond (has xs c) (w c) 0) w xs (λ c h. cond_true (has xs c) (w c) 0 h) in

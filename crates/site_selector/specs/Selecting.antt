@@ -1,19 +1,16 @@
 -- A site for each kept job, or the first fault.
-use Rattle.std.specs.Prelude.{◌≡◌, ℕ, Bool, true, false, is_ok, List, length, get_or, slice_get, Vec, Option, Some, None, Result, Ok, Err}
-use Rattle.std.specs.declared.alloc.Global.{Global}
+use Rattle.std.specs.Prelude.{◌≡◌, ℕ, Bool, true, false, List, length, get_or, slice_get, Option, Some, None, Result, Ok, Err}
 use Rattle.values.specs.declared.numbers.SiteId.{SiteId}
+use Rattle.values.specs.declared.select_fault.SelectFault.{SelectFault}
 use Rattle.workflow_core.specs.declared.workflow.Job.{Job}
 use Rattle.workflow_core.specs.declared.workflow.Workflow.{Workflow}
 use Rattle.transformation_catalog.specs.declared.catalog.TransformationCatalog.{TransformationCatalog}
 use Rattle.transformation_catalog.specs.declared.catalog.TransformationEntry.{TransformationEntry}
 use Rattle.plan_request.specs.declared.request.PlanRequest.{PlanRequest}
 use Rattle.plan_request.specs.declared.request.Execution.{Execution}
-use Rattle.values.specs.declared.select_fault.SelectFault.{SelectFault}
-use Rattle.values.specs.declared.select_fault.SelectFault.TheVariants.{NoSite, NoTransformation, Memory}
 use Rattle.dependency_graph.specs.Levels.{is_kept}
-use Rattle.dependency_graph.specs.Ranking.{comes_before}
 use Rattle.site_selector.specs.Turns.{turn_of}
-use Rattle.site_selector.specs.Candidates.{site_of}
+use Rattle.site_selector.specs.Candidates.{selected_site}
 
 -- what sites are selected by
 pub record Selection : Type 0 where
@@ -38,7 +35,7 @@ IsKeptJob c a j = (is_kept c.kept a ≡ true) × (slice_get c.jobs a ≡ Some j)
 
 -- the site of a job at its own turn, or why it has none
 abbrev pub answer_of : Selection → ℕ → Job → Result SiteId SelectFault
-answer_of c a j = site_of c.execute c.entries (turn_of c.kept c.levels a) a j
+answer_of c a j = selected_site c.execute c.entries (turn_of c.kept c.levels a) a j
 
 abbrev pub Gets : Result SiteId SelectFault → Option SiteId → Type 0
 Gets (Ok s) found = found ≡ Some s
@@ -49,19 +46,3 @@ pub record IsSelected (c : Selection) (sites : List (Option SiteId)) : Type 0 wh
   pub long : length sites ≡ length c.jobs
   pub kept : (a : ℕ) (j : Job) → IsKeptJob c a j → Gets (answer_of c a j) (get_or sites a None)
   pub others : (a : ℕ) → is_kept c.kept a ≡ false → get_or sites a None ≡ None
-
--- the fault is that of a kept job, and no kept job before it in order has one
-pub record IsFirstFault (c : Selection) (e : SelectFault) : Type 0 where
-  pub number : ℕ
-  pub job : Job
-  pub kept : IsKeptJob c number job
-  pub fault : answer_of c number job ≡ Err e
-  pub first : (b : ℕ) (j : Job) → IsKeptJob c b j → comes_before c.levels b number ≡ true
-      → is_ok (answer_of c b j) ≡ true
-
--- The sites of the kept jobs, or the first fault. Want of memory is free.
-abbrev pub Selects : Selection → Result (Vec (Option SiteId) Global) SelectFault → Type 0
-Selects c (Ok v) = IsSelected c v.items
-Selects c (Err Memory) = Unit {0}
-Selects c (Err (NoSite a name)) = IsFirstFault c (NoSite a name)
-Selects c (Err (NoTransformation a)) = IsFirstFault c (NoTransformation a)

@@ -1,12 +1,8 @@
 -- The turns of the kept jobs, in order of (level, number).
-use Rattle.std.specs.Prelude.{ℕ, zero, suc, ◌+◌, ◌&&◌, Bool, cond, List, length}
+use Rattle.std.specs.Prelude.{ℕ, ◌&&◌, Bool, cond, List, length}
+use Rattle.values.specs.Numbers.{total}
 use Rattle.dependency_graph.specs.Levels.{is_kept}
 use Rattle.dependency_graph.specs.Ranking.{comes_before}
-
--- the sum of w at the numbers below n
-unfoldable pub total : ℕ → (ℕ → ℕ) → ℕ
-total zero w = 0
-total (suc n) w = total n w + w n
 
 -- a job's turn: how many kept jobs come before it
 abbrev pub turn_of : List Bool → List ℕ → ℕ → ℕ

@@ -3,7 +3,8 @@
 ghost use Rattle.std.specs.Prelude.{◌≡◌, ◌<◌, [], length, IfOk, option_map};
 ghost use Rattle.std.specs.List.{list_any};
 ghost use Rattle.site_selector.specs.Offers.{sites_of};
-ghost use Rattle.site_selector.specs.Candidates.{is_allowed, is_named, listed_from, candidates, unknown_site, chosen, site_of, IsAnswer, candidates_of, offered, AreFound};
+ghost use Rattle.site_selector.specs.Candidates.{is_allowed, is_named, candidates, unknown_site, round_robin_site, selected_site};
+ghost use Rattle.site_selector.specs.code.Candidates.{listed_from, IsAnswer, candidates_of, offered, AreFound};
 
 use crate::offers::Offers;
 use plan_request::Execution;
@@ -79,7 +80,7 @@ fn unknown_site<'a>(execute: &[Execution], pinned: &'a Option<Text>) -> Option<&
 }
 
 fn chosen(job: JobId, turn: usize, candidates: &[u32]) -> Result<SiteId, SelectFault>
-    ensures { IsAnswer (chosen job.0 turn candidates.now) result }
+    ensures { IsAnswer (round_robin_site job.0 turn candidates.now) result }
 {
     if candidates.is_empty() {
         return Err(SelectFault::NoTransformation(job));
@@ -122,7 +123,7 @@ pub fn site_of(
     job: &Job,
 ) -> Result<SiteId, SelectFault>
     requires few { length offers.now.execute < 65 }
-    ensures { IsAnswer (site_of offers.now.execute offers.now.entries turn number job.now) result }
+    ensures { IsAnswer (selected_site offers.now.execute offers.now.entries turn number job.now) result }
 {
     if let Some(name) = unknown_site(offers.execute(), &job.pinned) {
         return Err(SelectFault::NoSite(JobId(number), name.copied(alloc)?));

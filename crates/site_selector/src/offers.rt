@@ -2,9 +2,10 @@
 
 ghost use Rattle.std.specs.Prelude.{◌≡◌, length, map, true, [], Ok, IfOk, option_map};
 ghost use Rattle.std.specs.List.{list_any};
-ghost use Rattle.workflow_core.specs.Names.{with_names};
-ghost use Rattle.plan_request.specs.Reader.{execute_checked};
-ghost use Rattle.site_selector.specs.Offers.{is_stageable, names_of, installed_flags, offer_flags, marked, flags_in, offer_table, AreDistinct, Offered, IsFound};
+ghost use Rattle.workflow_core.specs.code.Names.{with_names};
+ghost use Rattle.plan_request.specs.Request.{execute_checked};
+ghost use Rattle.site_selector.specs.Offers.{is_stageable};
+ghost use Rattle.site_selector.specs.code.Offers.{names_of, installed_flags, offer_flags, marked, flags_in, offer_table, AreDistinct, Offered, IsFound};
 
 use plan_request::Execution;
 use std::alloc::Global;

@@ -1,9 +1,10 @@
 //! The sites of all kept jobs.
 
 ghost use Rattle.std.specs.Prelude.{◌≡◌, length, replicate, None, Ok, IfOk};
-ghost use Rattle.workflow_core.specs.WellFormed.{IsWellFormed};
-ghost use Rattle.plan_request.specs.Reader.{execute_checked};
-ghost use Rattle.site_selector.specs.Selecting.{selection, Selects};
+ghost use Rattle.workflow_core.specs.code.WellFormed.{IsWellFormed};
+ghost use Rattle.plan_request.specs.Request.{execute_checked};
+ghost use Rattle.site_selector.specs.Selecting.{selection};
+ghost use Rattle.site_selector.specs.code.Selecting.{Selects};
 
 use crate::candidates::site_of;
 use crate::offers::Offers;

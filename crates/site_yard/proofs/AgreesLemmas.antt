@@ -6,21 +6,22 @@ use Rattle.std.proofs.Math.Logic.{∥∥₁_map, ∥∥₁_elim, ∥∥₁_prop}
 use Rattle.values.specs.Apply.{Apply}
 use Rattle.outside.specs.declared.counts.Counts.{Counts}
 use Rattle.outside.specs.declared.store.Store.{Store}
-use Rattle.outside.specs.Store.{changed_by}
+use Rattle.outside.specs.code.Store.{changed_by}
 use Rattle.plan_core.specs.declared.plan.Plan.{Plan}
-use Rattle.plan_core.specs.Proper.{IsProper}
+use Rattle.plan_core.specs.code.Proper.{IsProper}
 use Rattle.plan_core.specs.Words.{task_numbers}
 use Rattle.run_record.specs.Events.{Event}
 use Rattle.lease_book.specs.declared.book.Book.{Book}
 use Rattle.lease_rules.specs.Legal.{Legal, LegalFrom}
 use Rattle.lease_rules.specs.State.{State, after, now, now_from, opened}
-use Rattle.site_yard.specs.Changes.{carries, changes}
-use Rattle.site_yard.specs.Failures.{AreCounted}
-use Rattle.site_yard.specs.Kept.{IsKept, IsOpening, IsTruthful}
-use Rattle.site_yard.specs.Law.{AgreesSince, HasPlanLaws, HasRecordLaws, Holds}
+use Rattle.site_yard.specs.Changes.{carries}
+use Rattle.site_yard.specs.code.Changes.{changes}
+use Rattle.site_yard.specs.code.Failures.{AreCounted}
+use Rattle.site_yard.specs.code.Kept.{IsKept, IsOpening, IsTruthful}
+use Rattle.site_yard.specs.code.Law.{AgreesSince, HasPlanLaws, HasRecordLaws, Holds}
 use Rattle.plan_core.specs.Names.{pair_file}
-use Rattle.site_yard.specs.Places.{is_delivered, is_published, is_swept}
-use Rattle.site_yard.specs.Truthful.{Truthful}
+use Rattle.site_yard.specs.code.Places.{is_delivered, is_published, is_swept}
+use Rattle.site_yard.specs.code.Truthful.{Truthful}
 use Rattle.site_yard.proofs.DeliveredLemmas.{delivered_kept, undelivered_kept}
 use Rattle.site_yard.proofs.GoneLemmas.{swept_gone}
 use Rattle.site_yard.proofs.KeptLemmas.{parts}

@@ -4,25 +4,25 @@ use Rattle.std.specs.Prelude.{Option, Some, None}
 use Rattle.outside.specs.declared.operation.Operation.{Operation}
 use Rattle.outside.specs.declared.operation.Operation.TheVariants.{Publish}
 use Rattle.outside.specs.declared.store.Store.{Store}
-use Rattle.outside.specs.Store.{Change, Publishes}
+use Rattle.outside.specs.code.Store.{Change, Publishes}
 use Rattle.values.specs.Apply.{Apply}
-use Rattle.outside.specs.Lending.{placing}
+use Rattle.outside.specs.code.Lending.{placing}
 use Rattle.plan_core.specs.declared.plan.Plan.{Plan}
 use Rattle.plan_core.specs.declared.plan.TaskKind.{TaskKind}
 use Rattle.plan_core.specs.declared.plan.TaskKind.TheVariants.{Transfer, Run, Clean as CleanTask}
 use Rattle.plan_core.specs.declared.plan.Target.TheVariants.{Site as Into, Delivery}
-use Rattle.plan_core.specs.Proper.{IsProper}
+use Rattle.plan_core.specs.code.Proper.{IsProper}
 use Rattle.plan_core.specs.Words.{declared, is_transfer_kind, kind, writes}
 use Rattle.storage_simulation.specs.Goods.{or_zero}
 use Rattle.run_record.specs.declared.entry.Cause.{Cause}
 use Rattle.run_record.specs.declared.entry.Cause.TheVariants.{HostFailed, Memory}
-use Rattle.site_yard.specs.Changes.{arrival, changes_of, moved, publishes}
-use Rattle.site_yard.specs.Law.{HasPlanLaws}
-use Rattle.site_yard.specs.Loan.{Aim, delivery_target, pair_target, targets, targets_in}
+use Rattle.site_yard.specs.code.Changes.{arrival, changes_of, moved, publishes}
+use Rattle.site_yard.specs.code.Law.{HasPlanLaws}
+use Rattle.site_yard.specs.code.Loan.{Aim, delivery_target, pair_target, targets, targets_in}
 use Rattle.plan_core.specs.Names.{file_name, pair_file, site_name}
 use Rattle.site_yard.specs.Trace.{arrived_at, operations_of, published_at}
-use Rattle.site_yard.specs.Truthful.{AreSizes, IsCause, IsTrue}
-use Rattle.site_yard.specs.Yard.{IsStop, IsTold}
+use Rattle.site_yard.specs.code.Truthful.{AreSizes, IsCause, IsTrue}
+use Rattle.site_yard.specs.code.Yard.{IsStop, IsTold}
 use Rattle.site_yard.proofs.KeptLemmas.{failed}
 use Rattle.site_yard.proofs.PlacedLemmas.{operation_at}
 use Rattle.site_yard.proofs.PlanLemmas.{transfer_writes}

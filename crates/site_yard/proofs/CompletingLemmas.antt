@@ -11,10 +11,10 @@ use Rattle.plan_core.specs.Words.{count_tasks, delivers, is_clean_kind, is_run_k
 use Rattle.plan_core.proofs.TestLemmas.{either, or_left, or_right, same_number}
 use Rattle.run_record.specs.Events.{Event, Grant, Arrive, End, Clean, Fail, Again, Regrant}
 use Rattle.lease_rules.specs.Legal.{IsComplete, Legal}
-use Rattle.lease_rules.specs.Reading.{ends}
+use Rattle.lease_rules.specs.code.Reading.{ends}
 use Rattle.lease_rules.specs.State.{now, opened}
-use Rattle.site_yard.specs.Law.{HasRecordLaws}
-use Rattle.site_yard.specs.Places.{delivers_file, is_delivered}
+use Rattle.site_yard.specs.code.Law.{HasRecordLaws}
+use Rattle.site_yard.specs.code.Places.{delivers_file, is_delivered}
 use Rattle.site_yard.proofs.SuitsLemmas.{AllSuit, Suits, legal_suits}
 
 -- a delivery is neither a Run nor a Clean, and is a task

@@ -1,11 +1,11 @@
 -- Counts of a host before and after some calls.
 use Rattle.std.proofs.Common.{◌≡◌, ℕ, ◌+◌, ◌-◌, ◌^◌, ◌≤◌, min, ap, arith}
 use Rattle.std.specs.Prelude.{Option, Some, None}
-use Rattle.outside.specs.Counts.{IsLater, one_done, one_fault, one_miss}
+use Rattle.outside.specs.code.Counts.{IsLater, one_done, one_fault, one_miss}
 use Rattle.outside.specs.declared.counts.Counts.{Counts}
 use Rattle.outside.specs.declared.store.Store.{Store}
 use Rattle.run_record.specs.Events.{Event}
-use Rattle.site_yard.specs.Failures.{AreMore, IsCounted, IsMore, faults_of, misses_of}
+use Rattle.site_yard.specs.code.Failures.{AreMore, IsCounted, IsMore, faults_of, misses_of}
 
 -- one call
 pub same_more : (a b : Counts) → b ≡ a → AreMore 0 0 0 a b

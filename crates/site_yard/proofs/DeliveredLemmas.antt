@@ -5,23 +5,24 @@ use Rattle.std.specs.List.{list_any}
 use Rattle.std.specs.FinMap as files
 use Rattle.std.specs.FinMap.{get-insert}
 use Rattle.std.proofs.lemmas.Cmp.{nat_list_cmp_total}
-use Rattle.outside.specs.Store.{Change, Publishes, Delivers, Removes, changed, changed_by}
+use Rattle.outside.specs.code.Store.{Change, Publishes, Delivers, Removes, changed, changed_by}
 use Rattle.values.specs.Apply.{Apply}
 use Rattle.outside.specs.declared.store.Store.{Store}
 use Rattle.plan_core.specs.declared.plan.Plan.{Plan}
 use Rattle.plan_core.specs.declared.plan.TaskKind.{TaskKind}
 use Rattle.plan_core.specs.declared.plan.TaskKind.TheVariants.{Transfer, Run, Clean as CleanTask}
 use Rattle.plan_core.specs.declared.plan.Target.TheVariants.{Site as Into, Delivery}
-use Rattle.plan_core.specs.Proper.{IsProper}
+use Rattle.plan_core.specs.code.Proper.{IsProper}
 use Rattle.plan_core.specs.Words.{delivers, kind, kind_delivers, writes}
 use Rattle.plan_core.proofs.TestLemmas.{both, either, is_itself, or_left, or_right, same_number}
 use Rattle.run_record.specs.Events.{Event, Grant, Arrive, End, Clean, Fail, Again, Regrant}
-use Rattle.site_yard.specs.Changes.{arrival, carries, changes, changes_of, moved, or_nil, publishes, removal}
-use Rattle.site_yard.specs.Kept.{IsTruthful}
-use Rattle.site_yard.specs.Law.{HasPlanLaws}
+use Rattle.site_yard.specs.code.Changes.{arrival, changes, changes_of, moved, or_nil, publishes, removal}
+use Rattle.site_yard.specs.Changes.{carries}
+use Rattle.site_yard.specs.code.Kept.{IsTruthful}
+use Rattle.site_yard.specs.code.Law.{HasPlanLaws}
 use Rattle.plan_core.specs.Names.{file_name}
-use Rattle.site_yard.specs.Places.{IsUndelivered, delivers_file, is_delivered}
-use Rattle.site_yard.specs.Truthful.{IsTrue, Truthful}
+use Rattle.site_yard.specs.code.Places.{IsUndelivered, delivers_file, is_delivered}
+use Rattle.site_yard.specs.code.Truthful.{IsTrue, Truthful}
 use Rattle.site_yard.proofs.PlaceLemmas.{same, same_is, same_self}
 use Rattle.site_yard.proofs.PlanLemmas.{one_file}
 use Rattle.site_yard.proofs.SourceLemmas.{known}

@@ -8,8 +8,9 @@ use Rattle.outside.specs.declared.store.Store.{Store}
 use Rattle.plan_core.specs.declared.plan.Plan.{Plan}
 use Rattle.run_record.specs.Events.{Event}
 use Rattle.site_yard.specs.Changes.{carries}
-use Rattle.site_yard.specs.Delivered.{AreDelivered, AreDigests, AreFiles, AreLengths, AreOfBytes, arrivals}
-use Rattle.site_yard.specs.Kept.{IsOpening}
+use Rattle.site_yard.specs.code.Delivered.{AreDelivered}
+use Rattle.site_yard.specs.Delivered.{AreDigests, AreFiles, AreLengths, AreOfBytes, arrivals}
+use Rattle.site_yard.specs.code.Kept.{IsOpening}
 use Rattle.site_yard.specs.declared.delivered.Delivered.{Delivered}
 
 module _ (apply : Apply) (p : Plan) (first r : List Event) (o : Option Store) (m : Store) (ds : List Delivered) (listed : ∥ AreDelivered apply p first r o m ds ∥₁) where

@@ -14,10 +14,11 @@ use Rattle.plan_core.proofs.TestLemmas.{is_itself}
 use Rattle.storage_simulation.specs.Goods.{is_delivery, is_delivery_kind}
 use Rattle.run_record.specs.Events.{Event, Arrive}
 use Rattle.lease_rules.specs.Legal.{Allowed, IsOpen, Legal, LegalFrom}
-use Rattle.lease_rules.specs.Reading.{ends}
+use Rattle.lease_rules.specs.code.Reading.{ends}
 use Rattle.lease_rules.specs.State.{now}
-use Rattle.site_yard.specs.Delivered.{arrival_at, arrivals, arrivals_of, count_deliveries, delivered_file}
-use Rattle.site_yard.specs.Law.{HasPlanLaws, HasRecordLaws}
+use Rattle.site_yard.specs.Delivered.{arrival_at, arrivals, arrivals_of, delivered_file}
+use Rattle.site_yard.specs.code.Delivered.{count_deliveries}
+use Rattle.site_yard.specs.code.Law.{HasPlanLaws, HasRecordLaws}
 use Rattle.site_yard.proofs.FollowLemmas.{from_next, legal_next, open_not_ended}
 
 -- how many numbers pass

@@ -8,8 +8,8 @@ use Rattle.plan_core.specs.Numbers.{or_else}
 use Rattle.run_record.specs.Events.{Event, Grant, Arrive, End, Clean, Fail, Again, Regrant}
 use Rattle.lease_book.specs.declared.book.Book.{Book}
 use Rattle.lease_book.specs.Book.{state_at}
-use Rattle.lease_rules.specs.Reading.{is_fail}
-use Rattle.site_yard.specs.Ending.{Ends, failed_in, fault_of, first_failed, first_fault}
+use Rattle.lease_rules.specs.code.Reading.{is_fail}
+use Rattle.site_yard.specs.code.Ending.{Ends, failed_in, fault_of, first_failed, first_fault}
 use Rattle.site_yard.specs.declared.ending.Failed.{Failed}
 use Rattle.run_record.specs.declared.run_fault.RunFault.{RunFault}
 use Rattle.run_record.specs.declared.run_fault.RunFault.TheVariants.{Memory}

@@ -4,7 +4,7 @@ use Rattle.std.specs.Prelude.{Option, Some, None, option_map, is_some}
 use Rattle.plan_core.specs.declared.plan.Plan.{Plan}
 use Rattle.run_record.specs.Events.{Event, Grant, Arrive, End, Clean, Fail, Again, Regrant}
 use Rattle.lease_rules.specs.State.{State, after, failing_after, now, now_from, opened}
-use Rattle.site_yard.specs.Ending.{fault_of, first_failed, first_fault}
+use Rattle.site_yard.specs.code.Ending.{fault_of, first_failed, first_fault}
 use Rattle.site_yard.specs.declared.ending.Failed.{Failed}
 
 none_failing : (p : Plan) (s : State) (r : List Event) → first_failed r ≡ None → (now_from p s r).failing ≡ s.failing

@@ -13,7 +13,8 @@ use Rattle.plan_core.specs.declared.plan.TaskKind.TheVariants.{Transfer, Run, Cl
 use Rattle.plan_core.specs.declared.plan.Source.TheVariants.{Pfn, Site}
 use Rattle.plan_core.specs.declared.plan.Target.TheVariants.{Site as Into, Delivery}
 use Rattle.plan_core.specs.Carried.{Bytes, carried, carried_by, read}
-use Rattle.plan_core.specs.Kinds.{kind_carries, kind_writes, makes}
+use Rattle.plan_core.specs.code.Kinds.{kind_carries}
+use Rattle.plan_core.specs.Kinds.{kind_writes, jobs_make}
 use Rattle.plan_core.specs.Numbers.{has, or_else}
 use Rattle.plan_core.specs.Words.{declared, is_transfer_kind, kind, writes}
 use Rattle.plan_core.proofs.TestLemmas.{both, is_itself, not_true, or_right}
@@ -23,16 +24,17 @@ use Rattle.run_record.specs.declared.entry.Cause.TheVariants.{Absent, TooLong, C
 use Rattle.run_record.specs.Events.{Event, Grant, Arrive, End, Clean, Fail, Again, Regrant}
 use Rattle.lease_rules.specs.Legal.{Allowed, CauseFits, LegalFrom, checksum, differs_from, is_too_long_for, is_wrong_for}
 use Rattle.lease_rules.specs.State.{State, after}
-use Rattle.site_yard.specs.Changes.{moved}
-use Rattle.site_yard.specs.Ending.{failed_in, fault_of, first_failed, first_fault}
-use Rattle.lease_rules.specs.Causes.{fault_in}
-use Rattle.site_yard.specs.Failures.{host_faults, tool_fault_in, tool_faults}
+use Rattle.site_yard.specs.code.Changes.{moved}
+use Rattle.site_yard.specs.code.Ending.{failed_in, fault_of, first_failed, first_fault}
+use Rattle.lease_rules.specs.code.Causes.{fault_in}
+use Rattle.site_yard.specs.code.Failures.{host_faults, tool_fault_in, tool_faults}
 use Rattle.lease_rules.specs.Owning.{worker}
-use Rattle.site_yard.specs.Faults.{AllBelow, AllCarried, HasToolFault, IsCountedFault}
-use Rattle.site_yard.specs.Law.{HasPlanLaws}
+use Rattle.site_yard.specs.Faults.{AllBelow}
+use Rattle.site_yard.specs.code.Faults.{AllCarried, HasToolFault, IsCountedFault}
+use Rattle.site_yard.specs.code.Law.{HasPlanLaws}
 use Rattle.plan_core.specs.Names.{pair_file, pair_site}
-use Rattle.plan_core.specs.Declined.{declined}
-use Rattle.site_yard.specs.Truthful.{HasChecksum, HasSum, IsAtPfn, IsCause, IsDigest, IsLongAs, IsTrue, Truthful, is_over, oversize_among}
+use Rattle.plan_core.specs.code.Declined.{declined}
+use Rattle.site_yard.specs.code.Truthful.{HasChecksum, HasSum, IsAtPfn, IsCause, IsDigest, IsLongAs, IsTrue, Truthful, is_over, oversize_among}
 use Rattle.site_yard.specs.declared.ending.Failed.{Failed}
 use Rattle.run_record.specs.declared.run_fault.RunFault.{RunFault}
 use Rattle.run_record.specs.declared.run_fault.RunFault.TheVariants as fault
@@ -56,7 +58,7 @@ writes_carries : (jobs : List PlanJob) (k : Option TaskKind) (s f : ℕ) → kin
 writes_carries jobs None s f h = absurd cc
 writes_carries jobs (Some (Transfer g from (Into a))) s f h = (both (nat_eq a.0 s) (nat_eq g.0 f) h).1
 writes_carries jobs (Some (Transfer g from Delivery)) s f h = absurd cc
-writes_carries jobs (Some (Run a js)) s f h = (both (nat_eq a.0 s) (makes jobs js f) h).1
+writes_carries jobs (Some (Run a js)) s f h = (both (nat_eq a.0 s) (jobs_make jobs js f) h).1
 writes_carries jobs (Some (CleanTask q)) s f h = absurd cc
 
 none_over : (p : Plan) (v : ℕ → Option Bytes) (qs : List ℕ) → ((q : ℕ) → has qs q ≡ true → is_over (or_zero (declared p (pair_file p q))) (v (pair_file p q)) ≡ false) → oversize_among p v qs ≡ None

@@ -8,12 +8,12 @@ use Rattle.plan_core.specs.Words.{parents, reads, writes}
 use Rattle.plan_core.proofs.TestLemmas.{either, or_left, or_right}
 use Rattle.run_record.specs.Events.{Event, Grant, Arrive, End, Clean, Fail, Again, Regrant}
 use Rattle.lease_rules.specs.Choice.{IsChoice}
-use Rattle.lease_rules.specs.Law.{IsSoundState}
+use Rattle.lease_rules.specs.code.Law.{IsSoundState}
 use Rattle.lease_rules.specs.Legal.{Allowed, IsOpen, Legal, LegalFrom}
-use Rattle.lease_rules.specs.Reading.{ends, frees, IsRead}
+use Rattle.lease_rules.specs.code.Reading.{ends, frees, IsRead}
 use Rattle.lease_rules.specs.State.{State, after, ended, now, now_from, opened}
-use Rattle.site_yard.specs.Law.{HasPlanLaws, HasRecordLaws}
-use Rattle.site_yard.specs.Places.{is_swept}
+use Rattle.site_yard.specs.code.Law.{HasPlanLaws, HasRecordLaws}
+use Rattle.site_yard.specs.code.Places.{is_swept}
 
 now_more : (p : Plan) (s : State) (r : List Event) (e : Event) → now_from p s (r ++ e ∷ []) ≡ after p (now_from p s r) e
 now_more p s [] e = refl

@@ -2,8 +2,8 @@
 use Rattle.std.proofs.Common.{◌≡◌, ℕ, ◌<◌, inl, inr, Bool, true, false, cond, ◌&&◌, ◌||◌, List, [], ◌∷◌, ◌++◌, map, length, take, refl, ap, ◌∙◌, subst, nat_eq}
 use Rattle.std.specs.Prelude.{Option, Some, None}
 use Rattle.std.specs.List.{list_any}
-use Rattle.values.specs.SiteMap.{pair_at}
-use Rattle.outside.specs.Store.{Removes, changed_by}
+use Rattle.values.specs.code.SiteMap.{pair_at}
+use Rattle.outside.specs.code.Store.{Removes, changed_by}
 use Rattle.values.specs.Apply.{Apply}
 use Rattle.outside.specs.declared.store.Store.{Store}
 use Rattle.plan_core.specs.declared.plan.Plan.{Plan}
@@ -11,17 +11,18 @@ use Rattle.plan_core.specs.declared.plan.TaskKind.{TaskKind}
 use Rattle.plan_core.specs.declared.plan.TaskKind.TheVariants.{Transfer, Run, Clean as CleanTask}
 use Rattle.plan_core.specs.declared.plan.Target.TheVariants.{Site as Into, Delivery}
 use Rattle.plan_core.specs.Numbers.{has}
-use Rattle.plan_core.specs.Proper.{IsProper}
+use Rattle.plan_core.specs.code.Proper.{IsProper}
 use Rattle.plan_core.specs.Words.{cleans, count_pairs, is_clean, kind, kind_cleans, reads, writes}
 use Rattle.plan_core.proofs.TestLemmas.{both, either, or_left, or_right, same_number}
 use Rattle.run_record.specs.Events.{Event, Grant, Arrive, End, Clean, Fail, Again, Regrant}
 use Rattle.lease_rules.specs.Legal.{Allowed, IsOpen, Legal, LegalFrom, MayFail}
-use Rattle.lease_rules.specs.Reading.{ends, frees}
+use Rattle.lease_rules.specs.code.Reading.{ends, frees}
 use Rattle.lease_rules.specs.State.{now}
-use Rattle.site_yard.specs.Changes.{arrival, carries, changes, changes_of, moved, or_nil, publishes, removal}
-use Rattle.site_yard.specs.Law.{HasPlanLaws, HasRecordLaws}
+use Rattle.site_yard.specs.code.Changes.{arrival, changes, changes_of, moved, or_nil, publishes, removal}
+use Rattle.site_yard.specs.Changes.{carries}
+use Rattle.site_yard.specs.code.Law.{HasPlanLaws, HasRecordLaws}
 use Rattle.plan_core.specs.Names.{pair_file, pair_file_name, pair_site_name}
-use Rattle.site_yard.specs.Places.{is_swept}
+use Rattle.site_yard.specs.code.Places.{is_swept}
 use Rattle.site_yard.proofs.FollowLemmas.{choice_after, ended_longer, from_next, legal_next, not_true, open_not_ended}
 use Rattle.site_yard.proofs.HoldsLemmas.{arrival_is, same_id, swept_below}
 use Rattle.site_yard.proofs.PlaceLemmas.{left_append, left_at, left_by, pair_changed, same, same_is, same_self}

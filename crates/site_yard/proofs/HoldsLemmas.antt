@@ -3,7 +3,7 @@ use Rattle.std.proofs.Common.{◌≡◌, ℕ, ◌+◌, ◌≤◌, ◌<◌, inl, 
 use Rattle.std.specs.Prelude.{Option, Some, None, option_map}
 use Rattle.std.specs.List.{list_any}
 use Rattle.values.specs.Apply.{Apply}
-use Rattle.outside.specs.Store.{Publishes, Removes}
+use Rattle.outside.specs.code.Store.{Publishes, Removes}
 use Rattle.plan_core.specs.declared.plan.Plan.{Plan}
 use Rattle.plan_core.specs.declared.plan.TaskKind.{TaskKind}
 use Rattle.plan_core.specs.declared.plan.TaskKind.TheVariants.{Transfer, Run, Clean as CleanTask}
@@ -11,18 +11,18 @@ use Rattle.plan_core.specs.declared.plan.Source.{Source}
 use Rattle.plan_core.specs.declared.plan.Target.TheVariants.{Site as Into, Delivery}
 use Rattle.plan_core.specs.Kinds.{kind_writes}
 use Rattle.plan_core.specs.Numbers.{has}
-use Rattle.plan_core.specs.Proper.{IsProper}
+use Rattle.plan_core.specs.code.Proper.{IsProper}
 use Rattle.plan_core.specs.Words.{count_pairs, declared, kind, kind_cleans, is_transfer_kind, writes}
 use Rattle.plan_core.proofs.TestLemmas.{both, either, is_itself, or_left, or_right, same_number}
 use Rattle.storage_simulation.specs.Goods.{good_size, is_delivery, is_delivery_kind, makes, or_zero}
 use Rattle.run_record.specs.Events.{Event, Grant, Arrive, End, Clean, Fail, Again, Regrant}
 use Rattle.lease_rules.specs.Legal.{AreOfFirst}
-use Rattle.lease_rules.specs.Reading.{frees}
-use Rattle.site_yard.specs.Changes.{arrival, changes, changes_of, moved, or_nil, publishes, removal}
-use Rattle.site_yard.specs.Law.{HasPlanLaws}
+use Rattle.lease_rules.specs.code.Reading.{frees}
+use Rattle.site_yard.specs.code.Changes.{arrival, changes, changes_of, moved, or_nil, publishes, removal}
+use Rattle.site_yard.specs.code.Law.{HasPlanLaws}
 use Rattle.plan_core.specs.Names.{file_name, pair_file, pair_file_name, pair_site, pair_site_name, site_name}
-use Rattle.site_yard.specs.Places.{is_published, is_swept, publishes_pair}
-use Rattle.site_yard.specs.Truthful.{AreSizes, IsLongAs, IsTrue, Truthful}
+use Rattle.site_yard.specs.code.Places.{is_published, is_swept, publishes_pair}
+use Rattle.site_yard.specs.code.Truthful.{AreSizes, IsLongAs, IsTrue, Truthful}
 use Rattle.site_yard.proofs.PlaceLemmas.{left_append, left_at, left_by, same, same_is, same_self}
 use Rattle.site_yard.proofs.PlanLemmas.{names_apart, transfer_writes, written_below, written_file}
 use Rattle.site_yard.proofs.SuitsLemmas.{AllSuit, Suits, end_writes, fail_writes, good_of, has_take}

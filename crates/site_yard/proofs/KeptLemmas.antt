@@ -4,10 +4,10 @@ use Rattle.std.specs.Prelude.{Option, Some, None, option_map, IfSome}
 use Rattle.std.specs.FinMap as files
 use Rattle.std.proofs.Math.Logic.{∥∥₁_map}
 use Rattle.std.proofs.lemmas.List.{map-append}
-use Rattle.outside.specs.Counts.{IsLater}
+use Rattle.outside.specs.code.Counts.{IsLater}
 use Rattle.outside.specs.declared.counts.Counts.{Counts}
 use Rattle.outside.specs.declared.store.Store.{Store}
-use Rattle.outside.specs.Store.{Change, changed, changed_by, operation}
+use Rattle.outside.specs.code.Store.{Change, changed, changed_by, operation}
 use Rattle.values.specs.Apply.{Apply}
 use Rattle.plan_core.specs.declared.plan.Plan.{Plan}
 use Rattle.plan_core.specs.Numbers.{has}
@@ -17,11 +17,12 @@ use Rattle.storage_simulation.specs.Goods.{good_size, makes}
 use Rattle.run_record.specs.declared.entry.Cause.{Cause}
 use Rattle.run_record.specs.Events.{Event, Grant, Regrant, Fail, Again}
 use Rattle.lease_rules.specs.State.{State, after, now, now_from, opened}
-use Rattle.site_yard.specs.Changes.{carries, changes, changes_of}
-use Rattle.site_yard.specs.Failures.{AreCounted, AreMore, IsCounted, faults_of, host_faults, host_misses, misses_of}
-use Rattle.site_yard.specs.Kept.{HasBecome, HoldsSizes, IsKept, IsOpening}
+use Rattle.site_yard.specs.Changes.{carries}
+use Rattle.site_yard.specs.code.Changes.{changes, changes_of}
+use Rattle.site_yard.specs.code.Failures.{AreCounted, AreMore, IsCounted, faults_of, host_faults, host_misses, misses_of}
+use Rattle.site_yard.specs.code.Kept.{HasBecome, HoldsSizes, IsKept, IsOpening}
 use Rattle.site_yard.specs.Trace.{operations_of, trace_of}
-use Rattle.site_yard.specs.Truthful.{IsTrue, Truthful}
+use Rattle.site_yard.specs.code.Truthful.{IsTrue, Truthful}
 use Rattle.site_yard.proofs.CountingLemmas.{is_more_then}
 
 nil_after : {A : Type 0} (r : List A) → r ++ [] ≡ r

@@ -10,21 +10,24 @@ use Rattle.plan_core.specs.declared.plan.Plan.{Plan}
 use Rattle.plan_core.specs.declared.plan.TaskKind.{TaskKind}
 use Rattle.plan_core.specs.declared.plan.TaskKind.TheVariants.{Transfer, Run, Clean as CleanTask}
 use Rattle.plan_core.specs.declared.plan.Target.TheVariants.{Site as Into, Delivery}
-use Rattle.plan_core.specs.Numbers.{RisesFrom, has}
-use Rattle.plan_core.specs.Proper.{IsProper}
+use Rattle.plan_core.specs.code.Numbers.{RisesFrom}
+use Rattle.plan_core.specs.Numbers.{has}
+use Rattle.plan_core.specs.code.Proper.{IsProper}
 use Rattle.plan_core.specs.Words.{count_pairs, is_at, is_transfer_kind, kind, kind_cleans, reads, writes}
 use Rattle.plan_core.proofs.TestLemmas.{and_both, both, is_itself, not_itself, or_left, or_right, same_number}
 use Rattle.storage_simulation.specs.declared.standing.Held.{Held}
 use Rattle.storage_simulation.specs.declared.standing.Held.TheVariants.{Nothing, Stored, Reserved}
 use Rattle.storage_simulation.specs.Goods.{count_sites, good_size, goods, is_delivery, is_delivery_kind, lies_at, makes}
-use Rattle.storage_simulation.specs.Law.{KeepsGoods}
+use Rattle.storage_simulation.specs.code.Law.{KeepsGoods}
 use Rattle.storage_simulation.specs.Standings.{held_size, sizes}
-use Rattle.storage_simulation.specs.Usage.{total, usage}
+use Rattle.storage_simulation.specs.Usage.{usage}
+use Rattle.values.specs.Numbers.{total}
 use Rattle.run_record.specs.Events.{Event, Grant, Arrive, End, Clean, Fail, Again, Regrant}
-use Rattle.lease_rules.specs.Law.{IsSoundState, reserved_at, stored_at}
+use Rattle.lease_rules.specs.code.Law.{IsSoundState}
+use Rattle.lease_rules.specs.Law.{reserved_at, stored_at}
 use Rattle.lease_rules.specs.Legal.{Allowed, AreDeclared, AreOfFirst, LegalFrom, MayFail}
 use Rattle.lease_rules.specs.State.{State, after, now, now_from, opened, stored_among}
-use Rattle.site_yard.specs.Law.{HasPlanLaws}
+use Rattle.site_yard.specs.code.Law.{HasPlanLaws}
 use Rattle.site_yard.specs.Leaving.{left_after, left_by, left_in}
 use Rattle.plan_core.specs.Names.{file_name, pair_file_name, pair_site_name, site_name}
 use Rattle.site_yard.specs.Trace.{arrived_at, operations_of, published_at, removed, trace_of}

@@ -3,7 +3,7 @@ use Rattle.std.proofs.Common.{◌≡◌, ℕ, ◌≤◌, inl, inr, Bool, true, f
 use Rattle.std.specs.Prelude.{Option, Some, None, option_map, IfSome}
 use Rattle.std.specs.FinMap as files
 use Rattle.std.proofs.Math.Logic.{∥∥₁_elim, ∥∥₁_prop}
-use Rattle.outside.specs.Counts.{IsLater}
+use Rattle.outside.specs.code.Counts.{IsLater}
 use Rattle.values.specs.Apply.{Apply}
 use Rattle.outside.specs.declared.counts.Counts.{Counts}
 use Rattle.outside.specs.declared.store.Store.{Store}
@@ -19,11 +19,11 @@ use Rattle.lease_book.specs.declared.book.Book.{Book}
 use Rattle.lease_book.specs.Book.{failure, is_tried_again, state_at}
 use Rattle.lease_rules.specs.Legal.{IsOpen}
 use Rattle.site_yard.specs.Changes.{carries}
-use Rattle.site_yard.specs.Failures.{AreMore, IsCounted, IsMore}
-use Rattle.site_yard.specs.Kept.{IsKept}
-use Rattle.site_yard.specs.Lending.{IsHostCause, IsLoanCause, IsPairsCause, IsReplicaCause, RefusesLoan, RefusesReadings, SomeUnfit, count_parts}
-use Rattle.site_yard.specs.Truthful.{IsAtPfn, IsCause, IsLongAs}
-use Rattle.site_yard.specs.Yard.{Adds, IsFailure, IsLending, IsTold, TakesWithin}
+use Rattle.site_yard.specs.code.Failures.{AreMore, IsCounted, IsMore}
+use Rattle.site_yard.specs.code.Kept.{IsKept}
+use Rattle.site_yard.specs.code.Lending.{IsHostCause, IsLoanCause, IsPairsCause, IsReplicaCause, RefusesLoan, RefusesReadings, SomeUnfit, count_parts}
+use Rattle.site_yard.specs.code.Truthful.{IsAtPfn, IsCause, IsLongAs}
+use Rattle.site_yard.specs.code.Yard.{Adds, IsFailure, IsLending, IsTold, TakesWithin}
 use Rattle.site_yard.proofs.CountingLemmas.{shows, shows_missing}
 use Rattle.site_yard.proofs.KeptLemmas.{failed, parts}
 use Rattle.site_yard.proofs.LoanLemmas.{HasBookLaws, failed_counted, plain_keeps}

@@ -9,8 +9,8 @@ use Rattle.outside.specs.declared.counts.Counts.{Counts}
 use Rattle.values.specs.declared.numbers.FileId.{FileId}
 use Rattle.values.specs.declared.numbers.SiteId.{SiteId}
 use Rattle.outside.specs.declared.store.Store.{Store}
-use Rattle.outside.specs.Lending.{TellsFound}
-use Rattle.outside.specs.Parts.{DraftState, ReadState}
+use Rattle.outside.specs.code.Lending.{TellsFound}
+use Rattle.outside.specs.code.Parts.{DraftState, ReadState}
 use Rattle.plan_core.specs.Carried.{carried_by, read, stored}
 use Rattle.plan_core.specs.declared.plan.Plan.{Plan}
 use Rattle.plan_core.specs.declared.plan.TaskKind.{TaskKind}
@@ -19,7 +19,7 @@ use Rattle.plan_core.specs.declared.plan.Target.{Target}
 use Rattle.plan_core.specs.declared.plan.Source.TheVariants.{Pfn, Site}
 use Rattle.plan_core.specs.Kinds.{reads_file}
 use Rattle.plan_core.specs.Numbers.{has}
-use Rattle.plan_core.specs.Proper.{IsProper}
+use Rattle.plan_core.specs.code.Proper.{IsProper}
 use Rattle.plan_core.specs.Words.{kind, reads, task_numbers}
 use Rattle.plan_core.proofs.TestLemmas.{is_itself, or_left, or_right}
 use Rattle.run_record.specs.Events.{Event}
@@ -28,10 +28,11 @@ use Rattle.lease_book.specs.Book.{state_at}
 use Rattle.lease_rules.specs.Legal.{IsOpen, Legal}
 use Rattle.lease_rules.specs.State.{now}
 use Rattle.site_yard.specs.Changes.{carries}
-use Rattle.site_yard.specs.Kept.{IsKept, IsOpening}
-use Rattle.site_yard.specs.Law.{HasPlanLaws, HasRecordLaws}
-use Rattle.site_yard.specs.Loan.{AreOpened, AreReadings, IsLent, IsReplica, at_pair, fresh_at, inputs, read_told, targets}
-use Rattle.plan_core.specs.Names.{pair_file, pair_site, content}
+use Rattle.site_yard.specs.code.Kept.{IsKept, IsOpening}
+use Rattle.site_yard.specs.code.Law.{HasPlanLaws, HasRecordLaws}
+use Rattle.site_yard.specs.code.Loan.{AreOpened, AreReadings, IsLent, IsReplica, at_pair, fresh_at, inputs, read_told, targets}
+use Rattle.plan_core.specs.Names.{pair_file, pair_site}
+use Rattle.plan_core.specs.code.Names.{content}
 use Rattle.site_yard.proofs.FollowLemmas.{not_swept, open_after}
 use Rattle.site_yard.proofs.KeptLemmas.{parts}
 use Rattle.site_yard.proofs.LoanLemmas.{HasBookLaws}

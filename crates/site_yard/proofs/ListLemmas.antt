@@ -14,7 +14,8 @@ use Rattle.lease_book.specs.declared.leasing.Next.{Next}
 use Rattle.lease_book.specs.declared.leasing.Next.TheVariants as next
 use Rattle.lease_book.specs.Book.{IsNext}
 use Rattle.site_yard.specs.Changes.{carries}
-use Rattle.site_yard.specs.Delivered.{AreDelivered, Arrival, IsDigestOf, arrivals, arrivals_of, carried_digest}
+use Rattle.site_yard.specs.code.Delivered.{AreDelivered}
+use Rattle.site_yard.specs.Delivered.{Arrival, IsDigestOf, arrivals, arrivals_of, carried_digest}
 use Rattle.site_yard.specs.declared.delivered.Delivered.{Delivered}
 use Rattle.site_yard.proofs.KeptLemmas.{drop_more, failed, take_same}
 

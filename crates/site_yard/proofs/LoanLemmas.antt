@@ -4,34 +4,35 @@ use Rattle.std.specs.Prelude.{Option, Some, None, option_map}
 use Rattle.std.specs.FinMap as files
 use Rattle.std.proofs.Math.Logic.{∥∥₁_elim}
 use Rattle.std.specs.Coded.{le_prop}
-use Rattle.outside.specs.Counts.{IsLater}
+use Rattle.outside.specs.code.Counts.{IsLater}
 use Rattle.values.specs.Apply.{Apply}
 use Rattle.outside.specs.declared.counts.Counts.{Counts}
 use Rattle.outside.specs.declared.store.Store.{Store}
-use Rattle.outside.specs.Store.{changed_by, operation}
-use Rattle.outside.specs.Parts.{DraftState, ReadState, draft_faults, part_faults, reading_faults}
+use Rattle.outside.specs.code.Store.{changed_by, operation}
+use Rattle.outside.specs.code.Parts.{DraftState, ReadState, draft_faults, part_faults, reading_faults}
 use Rattle.plan_core.specs.declared.plan.Plan.{Plan}
 use Rattle.plan_core.specs.declared.plan.TaskKind.{TaskKind}
 use Rattle.plan_core.specs.declared.plan.TaskKind.TheVariants.{Transfer, Run, Clean as CleanTask}
 use Rattle.plan_core.specs.declared.plan.Source.TheVariants.{Pfn, Site}
-use Rattle.plan_core.specs.Proper.{IsProper}
+use Rattle.plan_core.specs.code.Proper.{IsProper}
 use Rattle.plan_core.specs.Words.{kind, reads, task_numbers, writes}
 use Rattle.run_record.specs.declared.entry.Cause.{Cause}
 use Rattle.run_record.specs.declared.entry.Cause.TheVariants.{Absent, TooLong, Checksum, Oversize, Declined, ToolFailed, HostFailed, Memory}
 use Rattle.run_record.specs.Events.{Event, Grant, Arrive, End, Clean, Fail, Again, Regrant}
 use Rattle.lease_book.specs.declared.book.Book.{Book}
 use Rattle.lease_book.specs.Book.{failure, is_tried_again, state_at}
-use Rattle.lease_rules.specs.Law.{FitsFromStart}
+use Rattle.lease_rules.specs.code.Law.{FitsFromStart}
 use Rattle.lease_rules.specs.Legal.{Allowed, ArePublished, CauseFits, IsOpen, Legal, LegalFrom, is_from_pfn, is_too_long, is_too_long_for}
 use Rattle.lease_rules.specs.State.{State, after, holder_after, now, now_from, opened}
-use Rattle.site_yard.specs.Changes.{carries, changes_of}
-use Rattle.site_yard.specs.Failures.{AreMore, IsCounted}
-use Rattle.site_yard.specs.Kept.{IsKept, IsOpening}
-use Rattle.site_yard.specs.Law.{HasPlanLaws, HasRecordLaws}
-use Rattle.site_yard.specs.Lending.{IsHostCause, IsLoanCause, IsPairsCause, IsReplicaCause, RefusesLoan, RefusesReadings}
+use Rattle.site_yard.specs.Changes.{carries}
+use Rattle.site_yard.specs.code.Changes.{changes_of}
+use Rattle.site_yard.specs.code.Failures.{AreMore, IsCounted}
+use Rattle.site_yard.specs.code.Kept.{IsKept, IsOpening}
+use Rattle.site_yard.specs.code.Law.{HasPlanLaws, HasRecordLaws}
+use Rattle.site_yard.specs.code.Lending.{IsHostCause, IsLoanCause, IsPairsCause, IsReplicaCause, RefusesLoan, RefusesReadings}
 use Rattle.site_yard.specs.Trace.{operations_of, published_at}
-use Rattle.site_yard.specs.Truthful.{IsCause, IsTrue}
-use Rattle.site_yard.specs.Yard.{IsBehind, IsTold, IsWorkers}
+use Rattle.site_yard.specs.code.Truthful.{IsCause, IsTrue}
+use Rattle.site_yard.specs.code.Yard.{IsBehind, IsTold, IsWorkers}
 use Rattle.site_yard.proofs.KeptLemmas.{KeepsSizes, Makes, failed, keeps, sized_failed, told_all}
 use Rattle.site_yard.proofs.CountingLemmas.{more_then, shows}
 

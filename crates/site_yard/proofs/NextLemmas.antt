@@ -1,13 +1,13 @@
 -- What `next` adds to a yard.
 use Rattle.std.proofs.Common.{◌≡◌, ℕ, zero, suc, ◌≤◌, ◌⊎◌, inl, inr, Bool, true, false, cond, List, [], ◌∷◌, ◌++◌, map, length, length-append, drop, take, refl, sym, ap, ◌∙◌, subst, arith}
 use Rattle.std.specs.Prelude.{Option, Some, None, option_map}
-use Rattle.outside.specs.Counts.{IsLater}
+use Rattle.outside.specs.code.Counts.{IsLater}
 use Rattle.values.specs.Apply.{Apply}
 use Rattle.outside.specs.declared.counts.Counts.{Counts}
 use Rattle.values.specs.declared.numbers.PairId.{PairId}
 use Rattle.values.specs.declared.numbers.TaskId.{TaskId}
 use Rattle.outside.specs.declared.store.Store.{Store}
-use Rattle.outside.specs.Store.{changed_by, operation}
+use Rattle.outside.specs.code.Store.{changed_by, operation}
 use Rattle.plan_core.specs.declared.plan.Plan.{Plan}
 use Rattle.plan_core.specs.declared.plan.TaskKind.TheVariants.{Clean as CleanTask}
 use Rattle.plan_core.specs.Words.{is_clean, is_clean_kind, kind, task_numbers}
@@ -18,9 +18,9 @@ use Rattle.lease_book.specs.declared.leasing.Next.{Next}
 use Rattle.lease_book.specs.declared.leasing.Next.TheVariants as next
 use Rattle.lease_rules.specs.Choice.{IsChoice, IsFresh, IsFreshAmong}
 use Rattle.lease_rules.specs.State.{State, now}
-use Rattle.site_yard.specs.Failures.{AreMore, IsCounted, faults_of, misses_of}
-use Rattle.site_yard.specs.Kept.{IsKept}
-use Rattle.site_yard.specs.Yard.{Leases}
+use Rattle.site_yard.specs.code.Failures.{AreMore, IsCounted, faults_of, misses_of}
+use Rattle.site_yard.specs.code.Kept.{IsKept}
+use Rattle.site_yard.specs.code.Yard.{Leases}
 use Rattle.site_yard.specs.declared.leased.Leased.{Leased}
 use Rattle.site_yard.proofs.CountingLemmas.{same_more, shows}
 use Rattle.site_yard.proofs.KeptLemmas.{KeepsSizes, Makes, keeps, sized_granted, sized_regranted, told_all}

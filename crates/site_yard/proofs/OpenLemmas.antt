@@ -1,19 +1,20 @@
 -- The opening of a yard, and the looks at its sites.
 use Rattle.std.proofs.Common.{◌≡◌, ℕ, suc, ◌+◌, ◌<◌, Bool, true, false, cond, List, [], length, drop, take, refl, sym, ap, ◌∙◌, subst, nat_lt, arith}
 use Rattle.std.specs.Prelude.{Option, Some, None, IfSome, Ok, Err, Decides, if◌then◌else◌}
-use Rattle.outside.specs.Counts.{IsLater, one_done, one_miss}
-use Rattle.outside.specs.Host.{Empties}
-use Rattle.values.specs.SiteMap.{IsEmptyAt}
+use Rattle.outside.specs.code.Counts.{IsLater, one_done, one_miss}
+use Rattle.outside.specs.code.Host.{Empties}
+use Rattle.values.specs.code.SiteMap.{IsEmptyAt}
 use Rattle.values.specs.Apply.{Apply}
 use Rattle.outside.specs.declared.counts.Counts.{Counts}
 use Rattle.outside.specs.declared.store.Store.{Store}
 use Rattle.plan_core.specs.declared.plan.Plan.{Plan}
 use Rattle.run_record.specs.Events.{Event}
 use Rattle.lease_rules.specs.State.{now}
-use Rattle.site_yard.specs.Failures.{AreMore, host_faults, host_misses}
-use Rattle.site_yard.specs.Kept.{HoldsSizes, IsKept}
-use Rattle.plan_core.specs.Names.{is_used, site_name}
-use Rattle.site_yard.specs.Opening.{AreUnusedBelow, IsInUse, IsUnusedAt, Looked, LookedAt, Refuses, looks_at, looks_below}
+use Rattle.site_yard.specs.code.Failures.{AreMore, host_faults, host_misses}
+use Rattle.site_yard.specs.code.Kept.{HoldsSizes, IsKept}
+use Rattle.plan_core.specs.code.Names.{is_used}
+use Rattle.plan_core.specs.Names.{site_name}
+use Rattle.site_yard.specs.code.Opening.{AreUnusedBelow, IsInUse, IsUnusedAt, Looked, LookedAt, Refuses, looks_at, looks_below}
 use Rattle.site_yard.specs.declared.opening.OpenFault.{OpenFault}
 use Rattle.site_yard.specs.declared.opening.OpenFault.TheVariants.{ScratchInUse, HostFailed, Memory, PairAbsent, LengthDiffers}
 use Rattle.site_yard.proofs.CountingLemmas.{done_before, done_once, missed_once, same_more}

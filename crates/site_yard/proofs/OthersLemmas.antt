@@ -2,24 +2,25 @@
 use Rattle.std.proofs.Common.{◌≡◌, ℕ, Bool, true, false, cond, ◌&&◌, ◌||◌, List, [], ◌∷◌, map, length, take, refl, sym, ap, ◌∙◌, nat_eq}
 use Rattle.std.specs.Prelude.{Option, Some, None}
 use Rattle.std.specs.List.{list_any}
-use Rattle.values.specs.SiteMap.{pair_at}
+use Rattle.values.specs.code.SiteMap.{pair_at}
 use Rattle.values.specs.Apply.{Apply}
-use Rattle.outside.specs.Store.{changed_by}
+use Rattle.outside.specs.code.Store.{changed_by}
 use Rattle.outside.specs.declared.store.Store.{Store}
 use Rattle.plan_core.specs.declared.plan.Plan.{Plan}
 use Rattle.plan_core.specs.declared.plan.TaskKind.{TaskKind}
 use Rattle.plan_core.specs.declared.plan.TaskKind.TheVariants.{Transfer, Run, Clean as CleanTask}
 use Rattle.plan_core.specs.declared.plan.Target.TheVariants.{Site as Into, Delivery}
 use Rattle.plan_core.specs.Numbers.{has}
-use Rattle.plan_core.specs.Proper.{IsProper}
+use Rattle.plan_core.specs.code.Proper.{IsProper}
 use Rattle.plan_core.specs.Words.{kind, kind_cleans, writes}
 use Rattle.plan_core.proofs.TestLemmas.{both, is_itself, or_left, or_right}
 use Rattle.run_record.specs.Events.{Event, Grant, Arrive, End, Clean, Fail, Again, Regrant}
-use Rattle.lease_rules.specs.Reading.{frees}
-use Rattle.site_yard.specs.Changes.{arrival, carries, changes, changes_of, moved, or_nil, publishes, removal}
-use Rattle.site_yard.specs.Law.{HasPlanLaws}
+use Rattle.lease_rules.specs.code.Reading.{frees}
+use Rattle.site_yard.specs.code.Changes.{arrival, changes, changes_of, moved, or_nil, publishes, removal}
+use Rattle.site_yard.specs.Changes.{carries}
+use Rattle.site_yard.specs.code.Law.{HasPlanLaws}
 use Rattle.plan_core.specs.Names.{pair_file_name, pair_site_name}
-use Rattle.site_yard.specs.Places.{IsUntouched, is_published, is_swept, publishes_pair}
+use Rattle.site_yard.specs.code.Places.{IsUntouched, is_published, is_swept, publishes_pair}
 use Rattle.site_yard.proofs.HoldsLemmas.{arrival_is, same_id}
 use Rattle.site_yard.proofs.PlaceLemmas.{left_append, left_by, pair_changed, same, same_is}
 

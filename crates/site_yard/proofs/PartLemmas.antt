@@ -3,12 +3,12 @@ use Rattle.std.proofs.Common.{◌≡◌, ℕ, zero, suc, ◌+◌, ◌≤◌, ◌
 use Rattle.std.specs.Prelude.{Option, Some, None, option_map, IfNone, IfOk, IfSome, Result, Ok, Err}
 use Rattle.std.specs.Result.{result_ok}
 use Rattle.std.proofs.lemmas.List.{map-append}
-use Rattle.outside.specs.Counts.{IsLater}
+use Rattle.outside.specs.code.Counts.{IsLater}
 use Rattle.outside.specs.declared.counts.Counts.{Counts}
 use Rattle.values.specs.declared.numbers.PairId.{PairId}
 use Rattle.outside.specs.declared.store.Store.{Store}
-use Rattle.outside.specs.Lending.{IsOpened}
-use Rattle.outside.specs.Parts.{DraftState, ReadState, draft_faults, reading_faults}
+use Rattle.outside.specs.code.Lending.{IsOpened}
+use Rattle.outside.specs.code.Parts.{DraftState, ReadState, draft_faults, reading_faults}
 use Rattle.plan_core.specs.declared.plan.Plan.{Plan}
 use Rattle.plan_core.specs.Numbers.{has}
 use Rattle.plan_core.specs.Words.{kind, pair_numbers, reads}
@@ -18,10 +18,10 @@ use Rattle.run_record.specs.declared.entry.Cause.TheVariants.{Absent, HostFailed
 use Rattle.plan_core.specs.declared.plan.TaskKind.{TaskKind}
 use Rattle.plan_core.specs.declared.plan.TaskKind.TheVariants.{Transfer, Run, Clean as CleanTask}
 use Rattle.plan_core.specs.declared.plan.Source.TheVariants.{Pfn, Site}
-use Rattle.site_yard.specs.Failures.{AreMore}
-use Rattle.site_yard.specs.Lending.{IsHostCause, IsPairCause, IsPairsCause, IsRefusedAfter, IsReplicaCause, IsUnfit, RefusesLoan, RefusesReadings, SomeUnfit}
-use Rattle.site_yard.specs.Loan.{Aim, AreOpened, at_pair, count_readings, fresh_at, pair_target, targets}
-use Rattle.lease_rules.specs.Storing.{pair_limit}
+use Rattle.site_yard.specs.code.Failures.{AreMore}
+use Rattle.site_yard.specs.code.Lending.{IsHostCause, IsPairCause, IsPairsCause, IsRefusedAfter, IsReplicaCause, IsUnfit, RefusesLoan, RefusesReadings, SomeUnfit}
+use Rattle.site_yard.specs.code.Loan.{Aim, AreOpened, at_pair, count_readings, fresh_at, pair_target, targets}
+use Rattle.lease_rules.specs.code.Storing.{pair_limit}
 use Rattle.site_yard.proofs.CountingLemmas.{after_done, done_before, more_then, none_after, same_more}
 
 one_more : (k : ℕ) → suc k ≡ k + 1

@@ -5,15 +5,15 @@ use Rattle.std.specs.Prelude.{Option, Some, None, option_map}
 use Rattle.outside.specs.declared.operation.Operation.{Operation}
 use Rattle.outside.specs.declared.operation.Operation.TheVariants.{Publish, Deliver}
 use Rattle.outside.specs.declared.store.Store.{Store}
-use Rattle.outside.specs.Store.{Change, operation}
-use Rattle.outside.specs.Lending.{placing}
-use Rattle.outside.specs.Parts.{DraftState, Drafted}
+use Rattle.outside.specs.code.Store.{Change, operation}
+use Rattle.outside.specs.code.Lending.{placing}
+use Rattle.outside.specs.code.Parts.{DraftState, Drafted}
 use Rattle.outside.specs.declared.place.Place.{Place}
 use Rattle.outside.specs.declared.place.Place.TheVariants.{Scratch, Delivery as Out}
-use Rattle.site_yard.specs.Returning.{placing_of, placings}
+use Rattle.site_yard.specs.code.Returning.{placing_of, placings}
 use Rattle.plan_core.specs.declared.plan.Plan.{Plan}
-use Rattle.site_yard.specs.Changes.{or_nil, publishes}
-use Rattle.site_yard.specs.Loan.{Aim, AreDrafts, IsDraftOf, draft_bytes, draft_size, pair_target}
+use Rattle.site_yard.specs.code.Changes.{or_nil, publishes}
+use Rattle.site_yard.specs.code.Loan.{Aim, AreDrafts, IsDraftOf, draft_bytes, draft_size, pair_target}
 use Rattle.plan_core.specs.Names.{pair_file}
 use Rattle.site_yard.specs.Trace.{published_at}
 

@@ -1,6 +1,6 @@
 -- What a proper plan says of pairs and their names.
 use Rattle.std.proofs.Common.{◌≡◌, ℕ, zero, suc, ◌≤◌, ◌<◌, ◌⊎◌, inl, inr, Bool, true, false, ◌&&◌, ◌||◌, List, [], ◌∷◌, map, length, refl, sym, ap, ◌∙◌, subst, nat_eq, arith}
-use Rattle.std.specs.Prelude.{Option, Some, None, slice_get, get_or, option_and_then}
+use Rattle.std.specs.Prelude.{Option, Some, None, slice_get, get_or, option_and_then, unwrap_or, option_map}
 use Rattle.std.specs.List.{list_any, IsDistinct}
 use Rattle.std.specs.Str.{bytes_eq}
 use Rattle.std.proofs.lemmas.Bool.{cases_lt}
@@ -22,15 +22,16 @@ use Rattle.plan_core.specs.declared.plan.Target.TheVariants.{Site as Into}
 use Rattle.plan_core.specs.Carried.{stored, writer}
 use Rattle.plan_core.specs.Kinds.{kind_reads, kind_writes, on_pair, reads_file, writes_file}
 use Rattle.plan_core.specs.Numbers.{has}
-use Rattle.plan_core.specs.Proper.{IsProper, stands}
-use Rattle.plan_core.specs.Words.{count_pairs, count_tasks, is_pair, kind, kind_in, pair, pair_at, reads, writes}
+use Rattle.plan_core.specs.code.Proper.{IsProper, stands}
+use Rattle.plan_core.specs.Words.{count_pairs, count_tasks, kind, kind_in, pair, reads, writes}
+use Rattle.plan_core.specs.code.Words.{is_pair, pair_at}
 use Rattle.plan_core.proofs.NumbersLemmas.{least_passes, some_least}
 use Rattle.plan_core.proofs.TestLemmas.{both, or_left, or_right, same_number}
-use Rattle.site_yard.specs.Law.{HasPlanLaws}
-use Rattle.plan_core.specs.Names.{file_in, file_name, lfn_in, name_in, pair_file, pair_file_name, pair_site, pair_site_name, site_in, site_name}
+use Rattle.site_yard.specs.code.Law.{HasPlanLaws}
+use Rattle.plan_core.specs.Names.{file_in, file_name, lfn_in, pair_file, pair_file_name, pair_site, pair_site_name, site_in, site_name}
 
 -- a site or a file by its name
-name_at : (xs : List PlanSite) (s : ℕ) → get_or (map (λ (x : PlanSite). x.name) xs) s [] ≡ name_in (slice_get xs s)
+name_at : (xs : List PlanSite) (s : ℕ) → get_or (map (λ (x : PlanSite). x.name) xs) s [] ≡ unwrap_or (option_map (λ (x : PlanSite). x.name) (slice_get xs s)) []
 name_at [] s = refl
 name_at (x ∷ xs) zero = refl
 name_at (x ∷ xs) (suc s) = name_at xs s

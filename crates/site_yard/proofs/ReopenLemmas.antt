@@ -4,11 +4,11 @@ use Rattle.std.specs.Prelude.{Option, Some, None, option_map, IfSome, Ok, Err}
 use Rattle.std.proofs.Math.Seq.{drop-length, take-length}
 use Rattle.std.proofs.lemmas.List.{append-nil}
 use Rattle.std.proofs.lemmas.List.Elements.{All-nil}
-use Rattle.outside.specs.Counts.{IsLater, one_done}
-use Rattle.outside.specs.Lending.{IsOpened, TellsFound, with_faults}
-use Rattle.outside.specs.Parts.{ReadState}
+use Rattle.outside.specs.code.Counts.{IsLater, one_done}
+use Rattle.outside.specs.code.Lending.{IsOpened, TellsFound, with_faults}
+use Rattle.outside.specs.code.Parts.{ReadState}
 use Rattle.values.specs.Apply.{Apply}
-use Rattle.values.specs.SiteMap.{pair_at}
+use Rattle.values.specs.code.SiteMap.{pair_at}
 use Rattle.outside.specs.declared.counts.Counts.{Counts}
 use Rattle.outside.specs.declared.store.Store.{Store}
 use Rattle.plan_core.specs.declared.plan.Plan.{Plan}
@@ -16,12 +16,13 @@ use Rattle.plan_core.specs.Words.{count_pairs}
 use Rattle.storage_simulation.specs.declared.standing.Held.{Held}
 use Rattle.run_record.specs.Events.{Event}
 use Rattle.lease_rules.specs.State.{now}
-use Rattle.site_yard.specs.Delivered.{AreDelivered, IsDigestOf}
+use Rattle.site_yard.specs.code.Delivered.{AreDelivered}
+use Rattle.site_yard.specs.Delivered.{IsDigestOf}
 use Rattle.site_yard.specs.declared.delivered.Delivered.{Delivered}
-use Rattle.site_yard.specs.Failures.{AreMore, host_faults, host_misses}
-use Rattle.site_yard.specs.Kept.{HoldsSizes, IsKept, IsTruthful}
+use Rattle.site_yard.specs.code.Failures.{AreMore, host_faults, host_misses}
+use Rattle.site_yard.specs.code.Kept.{HoldsSizes, IsKept, IsTruthful}
 use Rattle.plan_core.specs.Names.{pair_file_name, pair_site_name}
-use Rattle.site_yard.specs.Reopening.{AreRecorded, AreRecordedBelow, Checks, IsAsRecorded, IsLackingAt, IsLongAt, IsStored, RefusesAgain, measures_at, measures_below, measures_of, recorded_size}
+use Rattle.site_yard.specs.code.Reopening.{AreRecorded, AreRecordedBelow, Checks, IsAsRecorded, IsLackingAt, IsLongAt, IsStored, RefusesAgain, measures_at, measures_below, measures_of, recorded_size}
 use Rattle.site_yard.specs.declared.opening.OpenFault.{OpenFault}
 use Rattle.site_yard.specs.declared.opening.OpenFault.TheVariants.{HostFailed, LengthDiffers, Memory, PairAbsent, ScratchInUse}
 use Rattle.site_yard.proofs.CountingLemmas.{done_before, same_more}

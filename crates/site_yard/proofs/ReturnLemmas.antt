@@ -2,16 +2,16 @@
 use Rattle.std.proofs.Common.{◌≡◌, ℕ, zero, suc, ◌+◌, ◌-◌, ◌^◌, ◌≤◌, ◌<◌, min, List, [], ◌∷◌, ◌++◌, length, map, take, drop, refl, sym, ap, ◌∙◌, subst, append_assoc, arith}
 use Rattle.std.specs.Prelude.{Option, Some, None, option_map, Err}
 use Rattle.std.proofs.lemmas.List.{map-append}
-use Rattle.outside.specs.Counts.{IsLater, one_done}
-use Rattle.outside.specs.Store.{Change, changed, changed_by}
+use Rattle.outside.specs.code.Counts.{IsLater, one_done}
+use Rattle.outside.specs.code.Store.{Change, changed, changed_by}
 use Rattle.outside.specs.declared.counts.Counts.{Counts}
 use Rattle.outside.specs.declared.store.Store.{Store}
 use Rattle.outside.specs.declared.host.HostFault.{HostFault}
 use Rattle.outside.specs.declared.host.HostFault.TheVariants.{Failed, Memory}
-use Rattle.outside.specs.Lending.{Publishing, published, with_faults}
-use Rattle.outside.specs.Parts.{DraftState, Drafted, ReadState, draft_faults, reading_faults}
-use Rattle.site_yard.specs.Failures.{AreMore, IsMore}
-use Rattle.site_yard.specs.Returning.{IsRefused, placing_of, placings, refusal_faults}
+use Rattle.outside.specs.code.Lending.{Publishing, published, with_faults}
+use Rattle.outside.specs.code.Parts.{DraftState, Drafted, ReadState, draft_faults, reading_faults}
+use Rattle.site_yard.specs.code.Failures.{AreMore, IsMore}
+use Rattle.site_yard.specs.code.Returning.{IsRefused, placing_of, placings, refusal_faults}
 
 -- While parts are given back: so many calls did what was asked, and of all faults of the parts those of the parts that are
 -- left aren't counted yet.

@@ -9,7 +9,7 @@ use Rattle.sha2.specs.Sha256.{sha256}
 use Rattle.values.specs.Apply.{Apply}
 use Rattle.values.specs.declared.numbers.FileId.{FileId}
 use Rattle.outside.specs.declared.store.Store.{Store}
-use Rattle.outside.specs.Parts.{DraftState, ReadState}
+use Rattle.outside.specs.code.Parts.{DraftState, ReadState}
 use Rattle.plan_core.specs.declared.plan.Plan.{Plan}
 use Rattle.plan_core.specs.declared.plan.TaskKind.{TaskKind}
 use Rattle.plan_core.specs.declared.plan.TaskKind.TheVariants.{Transfer, Run, Clean as CleanTask}
@@ -19,10 +19,12 @@ use Rattle.run_record.specs.Events.{Event, Arrive}
 use Rattle.lease_book.specs.declared.book.Book.{Book}
 use Rattle.lease_book.specs.Book.{state_at}
 use Rattle.lease_rules.specs.Legal.{IsOpen}
-use Rattle.site_yard.specs.Changes.{carries, moved}
-use Rattle.site_yard.specs.Delivered.{AreDelivered, AreDigests, AreFiles, AreLengths, AreOfBytes, Arrival, IsDigestOf, arrival_at, arrivals, arrivals_of, carried_digest, count_deliveries, delivered_file, delivery_of, kept_at}
-use Rattle.site_yard.specs.Kept.{IsOpening}
-use Rattle.site_yard.specs.Loan.{CanSettle}
+use Rattle.site_yard.specs.Changes.{carries}
+use Rattle.site_yard.specs.code.Changes.{moved}
+use Rattle.site_yard.specs.code.Delivered.{AreDelivered, count_deliveries, delivery_of, kept_at}
+use Rattle.site_yard.specs.Delivered.{AreDigests, AreFiles, AreLengths, AreOfBytes, Arrival, IsDigestOf, arrival_at, arrivals, arrivals_of, carried_digest, delivered_file}
+use Rattle.site_yard.specs.code.Kept.{IsOpening}
+use Rattle.site_yard.specs.code.Loan.{CanSettle}
 use Rattle.site_yard.specs.declared.delivered.Delivered.{Delivered}
 use Rattle.site_yard.proofs.DeliveryRoomLemmas.{is_delivered, room_for}
 use Rattle.site_yard.proofs.KeptLemmas.{drop_more, parts, take_same}

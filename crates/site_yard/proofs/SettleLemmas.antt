@@ -4,20 +4,20 @@ use Rattle.std.specs.Prelude.{Option, Some, None, slice_get}
 use Rattle.std.proofs.Math.Logic.{∥∥₁_elim}
 use Rattle.std.proofs.Props.{props}
 use Rattle.std.proofs.lemmas.List.{length-map}
-use Rattle.outside.specs.Counts.{IsLater}
+use Rattle.outside.specs.code.Counts.{IsLater}
 use Rattle.outside.specs.declared.counts.Counts.{Counts}
 use Rattle.outside.specs.declared.host.HostFault.{HostFault}
 use Rattle.outside.specs.declared.host.HostFault.TheVariants as fault
 use Rattle.outside.specs.declared.store.Store.{Store}
-use Rattle.outside.specs.Parts.{DraftState, ReadState, draft_faults, part_faults, reading_faults}
-use Rattle.site_yard.specs.Returning.{IsRefused, refusal_faults}
+use Rattle.outside.specs.code.Parts.{DraftState, ReadState, draft_faults, part_faults, reading_faults}
+use Rattle.site_yard.specs.code.Returning.{IsRefused, refusal_faults}
 use Rattle.plan_core.specs.declared.plan.Plan.{Plan}
 use Rattle.plan_core.specs.declared.plan.Task.{Task}
 use Rattle.plan_core.specs.declared.plan.TaskKind.{TaskKind}
 use Rattle.plan_core.specs.declared.plan.TaskKind.TheVariants.{Transfer, Run, Clean as CleanTask}
 use Rattle.plan_core.specs.declared.plan.Target.TheVariants.{Site as Into, Delivery}
 use Rattle.plan_core.specs.Numbers.{has}
-use Rattle.plan_core.specs.Proper.{IsProper}
+use Rattle.plan_core.specs.code.Proper.{IsProper}
 use Rattle.plan_core.proofs.TestLemmas.{is_itself, or_left, or_right}
 use Rattle.plan_core.specs.Words.{count_pairs, count_tasks, declared, is_clean_kind, is_run, is_run_kind, is_transfer, is_transfer_kind, kind, kind_in, pair, task_numbers, writes}
 use Rattle.storage_simulation.specs.Goods.{delivered_size, good_size, is_delivery, is_delivery_kind, kind_size, makes, or_zero, pair_size}
@@ -28,14 +28,14 @@ use Rattle.lease_book.specs.declared.book.Book.{Book}
 use Rattle.lease_book.specs.Book.{failure, is_tried_again, state_at}
 use Rattle.lease_rules.specs.Legal.{Allowed, AreDeclared, AreOfFirst, ArePublished, CauseFits, IsOpen, Legal}
 use Rattle.lease_rules.specs.State.{now}
-use Rattle.site_yard.specs.Failures.{AreMore, IsCounted, IsMore}
-use Rattle.site_yard.specs.Law.{HasPlanLaws, HasRecordLaws}
-use Rattle.site_yard.specs.Lending.{IsHostCause}
+use Rattle.site_yard.specs.code.Failures.{AreMore, IsCounted, IsMore}
+use Rattle.site_yard.specs.code.Law.{HasPlanLaws, HasRecordLaws}
+use Rattle.site_yard.specs.code.Lending.{IsHostCause}
 use Rattle.values.specs.Apply.{Apply}
-use Rattle.lease_rules.specs.Storing.{pair_limit}
-use Rattle.site_yard.specs.Loan.{Aim, AreDrafts, AreSmall, CanSettle, draft_size, pair_target, targets, targets_in}
-use Rattle.site_yard.specs.Moving.{scratch_cause}
-use Rattle.site_yard.specs.Yard.{Adds, IsSettled, IsStop, TakesPublished}
+use Rattle.lease_rules.specs.code.Storing.{pair_limit}
+use Rattle.site_yard.specs.code.Loan.{Aim, AreDrafts, AreSmall, CanSettle, draft_size, pair_target, targets, targets_in}
+use Rattle.site_yard.specs.code.Moving.{scratch_cause}
+use Rattle.site_yard.specs.code.Yard.{Adds, IsSettled, IsStop, TakesPublished}
 use Rattle.site_yard.proofs.CountingLemmas.{more_then, shows}
 use Rattle.site_yard.proofs.AimLemmas.{length_take}
 use Rattle.site_yard.proofs.KeptLemmas.{failed}

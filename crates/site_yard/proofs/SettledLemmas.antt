@@ -3,13 +3,13 @@ use Rattle.std.proofs.Common.{◌≡◌, ℕ, zero, suc, ◌≤◌, ◌<◌, ◌
 use Rattle.std.specs.Prelude.{Option, Some, None, option_map, is_some, IfSome}
 use Rattle.std.specs.FinMap as files
 use Rattle.std.proofs.lemmas.List.{length-map}
-use Rattle.outside.specs.Counts.{IsLater}
+use Rattle.outside.specs.code.Counts.{IsLater}
 use Rattle.values.specs.Apply.{Apply}
 use Rattle.outside.specs.declared.counts.Counts.{Counts}
 use Rattle.outside.specs.declared.store.Store.{Store}
-use Rattle.outside.specs.Store.{changed_by, operation}
-use Rattle.outside.specs.Parts.{DraftState, ReadState}
-use Rattle.site_yard.specs.Returning.{placings, IsRefused, refusal_faults}
+use Rattle.outside.specs.code.Store.{changed_by, operation}
+use Rattle.outside.specs.code.Parts.{DraftState, ReadState}
+use Rattle.site_yard.specs.code.Returning.{placings, IsRefused, refusal_faults}
 use Rattle.plan_core.specs.declared.plan.Plan.{Plan}
 use Rattle.plan_core.specs.Words.{is_run, is_transfer, kind, task_numbers, writes}
 use Rattle.run_record.specs.declared.entry.Cause.{Cause}
@@ -17,21 +17,22 @@ use Rattle.run_record.specs.Events.{Arrive, End}
 use Rattle.lease_book.specs.declared.book.Book.{Book}
 use Rattle.lease_book.specs.Book.{failure, is_tried_again, state_at}
 use Rattle.lease_rules.specs.Legal.{IsOpen}
-use Rattle.site_yard.specs.Changes.{carries, publishes, arrival, or_nil}
-use Rattle.site_yard.specs.Kept.{IsKept}
-use Rattle.site_yard.specs.Loan.{Aim, AreDrafts, CanSettle, draft_bytes, draft_size, pair_target, targets}
+use Rattle.site_yard.specs.Changes.{carries}
+use Rattle.site_yard.specs.code.Changes.{publishes, arrival, or_nil}
+use Rattle.site_yard.specs.code.Kept.{IsKept}
+use Rattle.site_yard.specs.code.Loan.{Aim, AreDrafts, CanSettle, draft_bytes, draft_size, pair_target, targets}
 use Rattle.plan_core.specs.Names.{pair_file}
 use Rattle.site_yard.specs.Trace.{operations_of, published_at}
-use Rattle.site_yard.specs.Yard.{IsStop}
+use Rattle.site_yard.specs.code.Yard.{IsStop}
 use Rattle.site_yard.proofs.KeptLemmas.{KeepsSizes, Makes, failed, keeps, sized_failed, told_all}
 use Rattle.site_yard.proofs.LoanLemmas.{HasBookLaws, failed_counted, failed_made, failed_operations}
 use Rattle.site_yard.proofs.NextLemmas.{rose_none}
 use Rattle.site_yard.proofs.PlacedLemmas.{operations_at, pairs_changes, pairs_operations, placed_as, placed_changes, placed_operations, placed_sizes, one_long}
 use Rattle.site_yard.proofs.SettleLemmas.{drafts_many, one_target, open_either, run_targets, stop_cause, stop_shows}
 use Rattle.outside.specs.declared.host.HostFault.{HostFault}
-use Rattle.site_yard.specs.Failures.{AreMore, IsCounted}
-use Rattle.site_yard.specs.Lending.{IsHostCause}
-use Rattle.site_yard.specs.Moving.{scratch_cause}
+use Rattle.site_yard.specs.code.Failures.{AreMore, IsCounted}
+use Rattle.site_yard.specs.code.Lending.{IsHostCause}
+use Rattle.site_yard.specs.code.Moving.{scratch_cause}
 use Rattle.site_yard.proofs.AimLemmas.{IsAimOf, aim_of, failed_at, failed_publishes, length_take, stop_told, stop_true}
 use Rattle.std.proofs.Math.Logic.{∥∥₁_elim}
 use Rattle.plan_core.specs.Numbers.{has}

@@ -3,18 +3,18 @@ use Rattle.std.proofs.Common.{◌≡◌, ℕ, zero, suc, ◌+◌, ◌<◌, Bool,
 use Rattle.std.specs.Prelude.{Option, Some, None, option_map, slice_get}
 use Rattle.std.proofs.lemmas.List.{length-map}
 use Rattle.std.proofs.lemmas.List.Folds.{list_any-append}
-use Rattle.values.specs.SiteMap.{pair_at}
+use Rattle.values.specs.code.SiteMap.{pair_at}
 use Rattle.outside.specs.declared.store.Store.{Store}
-use Rattle.outside.specs.Store.{changed_by}
-use Rattle.outside.specs.Parts.{DraftState}
-use Rattle.site_yard.specs.Returning.{placing_of, placings}
+use Rattle.outside.specs.code.Store.{changed_by}
+use Rattle.outside.specs.code.Parts.{DraftState}
+use Rattle.site_yard.specs.code.Returning.{placing_of, placings}
 use Rattle.plan_core.specs.declared.plan.Plan.{Plan}
 use Rattle.plan_core.specs.declared.plan.TaskKind.{TaskKind}
 use Rattle.plan_core.specs.declared.plan.TaskKind.TheVariants.{Transfer, Run, Clean as CleanTask}
 use Rattle.plan_core.specs.declared.plan.Target.TheVariants.{Site as Into, Delivery}
 use Rattle.plan_core.specs.Kinds.{kind_writes, on_pair}
 use Rattle.plan_core.specs.Numbers.{below, has}
-use Rattle.plan_core.specs.Proper.{IsProper}
+use Rattle.plan_core.specs.code.Proper.{IsProper}
 use Rattle.plan_core.specs.Words.{count_pairs, is_run, is_transfer_kind, kind, writes}
 use Rattle.plan_core.proofs.NumbersLemmas.{below_has}
 use Rattle.plan_core.proofs.TestLemmas.{both, is_itself, or_left, or_right, same_number}
@@ -24,9 +24,9 @@ use Rattle.storage_simulation.specs.Goods.{is_delivery, is_delivery_kind, makes}
 use Rattle.run_record.specs.declared.entry.Cause.{Cause}
 use Rattle.run_record.specs.Events.{Arrive, End}
 use Rattle.lease_rules.specs.State.{State, stored_among}
-use Rattle.site_yard.specs.Kept.{HoldsSizes}
-use Rattle.site_yard.specs.Law.{HasPlanLaws}
-use Rattle.site_yard.specs.Loan.{AreDrafts, delivery_target, draft_size, pair_target, targets, targets_in}
+use Rattle.site_yard.specs.code.Kept.{HoldsSizes}
+use Rattle.site_yard.specs.code.Law.{HasPlanLaws}
+use Rattle.site_yard.specs.code.Loan.{AreDrafts, delivery_target, draft_size, pair_target, targets, targets_in}
 use Rattle.plan_core.specs.Names.{pair_file_name, pair_site_name}
 use Rattle.site_yard.proofs.FollowLemmas.{not_true}
 use Rattle.site_yard.proofs.KeptLemmas.{KeepsSizes, failed}

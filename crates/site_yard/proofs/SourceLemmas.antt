@@ -2,20 +2,21 @@
 use Rattle.std.proofs.Common.{◌≡◌, ℕ, true, false, List, length, refl, sym, ap, ◌∙◌}
 use Rattle.std.specs.Prelude.{Option, Some, None, option_map}
 use Rattle.std.specs.FinMap as files
-use Rattle.values.specs.SiteMap.{pair_at}
+use Rattle.values.specs.code.SiteMap.{pair_at}
 use Rattle.values.specs.Apply.{Apply}
-use Rattle.outside.specs.Store.{changed_by}
+use Rattle.outside.specs.code.Store.{changed_by}
 use Rattle.outside.specs.declared.store.Store.{Store}
 use Rattle.plan_core.specs.declared.plan.Plan.{Plan}
 use Rattle.plan_core.specs.Numbers.{has}
-use Rattle.plan_core.specs.Proper.{IsProper}
+use Rattle.plan_core.specs.code.Proper.{IsProper}
 use Rattle.plan_core.specs.Words.{writes}
 use Rattle.run_record.specs.Events.{Event}
-use Rattle.site_yard.specs.Changes.{carries, changes, or_nil}
-use Rattle.site_yard.specs.Kept.{IsTruthful}
-use Rattle.site_yard.specs.Law.{HasPlanLaws}
+use Rattle.site_yard.specs.Changes.{carries}
+use Rattle.site_yard.specs.code.Changes.{changes, or_nil}
+use Rattle.site_yard.specs.code.Kept.{IsTruthful}
+use Rattle.site_yard.specs.code.Law.{HasPlanLaws}
 use Rattle.plan_core.specs.Names.{pair_file, pair_file_name, pair_site_name}
-use Rattle.site_yard.specs.Places.{is_published, is_swept}
+use Rattle.site_yard.specs.code.Places.{is_published, is_swept}
 use Rattle.site_yard.proofs.HoldsLemmas.{IsSized, record_sets, record_sized}
 use Rattle.site_yard.proofs.PlaceLemmas.{pair_changed}
 use Rattle.site_yard.proofs.SuitsLemmas.{AllSuit}

@@ -5,7 +5,7 @@ use Rattle.std.specs.Prelude.{Option, Some, None, option_map}
 use Rattle.std.specs.List.{list_any}
 use Rattle.std.specs.FinMap as files
 use Rattle.std.proofs.lemmas.List.Folds.{list_any-append}
-use Rattle.values.specs.SiteMap.{pair_at}
+use Rattle.values.specs.code.SiteMap.{pair_at}
 use Rattle.values.specs.Apply.{Apply}
 use Rattle.outside.specs.declared.counts.Counts.{Counts}
 use Rattle.outside.specs.declared.store.Store.{Store}
@@ -13,19 +13,20 @@ use Rattle.plan_core.specs.declared.plan.Plan.{Plan}
 use Rattle.plan_core.specs.declared.plan.TaskKind.{TaskKind}
 use Rattle.plan_core.specs.declared.plan.TaskKind.TheVariants.{Transfer, Run, Clean as CleanTask}
 use Rattle.plan_core.specs.Numbers.{has}
-use Rattle.plan_core.specs.Proper.{IsProper}
+use Rattle.plan_core.specs.code.Proper.{IsProper}
 use Rattle.plan_core.specs.Words.{count_pairs, kind, kind_cleans, writes}
 use Rattle.plan_core.proofs.TestLemmas.{either, same_number}
 use Rattle.run_record.specs.Events.{Event, Grant, Arrive, End, Clean, Fail, Again, Regrant}
 use Rattle.lease_rules.specs.Legal.{Legal}
-use Rattle.lease_rules.specs.Reading.{ends, frees}
+use Rattle.lease_rules.specs.code.Reading.{ends, frees}
 use Rattle.lease_rules.specs.State.{opened}
-use Rattle.site_yard.specs.Changes.{carries, changes, or_nil}
-use Rattle.site_yard.specs.Kept.{IsKept, IsOpening}
-use Rattle.site_yard.specs.Law.{HasPlanLaws, HasRecordLaws}
-use Rattle.site_yard.specs.Loan.{at_pair}
+use Rattle.site_yard.specs.Changes.{carries}
+use Rattle.site_yard.specs.code.Changes.{changes, or_nil}
+use Rattle.site_yard.specs.code.Kept.{IsKept, IsOpening}
+use Rattle.site_yard.specs.code.Law.{HasPlanLaws, HasRecordLaws}
+use Rattle.site_yard.specs.code.Loan.{at_pair}
 use Rattle.plan_core.specs.Names.{pair_file, pair_file_name, pair_site_name}
-use Rattle.site_yard.specs.Places.{is_published, is_swept, publishes_pair}
+use Rattle.site_yard.specs.code.Places.{is_published, is_swept, publishes_pair}
 use Rattle.site_yard.proofs.HoldsLemmas.{or_both, record_sets, record_sized, swept_below}
 use Rattle.site_yard.proofs.OthersLemmas.{record_off}
 use Rattle.site_yard.proofs.PlaceLemmas.{left_by, pair_changed}

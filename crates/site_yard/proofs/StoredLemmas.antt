@@ -22,15 +22,15 @@ use Rattle.run_record.specs.Events.{Event, Grant, Arrive, End, Clean, Fail, Agai
 use Rattle.lease_book.specs.declared.book.Book.{Book}
 use Rattle.lease_book.specs.Book.{state_at}
 use Rattle.lease_rules.specs.Legal.{IsOpen, Legal}
-use Rattle.lease_rules.specs.Reading.{ends, frees, held_by, reserves, size_among, stored, stores}
+use Rattle.lease_rules.specs.code.Reading.{ends, frees, held_by, reserves, size_among, stored, stores}
 use Rattle.lease_rules.specs.State.{now, opened}
-use Rattle.site_yard.specs.Kept.{HoldsSizes, IsKept}
-use Rattle.site_yard.specs.Law.{HasPlanLaws, HasRecordLaws}
-use Rattle.site_yard.specs.Lending.{IsUnfit, SomeUnfit}
-use Rattle.site_yard.specs.Loan.{at_pair}
-use Rattle.lease_rules.specs.Storing.{pair_limit}
+use Rattle.site_yard.specs.code.Kept.{HoldsSizes, IsKept}
+use Rattle.site_yard.specs.code.Law.{HasPlanLaws, HasRecordLaws}
+use Rattle.site_yard.specs.code.Lending.{IsUnfit, SomeUnfit}
+use Rattle.site_yard.specs.code.Loan.{at_pair}
+use Rattle.lease_rules.specs.code.Storing.{pair_limit}
 use Rattle.plan_core.specs.Names.{pair_file, pair_site}
-use Rattle.site_yard.specs.Places.{is_swept}
+use Rattle.site_yard.specs.code.Places.{is_swept}
 use Rattle.site_yard.proofs.FollowLemmas.{is_read, not_swept, open_after, sound_here}
 use Rattle.site_yard.proofs.LoanLemmas.{HasBookLaws}
 use Rattle.site_yard.proofs.PlanLemmas.{has_writer, read_below, written_file}

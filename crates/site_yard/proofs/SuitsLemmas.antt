@@ -14,11 +14,11 @@ use Rattle.run_record.specs.declared.entry.Cause.{Cause}
 use Rattle.run_record.specs.declared.entry.Cause.TheVariants.{Absent, TooLong, Checksum, Oversize, Declined, ToolFailed, HostFailed, Memory}
 use Rattle.run_record.specs.Events.{Event, Grant, Arrive, End, Clean, Fail, Again, Regrant}
 use Rattle.lease_rules.specs.Legal.{Allowed, AreDeclared, AreOfFirst, ArePublished, CauseFits, LegalFrom}
-use Rattle.lease_rules.specs.Reading.{ends}
+use Rattle.lease_rules.specs.code.Reading.{ends}
 use Rattle.lease_rules.specs.State.{State, after}
-use Rattle.site_yard.specs.Law.{HasPlanLaws}
+use Rattle.site_yard.specs.code.Law.{HasPlanLaws}
 use Rattle.plan_core.specs.Names.{file_in, pair_file}
-use Rattle.site_yard.specs.Places.{is_published, publishes_pair}
+use Rattle.site_yard.specs.code.Places.{is_published, publishes_pair}
 use Rattle.site_yard.proofs.PlanLemmas.{not_none}
 
 -- an entry is of the kind of its task, and its sizes are within the declared ones

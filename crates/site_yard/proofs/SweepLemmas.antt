@@ -3,9 +3,9 @@ use Rattle.std.proofs.Common.{◌≡◌, ℕ, ◌-◌, ◌≤◌, ◌<◌, inl, 
 use Rattle.std.specs.Prelude.{Option, Some, None, option_map, is_some, IfSome, Err, Ok, slice_get}
 use Rattle.std.specs.List.{list_any}
 use Rattle.std.proofs.Math.Logic.{∥∥₁_elim}
-use Rattle.outside.specs.Counts.{IsLater}
-use Rattle.values.specs.SiteMap.{pair_at}
-use Rattle.outside.specs.Store.{Change, Removes, changed_by, operation}
+use Rattle.outside.specs.code.Counts.{IsLater}
+use Rattle.values.specs.code.SiteMap.{pair_at}
+use Rattle.outside.specs.code.Store.{Change, Removes, changed_by, operation}
 use Rattle.values.specs.Apply.{Apply}
 use Rattle.outside.specs.declared.counts.Counts.{Counts}
 use Rattle.values.specs.declared.numbers.PairId.{PairId}
@@ -15,7 +15,7 @@ use Rattle.plan_core.specs.declared.plan.Plan.{Plan}
 use Rattle.plan_core.specs.declared.plan.TaskKind.{TaskKind}
 use Rattle.plan_core.specs.declared.plan.TaskKind.TheVariants.{Clean as CleanTask}
 use Rattle.plan_core.specs.Numbers.{has}
-use Rattle.plan_core.specs.Proper.{IsProper}
+use Rattle.plan_core.specs.code.Proper.{IsProper}
 use Rattle.plan_core.specs.Words.{cleans, count_pairs, kind, kind_cleans, task_numbers, writes}
 use Rattle.plan_core.proofs.TestLemmas.{both, either, is_itself, or_left, or_right}
 use Rattle.storage_simulation.specs.declared.standing.Held.TheVariants.{Nothing, Stored}
@@ -30,18 +30,18 @@ use Rattle.lease_book.specs.declared.book.Book.{Book}
 use Rattle.lease_book.specs.Book.{failure, is_tried_again, state_at}
 use Rattle.lease_rules.specs.Choice.{IsChoice}
 use Rattle.lease_rules.specs.Legal.{CauseFits, Legal}
-use Rattle.lease_rules.specs.Reading.{ends, frees, reserves, stored}
+use Rattle.lease_rules.specs.code.Reading.{ends, frees, reserves, stored}
 use Rattle.lease_rules.specs.State.{State, ended, now, opened}
-use Rattle.site_yard.specs.Changes.{removal}
-use Rattle.site_yard.specs.Failures.{AreMore, IsCounted, IsMore}
-use Rattle.site_yard.specs.Kept.{HoldsSizes, IsKept}
-use Rattle.site_yard.specs.Law.{HasPlanLaws, HasRecordLaws}
-use Rattle.site_yard.specs.Leased.{failed_as}
-use Rattle.site_yard.specs.Moving.{SweptAway}
+use Rattle.site_yard.specs.code.Changes.{removal}
+use Rattle.site_yard.specs.code.Failures.{AreMore, IsCounted, IsMore}
+use Rattle.site_yard.specs.code.Kept.{HoldsSizes, IsKept}
+use Rattle.site_yard.specs.code.Law.{HasPlanLaws, HasRecordLaws}
+use Rattle.site_yard.specs.code.Leased.{failed_as}
+use Rattle.site_yard.specs.code.Moving.{SweptAway}
 use Rattle.plan_core.specs.Names.{pair_file_name, pair_site_name}
-use Rattle.site_yard.specs.Places.{is_swept}
+use Rattle.site_yard.specs.code.Places.{is_swept}
 use Rattle.site_yard.specs.Trace.{operations_of, removed}
-use Rattle.site_yard.specs.Yard.{IsStop, Leases}
+use Rattle.site_yard.specs.code.Yard.{IsStop, Leases}
 use Rattle.site_yard.specs.declared.leased.Leased.{Leased}
 use Rattle.site_yard.proofs.AimLemmas.{stop_told}
 use Rattle.site_yard.proofs.FollowLemmas.{choice_after, is_read, not_true, sound_here}

@@ -1,6 +1,6 @@
 -- The trace is the marked one with the operations of the changes.
 use Rattle.std.proofs.Common.{◌≡◌, List, [], ◌∷◌, ◌++◌, map, refl, sym, ap, ◌∙◌, append_assoc}
-use Rattle.outside.specs.Store.{Change, Publishes, Delivers, Removes, changed, changed_by, operation}
+use Rattle.outside.specs.code.Store.{Change, Publishes, Delivers, Removes, changed, changed_by, operation}
 use Rattle.outside.specs.declared.store.Store.{Store}
 
 nil_after : {A : Type 0} (r : List A) → r ++ [] ≡ r

@@ -1,9 +1,9 @@
 -- A yard that stays the same.
 use Rattle.std.proofs.Common.{refl, ◌∙◌, arith}
-use Rattle.outside.specs.Counts.{IsLater}
+use Rattle.outside.specs.code.Counts.{IsLater}
 use Rattle.outside.specs.declared.counts.Counts.{Counts}
 use Rattle.outside.specs.declared.host.Host as host
-use Rattle.site_yard.specs.Yard.{IsSameYard}
+use Rattle.site_yard.specs.code.Yard.{IsSameYard}
 use Rattle.site_yard.specs.declared.yard.Yard.{Yard}
 use Rattle.site_yard.proofs.PartLemmas.{later_both}
 

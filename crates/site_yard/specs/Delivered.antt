@@ -1,20 +1,14 @@
 -- What was delivered, by the record: one element for each delivery that arrived, in the order of the record.
-use Rattle.std.specs.Prelude.{◌≡◌, ℕ, true, List, [], ◌∷◌, ◌++◌, map, length, Option, Some, None, option_map, is_some}
+use Rattle.std.specs.Prelude.{◌≡◌, ℕ, List, [], ◌∷◌, ◌++◌, map, length, Option, Some, None, option_map}
 use Rattle.std.specs.List.{All}
 use Rattle.sha2.specs.Sha256.{sha256}
-use Rattle.values.specs.Apply.{Apply}
 use Rattle.values.specs.declared.numbers.FileId.{FileId}
-use Rattle.outside.specs.declared.store.Store.{Store}
 use Rattle.plan_core.specs.declared.plan.Plan.{Plan}
 use Rattle.plan_core.specs.declared.plan.TaskKind.{TaskKind}
 use Rattle.plan_core.specs.declared.plan.TaskKind.TheVariants.{Transfer}
 use Rattle.plan_core.specs.declared.plan.Target.TheVariants.{Delivery}
-use Rattle.plan_core.specs.Numbers.{below}
-use Rattle.plan_core.specs.Words.{count_tasks, kind}
-use Rattle.storage_simulation.specs.Goods.{is_delivery}
+use Rattle.plan_core.specs.Words.{kind}
 use Rattle.run_record.specs.Events.{Event, Arrive}
-use Rattle.site_yard.specs.Changes.{carries}
-use Rattle.site_yard.specs.Kept.{IsOpening}
 use Rattle.site_yard.specs.declared.delivered.Delivered.{Delivered}
 
 -- a delivery that arrived: its task, the file of its Transfer and the size of its Arrive
@@ -60,25 +54,3 @@ IsDigestOf n digest = ∥ ((bytes : List ℕ) × (length bytes ≡ n) × (sha256
 -- told or not, each delivery has the length and the digest of some bytes
 abbrev pub AreOfBytes : List Delivered → Type 0
 AreOfBytes ds = All (λ (d : Delivered). IsDigestOf d.length d.digest) ds
-
--- What a yard's list says of the entries since its opening; the digests where the host tells, under the premise on the
--- opening.
-pub record AreDelivered (apply : Apply) (p : Plan) (first r : List Event) (told : Option Store)
-    (marked : Store) (ds : List Delivered) : Type 0 where
-  pub files : AreFiles ds (arrivals p r)
-  pub lengths : AreLengths ds (arrivals p r)
-  pub digests : IsOpening apply p first marked → is_some told ≡ true
-      → AreDigests (carries apply p marked) ds (arrivals p r)
-  pub of_bytes : AreOfBytes ds
-
--- the tasks of a plan that deliver a file; what is kept of a delivery of these bytes
-unfoldable pub count_deliveries : Plan → ℕ
-count_deliveries p = length (below (count_tasks p) (is_delivery p))
-
-abbrev pub kept_at : ℕ → Option (List ℕ) → Option FileId → List Delivered
-kept_at size None f = []
-kept_at size (Some digest) None = []
-kept_at size (Some digest) (Some f) = record { file = f; length = size; digest = digest } ∷ []
-
-abbrev pub delivery_of : Option TaskKind → ℕ → Option (List ℕ) → List Delivered
-delivery_of k size digest = kept_at size digest (delivered_file k)

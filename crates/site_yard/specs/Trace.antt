@@ -7,8 +7,8 @@ use Rattle.plan_core.specs.declared.plan.TaskKind.{TaskKind}
 use Rattle.plan_core.specs.declared.plan.TaskKind.TheVariants.{Transfer, Clean as CleanTask}
 use Rattle.plan_core.specs.declared.plan.Target.TheVariants.{Site, Delivery}
 use Rattle.plan_core.specs.Words.{kind, writes}
-use Rattle.run_record.specs.Events.{Event, Grant, Arrive, End, Clean, Fail, Again, Regrant}
 use Rattle.plan_core.specs.Names.{site_name, file_name, pair_site_name, pair_file_name}
+use Rattle.run_record.specs.Events.{Event, Grant, Arrive, End, Clean, Fail, Again, Regrant}
 
 -- the first of these pairs, published at these sizes
 abbrev pub published_at : Plan → List ℕ → List ℕ → List Operation

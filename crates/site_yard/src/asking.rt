@@ -6,10 +6,10 @@ ghost use Rattle.lease_book.specs.Book.{state_at};
 ghost use Rattle.lease_rules.specs.Legal.{IsComplete, Legal};
 ghost use Rattle.site_yard.specs.Changes.{carries};
 ghost use Rattle.site_yard.specs.Delivered.{AreDigests, AreFiles, AreLengths, AreOfBytes, arrivals};
-ghost use Rattle.site_yard.specs.Ending.{Ends};
-ghost use Rattle.site_yard.specs.Failures.{AreCounted};
-ghost use Rattle.site_yard.specs.Kept.{IsOpening};
-ghost use Rattle.site_yard.specs.Law.{AgreesSince};
+ghost use Rattle.site_yard.specs.code.Ending.{Ends};
+ghost use Rattle.site_yard.specs.code.Failures.{AreCounted};
+ghost use Rattle.site_yard.specs.code.Kept.{IsOpening};
+ghost use Rattle.site_yard.specs.code.Law.{AgreesSince};
 
 use crate::delivered::Delivered;
 use crate::ending::{first_failed, run_fault};

@@ -2,7 +2,8 @@
 
 ghost use Rattle.std.specs.Prelude.{◌≡◌, ◌<◌, ◌^◌, ◌++◌, is_some, length, true, vec_capacity};
 ghost use Rattle.plan_core.specs.Words.{count_tasks, kind};
-ghost use Rattle.site_yard.specs.Delivered.{count_deliveries, delivered_file, delivery_of};
+ghost use Rattle.site_yard.specs.code.Delivered.{count_deliveries, delivery_of};
+ghost use Rattle.site_yard.specs.Delivered.{delivered_file};
 
 use outside::{FileId, TaskId};
 use plan_core::{Plan, Target, TaskKind};
@@ -17,7 +18,7 @@ pub struct Delivered {
 }
 
 /// How many tasks of a plan deliver a file.
-#[tactic(auto, unfolding(crate::specs::Delivered::count_deliveries))]
+#[tactic(auto, unfolding(crate::specs::code::Delivered::count_deliveries))]
 pub(crate) fn count_deliveries(plan: &Plan) -> usize
     requires { count_tasks plan.now < 2 ^ 32 }
     ensures { result ≡ count_deliveries plan.now }

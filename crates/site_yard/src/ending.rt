@@ -4,11 +4,11 @@ ghost use Rattle.std.specs.Prelude.{◌≡◌, IfOk};
 ghost use Rattle.plan_core.specs.Words.{declared, kind};
 ghost use Rattle.storage_simulation.specs.Goods.{or_zero};
 ghost use Rattle.run_record.specs.declared.entry.Cause.TheVariants as why;
-ghost use Rattle.run_record.specs.Events.{event};
+ghost use Rattle.run_record.specs.code.Events.{event};
 ghost use Rattle.lease_rules.specs.Legal.{checksum};
 ghost use Rattle.run_record.specs.declared.run_fault.RunFault.TheVariants.{Oversize};
 ghost use Rattle.plan_core.specs.Names.{file_name};
-ghost use Rattle.site_yard.specs.Ending.{failed_in, fault_of, first_failed, job_name, moved_file, registered, source_pfn};
+ghost use Rattle.site_yard.specs.code.Ending.{failed_in, fault_of, first_failed, job_name, moved_file, registered, source_pfn};
 
 use crate::names::{declared_size, file_name};
 use outside::{FileId, JobId, Memory, TaskId, Text};
@@ -24,7 +24,7 @@ pub struct Failed {
 }
 
 /// The id of a job.
-#[tactic(auto, unfolding(crate::specs::Ending::job_name))]
+#[tactic(auto, unfolding(crate::specs::code::Ending::job_name))]
 fn job_name(plan: &Plan, job: JobId) -> &str
     ensures { result.now ≡ job_name plan.now job.0 }
 {

@@ -4,15 +4,16 @@ ghost use Rattle.std.specs.Prelude.{◌≡◌, ◌≤◌, ◌++◌, ℕ, true, f
 ghost use Rattle.values.specs.Apply.{Apply};
 ghost use Rattle.plan_core.specs.declared.plan.Plan.{Plan};
 ghost use Rattle.plan_core.specs.Carried.{Bytes, carried};
-ghost use Rattle.plan_core.specs.Proper.{IsProper};
+ghost use Rattle.plan_core.specs.code.Proper.{IsProper};
 ghost use Rattle.run_record.specs.Events.{Event};
 ghost use Rattle.lease_rules.specs.Legal.{Legal};
 ghost use Rattle.lease_rules.specs.State.{now};
 ghost use Rattle.run_record.specs.declared.run_fault.RunFault.{RunFault};
-ghost use Rattle.site_yard.specs.Ending.{first_failed, first_fault};
-ghost use Rattle.site_yard.specs.Failures.{tool_faults};
-ghost use Rattle.site_yard.specs.Faults.{AllBelow, AllCarried, HasToolFault, IsCountedFault};
-ghost use Rattle.site_yard.specs.Truthful.{Truthful};
+ghost use Rattle.site_yard.specs.code.Ending.{first_failed, first_fault};
+ghost use Rattle.site_yard.specs.code.Failures.{tool_faults};
+ghost use Rattle.site_yard.specs.Faults.{AllBelow};
+ghost use Rattle.site_yard.specs.code.Faults.{AllCarried, HasToolFault, IsCountedFault};
+ghost use Rattle.site_yard.specs.code.Truthful.{Truthful};
 
 use crate::law::plan_laws;
 

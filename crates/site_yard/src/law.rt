@@ -5,12 +5,12 @@ ghost use Rattle.values.specs.Apply.{Apply};
 ghost use Rattle.outside.specs.declared.counts.Counts.{Counts};
 ghost use Rattle.outside.specs.declared.store.Store.{Store};
 ghost use Rattle.plan_core.specs.declared.plan.Plan.{Plan};
-ghost use Rattle.plan_core.specs.Proper.{IsProper};
+ghost use Rattle.plan_core.specs.code.Proper.{IsProper};
 ghost use Rattle.run_record.specs.Events.{Event};
-ghost use Rattle.lease_rules.specs.Law.{FitsFromStart};
+ghost use Rattle.lease_rules.specs.code.Law.{FitsFromStart};
 ghost use Rattle.lease_rules.specs.Legal.{Legal};
-ghost use Rattle.site_yard.specs.Kept.{IsKept};
-ghost use Rattle.site_yard.specs.Law.{AgreesSince, HasPlanLaws, HasRecordLaws};
+ghost use Rattle.site_yard.specs.code.Kept.{IsKept};
+ghost use Rattle.site_yard.specs.code.Law.{AgreesSince, HasPlanLaws, HasRecordLaws};
 
 use lease_rules::{allowed_entries_keep_safe, records_read};
 use plan_core::{

@@ -1,7 +1,7 @@
 //! What a worker may do next in a yard.
 
 ghost use Rattle.std.specs.Prelude.{◌≡◌, ◌<◌, ◌-◌, length, slice_get};
-ghost use Rattle.site_yard.specs.Leased.{failed_as};
+ghost use Rattle.site_yard.specs.code.Leased.{failed_as};
 
 use outside::TaskId;
 use run_record::{Entry, Record};

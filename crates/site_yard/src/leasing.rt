@@ -5,7 +5,7 @@ ghost use Rattle.plan_core.specs.declared.plan.TaskKind.TheVariants.{Clean};
 ghost use Rattle.plan_core.specs.Words.{kind};
 ghost use Rattle.lease_book.specs.Book.{state_at};
 ghost use Rattle.lease_rules.specs.Choice.{IsChoice};
-ghost use Rattle.site_yard.specs.Yard.{IsSameYard, Leases};
+ghost use Rattle.site_yard.specs.code.Yard.{IsSameYard, Leases};
 
 use crate::law::{plan_laws, record_laws};
 use crate::leased::{Leased, failed};

@@ -2,9 +2,10 @@
 
 ghost use Rattle.std.specs.Prelude.{◌≤◌, ◌+◌, ℕ, List, take};
 ghost use Rattle.plan_core.specs.declared.plan.Plan.{Plan};
-ghost use Rattle.plan_core.specs.Proper.{IsProper};
+ghost use Rattle.plan_core.specs.code.Proper.{IsProper};
 ghost use Rattle.run_record.specs.Events.{Event};
-ghost use Rattle.lease_rules.specs.Law.{FitsFromStart, reserved_at, stored_at};
+ghost use Rattle.lease_rules.specs.code.Law.{FitsFromStart};
+ghost use Rattle.lease_rules.specs.Law.{reserved_at, stored_at};
 ghost use Rattle.lease_rules.specs.Legal.{Legal};
 ghost use Rattle.lease_rules.specs.State.{now};
 ghost use Rattle.site_yard.specs.Leaving.{left_in};

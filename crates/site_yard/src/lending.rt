@@ -1,12 +1,12 @@
 //! What a task has outside the lock: its readings opened, its drafts made.
 
 ghost use Rattle.std.specs.Prelude.{◌≡◌, ◌≤◌, ◌<◌, [], IfErr, IfOk, length, map, vec_capacity};
-ghost use Rattle.outside.specs.Counts.{IsLater};
+ghost use Rattle.outside.specs.code.Counts.{IsLater};
 ghost use Rattle.plan_core.specs.Words.{kind, pair_numbers, reads, writes};
-ghost use Rattle.site_yard.specs.Loan.{AreReadings, delivery_target, fresh_at, pair_target, targets};
-ghost use Rattle.site_yard.specs.Failures.{AreMore};
-ghost use Rattle.site_yard.specs.Lending.{MakesDraft, MakesDrafts, OpensPair, OpensPairs, OpensReadings, RefusesLoan, count_parts};
-ghost use Rattle.outside.specs.Parts.{draft_faults, reading_faults};
+ghost use Rattle.site_yard.specs.code.Loan.{AreReadings, delivery_target, fresh_at, pair_target, targets};
+ghost use Rattle.site_yard.specs.code.Failures.{AreMore};
+ghost use Rattle.site_yard.specs.code.Lending.{MakesDraft, MakesDrafts, OpensPair, OpensPairs, OpensReadings, RefusesLoan, count_parts};
+ghost use Rattle.outside.specs.code.Parts.{draft_faults, reading_faults};
 
 use crate::moving::{replica_cause, scratch_cause};
 use crate::names::{declared_size, file_name, pair_file_name, pair_limit, pair_site_name};

@@ -2,13 +2,13 @@
 //!
 //! To the layer above a [`Yard`] is its record and its host's marked store: where the host tells, its store is the
 //! marked one with the changes that the record's entries name, one after the other (`specs/Changes.antt`), and the
-//! record is Truthful over it (`specs/Truthful.antt`). That is one equation (`specs/Kept.antt`); what follows from it of
-//! each file, of the trace and of the replicas is [`Yard::agrees`], by `specs/Law.antt`. How often the host's counts rose is
-//! in `specs/Failures.antt`. The plan and the book are those of `plan_core` and `lease_book`; what a task
-//! carries is plan_core's. What a call adds to the record is in `specs/Yard.antt`, what moves bytes in
-//! `specs/Moving.antt` and `Storing.antt`, in the host's words alone. What was delivered, with lengths and
-//! digests, is [`Yard::delivered`] (`specs/Delivered.antt`). As the value of a lock a yard has a charter, which never
-//! changes, and its record as the journal (`chronicle.rt`).
+//! record is Truthful over it (`specs/code/Truthful.antt`). That is one equation (`specs/code/Kept.antt`); what follows
+//! from it of each file, of the trace and of the replicas is [`Yard::agrees`], by `specs/Law.antt`. How often the
+//! host's counts rose is in `specs/code/Failures.antt`. The plan and the book are those of `plan_core` and
+//! `lease_book`; what a task carries is plan_core's. What a call adds to the record is in `specs/code/Yard.antt`, what
+//! moves bytes in `specs/code/Moving.antt` and `Storing.antt`, in the host's words alone. What was delivered, with
+//! lengths and digests, is [`Yard::delivered`] (`specs/Delivered.antt`). As the value of a lock a yard has a charter,
+//! which never changes, and its record as the journal (`chronicle.rt`).
 #![tactic(auto)]
 
 mod asking;

@@ -4,11 +4,11 @@ ghost use Rattle.std.specs.Prelude.{◌≡◌, ◌++◌, ◌∷◌, [], IfErr, I
 ghost use Rattle.plan_core.specs.Words.{kind, reads};
 ghost use Rattle.lease_book.specs.Book.{failure, state_at};
 ghost use Rattle.lease_rules.specs.Legal.{CauseFits, IsOpen};
-ghost use Rattle.site_yard.specs.Failures.{AreMore, IsCounted, IsMore};
-ghost use Rattle.site_yard.specs.Kept.{IsOpening};
-ghost use Rattle.site_yard.specs.Lending.{RefusesLoan, count_parts};
-ghost use Rattle.site_yard.specs.Loan.{AreReadings, CanSettle, IsLent, IsLoan, fresh_at, targets};
-ghost use Rattle.site_yard.specs.Yard.{Adds, IsBehind, IsFailure, IsSameYard, IsSettled, IsTold, IsWorkers, TakesPublished, TakesWithin};
+ghost use Rattle.site_yard.specs.code.Failures.{AreMore, IsCounted, IsMore};
+ghost use Rattle.site_yard.specs.code.Kept.{IsOpening};
+ghost use Rattle.site_yard.specs.code.Lending.{RefusesLoan, count_parts};
+ghost use Rattle.site_yard.specs.code.Loan.{AreReadings, CanSettle, IsLent, IsLoan, fresh_at, targets};
+ghost use Rattle.site_yard.specs.code.Yard.{Adds, IsBehind, IsFailure, IsSameYard, IsSettled, IsTold, IsWorkers, TakesPublished, TakesWithin};
 
 use crate::delivered::keep;
 use crate::law::{plan_laws, record_laws};

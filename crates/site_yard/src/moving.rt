@@ -1,9 +1,9 @@
 //! Why a call of the host failed, and the removal of a pair.
 
 ghost use Rattle.std.specs.Prelude.{◌≡◌};
-ghost use Rattle.outside.specs.Counts.{IsLater};
+ghost use Rattle.outside.specs.code.Counts.{IsLater};
 ghost use Rattle.plan_core.specs.Names.{pair_file_name, pair_site_name};
-ghost use Rattle.site_yard.specs.Moving.{SweptAway, replica_cause, scratch_cause};
+ghost use Rattle.site_yard.specs.code.Moving.{SweptAway, replica_cause, scratch_cause};
 
 use crate::names::{pair_file_name, pair_site_name};
 use outside::{Host, HostFault, PairId};

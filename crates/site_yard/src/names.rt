@@ -6,8 +6,9 @@ ghost use Rattle.plan_core.specs.declared.plan.Pair.{Pair};
 ghost use Rattle.plan_core.specs.declared.plan.TaskKind.TheVariants.{Clean};
 ghost use Rattle.plan_core.specs.Words.{declared, is_clean, kind};
 ghost use Rattle.storage_simulation.specs.Goods.{or_zero};
-ghost use Rattle.lease_rules.specs.Storing.{pair_limit};
-ghost use Rattle.plan_core.specs.Names.{file_name, is_used, pair_file, pair_file_name, pair_site, pair_site_name, site_name};
+ghost use Rattle.lease_rules.specs.code.Storing.{pair_limit};
+ghost use Rattle.plan_core.specs.Names.{file_name, pair_file, pair_file_name, pair_site, pair_site_name, site_name};
+ghost use Rattle.plan_core.specs.code.Names.{is_used};
 
 use outside::{FileId, PairId, SiteId, TaskId};
 use plan_core::{Plan, TaskKind};
@@ -86,7 +87,7 @@ pub(crate) fn pair_limit(plan: &Plan, pair: PairId) -> u64
 }
 
 /// Whether a site has a pair.
-#[tactic(auto, unfolding(plan_core::specs::Names::is_used))]
+#[tactic(auto, unfolding(plan_core::specs::code::Names::is_used))]
 pub(crate) fn is_used(plan: &Plan, site: SiteId) -> bool
     ensures { result ≡ is_used plan.now site.0 }
 {

@@ -1,8 +1,8 @@
 //! Whether the sites of a plan are free, and why a run wasn't opened.
 
 ghost use Rattle.std.specs.Prelude.{◌≡◌, ◌≤◌, ◌<◌, ◌^◌, ◌⊎◌, IfOk, length};
-ghost use Rattle.outside.specs.Counts.{IsLater};
-ghost use Rattle.site_yard.specs.Opening.{Looked, LookedAt, fault_of_opening};
+ghost use Rattle.outside.specs.code.Counts.{IsLater};
+ghost use Rattle.site_yard.specs.code.Opening.{Looked, LookedAt, fault_of_opening};
 ghost use Rattle.run_record.specs.declared.run_fault.RunFault.TheVariants as run;
 ghost use Rattle.site_yard.specs.declared.opening.OpenFault.TheVariants as openings;
 

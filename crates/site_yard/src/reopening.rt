@@ -1,11 +1,11 @@
 //! A yard that is opened with a book: whether what its record says is stored stands at its sites.
 
 ghost use Rattle.std.specs.Prelude.{◌≡◌, ◌<◌, ◌^◌, false, IfErr, IfOk, IfSome, length};
-ghost use Rattle.outside.specs.Counts.{IsLater};
+ghost use Rattle.outside.specs.code.Counts.{IsLater};
 ghost use Rattle.plan_core.specs.Words.{count_pairs};
 ghost use Rattle.lease_book.specs.Book.{state_at};
-ghost use Rattle.site_yard.specs.Failures.{AreMore};
-ghost use Rattle.site_yard.specs.Reopening.{AreRecorded, Checks, ChecksAll, Measures, RefusesAgain, measures};
+ghost use Rattle.site_yard.specs.code.Failures.{AreMore};
+ghost use Rattle.site_yard.specs.code.Reopening.{AreRecorded, Checks, ChecksAll, Measures, RefusesAgain, measures};
 
 use crate::delivered::count_deliveries;
 use crate::names::{pair_file_name, pair_site_name};

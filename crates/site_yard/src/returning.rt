@@ -1,10 +1,10 @@
 //! Parts, given back to their host.
 
 ghost use Rattle.std.specs.Prelude.{◌≡◌, map};
-ghost use Rattle.outside.specs.Counts.{IsLater};
-ghost use Rattle.site_yard.specs.Failures.{AreMore};
-ghost use Rattle.outside.specs.Parts.{draft_faults, reading_faults};
-ghost use Rattle.site_yard.specs.Returning.{Publishes};
+ghost use Rattle.outside.specs.code.Counts.{IsLater};
+ghost use Rattle.site_yard.specs.code.Failures.{AreMore};
+ghost use Rattle.outside.specs.code.Parts.{draft_faults, reading_faults};
+ghost use Rattle.site_yard.specs.code.Returning.{Publishes};
 
 use outside::{Host, HostFault};
 use std::alloc::Global;

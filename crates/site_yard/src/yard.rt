@@ -1,10 +1,10 @@
 //! A book tied to a host. While a loan is out nothing of the yard speaks of it.
 
 ghost use Rattle.std.specs.Prelude.{◌≡◌, ◌≤◌, [], IfErr, IfOk, IfSome, drop, length, take, vec_capacity};
-ghost use Rattle.outside.specs.Counts.{IsLater};
+ghost use Rattle.outside.specs.code.Counts.{IsLater};
 ghost use Rattle.plan_core.specs.Words.{retries, task_numbers};
-ghost use Rattle.site_yard.specs.Delivered.{AreDelivered, count_deliveries};
-ghost use Rattle.site_yard.specs.Kept.{IsKept};
+ghost use Rattle.site_yard.specs.code.Delivered.{AreDelivered, count_deliveries};
+ghost use Rattle.site_yard.specs.code.Kept.{IsKept};
 
 use crate::delivered::{Delivered, count_deliveries};
 use crate::opening::{OpenFault, OpenRefused, look};
@@ -38,8 +38,8 @@ pub struct Yard<H: Host, T: Tool> {
 }
 
 impl<H: Host, T: Tool> Yard<H, T> {
-    ghost use Rattle.site_yard.specs.Failures.{AreMore};
-    ghost use Rattle.site_yard.specs.Opening.{AreUnused, Refuses, looks};
+    ghost use Rattle.site_yard.specs.code.Failures.{AreMore};
+    ghost use Rattle.site_yard.specs.code.Opening.{AreUnused, Refuses, looks};
 
     /// Takes over a host whose sites are free. It takes room for the deliveries, marks the host, and asks each site that
     /// has a pair once.

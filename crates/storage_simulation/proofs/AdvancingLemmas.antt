@@ -5,17 +5,20 @@ use Rattle.std.proofs.lemmas.Bool.{cases_order}
 use Rattle.tournament_tree.specs.declared.tree.Key.{Key}
 use Rattle.tournament_tree.specs.Tree.{IsLeast, entry, is_less}
 use Rattle.plan_core.specs.declared.plan.Plan.{Plan}
-use Rattle.plan_core.specs.Numbers.{RisesFrom, has}
+use Rattle.plan_core.specs.code.Numbers.{RisesFrom}
+use Rattle.plan_core.specs.Numbers.{has}
 use Rattle.plan_core.specs.Words.{count_tasks, is_clean, parents}
 use Rattle.storage_simulation.specs.declared.front.Front.{Front}
 use Rattle.storage_simulation.specs.declared.index.Index.{Index}
 use Rattle.storage_simulation.specs.declared.standing.Standing.{Standing}
 use Rattle.storage_simulation.specs.Following.{is_ready}
-use Rattle.storage_simulation.specs.Front.{IsOrderable, IsSet, front_of, missing}
-use Rattle.storage_simulation.specs.Goods.{place, place_bound, places}
-use Rattle.storage_simulation.specs.Index.{AreGoes, IsApart, IsAway, IsBestAt, home, homes, key, last_of, need_at, open_key, or_number, ready_key}
+use Rattle.storage_simulation.specs.code.Front.{IsOrderable, IsSet, front_of, missing}
+use Rattle.storage_simulation.specs.code.Goods.{place}
+use Rattle.storage_simulation.specs.Goods.{place_bound, places}
+use Rattle.storage_simulation.specs.code.Index.{AreGoes, IsApart, IsAway, IsBestAt, home, homes, key, last_of, need_at, open_key, or_number, ready_key}
 use Rattle.storage_simulation.specs.OrderLaw.{fits_after, is_open}
-use Rattle.storage_simulation.specs.Ordering.{Progress, comes, frees, goes, is_done, progress, size, IsBefore, IsFitting, IsOpen, IsStep}
+use Rattle.storage_simulation.specs.Ordering.{Progress, comes, frees, goes, is_done, size}
+use Rattle.storage_simulation.specs.code.Ordering.{progress, IsBefore, IsFitting, IsOpen, IsStep}
 use Rattle.storage_simulation.specs.Usage.{sum_of, usage}
 use Rattle.storage_simulation.proofs.CountingLemmas.{done_next}
 use Rattle.storage_simulation.proofs.FollowingLemmas.{by_bool, false_of, or_left, or_right}

@@ -8,12 +8,13 @@ use Rattle.plan_core.specs.declared.plan.Plan.{Plan}
 use Rattle.plan_core.specs.Numbers.{has}
 use Rattle.plan_core.specs.Words.{cleans, count_pairs, count_tasks, output_bound, parents, task_numbers}
 use Rattle.storage_simulation.specs.declared.standing.Phase.{Phase}
-use Rattle.storage_simulation.specs.Goods.{IsWithinLimits, good_size, goods, lies_at, makes, places}
+use Rattle.storage_simulation.specs.code.Goods.{IsWithinLimits}
+use Rattle.storage_simulation.specs.Goods.{good_size, goods, lies_at, makes, places}
 use Rattle.storage_simulation.specs.Standings.{waits}
-use Rattle.storage_simulation.specs.Usage.{cleaned, made, part, sum_of, usage, weight}
-use Rattle.storage_simulation.specs.Following.{Follows}
-use Rattle.storage_simulation.specs.Change.{cleaned_part, held_part, size_part, waits_for_maker}
-use Rattle.storage_simulation.specs.Law.{KeepsGoods}
+use Rattle.storage_simulation.specs.Usage.{cleaned, made, usage_of_good, sum_of, usage, weight}
+use Rattle.storage_simulation.specs.code.Following.{Follows}
+use Rattle.storage_simulation.specs.code.Change.{cleaned_part, held_part, size_part, waits_for_maker}
+use Rattle.storage_simulation.specs.code.Law.{KeepsGoods}
 use Rattle.storage_simulation.proofs.FollowingLemmas.{at_place, both, by_bool, false_of, front_more, is_itself, once_at, or_case, or_left, or_right}
 use Rattle.storage_simulation.proofs.GoodsLemmas.{lies_below}
 use Rattle.storage_simulation.proofs.NumbersLemmas.{count_tasks_in, task_at}
@@ -128,19 +129,19 @@ any_more test xs x = list_any-append test xs (x ∷ []) ∙ ap (λ (b : Bool). l
 more_part : Plan → (ℕ → ℕ) → List ℕ → ℕ → ℕ → ℕ → ℕ
 more_part p size front t s g = cond (lies_at p g s) (cond (cleaned p front g || cleans p t g) 0 (cond (made p front g || has (makes p t) g) (good_size p g) (size g))) 0
 
-part_more : (p : Plan) (size : ℕ → ℕ) (front : List ℕ) (t s g : ℕ) → part p size (front ++ t ∷ []) s g ≡ more_part p size front t s g
+part_more : (p : Plan) (size : ℕ → ℕ) (front : List ℕ) (t s g : ℕ) → usage_of_good p size (front ++ t ∷ []) s g ≡ more_part p size front t s g
 unfolding more_part
 part_more p size front t s g =
     ap (λ (b : Bool). cond (lies_at p g s) (cond b 0 (cond (made p (front ++ t ∷ []) g) (good_size p g) (size g))) 0) (any_more (λ u. cleans p u g) front t)
     ∙ ap (λ (b : Bool). cond (lies_at p g s) (cond (cleaned p front g || cleans p t g) 0 (cond b (good_size p g) (size g))) 0) (any_more (λ u. has (makes p u) g) front t)
 
-pub other_part : (p : Plan) (size : ℕ → ℕ) (front : List ℕ) (t s g : ℕ) → cleans p t g ≡ false → has (makes p t) g ≡ false → part p size front s g ≡ part p size (front ++ t ∷ []) s g
+pub other_part : (p : Plan) (size : ℕ → ℕ) (front : List ℕ) (t s g : ℕ) → cleans p t g ≡ false → has (makes p t) g ≡ false → usage_of_good p size front s g ≡ usage_of_good p size (front ++ t ∷ []) s g
 unfolding more_part
 other_part p size front t s g c m = sym (part_more p size front t s g
     ∙ ap (λ (b : Bool). cond (lies_at p g s) (cond b 0 (cond (made p front g || has (makes p t) g) (good_size p g) (size g))) 0) (ap (λ (b : Bool). cleaned p front g || b) c ∙ or_none (cleaned p front g))
     ∙ ap (λ (b : Bool). cond (lies_at p g s) (cond (cleaned p front g) 0 (cond b (good_size p g) (size g))) 0) (ap (λ (b : Bool). made p front g || b) m ∙ or_none (made p front g)))
 
-new_part : (p : Plan) (size : ℕ → ℕ) (front : List ℕ) (t s g : ℕ) → cleaned p front g ≡ false → cleans p t g ≡ false → made p front g ≡ false → has (makes p t) g ≡ true → part p size (front ++ t ∷ []) s g ≡ size_part p s g
+new_part : (p : Plan) (size : ℕ → ℕ) (front : List ℕ) (t s g : ℕ) → cleaned p front g ≡ false → cleans p t g ≡ false → made p front g ≡ false → has (makes p t) g ≡ true → usage_of_good p size (front ++ t ∷ []) s g ≡ size_part p s g
 unfolding more_part
 new_part p size front t s g a b c d = part_more p size front t s g ∙ by (cleaned p front g) (cleans p t g) (made p front g) (has (makes p t) g) a b c d
   where
@@ -151,7 +152,7 @@ new_part p size front t s g a b c d = part_more p size front t s g ∙ by (clean
     by false false false true h i j k = refl
     by false false false false h i j k = absurd cc
 
-old_part : (p : Plan) (size : ℕ → ℕ) (front : List ℕ) (s g : ℕ) → cleaned p front g ≡ false → made p front g ≡ false → part p size front s g ≡ held_part p size s g
+old_part : (p : Plan) (size : ℕ → ℕ) (front : List ℕ) (s g : ℕ) → cleaned p front g ≡ false → made p front g ≡ false → usage_of_good p size front s g ≡ held_part p size s g
 old_part p size front s g a b = by (cleaned p front g) (made p front g) a b
   where
     by : (a b : Bool) → a ≡ false → b ≡ false → cond (lies_at p g s) (cond a 0 (cond b (good_size p g) (size g))) 0 ≡ held_part p size s g
@@ -160,7 +161,7 @@ old_part p size front s g a b = by (cleaned p front g) (made p front g) a b
     by false false h k = refl
 
 -- nothing counts past the goods
-none_past : (p : Plan) (size : ℕ → ℕ) (front : List ℕ) (s g : ℕ) → s < places p → goods p ≤ g → part p size front s g ≡ 0
+none_past : (p : Plan) (size : ℕ → ℕ) (front : List ℕ) (s g : ℕ) → s < places p → goods p ≤ g → usage_of_good p size front s g ≡ 0
 none_past p size front s g l m = by_bool (lies_at p g s)
     (λ e. absurd (let low = lies_below p g s l e in omega (arith, low, m)))
     (λ e. ap (λ (b : Bool). cond b (weight p size front g) 0) e)
@@ -176,11 +177,11 @@ pub making : (p : Plan) (phase : ℕ → Phase) (size : ℕ → ℕ) (order : Li
 making p phase size order k s keeps f l place off =
     let t : ℕ = get_or order k 0 in
     let front : List ℕ = take k order in
-    let all = total_replaced (part p size front s) (part p size (front ++ t ∷ []) s) (goods p) (makes p t) (rises_once 0 (makes p t) (keeps.rises t)) (λ q m. none_past p size front s q place m) (λ q m. none_past p size (front ++ t ∷ []) s q place m) (λ q m. other_part p size front t s q (off q) m) in
-    let old = sum_same (part p size front s) (held_part p size s) (makes p t) (λ g m. old_part p size front s g (not_cleaned p phase order k g keeps f l m) (not_made p phase order k g keeps f l m)) in
-    let new = sum_same (part p size (front ++ t ∷ []) s) (size_part p s) (makes p t) (λ g m. new_part p size front t s g (not_cleaned p phase order k g keeps f l m) (off g) (not_made p phase order k g keeps f l m) m) in
-    let low = sum_at_most (part p size front s) (goods p) (makes p t) (rises_once 0 (makes p t) (keeps.rises t)) (λ q m. none_past p size front s q place m) in
-    let high = sum_at_most (part p size (front ++ t ∷ []) s) (goods p) (makes p t) (rises_once 0 (makes p t) (keeps.rises t)) (λ q m. none_past p size (front ++ t ∷ []) s q place m) in
+    let all = total_replaced (usage_of_good p size front s) (usage_of_good p size (front ++ t ∷ []) s) (goods p) (makes p t) (rises_once 0 (makes p t) (keeps.rises t)) (λ q m. none_past p size front s q place m) (λ q m. none_past p size (front ++ t ∷ []) s q place m) (λ q m. other_part p size front t s q (off q) m) in
+    let old = sum_same (usage_of_good p size front s) (held_part p size s) (makes p t) (λ g m. old_part p size front s g (not_cleaned p phase order k g keeps f l m) (not_made p phase order k g keeps f l m)) in
+    let new = sum_same (usage_of_good p size (front ++ t ∷ []) s) (size_part p s) (makes p t) (λ g m. new_part p size front t s g (not_cleaned p phase order k g keeps f l m) (off g) (not_made p phase order k g keeps f l m) m) in
+    let low = sum_at_most (usage_of_good p size front s) (goods p) (makes p t) (rises_once 0 (makes p t) (keeps.rises t)) (λ q m. none_past p size front s q place m) in
+    let high = sum_at_most (usage_of_good p size (front ++ t ∷ []) s) (goods p) (makes p t) (rises_once 0 (makes p t) (keeps.rises t)) (λ q m. none_past p size (front ++ t ∷ []) s q place m) in
     let is = ap (λ (xs : List ℕ). usage p size xs s) (front_more order k l) in
     (omega (arith, all, old, new, is), omega (arith, low, old), omega (arith, high, new, is))
 
@@ -198,7 +199,7 @@ cleaning p phase size order k s g keeps f l place is_clean =
     let t : ℕ = get_or order k 0 in
     let front : List ℕ = take k order in
     let mine : cleans p t g ≡ true = is_clean g ∙ is_itself g in
-    let all = one_changed (part p size front s) (part p size (front ++ t ∷ []) s) (goods p) g (λ q e. other_part p size front t s q (is_clean q ∙ e) (keeps.cleans_make t g q mine)) (none_past p size front s g place) (none_past p size (front ++ t ∷ []) s g place) in
+    let all = one_changed (usage_of_good p size front s) (usage_of_good p size (front ++ t ∷ []) s) (goods p) g (λ q e. other_part p size front t s q (is_clean q ∙ e) (keeps.cleans_make t g q mine)) (none_past p size front s g place) (none_past p size (front ++ t ∷ []) s g place) in
     let new = gone t front mine in
     let old = before t front (cleaned_once p phase order k g keeps f l mine) (made_waits p phase order k g keeps f l mine) in
     let is = ap (λ (xs : List ℕ). usage p size xs s) (front_more order k l) in
@@ -212,12 +213,12 @@ cleaning p phase size order k s g keeps f l place is_clean =
     either_way true n = refl
     either_way false n = refl
 
-    gone : (t : ℕ) (front : List ℕ) → cleans p t g ≡ true → part p size (front ++ t ∷ []) s g ≡ 0
+    gone : (t : ℕ) (front : List ℕ) → cleans p t g ≡ true → usage_of_good p size (front ++ t ∷ []) s g ≡ 0
     gone t front mine = part_more p size front t s g
         ∙ ap (λ (b : Bool). cond (lies_at p g s) (cond b 0 (cond (made p front g || has (makes p t) g) (good_size p g) (size g))) 0) (ap (λ (b : Bool). cleaned p front g || b) mine ∙ or_true (cleaned p front g))
         ∙ either_way (lies_at p g s) 0
 
-    before : (t : ℕ) (front : List ℕ) → cleaned p front g ≡ false → made p front g ≡ waits_for_maker p phase t g → part p size front s g ≡ cleaned_part p phase size t s g
+    before : (t : ℕ) (front : List ℕ) → cleaned p front g ≡ false → made p front g ≡ waits_for_maker p phase t g → usage_of_good p size front s g ≡ cleaned_part p phase size t s g
     before t front a b =
         ap (λ (c : Bool). cond (lies_at p g s) (cond c 0 (cond (made p front g) (good_size p g) (size g))) 0) a
         ∙ ap (λ (c : Bool). cond (lies_at p g s) (cond c (good_size p g) (size g)) 0) b
@@ -243,5 +244,5 @@ product_small n l = omega (arith, l)
 
 pub usage_small : (p : Plan) (size : ℕ → ℕ) (front : List ℕ) (s : ℕ) → IsWithinLimits p → ((g : ℕ) → size g ≤ 2 ^ 40) → usage p size front s < 2 ^ 62
 usage_small p size front s limits small =
-    let sum = total_bound (part p size front s) (2 ^ 40) (goods p) (λ q. part_small p size front s q limits small) in
+    let sum = total_bound (usage_of_good p size front s) (2 ^ 40) (goods p) (λ q. part_small p size front s q limits small) in
     let few = product_small (goods p) (few_goods p limits) in omega (arith, sum, few)

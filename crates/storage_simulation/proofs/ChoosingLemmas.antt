@@ -5,8 +5,8 @@ use Rattle.plan_core.specs.declared.plan.Plan.{Plan}
 use Rattle.plan_core.specs.Words.{count_tasks}
 use Rattle.storage_simulation.specs.declared.front.Front.{Front}
 use Rattle.storage_simulation.specs.declared.standing.Standing.{Standing}
-use Rattle.storage_simulation.specs.Front.{IsSet, front_of}
-use Rattle.storage_simulation.specs.Ordering.{progress, IsOpen}
+use Rattle.storage_simulation.specs.code.Front.{IsSet, front_of}
+use Rattle.storage_simulation.specs.code.Ordering.{progress, IsOpen}
 use Rattle.storage_simulation.proofs.FollowingLemmas.{both, have_both, not_of, un_not}
 use Rattle.storage_simulation.proofs.ScoringLemmas.{ready_missing}
 

@@ -7,8 +7,9 @@ use Rattle.plan_core.specs.declared.plan.Plan.{Plan}
 use Rattle.plan_core.specs.Numbers.{has}
 use Rattle.plan_core.specs.Words.{count_tasks}
 use Rattle.storage_simulation.specs.Standings.{waits}
-use Rattle.storage_simulation.specs.Usage.{total}
-use Rattle.storage_simulation.specs.Ordering.{Progress, is_done, IsOpen, AreSteps}
+use Rattle.values.specs.Numbers.{total}
+use Rattle.storage_simulation.specs.Ordering.{Progress, is_done}
+use Rattle.storage_simulation.specs.code.Ordering.{IsOpen, AreSteps}
 use Rattle.storage_simulation.proofs.DeterminedLemmas.{step_opens}
 use Rattle.storage_simulation.proofs.FollowingLemmas.{by_bool, front_more, is_itself}
 use Rattle.storage_simulation.proofs.StepsLemmas.{any_more}

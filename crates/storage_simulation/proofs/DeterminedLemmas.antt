@@ -6,9 +6,11 @@ use Rattle.std.proofs.lemmas.Bool.{cases_order}
 use Rattle.plan_core.specs.declared.plan.Plan.{Plan}
 use Rattle.plan_core.specs.Words.{is_clean}
 use Rattle.storage_simulation.specs.declared.fitting.Exceeds.{Exceeds}
-use Rattle.storage_simulation.specs.Goods.{place, place_bound}
+use Rattle.storage_simulation.specs.code.Goods.{place}
+use Rattle.storage_simulation.specs.Goods.{place_bound}
 use Rattle.storage_simulation.specs.Usage.{usage}
-use Rattle.storage_simulation.specs.Ordering.{Progress, size, comes, goes, is_done, IsOpen, IsStep, AreSteps, IsOrder, IsExceeds}
+use Rattle.storage_simulation.specs.Ordering.{Progress, size, comes, goes, is_done}
+use Rattle.storage_simulation.specs.code.Ordering.{IsOpen, IsStep, AreSteps, IsOrder, IsExceeds}
 
 false_true : (b : Bool) → b ≡ false → b ≡ true → ⊥
 false_true true e f = absurd cc

@@ -6,7 +6,7 @@ use Rattle.std.proofs.lemmas.Nat.{mul-le}
 use Rattle.std.proofs.Math.Nat.{mul-le-mul_right}
 use Rattle.plan_core.specs.declared.plan.Plan.{Plan}
 use Rattle.plan_core.specs.declared.plan.Pair.{Pair}
-use Rattle.plan_core.specs.Proper.{IsProper, are_rising, is_before, is_pair_in_range, rise_after}
+use Rattle.plan_core.specs.code.Proper.{IsProper, are_rising, is_before, is_pair_in_range, rise_after}
 use Rattle.plan_core.specs.Words.{count_pairs}
 use Rattle.storage_simulation.specs.Goods.{count_sites}
 use Rattle.storage_simulation.proofs.FollowingLemmas.{both, or_case}

@@ -8,7 +8,8 @@ use Rattle.plan_core.specs.Numbers.{has}
 use Rattle.plan_core.specs.Words.{count_tasks, parents}
 use Rattle.storage_simulation.specs.declared.standing.Phase.{Phase}
 use Rattle.storage_simulation.specs.Standings.{waits}
-use Rattle.storage_simulation.specs.Following.{AreMarked, AreOnce, IsReady, Follows, is_marked, is_ready, may_come, may_follow, once}
+use Rattle.storage_simulation.specs.code.Following.{AreMarked, Follows, is_marked, may_come, may_follow}
+use Rattle.storage_simulation.specs.Following.{AreOnce, IsReady, is_ready, once}
 
 -- booleans
 pub or_left : (a b : Bool) → a ≡ true → (a || b) ≡ true

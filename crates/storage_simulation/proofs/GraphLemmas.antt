@@ -6,9 +6,11 @@ use Rattle.std.specs.declared.alloc.Global.{Global}
 use Rattle.std.proofs.lemmas.Bool.{cases_lt}
 use Rattle.std.proofs.lemmas.Option.{slice_get_past}
 use Rattle.std.proofs.lemmas.List.Elements.{All-from_get_or}
-use Rattle.digraph.specs.Adjacency.{IsRising, lists_of, neighbours}
+use Rattle.digraph.specs.Adjacency.{IsRising, neighbours}
+use Rattle.digraph.specs.code.Adjacency.{lists_of}
 use Rattle.plan_core.specs.declared.plan.Plan.{Plan}
-use Rattle.plan_core.specs.Numbers.{RisesFrom, has}
+use Rattle.plan_core.specs.code.Numbers.{RisesFrom}
+use Rattle.plan_core.specs.Numbers.{has}
 use Rattle.plan_core.specs.Words.{count_tasks, parents, parents_in}
 use Rattle.storage_simulation.proofs.FollowingLemmas.{at_place, place_of}
 

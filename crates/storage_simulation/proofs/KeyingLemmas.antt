@@ -12,12 +12,14 @@ use Rattle.plan_core.specs.declared.plan.TaskKind.TheVariants.{Transfer, Run, Cl
 use Rattle.storage_simulation.specs.declared.front.Front.{Front}
 use Rattle.storage_simulation.specs.declared.index.Index.{Index}
 use Rattle.storage_simulation.specs.declared.standing.Standing.{Standing}
-use Rattle.storage_simulation.specs.Change.{held_part, size_part}
-use Rattle.storage_simulation.specs.Front.{IsSet, front_of}
-use Rattle.storage_simulation.specs.Goods.{makes, place, place_bound, places}
-use Rattle.storage_simulation.specs.Index.{AreSpots, IsBestAt, IsCut, IsKeyed, IsLaid, IsSettled, IsUpTo, Spot, home, is_before_home, is_up_to, key, need, need_at, open_key, or_number, ready_key, spot_at, told}
+use Rattle.storage_simulation.specs.code.Change.{held_part, size_part}
+use Rattle.storage_simulation.specs.code.Front.{IsSet, front_of}
+use Rattle.storage_simulation.specs.Goods.{makes, place_bound, places}
+use Rattle.storage_simulation.specs.code.Goods.{place}
+use Rattle.storage_simulation.specs.code.Index.{AreSpots, IsBestAt, IsCut, IsKeyed, IsLaid, IsSettled, IsUpTo, Spot, home, is_before_home, is_up_to, key, need, need_at, open_key, or_number, ready_key, spot_at, told}
 use Rattle.storage_simulation.specs.OrderLaw.{fits_after, is_open}
-use Rattle.storage_simulation.specs.Ordering.{Progress, comes, goes, progress, size, IsOpen}
+use Rattle.storage_simulation.specs.Ordering.{Progress, comes, goes, size}
+use Rattle.storage_simulation.specs.code.Ordering.{progress, IsOpen}
 use Rattle.storage_simulation.specs.Usage.{sum_of, usage}
 use Rattle.storage_simulation.proofs.FollowingLemmas.{both, by_bool, false_of, have_both, is_itself, or_case, or_left, or_right}
 use Rattle.storage_simulation.proofs.OrderLawLemmas.{comes_open, fits_is, is_fits, opens_come}

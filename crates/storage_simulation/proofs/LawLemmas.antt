@@ -3,19 +3,21 @@ use Rattle.std.proofs.Common.{◌≡◌, ℕ, zero, suc, ◌+◌, ◌-◌, ◌<�
 use Rattle.std.specs.Prelude.{Option, Some, None, is_some, slice_get}
 use Rattle.std.proofs.lemmas.Bool.{cases_lt, ltb-true, lt-ltb}
 use Rattle.std.proofs.lemmas.List.Folds.{list_any-append}
-use Rattle.values.specs.Policy.{plain}
+use Rattle.values.specs.code.Policy.{plain}
 use Rattle.plan_core.specs.declared.plan.Plan.{Plan}
 use Rattle.plan_core.specs.declared.plan.TaskKind.{TaskKind}
 use Rattle.plan_core.specs.declared.plan.TaskKind.TheVariants.{Transfer, Run, Clean}
 use Rattle.plan_core.specs.declared.plan.Target.TheVariants.{Site, Delivery}
 use Rattle.plan_core.specs.declared.plan.Pair.{Pair}
 use Rattle.plan_core.specs.Kinds.{kind_writes, on_pair}
-use Rattle.plan_core.specs.Numbers.{RisesFrom, below, has}
-use Rattle.plan_core.specs.Proper.{IsProper, is_kind_in_range, is_parent}
+use Rattle.plan_core.specs.code.Numbers.{RisesFrom}
+use Rattle.plan_core.specs.Numbers.{below, has}
+use Rattle.plan_core.specs.code.Proper.{IsProper, is_kind_in_range, is_parent}
 use Rattle.plan_core.specs.Words.{bound, cleans, count_pairs, count_tasks, is_at, is_clean, kind, kind_cleans, kind_in, is_clean_kind, output_bound, pair, parents, reads, writes}
 use Rattle.storage_simulation.specs.Goods.{count_sites, delivered_size, good_size, goods, is_delivery, is_delivery_kind, lies_at, makes, or_zero, pair_size, place_bound, places}
-use Rattle.storage_simulation.specs.Usage.{cleaned, made, part, total, usage, weight}
-use Rattle.storage_simulation.specs.Law.{KeepsGoods, pair_weight, site_usage, written}
+use Rattle.storage_simulation.specs.Usage.{cleaned, made, usage_of_good, usage, weight}
+use Rattle.values.specs.Numbers.{total}
+use Rattle.storage_simulation.specs.code.Law.{KeepsGoods, pair_weight, site_usage, written}
 use Rattle.storage_simulation.proofs.FollowingLemmas.{false_of, or_case, or_left}
 use Rattle.std.proofs.lemmas.List.{append-nil}
 use Rattle.storage_simulation.proofs.RisingLemmas.{rises_end}
@@ -213,7 +215,7 @@ pub pair_place : (p : Plan) (q s : ℕ) → q < count_pairs p → lies_at p q s 
 unfolding lies_at
 pair_place p q s l = ap (λ (b : Bool). cond b (is_at p q s) (is_delivery p (q - count_pairs p) && nat_eq s (count_sites p))) (lt-ltb q (count_pairs p) l)
 
-pub pair_part : (p : Plan) (size : ℕ → ℕ) (front : List ℕ) (s q : ℕ) → IsProper p → q < count_pairs p → part p size front s q ≡ cond (is_at p q s) (pair_weight p size front q) 0
+pub pair_part : (p : Plan) (size : ℕ → ℕ) (front : List ℕ) (s q : ℕ) → IsProper p → q < count_pairs p → usage_of_good p size front s q ≡ cond (is_at p q s) (pair_weight p size front q) 0
 pair_part p size front s q proper l =
     ap (λ (b : Bool). cond b (weight p size front q) 0) (pair_place p q s l)
     ∙ ap (λ (b : Bool). cond (is_at p q s) (cond (cleaned p front q) 0 (cond b (good_size p q) (size q))) 0) (made_pair p proper front q l)
@@ -221,5 +223,5 @@ pair_part p size front s q proper l =
 
 pub plain_usage : (p : Plan) (size : ℕ → ℕ) (front : List ℕ) (s : ℕ) → IsProper p → p.policy ≡ plain → usage p size front s ≡ site_usage p size front s
 plain_usage p size front s proper h =
-    ap (λ (n : ℕ). total n (part p size front s)) (plain_goods p h)
-    ∙ total_same (part p size front s) (λ q. cond (is_at p q s) (pair_weight p size front q) 0) (count_pairs p) (λ q l. pair_part p size front s q proper l)
+    ap (λ (n : ℕ). total n (usage_of_good p size front s)) (plain_goods p h)
+    ∙ total_same (usage_of_good p size front s) (λ q. cond (is_at p q s) (pair_weight p size front q) 0) (count_pairs p) (λ q l. pair_part p size front s q proper l)

@@ -5,7 +5,7 @@ use Rattle.std.proofs.lemmas.Bool.{eqb-true, eqb-false}
 use Rattle.std.proofs.lemmas.List.{get_or-set_same, get_or-set_other}
 use Rattle.std.proofs.lemmas.List.Folds.{list_any-append}
 use Rattle.plan_core.specs.Numbers.{has}
-use Rattle.storage_simulation.specs.Following.{AreMarked, is_marked}
+use Rattle.storage_simulation.specs.code.Following.{AreMarked, is_marked}
 use Rattle.storage_simulation.proofs.FollowingLemmas.{front_more}
 
 pub mark_more : (marks : List Bool) (u t : ℕ) → u < length marks → is_marked (set marks u true) t ≡ (nat_eq u t || is_marked marks t)

@@ -10,12 +10,13 @@ use Rattle.storage_simulation.specs.declared.fitting.Exceeds.{Exceeds}
 use Rattle.storage_simulation.specs.Goods.{place_bound, places}
 use Rattle.storage_simulation.specs.Usage.{usage, IsWithin}
 use Rattle.storage_simulation.specs.Following.{is_ready}
-use Rattle.storage_simulation.specs.Ordering.{Progress, size, comes, goes, is_done, IsOpen, IsFitting, IsBefore, IsStep, IsOrder, IsExceeds}
+use Rattle.storage_simulation.specs.Ordering.{Progress, size, comes, goes, is_done}
+use Rattle.storage_simulation.specs.code.Ordering.{IsOpen, IsFitting, IsBefore, IsStep, IsOrder, IsExceeds}
 use Rattle.storage_simulation.specs.OrderLaw.{all_below, first_of, best_below, is_open, fits_after, step, all_placed, and_then, go_on, order_by, less_by_score}
 use Rattle.storage_simulation.proofs.CountingLemmas.{left, left_most, left_less}
 use Rattle.storage_simulation.proofs.DeterminedLemmas.{step_opens}
 use Rattle.storage_simulation.specs.Fitting.{Fits}
-use Rattle.storage_simulation.specs.Law.{KeepsGoods}
+use Rattle.storage_simulation.specs.code.Law.{KeepsGoods}
 use Rattle.storage_simulation.specs.Standings.{waits}
 use Rattle.storage_simulation.proofs.StepsLemmas.{AreAdmitted, IsAdmitted, each_more, fits_admitted}
 use Rattle.storage_simulation.proofs.FollowingLemmas.{both, false_of, front_more, have_both}

@@ -7,13 +7,16 @@ use Rattle.plan_core.specs.declared.plan.Pair.{Pair}
 use Rattle.plan_core.specs.declared.plan.TaskKind.{TaskKind}
 use Rattle.plan_core.specs.declared.plan.TaskKind.TheVariants.{Transfer, Run, Clean}
 use Rattle.plan_core.specs.declared.plan.Target.TheVariants.{Site, Delivery}
-use Rattle.plan_core.specs.Kinds.{kind_writes, makes as job_makes, on_pair}
-use Rattle.plan_core.specs.Numbers.{RisesFrom, has}
-use Rattle.plan_core.specs.Proper.{IsProper, are_jobs_below, is_source_below, is_parent}
-use Rattle.plan_core.specs.Words.{cleans, count_pairs, count_tasks, is_at, is_pair, kind, kind_cleans, kind_in, output_bound, pair, pair_at, parents, reads, site_in, writes}
-use Rattle.storage_simulation.specs.Front.{IsOrderable}
-use Rattle.storage_simulation.specs.Goods.{count_sites, is_delivery, is_delivery_kind, kind_place, lies_at, pair_site, place, places}
-use Rattle.storage_simulation.specs.Law.{KeepsGoods}
+use Rattle.plan_core.specs.Kinds.{kind_writes, jobs_make as job_makes, on_pair}
+use Rattle.plan_core.specs.code.Numbers.{RisesFrom}
+use Rattle.plan_core.specs.Numbers.{has}
+use Rattle.plan_core.specs.code.Proper.{IsProper, are_jobs_below, is_source_below, is_parent}
+use Rattle.plan_core.specs.Words.{cleans, count_pairs, count_tasks, is_at, kind, kind_cleans, kind_in, output_bound, pair, parents, reads, is_on_site, writes}
+use Rattle.plan_core.specs.code.Words.{is_pair, pair_at}
+use Rattle.storage_simulation.specs.code.Front.{IsOrderable}
+use Rattle.storage_simulation.specs.Goods.{count_sites, is_delivery, is_delivery_kind, lies_at, places}
+use Rattle.storage_simulation.specs.code.Goods.{kind_place, pair_site, place}
+use Rattle.storage_simulation.specs.code.Law.{KeepsGoods}
 use Rattle.storage_simulation.proofs.FollowingLemmas.{both, is_itself}
 use Rattle.storage_simulation.proofs.LawLemmas.{KindsInRange, ListsInRange, Making, below_rises, below_test, by_pair, delivery, making, pair_place, writes_rise}
 
@@ -54,7 +57,7 @@ written_there p t q s proper h at = by_pair (slice_get p.pairs q) (below_test (c
     by_kind (Some (Run a js)) y e k = at_site a.0 y.site.0 (job_makes p.jobs js y.file.0) e k
     by_kind (Some (Clean c)) y e k = absurd cc
 
-    by_pair : (o : Option Pair) → on_pair (kind_writes p.jobs (kind_in (slice_get p.tasks t))) o ≡ true → site_in o s ≡ true → kind_place p (kind_in (slice_get p.tasks t)) ≡ Some s
+    by_pair : (o : Option Pair) → on_pair (kind_writes p.jobs (kind_in (slice_get p.tasks t))) o ≡ true → is_on_site o s ≡ true → kind_place p (kind_in (slice_get p.tasks t)) ≡ Some s
     by_pair None e k = absurd cc
     by_pair (Some y) e k = by_kind (kind_in (slice_get p.tasks t)) y e k
 
@@ -88,7 +91,7 @@ cleaned_there : (p : Plan) (t g s : ℕ) → cleans p t g ≡ true → is_at p g
 unfolding place is_at pair
 cleaned_there p t g s h at = by_kind (kind p t) h
   where
-    by_pair : (o : Option Pair) → site_in o s ≡ true → pair_site o ≡ Some s
+    by_pair : (o : Option Pair) → is_on_site o s ≡ true → pair_site o ≡ Some s
     by_pair None k = absurd cc
     by_pair (Some y) k = same_site y.site.0 s k
 
@@ -96,7 +99,7 @@ cleaned_there p t g s h at = by_kind (kind p t) h
     by_kind None k = absurd cc
     by_kind (Some (Transfer f from to)) k = absurd cc
     by_kind (Some (Run a js)) k = absurd cc
-    by_kind (Some (Clean q)) k = by_pair (slice_get p.pairs q.0) (ap (λ (n : ℕ). site_in (slice_get p.pairs n) s) (eqb-true q.0 g k) ∙ at)
+    by_kind (Some (Clean q)) k = by_pair (slice_get p.pairs q.0) (ap (λ (n : ℕ). is_on_site (slice_get p.pairs n) s) (eqb-true q.0 g k) ∙ at)
 
 some_same : (a b : ℕ) → Some a ≡ Some b → a ≡ b
 some_same a b e = cc

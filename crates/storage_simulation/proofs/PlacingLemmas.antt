@@ -4,7 +4,7 @@ use Rattle.std.specs.Prelude.{set, Option, Some, None, vec_capacity}
 use Rattle.std.proofs.lemmas.Bool.{eqb-false, cases_lt}
 use Rattle.std.proofs.lemmas.List.{take_all, take-append-le, length-set, get_or-set_same, get_or-set_other}
 use Rattle.values.specs.declared.numbers.TaskId.{TaskId}
-use Rattle.digraph.specs.Digraph.{count, edge}
+use Rattle.digraph.specs.code.Digraph.{count, edge}
 use Rattle.digraph.specs.declared.digraph.Digraph.{Digraph}
 use Rattle.plan_core.specs.declared.plan.Plan.{Plan}
 use Rattle.plan_core.specs.Numbers.{has}
@@ -12,11 +12,13 @@ use Rattle.plan_core.specs.Words.{count_tasks, parents, task_numbers}
 use Rattle.storage_simulation.specs.declared.front.Front.{Front}
 use Rattle.storage_simulation.specs.declared.placing.Change.{Change}
 use Rattle.storage_simulation.specs.declared.standing.Standing.{Standing}
-use Rattle.storage_simulation.specs.Front.{IsOrderable, IsSet, front_of, missing}
+use Rattle.storage_simulation.specs.code.Front.{IsOrderable, IsSet, front_of, missing}
 use Rattle.storage_simulation.specs.Following.{AreOnce}
-use Rattle.storage_simulation.specs.Goods.{place, places}
-use Rattle.storage_simulation.specs.Ordering.{Progress, progress, size, is_done, AreSteps, IsOpen, IsPeak, IsStep}
-use Rattle.storage_simulation.specs.Placing.{IsChange, changed, raised}
+use Rattle.storage_simulation.specs.code.Goods.{place}
+use Rattle.storage_simulation.specs.Goods.{places}
+use Rattle.storage_simulation.specs.Ordering.{Progress, size, is_done}
+use Rattle.storage_simulation.specs.code.Ordering.{progress, AreSteps, IsOpen, IsPeak, IsStep}
+use Rattle.storage_simulation.specs.code.Placing.{IsChange, changed, raised}
 use Rattle.storage_simulation.specs.Usage.{usage, IsWithin}
 use Rattle.storage_simulation.proofs.CountingLemmas.{done_next}
 use Rattle.storage_simulation.proofs.DeterminedLemmas.{step_opens}

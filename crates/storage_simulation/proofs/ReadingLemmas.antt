@@ -6,11 +6,12 @@ use Rattle.std.proofs.lemmas.Bool.{ltb-true}
 use Rattle.plan_core.specs.declared.plan.Plan.{Plan}
 use Rattle.plan_core.specs.declared.plan.Pair.{Pair}
 use Rattle.plan_core.specs.Numbers.{has}
-use Rattle.plan_core.specs.Proper.{IsProper, is_pair_in_range}
-use Rattle.plan_core.specs.Words.{cleans, count_pairs, count_tasks, is_at, output_bound, pair, site_in, writes}
+use Rattle.plan_core.specs.code.Proper.{IsProper, is_pair_in_range}
+use Rattle.plan_core.specs.Words.{cleans, count_pairs, count_tasks, is_at, output_bound, pair, is_on_site, writes}
 use Rattle.storage_simulation.specs.Goods.{count_sites, delivered_size, good_size, goods, is_delivery, lies_at, makes, pair_size}
-use Rattle.storage_simulation.specs.Usage.{cleaned, made, part, total, usage, weight}
-use Rattle.storage_simulation.specs.Law.{KeepsGoods, output_usage, pair_weight, site_usage}
+use Rattle.storage_simulation.specs.Usage.{cleaned, made, usage_of_good, usage, weight}
+use Rattle.values.specs.Numbers.{total}
+use Rattle.storage_simulation.specs.code.Law.{KeepsGoods, output_usage, pair_weight, site_usage}
 use Rattle.storage_simulation.proofs.FollowingLemmas.{both, by_bool, false_of, is_itself, or_left}
 use Rattle.storage_simulation.proofs.SumsLemmas.{total_same}
 use Rattle.storage_simulation.proofs.LawLemmas.{pair_part, pair_place}
@@ -57,10 +58,10 @@ and_true false = refl
 pub usage_at_site : (p : Plan) (size : ℕ → ℕ) (front : List ℕ) (s : ℕ) → IsProper p → s < count_sites p → usage p size front s ≡ site_usage p size front s
 unfolding goods
 usage_at_site p size front s proper l =
-    let all = total_split (count_pairs p) (cond (is_some (output_bound p)) (count_tasks p) 0) (part p size front s) in
-    let none = total_zero (cond (is_some (output_bound p)) (count_tasks p) 0) (λ k. part p size front s (count_pairs p + k)) (λ k m.
+    let all = total_split (count_pairs p) (cond (is_some (output_bound p)) (count_tasks p) 0) (usage_of_good p size front s) in
+    let none = total_zero (cond (is_some (output_bound p)) (count_tasks p) 0) (λ k. usage_of_good p size front s (count_pairs p + k)) (λ k m.
     ap (λ (b : Bool). cond b (weight p size front (count_pairs p + k)) 0) (delivery_place p k s ∙ ap (λ (b : Bool). is_delivery p k && b) off ∙ and_false (is_delivery p k))) in
-    let same = total_same (part p size front s) (λ q. cond (is_at p q s) (pair_weight p size front q) 0) (count_pairs p) (λ q m. pair_part p size front s q proper m) in
+    let same = total_same (usage_of_good p size front s) (λ q. cond (is_at p q s) (pair_weight p size front q) 0) (count_pairs p) (λ q m. pair_part p size front s q proper m) in
     omega (arith, all, none, same)
   where
     off : nat_eq s (count_sites p) ≡ false
@@ -94,7 +95,7 @@ pair_off p q proper = by_place p.pairs q proper.tables.in_range.pairs
     off : (x : Pair) → is_pair_in_range p x ≡ true → nat_eq x.site.0 (count_sites p) ≡ false
     off x h = false_of (nat_eq x.site.0 (count_sites p)) (λ e. let same = eqb-true x.site.0 (count_sites p) e in let l : x.site.0 < length p.sites = ltb-true x.site.0 (length p.sites) (both (nat_lt x.site.0 (length p.sites)) (nat_lt x.file.0 (length p.files)) h).0 in omega (arith, same, l))
 
-    by_place : (ps : List Pair) (i : ℕ) → list_all (is_pair_in_range p) ps ≡ true → site_in (slice_get ps i) (count_sites p) ≡ false
+    by_place : (ps : List Pair) (i : ℕ) → list_all (is_pair_in_range p) ps ≡ true → is_on_site (slice_get ps i) (count_sites p) ≡ false
     by_place [] i all = refl
     by_place (x ∷ xs) zero all = off x (both (is_pair_in_range p x) (list_all (is_pair_in_range p) xs) all).0
     by_place (x ∷ xs) (suc i) all = by_place xs i (both (is_pair_in_range p x) (list_all (is_pair_in_range p) xs) all).1
@@ -103,7 +104,7 @@ some_is : (o : Option ℕ) (n b : ℕ) → o ≡ Some b → cond (is_some o) n 0
 some_is None n b e = absurd cc
 some_is (Some c) n b e = refl
 
-delivered_part : (p : Plan) (size : ℕ → ℕ) (front : List ℕ) (t : ℕ) → KeepsGoods p → part p size front (count_sites p) (count_pairs p + t) ≡ cond (is_delivery p t) (cond (has front t) (delivered_size p t) (size (count_pairs p + t))) 0
+delivered_part : (p : Plan) (size : ℕ → ℕ) (front : List ℕ) (t : ℕ) → KeepsGoods p → usage_of_good p size front (count_sites p) (count_pairs p + t) ≡ cond (is_delivery p t) (cond (has front t) (delivered_size p t) (size (count_pairs p + t))) 0
 delivered_part p size front t keeps =
     ap (λ (c : Bool). cond c (weight p size front (count_pairs p + t)) 0) (delivery_place p t (count_sites p) ∙ ap (λ (c : Bool). is_delivery p t && c) (is_itself (count_sites p)) ∙ and_true (is_delivery p t))
     ∙ by_kind (is_delivery p t) refl
@@ -119,8 +120,8 @@ pub usage_at_output : (p : Plan) (size : ℕ → ℕ) (front : List ℕ) (b : �
 unfolding goods
 usage_at_output p size front b proper keeps out =
     let bound = some_is (output_bound p) (count_tasks p) b out in
-    let all = total_split (count_pairs p) (cond (is_some (output_bound p)) (count_tasks p) 0) (part p size front (count_sites p)) in
-    let none = total_zero (count_pairs p) (part p size front (count_sites p)) (λ q l. ap (λ (c : Bool). cond c (weight p size front q) 0) (pair_place p q (count_sites p) l ∙ pair_off p q proper)) in
-    let rest = ap (λ (n : ℕ). total n (λ t. part p size front (count_sites p) (count_pairs p + t))) bound in
-    let same = total_same (λ t. part p size front (count_sites p) (count_pairs p + t)) (λ t. cond (is_delivery p t) (cond (has front t) (delivered_size p t) (size (count_pairs p + t))) 0) (count_tasks p) (λ t l. delivered_part p size front t keeps) in
+    let all = total_split (count_pairs p) (cond (is_some (output_bound p)) (count_tasks p) 0) (usage_of_good p size front (count_sites p)) in
+    let none = total_zero (count_pairs p) (usage_of_good p size front (count_sites p)) (λ q l. ap (λ (c : Bool). cond c (weight p size front q) 0) (pair_place p q (count_sites p) l ∙ pair_off p q proper)) in
+    let rest = ap (λ (n : ℕ). total n (λ t. usage_of_good p size front (count_sites p) (count_pairs p + t))) bound in
+    let same = total_same (λ t. usage_of_good p size front (count_sites p) (count_pairs p + t)) (λ t. cond (is_delivery p t) (cond (has front t) (delivered_size p t) (size (count_pairs p + t))) 0) (count_tasks p) (λ t l. delivered_part p size front t keeps) in
     omega (arith, all, none, rest, same)

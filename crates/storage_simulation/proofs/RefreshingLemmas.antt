@@ -9,9 +9,9 @@ use Rattle.plan_core.specs.declared.plan.Plan.{Plan}
 use Rattle.plan_core.specs.Numbers.{has}
 use Rattle.plan_core.specs.Words.{count_tasks, parents}
 use Rattle.storage_simulation.specs.declared.index.Index.{Index}
-use Rattle.storage_simulation.specs.Front.{missing}
-use Rattle.storage_simulation.specs.Goods.{place}
-use Rattle.storage_simulation.specs.Index.{AreBestsBut, AreGoes, AreOwnBests, IsApart, IsAway, IsBestAt, IsKeyed, IsLast, IsSettled, IsToldBut, home, homes, ready_key, told}
+use Rattle.storage_simulation.specs.code.Front.{missing}
+use Rattle.storage_simulation.specs.code.Goods.{place}
+use Rattle.storage_simulation.specs.code.Index.{AreBestsBut, AreGoes, AreOwnBests, IsApart, IsAway, IsBestAt, IsKeyed, IsLast, IsSettled, IsToldBut, home, homes, ready_key, told}
 use Rattle.storage_simulation.specs.Ordering.{Progress, frees}
 use Rattle.storage_simulation.proofs.FollowingLemmas.{front_more, or_case}
 use Rattle.storage_simulation.proofs.StepsLemmas.{any_more}

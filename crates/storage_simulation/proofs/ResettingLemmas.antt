@@ -2,16 +2,19 @@
 use Rattle.std.proofs.Common.{◌≡◌, ℕ, zero, suc, ◌+◌, ◌^◌, ◌<◌, ◌≤◌, ◌||◌, Bool, true, false, cond, nat_eq, List, [], length, take, get_or, refl, sym, ap, subst, ◌∙◌, arith}
 use Rattle.std.specs.Prelude.{not, set, vec_capacity}
 use Rattle.std.proofs.lemmas.Bool.{eqb-true, eqb-false}
-use Rattle.digraph.specs.Digraph.{count, edge}
+use Rattle.digraph.specs.code.Digraph.{count, edge}
 use Rattle.digraph.specs.declared.digraph.Digraph.{Digraph}
 use Rattle.plan_core.specs.declared.plan.Plan.{Plan}
 use Rattle.plan_core.specs.Words.{count_tasks, parents, task_numbers}
 use Rattle.storage_simulation.specs.declared.front.Front.{Front}
 use Rattle.storage_simulation.specs.declared.standing.Standing.{Standing}
-use Rattle.storage_simulation.specs.Front.{IsFrontFor, IsOrderable, IsSet, front_of, missing}
-use Rattle.storage_simulation.specs.Goods.{IsWithinLimits, places}
-use Rattle.storage_simulation.specs.Ordering.{Progress, progress, size, is_done, AreSteps, IsPeak}
-use Rattle.storage_simulation.specs.Standings.{IsStanding, waits}
+use Rattle.storage_simulation.specs.code.Front.{IsFrontFor, IsOrderable, IsSet, front_of, missing}
+use Rattle.storage_simulation.specs.code.Goods.{IsWithinLimits}
+use Rattle.storage_simulation.specs.Goods.{places}
+use Rattle.storage_simulation.specs.Ordering.{Progress, size, is_done}
+use Rattle.storage_simulation.specs.code.Ordering.{progress, AreSteps, IsPeak}
+use Rattle.storage_simulation.specs.code.Standings.{IsStanding}
+use Rattle.storage_simulation.specs.Standings.{waits}
 use Rattle.storage_simulation.specs.Usage.{usage, IsWithin}
 use Rattle.storage_simulation.proofs.PlacingLemmas.{flag_set, number_set}
 use Rattle.storage_simulation.proofs.ScoringLemmas.{rises_few, sum_small}

@@ -6,7 +6,8 @@ use Rattle.std.proofs.lemmas.Bool.{cases_lt}
 use Rattle.std.specs.List.Sorted.{IsBinarySearchResult}
 use Rattle.std.proofs.lemmas.List.Sorted.{searched}
 use Rattle.values.specs.declared.numbers.PairId.{PairId}
-use Rattle.plan_core.specs.Numbers.{RisesFrom, has}
+use Rattle.plan_core.specs.code.Numbers.{RisesFrom}
+use Rattle.plan_core.specs.Numbers.{has}
 use Rattle.plan_core.specs.Words.{pair_numbers}
 use Rattle.storage_simulation.specs.Following.{AreOnce}
 use Rattle.storage_simulation.proofs.FollowingLemmas.{at_place, false_of, has_head, once_more, or_right, place_of}

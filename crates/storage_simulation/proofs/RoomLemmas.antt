@@ -6,14 +6,16 @@ use Rattle.std.proofs.Math.Seq.{get_or-append_seam, take-append_seam}
 use Rattle.plan_core.specs.declared.plan.Plan.{Plan}
 use Rattle.plan_core.specs.Numbers.{has}
 use Rattle.plan_core.specs.Words.{cleans, count_tasks}
-use Rattle.storage_simulation.specs.Front.{IsOrderable}
-use Rattle.storage_simulation.specs.Change.{cleaned_part, held_part, size_part}
-use Rattle.storage_simulation.specs.Following.{Follows}
-use Rattle.storage_simulation.specs.Goods.{goods, lies_at, makes, place, place_bound, places}
-use Rattle.storage_simulation.specs.Law.{KeepsGoods}
-use Rattle.storage_simulation.specs.Ordering.{Progress, size, IsOpen, IsFitting, AreSteps}
+use Rattle.storage_simulation.specs.code.Front.{IsOrderable}
+use Rattle.storage_simulation.specs.code.Change.{cleaned_part, held_part, size_part}
+use Rattle.storage_simulation.specs.code.Following.{Follows}
+use Rattle.storage_simulation.specs.Goods.{goods, lies_at, makes, place_bound, places}
+use Rattle.storage_simulation.specs.code.Goods.{place}
+use Rattle.storage_simulation.specs.code.Law.{KeepsGoods}
+use Rattle.storage_simulation.specs.Ordering.{Progress, size}
+use Rattle.storage_simulation.specs.code.Ordering.{IsOpen, IsFitting, AreSteps}
 use Rattle.storage_simulation.specs.Standings.{waits}
-use Rattle.storage_simulation.specs.Usage.{part, sum_of, usage, weight, IsWithin}
+use Rattle.storage_simulation.specs.Usage.{usage_of_good as part, sum_of, usage, weight, IsWithin}
 use Rattle.storage_simulation.proofs.ChangeLemmas.{cleaning, making, other_part}
 use Rattle.storage_simulation.proofs.DeterminedLemmas.{step_opens}
 use Rattle.storage_simulation.proofs.FollowingLemmas.{by_bool, false_of, once_of, place_of, ready_of}

@@ -5,16 +5,19 @@ use Rattle.std.specs.List.{list_all}
 use Rattle.plan_core.specs.declared.plan.Plan.{Plan}
 use Rattle.plan_core.specs.declared.plan.TaskKind.{TaskKind}
 use Rattle.plan_core.specs.declared.plan.TaskKind.TheVariants.{Transfer, Run, Clean}
-use Rattle.plan_core.specs.Numbers.{RisesFrom, has}
+use Rattle.plan_core.specs.code.Numbers.{RisesFrom}
+use Rattle.plan_core.specs.Numbers.{has}
 use Rattle.plan_core.specs.Words.{count_pairs, kind, pair, parents, writes}
 use Rattle.storage_simulation.specs.declared.standing.Held.{Held}
 use Rattle.storage_simulation.specs.declared.standing.Held.TheVariants.{Nothing, Stored, Reserved}
-use Rattle.storage_simulation.specs.Front.{IsOrderable, missing}
+use Rattle.storage_simulation.specs.code.Front.{IsOrderable, missing}
 use Rattle.storage_simulation.specs.Following.{AreOnce, is_ready}
-use Rattle.storage_simulation.specs.Goods.{IsWithinLimits, pair_size}
+use Rattle.storage_simulation.specs.code.Goods.{IsWithinLimits}
+use Rattle.storage_simulation.specs.Goods.{pair_size}
 use Rattle.storage_simulation.specs.Ordering.{Progress, comes, coming, frees, held_or, is_done, is_held, kind_frees, makes_ready}
 use Rattle.storage_simulation.specs.Standings.{held_size, sizes}
-use Rattle.storage_simulation.specs.Usage.{sum_of, total}
+use Rattle.storage_simulation.specs.Usage.{sum_of}
+use Rattle.values.specs.Numbers.{total}
 use Rattle.storage_simulation.proofs.CountingLemmas.{done_next}
 use Rattle.storage_simulation.proofs.FollowingLemmas.{by_bool, is_itself, once_parts, or_false_right, or_left, or_right}
 use Rattle.storage_simulation.proofs.RisingLemmas.{rises_once}

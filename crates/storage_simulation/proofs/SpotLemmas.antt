@@ -12,10 +12,11 @@ use Rattle.std.proofs.lemmas.List.{get_or-set_same, get_or-set_other}
 use Rattle.std.proofs.lemmas.Bool.{eqb-false, cases_lt}
 use Rattle.plan_core.specs.declared.plan.Plan.{Plan}
 use Rattle.plan_core.specs.Words.{count_pairs, count_tasks, writes}
-use Rattle.storage_simulation.specs.Change.{held_part, size_part}
-use Rattle.storage_simulation.specs.Front.{IsOrderable}
-use Rattle.storage_simulation.specs.Goods.{IsWithinLimits, good_size, is_delivery, lies_at, makes}
-use Rattle.storage_simulation.specs.Index.{AreSpots, IsUpTo, Spot, home, need, spot_at}
+use Rattle.storage_simulation.specs.code.Change.{held_part, size_part}
+use Rattle.storage_simulation.specs.code.Front.{IsOrderable}
+use Rattle.storage_simulation.specs.code.Goods.{IsWithinLimits}
+use Rattle.storage_simulation.specs.Goods.{good_size, is_delivery, lies_at, makes}
+use Rattle.storage_simulation.specs.code.Index.{AreSpots, IsUpTo, Spot, home, need, spot_at}
 use Rattle.storage_simulation.specs.Ordering.{Progress}
 use Rattle.storage_simulation.specs.Usage.{sum_of}
 use Rattle.storage_simulation.proofs.FollowingLemmas.{both, by_bool, have_both, is_itself, or_case, or_left, or_right, un_not}

@@ -8,9 +8,10 @@ use Rattle.storage_simulation.specs.declared.standing.Phase.{Phase}
 use Rattle.storage_simulation.specs.declared.standing.Phase.TheVariants.{Waits}
 use Rattle.storage_simulation.specs.declared.standing.Standing.{Standing}
 use Rattle.storage_simulation.specs.Goods.{goods, lies_at}
-use Rattle.storage_simulation.specs.Ordering.{Progress, progress, at_start, nothing_held, size}
-use Rattle.storage_simulation.specs.Standings.{held_of, phase_of}
-use Rattle.storage_simulation.specs.Usage.{part, IsWithin}
+use Rattle.storage_simulation.specs.Ordering.{Progress, at_start, nothing_held, size}
+use Rattle.storage_simulation.specs.code.Ordering.{progress}
+use Rattle.storage_simulation.specs.code.Standings.{held_of, phase_of}
+use Rattle.storage_simulation.specs.Usage.{usage_of_good, IsWithin}
 use Rattle.storage_simulation.proofs.SumsLemmas.{total_bound}
 
 pub start_is : (st : Standing) → ((g : ℕ) → held_of st g ≡ Nothing) → ((t : ℕ) → phase_of st t ≡ Waits) → progress st ≡ at_start
@@ -20,7 +21,7 @@ start_is st held phase = ap (λ (h : ℕ → Held). whole (phase_of st) h) (fun_
     whole f h = record { phase = f; held = h }
 
 pub start_within : (p : Plan) → IsWithin p (size at_start) []
-start_within p s l = let none = total_bound (part p (size at_start) [] s) 0 (goods p) (λ g. zero_both (lies_at p g s)) in omega (arith, none)
+start_within p s l = let none = total_bound (usage_of_good p (size at_start) [] s) 0 (goods p) (λ g. zero_both (lies_at p g s)) in omega (arith, none)
   where
     zero_both : (b : Bool) → cond b 0 0 ≤ 0
     zero_both true = omega arith

@@ -10,15 +10,17 @@ use Rattle.plan_core.specs.declared.plan.Plan.{Plan}
 use Rattle.plan_core.specs.declared.plan.TaskKind.{TaskKind}
 use Rattle.plan_core.specs.declared.plan.TaskKind.TheVariants.{Transfer, Run, Clean}
 use Rattle.plan_core.specs.Numbers.{has}
-use Rattle.plan_core.specs.Proper.{is_parent}
+use Rattle.plan_core.specs.code.Proper.{is_parent}
 use Rattle.plan_core.specs.Words.{cleans, count_tasks, is_clean, is_clean_kind, kind, kind_cleans, parents}
 use Rattle.storage_simulation.specs.Goods.{good_size, goods, lies_at, makes}
 use Rattle.storage_simulation.specs.Standings.{waits}
-use Rattle.storage_simulation.specs.Usage.{cleaned, made, part, total, usage, weight, IsWithin}
+use Rattle.storage_simulation.specs.Usage.{cleaned, made, usage_of_good, usage, weight, IsWithin}
+use Rattle.values.specs.Numbers.{total}
 use Rattle.storage_simulation.specs.Following.{AreOnce}
 use Rattle.storage_simulation.specs.Fitting.{Fits}
-use Rattle.storage_simulation.specs.Law.{KeepsGoods}
-use Rattle.storage_simulation.specs.Ordering.{Progress, size, is_done, IsOpen, IsFitting, IsStep, AreSteps, IsOrder}
+use Rattle.storage_simulation.specs.code.Law.{KeepsGoods}
+use Rattle.storage_simulation.specs.Ordering.{Progress, size, is_done}
+use Rattle.storage_simulation.specs.code.Ordering.{IsOpen, IsFitting, IsStep, AreSteps, IsOrder}
 use Rattle.storage_simulation.proofs.FollowingLemmas.{both, by_bool, front_more, have_all, is_itself, once_of, or_case, or_false_right, or_left, or_right, place_of, ready_of, un_not}
 
 -- booleans
@@ -105,7 +107,7 @@ pair_of p t h = by_kind (kind p t) h
 
 pub clean_falls : (p : Plan) (size : ℕ → ℕ) (front : List ℕ) (t s : ℕ) → KeepsGoods p → is_clean p t ≡ true → usage p size (front ++ t ∷ []) s ≤ usage p size front s
 clean_falls p size front t s keeps clean =
-    total_at_most (part p size (front ++ t ∷ []) s) (part p size front s) (goods p) (λ g. at_most_there (lies_at p g s) (weight p size (front ++ t ∷ []) g) (weight p size front g) 0
+    total_at_most (usage_of_good p size (front ++ t ∷ []) s) (usage_of_good p size front s) (goods p) (λ g. at_most_there (lies_at p g s) (weight p size (front ++ t ∷ []) g) (weight p size front g) 0
     (let same = weight_more p size front t g in
     let q = pair_of p t clean in
     let less = clean_weight (cleaned p front g) (cleans p t g) (made p front g) (has (makes p t) g) (good_size p g) (size g) (keeps.cleans_make t q.0 g q.1) in

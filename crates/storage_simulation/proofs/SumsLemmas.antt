@@ -2,7 +2,8 @@
 use Rattle.std.proofs.Common.{◌≡◌, ℕ, zero, suc, ◌+◌, ◌*◌, ◌<◌, ◌≤◌, ◌≢◌, ◌⊎◌, inl, inr, Bool, true, false, cond, nat_eq, refl, sym, ap, ◌∙◌, List, [], ◌∷◌, arith, eqb-true, ◌||◌}
 use Rattle.std.proofs.lemmas.Bool.{eqb-false, cases_lt}
 use Rattle.plan_core.specs.Numbers.{has}
-use Rattle.storage_simulation.specs.Usage.{sum_of, total}
+use Rattle.storage_simulation.specs.Usage.{sum_of}
+use Rattle.values.specs.Numbers.{total}
 use Rattle.storage_simulation.specs.Following.{AreOnce}
 use Rattle.storage_simulation.proofs.FollowingLemmas.{by_bool, has_head, is_itself, once_parts, or_right}
 

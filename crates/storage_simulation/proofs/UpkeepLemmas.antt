@@ -7,12 +7,13 @@ use Rattle.plan_core.specs.declared.plan.Plan.{Plan}
 use Rattle.plan_core.specs.Numbers.{has}
 use Rattle.plan_core.specs.Words.{count_tasks, parents}
 use Rattle.storage_simulation.specs.Following.{AreOnce}
-use Rattle.storage_simulation.specs.Front.{IsOrderable, missing}
-use Rattle.storage_simulation.specs.Goods.{IsWithinLimits}
-use Rattle.storage_simulation.specs.Index.{AreGoes, IsLast, last_of}
+use Rattle.storage_simulation.specs.code.Front.{IsOrderable, missing}
+use Rattle.storage_simulation.specs.code.Goods.{IsWithinLimits}
+use Rattle.storage_simulation.specs.code.Index.{AreGoes, IsLast, last_of}
 use Rattle.storage_simulation.specs.Ordering.{Progress, is_done, frees, makes_ready, goes}
 use Rattle.storage_simulation.specs.Standings.{sizes}
-use Rattle.storage_simulation.specs.Usage.{sum_of, total}
+use Rattle.storage_simulation.specs.Usage.{sum_of}
+use Rattle.values.specs.Numbers.{total}
 use Rattle.storage_simulation.proofs.CountingLemmas.{done_next}
 use Rattle.storage_simulation.proofs.FollowingLemmas.{both, by_bool, front_more, have_both, once_parts, or_case}
 use Rattle.storage_simulation.proofs.PlacingLemmas.{number_set}

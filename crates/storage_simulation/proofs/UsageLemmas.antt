@@ -7,8 +7,10 @@ use Rattle.plan_core.specs.declared.plan.TaskKind.{TaskKind}
 use Rattle.plan_core.specs.declared.plan.TaskKind.TheVariants.{Transfer, Run, Clean}
 use Rattle.plan_core.specs.declared.plan.Target.TheVariants.{Delivery, Site}
 use Rattle.plan_core.specs.Words.{count_pairs, kind, pair}
-use Rattle.storage_simulation.specs.Goods.{IsWithinLimits, delivered_size, good_size, kind_size, lies_at, pair_size}
-use Rattle.storage_simulation.specs.Usage.{cleaned, made, part, total, weight}
+use Rattle.storage_simulation.specs.code.Goods.{IsWithinLimits}
+use Rattle.storage_simulation.specs.Goods.{delivered_size, good_size, kind_size, lies_at, pair_size}
+use Rattle.storage_simulation.specs.Usage.{cleaned, made, usage_of_good, weight}
+use Rattle.values.specs.Numbers.{total}
 
 pub total_more : (w : ℕ → ℕ) (n : ℕ) → total (n + 1) w ≡ total n w + w n
 unfolding total
@@ -38,5 +40,5 @@ weight_small p size front g limits small =
     cond_small (cleaned p front g) 0 (cond (made p front g) (good_size p g) (size g)) (2 ^ 40) (omega arith)
     (cond_small (made p front g) (good_size p g) (size g) (2 ^ 40) (good_small p g limits) (small g))
 
-pub part_small : (p : Plan) (size : ℕ → ℕ) (front : List ℕ) (s g : ℕ) → IsWithinLimits p → ((x : ℕ) → size x ≤ 2 ^ 40) → part p size front s g ≤ 2 ^ 40
+pub part_small : (p : Plan) (size : ℕ → ℕ) (front : List ℕ) (s g : ℕ) → IsWithinLimits p → ((x : ℕ) → size x ≤ 2 ^ 40) → usage_of_good p size front s g ≤ 2 ^ 40
 part_small p size front s g limits small = cond_small (lies_at p g s) (weight p size front g) 0 (2 ^ 40) (weight_small p size front g limits small) (omega arith)

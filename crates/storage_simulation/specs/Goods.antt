@@ -1,10 +1,10 @@
 -- Goods and places of a plan, by number.
-use Rattle.std.specs.Prelude.{ℕ, ◌+◌, ◌-◌, ◌≤◌, ◌==◌, ◌&&◌, ◌^◌, ◌*◌, Bool, true, false, cond, List, [], ◌∷◌, length, nat_lt, Option, Some, None, is_some}
+use Rattle.std.specs.Prelude.{ℕ, ◌+◌, ◌-◌, ◌==◌, ◌&&◌, Bool, true, false, cond, List, [], ◌∷◌, length, nat_lt, Option, Some, None, is_some}
 use Rattle.plan_core.specs.declared.plan.Plan.{Plan}
 use Rattle.plan_core.specs.declared.plan.Pair.{Pair}
 use Rattle.plan_core.specs.declared.plan.TaskKind.{TaskKind}
-use Rattle.plan_core.specs.declared.plan.TaskKind.TheVariants.{Transfer, Run, Clean}
-use Rattle.plan_core.specs.declared.plan.Target.TheVariants.{Delivery, Site}
+use Rattle.plan_core.specs.declared.plan.TaskKind.TheVariants.{Transfer}
+use Rattle.plan_core.specs.declared.plan.Target.TheVariants.{Delivery}
 use Rattle.plan_core.specs.Words.{bound, count_pairs, count_tasks, declared, is_at, kind, output_bound, pair, writes}
 
 abbrev pub or_zero : Option ℕ → ℕ
@@ -57,26 +57,3 @@ place_bound p s = cond (nat_lt s (count_sites p)) (bound p s) (or_zero (output_b
 unfoldable pub lies_at : Plan → ℕ → ℕ → Bool
 lies_at p g s = cond (nat_lt g (count_pairs p)) (is_at p g s)
     (is_delivery p (g - count_pairs p) && (s == count_sites p))
-
--- The place at which a task changes usage: the site of a Run, of a transfer to a site and of the pair of a Clean, and
--- the output for a delivery where the output has a bound.
-abbrev pub pair_site : Option Pair → Option ℕ
-pair_site None = None
-pair_site (Some q) = Some q.site.0
-
-abbrev pub kind_place : Plan → Option TaskKind → Option ℕ
-kind_place p None = None
-kind_place p (Some (Transfer f from (Site s))) = Some s.0
-kind_place p (Some (Transfer f from Delivery)) = cond (is_some (output_bound p)) (Some (count_sites p)) None
-kind_place p (Some (Run s js)) = Some s.0
-kind_place p (Some (Clean q)) = pair_site (pair p q.0)
-
-unfoldable pub place : Plan → ℕ → Option ℕ
-place p t = kind_place p (kind p t)
-
--- the limits of a plan
-pub record IsWithinLimits (p : Plan) : Type 0 where
-  pub sites : count_sites p ≤ 64
-  pub pairs : count_pairs p ≤ 64 * 50000
-  pub tasks : count_tasks p ≤ 120000
-  pub sizes : (f : ℕ) → or_zero (declared p f) ≤ 2 ^ 40

@@ -5,15 +5,6 @@ pub mod Usage
 pub mod Following
 pub mod Fitting
 pub mod Ordering
-pub mod Law
 pub mod OrderLaw
-pub mod Ordered
--- Steps of a fit
-pub mod Change
-pub mod Past
--- Steps of an order
-pub mod Front
-pub mod Index
-pub mod Bench
-pub mod Choosing
-pub mod Placing
+-- What only the code's own contracts say.
+pub mod code

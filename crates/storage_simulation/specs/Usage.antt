@@ -1,15 +1,11 @@
 -- Usage of a place after a front, where so much of each good is held.
-use Rattle.std.specs.Prelude.{ℕ, zero, suc, ◌+◌, ◌<◌, ◌≤◌, Bool, cond, List, [], ◌∷◌}
+use Rattle.std.specs.Prelude.{ℕ, ◌+◌, ◌<◌, ◌≤◌, Bool, cond, List, [], ◌∷◌}
 use Rattle.std.specs.List.{list_any}
+use Rattle.values.specs.Numbers.{total}
 use Rattle.plan_core.specs.declared.plan.Plan.{Plan}
 use Rattle.plan_core.specs.Numbers.{has}
 use Rattle.plan_core.specs.Words.{cleans}
 use Rattle.storage_simulation.specs.Goods.{goods, good_size, lies_at, makes, places, place_bound}
-
--- the sum of w at the numbers below n
-unfoldable pub total : ℕ → (ℕ → ℕ) → ℕ
-total zero w = 0
-total (suc n) w = total n w + w n
 
 -- the sum of w over a list
 abbrev pub sum_of : (ℕ → ℕ) → List ℕ → ℕ
@@ -27,11 +23,11 @@ cleaned p front g = list_any (λ t. cleans p t g) front
 abbrev pub weight : Plan → (ℕ → ℕ) → List ℕ → ℕ → ℕ
 weight p size front g = cond (cleaned p front g) 0 (cond (made p front g) (good_size p g) (size g))
 
-abbrev pub part : Plan → (ℕ → ℕ) → List ℕ → ℕ → ℕ → ℕ
-part p size front s g = cond (lies_at p g s) (weight p size front g) 0
+abbrev pub usage_of_good : Plan → (ℕ → ℕ) → List ℕ → ℕ → ℕ → ℕ
+usage_of_good p size front s g = cond (lies_at p g s) (weight p size front g) 0
 
 abbrev pub usage : Plan → (ℕ → ℕ) → List ℕ → ℕ → ℕ
-usage p size front s = total (goods p) (part p size front s)
+usage p size front s = total (goods p) (usage_of_good p size front s)
 
 -- no place holds more than its bound
 abbrev pub IsWithin : Plan → (ℕ → ℕ) → List ℕ → Type 0

@@ -3,10 +3,10 @@
 ghost use Rattle.std.specs.Prelude.{◌≡◌, ◌<◌, ◌+◌, ◌++◌, ◌∷◌, [], ℕ, length};
 ghost use Rattle.tournament_tree.specs.Tree.{entry};
 ghost use Rattle.plan_core.specs.Words.{count_tasks};
-ghost use Rattle.storage_simulation.specs.Choosing.{IsNext};
-ghost use Rattle.storage_simulation.specs.Front.{IsSet, front_of};
-ghost use Rattle.storage_simulation.specs.Index.{AreGoes, IsBestAt, IsIndex, IsIndexFor, IsKeyed, IsLaid, IsSettled, homes, ready_key, told};
-ghost use Rattle.storage_simulation.specs.Ordering.{IsStep, progress};
+ghost use Rattle.storage_simulation.specs.code.Choosing.{IsNext};
+ghost use Rattle.storage_simulation.specs.code.Front.{IsSet, front_of};
+ghost use Rattle.storage_simulation.specs.code.Index.{AreGoes, IsBestAt, IsIndex, IsIndexFor, IsKeyed, IsLaid, IsSettled, homes, ready_key, told};
+ghost use Rattle.storage_simulation.specs.code.Ordering.{IsStep, progress};
 
 use crate::choosing::{Next, refusal};
 use crate::front::{Front, children_of};

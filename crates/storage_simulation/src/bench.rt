@@ -1,9 +1,9 @@
 //! What an order is made on.
 
 ghost use Rattle.std.specs.Prelude.{◌≡◌, [], IfOk};
-ghost use Rattle.plan_core.specs.Proper.{IsProper};
-ghost use Rattle.storage_simulation.specs.Bench.{IsFor};
-ghost use Rattle.storage_simulation.specs.Goods.{IsWithinLimits};
+ghost use Rattle.plan_core.specs.code.Proper.{IsProper};
+ghost use Rattle.storage_simulation.specs.code.Bench.{IsFor};
+ghost use Rattle.storage_simulation.specs.code.Goods.{IsWithinLimits};
 
 use crate::front::Front;
 use crate::index::Index;

@@ -5,11 +5,13 @@ ghost use Rattle.std.specs.List.{list_any};
 ghost use Rattle.values.specs.declared.numbers.TaskId.{TaskId};
 ghost use Rattle.plan_core.specs.Numbers.{has};
 ghost use Rattle.plan_core.specs.Words.{count_pairs, pair_numbers};
-ghost use Rattle.storage_simulation.specs.Change.{cleaned_part, held_part, size_part, waits_for_maker};
+ghost use Rattle.storage_simulation.specs.code.Change.{cleaned_part, held_part, size_part, waits_for_maker};
 ghost use Rattle.storage_simulation.specs.Usage.{sum_of};
-ghost use Rattle.storage_simulation.specs.Goods.{IsWithinLimits, is_delivery, makes};
-ghost use Rattle.storage_simulation.specs.Law.{KeepsGoods};
-ghost use Rattle.storage_simulation.specs.Standings.{held_of, phase_of, sizes, waits};
+ghost use Rattle.storage_simulation.specs.code.Goods.{IsWithinLimits};
+ghost use Rattle.storage_simulation.specs.Goods.{is_delivery, makes};
+ghost use Rattle.storage_simulation.specs.code.Law.{KeepsGoods};
+ghost use Rattle.storage_simulation.specs.code.Standings.{held_of, phase_of};
+ghost use Rattle.storage_simulation.specs.Standings.{sizes, waits};
 
 use crate::goods::{finds_made, good_size, is_delivery, lies_at};
 use crate::standing::Standing;
@@ -27,8 +29,8 @@ fn held_at(plan: &Plan, standing: &Standing, place: u32, good: u32) -> u64
     }
 }
 
-/// The declared size of a good at a place.
-fn size_at(plan: &Plan, place: u32, good: u32) -> u64
+/// The declared size of a good that lies at a place, in bytes; 0 of another.
+pub fn size_at(plan: &Plan, place: u32, good: u32) -> u64
     ensures { result ≡ size_part plan.now place good }
 {
     if lies_at(plan, good, place) {

@@ -2,9 +2,9 @@
 
 ghost use Rattle.std.specs.Prelude.{◌≡◌, ◌≤◌, ◌<◌, ◌+◌, ◌^◌, ℕ, Decides, IfSome, MatchOption, None, Some, false, length, true};
 ghost use Rattle.plan_core.specs.Words.{count_tasks, is_clean};
-ghost use Rattle.storage_simulation.specs.Front.{IsSet, front_of};
-ghost use Rattle.storage_simulation.specs.Choosing.{IsNext};
-ghost use Rattle.storage_simulation.specs.Ordering.{IsFitting, IsOpen, progress};
+ghost use Rattle.storage_simulation.specs.code.Front.{IsSet, front_of};
+ghost use Rattle.storage_simulation.specs.code.Choosing.{IsNext};
+ghost use Rattle.storage_simulation.specs.code.Ordering.{IsFitting, IsOpen, progress};
 
 use crate::fitting::Exceeds;
 use crate::front::Front;

@@ -1,15 +1,18 @@
 //! Whether an order fits a standing.
 
 ghost use Rattle.std.specs.Prelude.{◌≡◌, ◌≤◌, ◌<◌, ◌+◌, IfErr, IfOk, MatchOption, None, Some, [], length, take};
-ghost use Rattle.plan_core.specs.Proper.{IsProper};
+ghost use Rattle.plan_core.specs.code.Proper.{IsProper};
 ghost use Rattle.plan_core.specs.Words.{task_numbers};
-ghost use Rattle.storage_simulation.specs.Fitting.{Fits, IsFirstPast};
-ghost use Rattle.storage_simulation.specs.Following.{Follows};
-ghost use Rattle.storage_simulation.specs.Goods.{IsWithinLimits, places};
-ghost use Rattle.storage_simulation.specs.Law.{KeepsGoods};
-ghost use Rattle.storage_simulation.specs.Past.{IsFound, IsPastAt, KeepsBound};
+ghost use Rattle.storage_simulation.specs.Fitting.{Fits};
+ghost use Rattle.storage_simulation.specs.code.Fitting.{IsFirstPast};
+ghost use Rattle.storage_simulation.specs.code.Following.{Follows};
+ghost use Rattle.storage_simulation.specs.code.Goods.{IsWithinLimits};
+ghost use Rattle.storage_simulation.specs.Goods.{places};
+ghost use Rattle.storage_simulation.specs.code.Law.{KeepsGoods};
+ghost use Rattle.storage_simulation.specs.code.Past.{IsFound, IsPastAt, KeepsBound};
 ghost use Rattle.storage_simulation.specs.declared.fitting.Past.{Past};
-ghost use Rattle.storage_simulation.specs.Standings.{IsStanding, held_of, phase_of, sizes};
+ghost use Rattle.storage_simulation.specs.code.Standings.{IsStanding, held_of, phase_of};
+ghost use Rattle.storage_simulation.specs.Standings.{sizes};
 ghost use Rattle.storage_simulation.specs.Usage.{IsWithin, usage};
 
 use crate::change::{after_making, cleaned_at};

@@ -4,8 +4,9 @@ ghost use Rattle.std.specs.Prelude.{◌≡◌, ◌<◌, ◌+◌, ◌==◌, ◌||
 ghost use Rattle.std.specs.List.{list_all};
 ghost use Rattle.values.specs.declared.numbers.TaskId.{TaskId};
 ghost use Rattle.plan_core.specs.Words.{count_tasks, parents, task_numbers};
-ghost use Rattle.storage_simulation.specs.Following.{AreMarked, Follows, is_marked, may_come, may_follow};
-ghost use Rattle.storage_simulation.specs.Standings.{phase_of, waits};
+ghost use Rattle.storage_simulation.specs.code.Following.{AreMarked, Follows, is_marked, may_come, may_follow};
+ghost use Rattle.storage_simulation.specs.code.Standings.{phase_of};
+ghost use Rattle.storage_simulation.specs.Standings.{waits};
 
 use crate::standing::Standing;
 use plan_core::Plan;

@@ -1,13 +1,16 @@
 //! The front of an order: the tasks that are placed, and what follows from them.
 
 ghost use Rattle.std.specs.Prelude.{◌≡◌, ◌≤◌, ◌<◌, ◌^◌, ℕ, [], false, true, get_or, length, replicate, IfOk};
-ghost use Rattle.digraph.specs.Adjacency.{lists_of, neighbours};
-ghost use Rattle.digraph.specs.Digraph.{count, edge};
-ghost use Rattle.plan_core.specs.Numbers.{RisesFrom, has};
-ghost use Rattle.plan_core.specs.Proper.{IsProper};
+ghost use Rattle.digraph.specs.code.Adjacency.{lists_of};
+ghost use Rattle.digraph.specs.Adjacency.{neighbours};
+ghost use Rattle.digraph.specs.code.Digraph.{count, edge};
+ghost use Rattle.plan_core.specs.code.Numbers.{RisesFrom};
+ghost use Rattle.plan_core.specs.Numbers.{has};
+ghost use Rattle.plan_core.specs.code.Proper.{IsProper};
 ghost use Rattle.plan_core.specs.Words.{count_tasks, parents, task_numbers};
-ghost use Rattle.storage_simulation.specs.Front.{IsFrontFor};
-ghost use Rattle.storage_simulation.specs.Goods.{IsWithinLimits, places};
+ghost use Rattle.storage_simulation.specs.code.Front.{IsFrontFor};
+ghost use Rattle.storage_simulation.specs.code.Goods.{IsWithinLimits};
+ghost use Rattle.storage_simulation.specs.Goods.{places};
 
 use crate::goods::places;
 use digraph::Digraph;

@@ -1,11 +1,13 @@
 //! Goods and places of a plan.
 
 ghost use Rattle.std.specs.Prelude.{◌≡◌, ◌≤◌, ◌+◌, ◌*◌, ◌==◌, ℕ, false, cond, is_some, MatchOption, None, Some};
-ghost use Rattle.plan_core.specs.Numbers.{RisesFrom, has};
+ghost use Rattle.plan_core.specs.code.Numbers.{RisesFrom};
+ghost use Rattle.plan_core.specs.Numbers.{has};
 ghost use Rattle.std.specs.List.{list_any};
 ghost use Rattle.values.specs.declared.numbers.PairId.{PairId};
 ghost use Rattle.plan_core.specs.Words.{cleans, declared, output_bound, pair, pair_numbers};
-ghost use Rattle.storage_simulation.specs.Goods.{IsWithinLimits, count_sites, delivered_size, good_size, goods, is_delivery, lies_at, makes, or_zero, pair_site, pair_size, place, place_bound, places};
+ghost use Rattle.storage_simulation.specs.code.Goods.{IsWithinLimits, pair_site, place};
+ghost use Rattle.storage_simulation.specs.Goods.{count_sites, delivered_size, good_size, goods, is_delivery, lies_at, makes, or_zero, pair_size, place_bound, places};
 
 use plan_core::{Plan, Target, TaskKind};
 use values::{FileId, PairId, SiteId, TaskId};
@@ -117,7 +119,7 @@ fn output_place(plan: &Plan) -> Option<u32>
 }
 
 /// The place at which a task changes usage.
-#[tactic(auto, unfolding(crate::specs::Goods::place))]
+#[tactic(auto, unfolding(crate::specs::code::Goods::place))]
 pub fn place_of(plan: &Plan, task: TaskId) -> Option<u32>
     requires { IsWithinLimits plan.now }
     ensures { result ≡ place plan.now task.0 }

@@ -1,8 +1,8 @@
 //! An index of the tasks that may be placed next.
 
 ghost use Rattle.std.specs.Prelude.{◌≡◌, ◌≤◌, IfOk, length, replicate};
-ghost use Rattle.storage_simulation.specs.Goods.{IsWithinLimits};
-ghost use Rattle.storage_simulation.specs.Index.{IsIndexFor};
+ghost use Rattle.storage_simulation.specs.code.Goods.{IsWithinLimits};
+ghost use Rattle.storage_simulation.specs.code.Index.{IsIndexFor};
 
 use crate::goods::places;
 use plan_core::Plan;

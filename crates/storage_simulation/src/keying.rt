@@ -3,11 +3,11 @@
 ghost use Rattle.std.specs.Prelude.{◌≡◌, ◌≢◌, ◌≤◌, ◌<◌, ◌+◌, ◌-◌, ◌==◌, ◌^◌, ℕ, cond, false, get_or, length, min, nat_le, true};
 ghost use Rattle.tournament_tree.specs.Tree.{IsTree, entry, row};
 ghost use Rattle.plan_core.specs.Words.{count_tasks, is_clean};
-ghost use Rattle.storage_simulation.specs.Front.{IsSet, front_of};
+ghost use Rattle.storage_simulation.specs.code.Front.{IsSet, front_of};
 ghost use Rattle.storage_simulation.specs.Goods.{place_bound, places};
-ghost use Rattle.storage_simulation.specs.Index.{AreGoes, IsBestAt, IsCut, IsKeyed, IsLaid, IsSettled, IsUpTo, Spot, home, homes, is_before_home, is_up_to, need, ready_key, spot_at, told};
+ghost use Rattle.storage_simulation.specs.code.Index.{AreGoes, IsBestAt, IsCut, IsKeyed, IsLaid, IsSettled, IsUpTo, Spot, home, homes, is_before_home, is_up_to, need, ready_key, spot_at, told};
 ghost use Rattle.storage_simulation.specs.OrderLaw.{fits_after};
-ghost use Rattle.storage_simulation.specs.Ordering.{IsOpen, progress};
+ghost use Rattle.storage_simulation.specs.code.Ordering.{IsOpen, progress};
 
 use crate::choosing::is_open;
 use crate::front::Front;

@@ -1,12 +1,13 @@
 //! What the definitions come to.
 
 ghost use Rattle.std.specs.Prelude.{◌≡◌, ◌<◌, ◌≤◌, ◌*◌, ◌^◌, ℕ, List, Some, length};
-ghost use Rattle.values.specs.Policy.{plain};
+ghost use Rattle.values.specs.code.Policy.{plain};
 ghost use Rattle.plan_core.specs.declared.plan.Plan.{Plan};
-ghost use Rattle.plan_core.specs.Proper.{IsProper};
+ghost use Rattle.plan_core.specs.code.Proper.{IsProper};
 ghost use Rattle.plan_core.specs.Words.{bound, count_pairs, output_bound};
-ghost use Rattle.storage_simulation.specs.Goods.{IsWithinLimits, count_sites, goods, place_bound, places};
-ghost use Rattle.storage_simulation.specs.Law.{KeepsGoods, output_usage, site_usage};
+ghost use Rattle.storage_simulation.specs.code.Goods.{IsWithinLimits};
+ghost use Rattle.storage_simulation.specs.Goods.{count_sites, goods, place_bound, places};
+ghost use Rattle.storage_simulation.specs.code.Law.{KeepsGoods, output_usage, site_usage};
 ghost use Rattle.storage_simulation.specs.Usage.{usage};
 
 use plan_core::{files_are_listed_by_pair, numbers_are_in_range, parents_come_before};

@@ -4,12 +4,14 @@ ghost use Rattle.std.specs.Prelude.{◌≡◌, ◌≢◌, ◌≤◌, ◌<◌, �
 ghost use Rattle.std.specs.List.Sorted.{IsPermutation, IsSorted};
 ghost use Rattle.std.specs.Ordering.{nat_cmp, ordering_then};
 ghost use Rattle.plan_core.specs.Words.{count_tasks};
-ghost use Rattle.storage_simulation.specs.Change.{held_part, size_part};
-ghost use Rattle.storage_simulation.specs.Front.{IsOrderable};
-ghost use Rattle.storage_simulation.specs.Goods.{IsWithinLimits, makes};
-ghost use Rattle.storage_simulation.specs.Index.{AreSpots, IsIndexFor, IsLaid, Spot, home, need, need_at, spot_at};
-ghost use Rattle.storage_simulation.specs.Ordering.{comes, progress, size};
-ghost use Rattle.storage_simulation.specs.Standings.{IsStanding};
+ghost use Rattle.storage_simulation.specs.code.Change.{held_part, size_part};
+ghost use Rattle.storage_simulation.specs.code.Front.{IsOrderable};
+ghost use Rattle.storage_simulation.specs.code.Goods.{IsWithinLimits};
+ghost use Rattle.storage_simulation.specs.Goods.{makes};
+ghost use Rattle.storage_simulation.specs.code.Index.{AreSpots, IsIndexFor, IsLaid, Spot, home, need, need_at, spot_at};
+ghost use Rattle.storage_simulation.specs.Ordering.{comes, size};
+ghost use Rattle.storage_simulation.specs.code.Ordering.{progress};
+ghost use Rattle.storage_simulation.specs.code.Standings.{IsStanding};
 ghost use Rattle.storage_simulation.specs.Usage.{sum_of};
 
 use crate::change::{held_of_made, size_of_made};

@@ -4,7 +4,12 @@
 //! over the goods and places of `specs/Goods.antt`: a good is a pair or a delivery, a place is a site or the output.
 //! The plan is asked by number, in the words of `plan_core`. The stated order is that of `specs/Ordering.antt`, from
 //! any standing; it is made on a [`Bench`], which takes its memory once. Inside a bench are the front of the order and
-//! an index of the tasks that may be placed next (`specs/Front.antt`, `Index.antt`).
+//! an index of the tasks that may be placed next (`specs/code/Front.antt`, `Index.antt`).
+//!
+//! [`order`] takes a proper plan and answers it with its order and each place's peak ([`Ordered`]), or why there is
+//! none; [`order_from`] does so from a standing. [`follows`] tells whether a list is an order of what is left, [`fits`]
+//! the first task after which a place passes its bound, and [`usage_after`] what a place holds after a front. Laws say
+//! that an order is determined, that it fits, and that what is held is a sum over goods.
 #![tactic(auto)]
 
 mod advancing;
@@ -32,6 +37,7 @@ mod upkeep;
 mod usage;
 
 pub use bench::Bench;
+pub use change::size_at;
 pub use fitting::{Exceeds, fits};
 pub use following::follows;
 pub use front::{children_of, parent_graph};

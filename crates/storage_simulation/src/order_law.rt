@@ -3,14 +3,15 @@
 ghost use Rattle.std.specs.Prelude.{◌≡◌, ◌<◌, ℕ, Bool, true, List, [], length, Some, None};
 ghost use Rattle.plan_core.specs.declared.plan.Plan.{Plan};
 ghost use Rattle.plan_core.specs.Numbers.{has};
-ghost use Rattle.plan_core.specs.Proper.{IsProper};
+ghost use Rattle.plan_core.specs.code.Proper.{IsProper};
 ghost use Rattle.plan_core.specs.Words.{count_tasks};
 ghost use Rattle.storage_simulation.specs.declared.fitting.Exceeds.{Exceeds};
 ghost use Rattle.storage_simulation.specs.Fitting.{Fits};
 ghost use Rattle.storage_simulation.specs.Following.{AreOnce};
-ghost use Rattle.storage_simulation.specs.Law.{KeepsGoods};
+ghost use Rattle.storage_simulation.specs.code.Law.{KeepsGoods};
 ghost use Rattle.storage_simulation.specs.OrderLaw.{order_by, stated_order};
-ghost use Rattle.storage_simulation.specs.Ordering.{IsExceeds, IsOpen, IsOrder, Progress, is_done, size};
+ghost use Rattle.storage_simulation.specs.code.Ordering.{IsExceeds, IsOpen, IsOrder};
+ghost use Rattle.storage_simulation.specs.Ordering.{Progress, is_done, size};
 ghost use Rattle.storage_simulation.specs.Standings.{waits};
 ghost use Rattle.storage_simulation.specs.Usage.{IsWithin};
 

@@ -1,13 +1,15 @@
 //! A plan with its order.
 
 ghost use Rattle.std.specs.Prelude.{◌≡◌, ◌<◌, ℕ, IfErr, IfOk, get_or, length};
-ghost use Rattle.plan_core.specs.Proper.{IsProper, IsProper-prop};
+ghost use Rattle.plan_core.specs.code.Proper.{IsProper, IsProper-prop};
 ghost use Rattle.plan_core.specs.Words.{task_numbers};
-ghost use Rattle.storage_simulation.specs.Front.{front_of};
+ghost use Rattle.storage_simulation.specs.code.Front.{front_of};
 ghost use Rattle.storage_simulation.specs.Fitting.{Fits};
-ghost use Rattle.storage_simulation.specs.Goods.{IsWithinLimits, places};
-ghost use Rattle.storage_simulation.specs.Ordered.{IsFault};
-ghost use Rattle.storage_simulation.specs.Ordering.{IsOrder, IsPeak, all_wait, at_start, nothing_held};
+ghost use Rattle.storage_simulation.specs.code.Goods.{IsWithinLimits};
+ghost use Rattle.storage_simulation.specs.Goods.{places};
+ghost use Rattle.storage_simulation.specs.code.Ordered.{IsFault};
+ghost use Rattle.storage_simulation.specs.code.Ordering.{IsOrder, IsPeak};
+ghost use Rattle.storage_simulation.specs.Ordering.{all_wait, at_start, nothing_held};
 ghost use Rattle.storage_simulation.specs.declared.ordered.OrderFault.TheVariants as fault;
 
 use crate::bench::Bench;

@@ -2,13 +2,15 @@
 
 ghost use Rattle.std.specs.Prelude.{◌≡◌, ◌<◌, [], ℕ, IfErr, OnErr, OnOk, get_or};
 ghost use Rattle.plan_core.specs.declared.plan.Plan.{Plan};
-ghost use Rattle.plan_core.specs.Proper.{IsProper};
-ghost use Rattle.storage_simulation.specs.Bench.{IsFor};
-ghost use Rattle.storage_simulation.specs.Front.{IsOrderable, IsSet, front_of};
-ghost use Rattle.storage_simulation.specs.Index.{IsIndex, IsIndexFor};
-ghost use Rattle.storage_simulation.specs.Goods.{IsWithinLimits, places};
-ghost use Rattle.storage_simulation.specs.Ordering.{IsExceeds, IsOrder, IsPeak, progress};
-ghost use Rattle.storage_simulation.specs.Standings.{IsStanding, held_of, sizes};
+ghost use Rattle.plan_core.specs.code.Proper.{IsProper};
+ghost use Rattle.storage_simulation.specs.code.Bench.{IsFor};
+ghost use Rattle.storage_simulation.specs.code.Front.{IsOrderable, IsSet, front_of};
+ghost use Rattle.storage_simulation.specs.code.Index.{IsIndex, IsIndexFor};
+ghost use Rattle.storage_simulation.specs.code.Goods.{IsWithinLimits};
+ghost use Rattle.storage_simulation.specs.Goods.{places};
+ghost use Rattle.storage_simulation.specs.code.Ordering.{IsExceeds, IsOrder, IsPeak, progress};
+ghost use Rattle.storage_simulation.specs.code.Standings.{IsStanding, held_of};
+ghost use Rattle.storage_simulation.specs.Standings.{sizes};
 ghost use Rattle.storage_simulation.specs.Usage.{IsWithin};
 
 use crate::advancing::{advance, index_front, next_by_index};

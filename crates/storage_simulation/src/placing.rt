@@ -1,10 +1,11 @@
 //! What becomes of a front once a task more is placed.
 
 ghost use Rattle.std.specs.Prelude.{◌≡◌, ◌≤◌, ◌<◌, ◌+◌, ◌++◌, ◌∷◌, [], ℕ, IfSome, cond, get_or, length, true};
-ghost use Rattle.plan_core.specs.Numbers.{RisesFrom, has};
-ghost use Rattle.storage_simulation.specs.Front.{IsSet, front_of};
-ghost use Rattle.storage_simulation.specs.Ordering.{IsOpen, IsStep, progress};
-ghost use Rattle.storage_simulation.specs.Placing.{IsChange, changed, raised};
+ghost use Rattle.plan_core.specs.code.Numbers.{RisesFrom};
+ghost use Rattle.plan_core.specs.Numbers.{has};
+ghost use Rattle.storage_simulation.specs.code.Front.{IsSet, front_of};
+ghost use Rattle.storage_simulation.specs.code.Ordering.{IsOpen, IsStep, progress};
+ghost use Rattle.storage_simulation.specs.code.Placing.{IsChange, changed, raised};
 
 use crate::front::{Front, children_of};
 use crate::goods::place_of;

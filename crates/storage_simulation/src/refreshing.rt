@@ -2,12 +2,13 @@
 
 ghost use Rattle.std.specs.Prelude.{◌≡◌, ◌≢◌, ◌≤◌, ◌<◌, ◌+◌, ◌++◌, ◌==◌, ◌∷◌, ◌^◌, [], ℕ, Some, length, true};
 ghost use Rattle.tournament_tree.specs.Tree.{entry};
-ghost use Rattle.plan_core.specs.Numbers.{RisesFrom, has};
+ghost use Rattle.plan_core.specs.code.Numbers.{RisesFrom};
+ghost use Rattle.plan_core.specs.Numbers.{has};
 ghost use Rattle.plan_core.specs.Words.{count_tasks};
-ghost use Rattle.storage_simulation.specs.Front.{IsSet, front_of};
-ghost use Rattle.storage_simulation.specs.Goods.{place};
-ghost use Rattle.storage_simulation.specs.Index.{AreBestsBut, AreGoes, AreOwnBests, IsApart, IsAway, IsBestAt, IsIndex, IsIndexFor, IsKeyed, IsLaid, IsSettled, IsToldBut, home, homes, ready_key, told};
-ghost use Rattle.storage_simulation.specs.Ordering.{IsStep, progress};
+ghost use Rattle.storage_simulation.specs.code.Front.{IsSet, front_of};
+ghost use Rattle.storage_simulation.specs.code.Goods.{place};
+ghost use Rattle.storage_simulation.specs.code.Index.{AreBestsBut, AreGoes, AreOwnBests, IsApart, IsAway, IsBestAt, IsIndex, IsIndexFor, IsKeyed, IsLaid, IsSettled, IsToldBut, home, homes, ready_key, told};
+ghost use Rattle.storage_simulation.specs.code.Ordering.{IsStep, progress};
 
 use crate::front::{Front, children_of};
 use crate::goods::{place_of, places};

@@ -2,10 +2,12 @@
 
 ghost use Rattle.std.specs.Prelude.{◌≡◌, ◌≤◌, ◌<◌, ◌^◌, [], ℕ, cond, get_or, length, true};
 ghost use Rattle.plan_core.specs.Words.{count_tasks, parents, task_numbers};
-ghost use Rattle.storage_simulation.specs.Front.{IsFrontFor, IsOrderable, IsSet, missing};
-ghost use Rattle.storage_simulation.specs.Goods.{IsWithinLimits, places};
-ghost use Rattle.storage_simulation.specs.Ordering.{is_done, progress, size};
-ghost use Rattle.storage_simulation.specs.Standings.{IsStanding};
+ghost use Rattle.storage_simulation.specs.code.Front.{IsFrontFor, IsOrderable, IsSet, missing};
+ghost use Rattle.storage_simulation.specs.code.Goods.{IsWithinLimits};
+ghost use Rattle.storage_simulation.specs.Goods.{places};
+ghost use Rattle.storage_simulation.specs.Ordering.{is_done, size};
+ghost use Rattle.storage_simulation.specs.code.Ordering.{progress};
+ghost use Rattle.storage_simulation.specs.code.Standings.{IsStanding};
 ghost use Rattle.storage_simulation.specs.Usage.{IsWithin, sum_of, usage};
 
 use crate::front::Front;

@@ -1,9 +1,10 @@
 //! What a place holds once a task more is placed.
 
 ghost use Rattle.std.specs.Prelude.{◌≡◌, ◌≤◌, ◌<◌, ◌+◌, ◌++◌, ◌∷◌, ◌^◌, [], ℕ, Decides, Some, length};
-ghost use Rattle.storage_simulation.specs.Front.{IsSet, front_of};
+ghost use Rattle.storage_simulation.specs.code.Front.{IsSet, front_of};
 ghost use Rattle.storage_simulation.specs.Goods.{places};
-ghost use Rattle.storage_simulation.specs.Ordering.{IsOpen, progress, size};
+ghost use Rattle.storage_simulation.specs.code.Ordering.{IsOpen, progress};
+ghost use Rattle.storage_simulation.specs.Ordering.{size};
 ghost use Rattle.storage_simulation.specs.Usage.{usage};
 
 use crate::change::{after_making, cleaned_at};

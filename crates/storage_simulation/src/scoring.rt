@@ -2,10 +2,11 @@
 
 ghost use Rattle.std.specs.Prelude.{◌≡◌, ◌≤◌, ◌<◌, ◌==◌, ◌^◌, ℕ, cond, false, get_or, true};
 ghost use Rattle.plan_core.specs.Words.{count_tasks, pair_numbers};
-ghost use Rattle.storage_simulation.specs.Front.{front_of};
-ghost use Rattle.storage_simulation.specs.Goods.{IsWithinLimits};
-ghost use Rattle.storage_simulation.specs.Ordering.{IsOpen, comes, coming, frees, goes, held_or_declared, progress};
-ghost use Rattle.storage_simulation.specs.Standings.{IsStanding};
+ghost use Rattle.storage_simulation.specs.code.Front.{front_of};
+ghost use Rattle.storage_simulation.specs.code.Goods.{IsWithinLimits};
+ghost use Rattle.storage_simulation.specs.code.Ordering.{IsOpen, progress};
+ghost use Rattle.storage_simulation.specs.Ordering.{comes, coming, frees, goes, held_or_declared};
+ghost use Rattle.storage_simulation.specs.code.Standings.{IsStanding};
 ghost use Rattle.storage_simulation.specs.Usage.{sum_of};
 
 use crate::goods::pair_size;

@@ -1,7 +1,8 @@
 //! What is held of each good, and how far each task is.
 
 ghost use Rattle.std.specs.Prelude.{◌≡◌, IfOk, ℕ, replicate};
-ghost use Rattle.storage_simulation.specs.Standings.{IsStanding, held_of, phase_of, sizes, waits};
+ghost use Rattle.storage_simulation.specs.code.Standings.{IsStanding, held_of, phase_of};
+ghost use Rattle.storage_simulation.specs.Standings.{sizes, waits};
 ghost use Rattle.storage_simulation.specs.declared.standing.Held.TheVariants.{Nothing};
 ghost use Rattle.storage_simulation.specs.declared.standing.Phase.TheVariants.{Waits};
 

@@ -1,11 +1,13 @@
 //! What goes with each waiting task, kept up as tasks are placed.
 
 ghost use Rattle.std.specs.Prelude.{◌≡◌, ◌≤◌, ◌<◌, ◌+◌, ◌*◌, ◌^◌, ℕ, false, get_or, length, true};
-ghost use Rattle.plan_core.specs.Numbers.{RisesFrom, has};
+ghost use Rattle.plan_core.specs.code.Numbers.{RisesFrom};
+ghost use Rattle.plan_core.specs.Numbers.{has};
 ghost use Rattle.plan_core.specs.Words.{count_tasks, parents};
-ghost use Rattle.storage_simulation.specs.Front.{IsSet, front_of, missing};
-ghost use Rattle.storage_simulation.specs.Index.{AreGoes, IsLast, last_of};
-ghost use Rattle.storage_simulation.specs.Ordering.{goes, is_done, progress};
+ghost use Rattle.storage_simulation.specs.code.Front.{IsSet, front_of, missing};
+ghost use Rattle.storage_simulation.specs.code.Index.{AreGoes, IsLast, last_of};
+ghost use Rattle.storage_simulation.specs.Ordering.{goes, is_done};
+ghost use Rattle.storage_simulation.specs.code.Ordering.{progress};
 ghost use Rattle.storage_simulation.specs.Usage.{sum_of};
 
 use crate::front::Front;

@@ -5,9 +5,11 @@ ghost use Rattle.std.specs.List.{list_any};
 ghost use Rattle.values.specs.declared.numbers.TaskId.{TaskId};
 ghost use Rattle.plan_core.specs.Numbers.{has};
 ghost use Rattle.plan_core.specs.Words.{cleans, task_numbers};
-ghost use Rattle.storage_simulation.specs.Goods.{IsWithinLimits, makes};
-ghost use Rattle.storage_simulation.specs.Standings.{IsStanding, held_of, sizes};
-ghost use Rattle.storage_simulation.specs.Usage.{cleaned, made, part, usage, weight};
+ghost use Rattle.storage_simulation.specs.code.Goods.{IsWithinLimits};
+ghost use Rattle.storage_simulation.specs.Goods.{makes};
+ghost use Rattle.storage_simulation.specs.code.Standings.{IsStanding, held_of};
+ghost use Rattle.storage_simulation.specs.Standings.{sizes};
+ghost use Rattle.storage_simulation.specs.Usage.{cleaned, made, usage_of_good, usage, weight};
 
 use crate::goods::{good_size, goods, lies_at, makes};
 use crate::standing::Standing;
@@ -62,7 +64,7 @@ fn weight(plan: &Plan, standing: &Standing, front: &[TaskId], good: u32) -> u64
 fn part(plan: &Plan, standing: &Standing, front: &[TaskId], place: u32, good: u32) -> u64
     requires limits { IsWithinLimits plan.now }
     requires standing { IsStanding plan.now standing.now }
-    ensures value { result ≡ part plan.now (sizes (held_of standing.now))
+    ensures value { result ≡ usage_of_good plan.now (sizes (held_of standing.now))
         (task_numbers front.now) place good }
     ensures small { result ≤ 2 ^ 40 }
 {
@@ -74,7 +76,7 @@ fn part(plan: &Plan, standing: &Standing, front: &[TaskId], place: u32, good: u3
 }
 
 /// The bytes at a site after a front, or at the output, whose number follows the last site's.
-#[tactic(auto, using(crate::proofs::UsageLemmas::total_more), unfolding(crate::specs::Usage::total))]
+#[tactic(auto, using(crate::proofs::UsageLemmas::total_more), unfolding(values::specs::Numbers::total))]
 pub fn usage_after(plan: &Plan, standing: &Standing, front: &[TaskId], site: SiteId) -> u64
     requires limits { IsWithinLimits plan.now }
     requires standing { IsStanding plan.now standing.now }

@@ -11,14 +11,17 @@ use Rattle.plan_core.specs.declared.plan.Plan.{Plan}
 use Rattle.plan_core.specs.declared.plan.PlanJob.{PlanJob}
 use Rattle.plan_core.specs.declared.plan.TaskKind.{TaskKind}
 use Rattle.plan_core.specs.declared.plan.TaskKind.TheVariants.{Transfer, Run, Clean as CleanTask}
-use Rattle.plan_core.specs.Carried.{Bytes, IsCarrying, after_jobs, carried, carried_by, read, stored}
-use Rattle.plan_core.specs.Kinds.{kind_reads, makes, reads_file, uses}
+use Rattle.plan_core.specs.Carried.{Bytes, after_jobs, carried, carried_by, read, stored}
+use Rattle.plan_core.specs.code.Carried.{IsCarrying}
+use Rattle.plan_core.specs.Kinds.{kind_reads, jobs_make, reads_file, jobs_use}
 use Rattle.plan_core.specs.Numbers.{has}
-use Rattle.plan_core.specs.Proper.{IsProper, stands}
-use Rattle.plan_core.specs.Words.{count_pairs, is_pair, is_run, is_run_kind, kind, pair, pair_at, reads, writes}
+use Rattle.plan_core.specs.code.Proper.{IsProper, stands}
+use Rattle.plan_core.specs.Words.{count_pairs, is_run, is_run_kind, kind, pair, reads, writes}
+use Rattle.plan_core.specs.code.Words.{is_pair, pair_at}
 use Rattle.plan_core.proofs.TestLemmas.{both, by_bool, is_itself, or_left, or_right, same_number}
-use Rattle.plan_core.specs.Names.{file_in, pair_file, pair_site, site_in, content}
-use Rattle.plan_core.specs.Declined.{declined_among, declined_in}
+use Rattle.plan_core.specs.Names.{file_in, pair_file, pair_site, site_in}
+use Rattle.plan_core.specs.code.Names.{content}
+use Rattle.plan_core.specs.code.Declined.{declined_among, declined_in}
 use Rattle.task_work.specs.Computing.{IsComputed, files_of, given, jobs_in}
 use Rattle.task_work.proofs.PairLemmas.{pair_is, pair_with}
 
@@ -45,7 +48,7 @@ pair_of p s f h = let found = any_place (λ (q : Pair). pair_at (Some q) s f) p.
 
 -- a Run reads at its own site
 run_site : (jobs : List PlanJob) (a : SiteId) (js : List JobId) (s f : ℕ) → kind_reads jobs (Some (Run a js)) s f ≡ true → a.0 ≡ s
-run_site jobs a js s f h = same_number a.0 s (both (nat_eq a.0 s) (uses jobs js f && not (makes jobs js f)) h).0
+run_site jobs a js s f h = same_number a.0 s (both (nat_eq a.0 s) (jobs_use jobs js f && not (jobs_make jobs js f)) h).0
 
 stands_read : (p : Plan) → IsProper p → (t s f : ℕ) → reads_file p t s f ≡ true → stands p s f ≡ true
 unfolding kind

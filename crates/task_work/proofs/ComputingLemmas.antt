@@ -10,10 +10,12 @@ use Rattle.plan_core.specs.declared.plan.PlanJob.{PlanJob}
 use Rattle.plan_core.specs.declared.plan.TaskKind.{TaskKind}
 use Rattle.plan_core.specs.declared.plan.TaskKind.TheVariants.{Transfer, Run, Clean as CleanTask}
 use Rattle.plan_core.specs.Carried.{after_jobs}
-use Rattle.plan_core.specs.Kinds.{kind_writes, makes, writes_file}
-use Rattle.plan_core.specs.Numbers.{RisesFrom, has}
-use Rattle.plan_core.specs.Proper.{IsProper}
-use Rattle.plan_core.specs.Words.{count_pairs, is_pair, is_run, is_run_kind, job_numbers, kind, reads, writes}
+use Rattle.plan_core.specs.Kinds.{kind_writes, jobs_make, writes_file}
+use Rattle.plan_core.specs.code.Numbers.{RisesFrom}
+use Rattle.plan_core.specs.Numbers.{has}
+use Rattle.plan_core.specs.code.Proper.{IsProper}
+use Rattle.plan_core.specs.Words.{count_pairs, is_run, is_run_kind, job_numbers, kind, reads, writes}
+use Rattle.plan_core.specs.code.Words.{is_pair}
 use Rattle.plan_core.proofs.RisingLemmas.{below_rises}
 use Rattle.plan_core.proofs.TestLemmas.{both, is_itself, or_left, or_right, same_number}
 use Rattle.run_record.specs.declared.entry.Cause.{Cause}
@@ -23,7 +25,7 @@ use Rattle.storage_simulation.proofs.FollowingLemmas.{once_more, once_parts}
 use Rattle.storage_simulation.proofs.RisingLemmas.{rises_once}
 use Rattle.lease_rules.specs.Legal.{has_job}
 use Rattle.plan_core.specs.Names.{pair_file, pair_site}
-use Rattle.plan_core.specs.Declined.{declined_among}
+use Rattle.plan_core.specs.code.Declined.{declined_among}
 use Rattle.task_work.specs.Computing.{Computes, computed, files_of, given, jobs_in}
 use Rattle.task_work.specs.Running.{RanJobs, RunsJobs}
 use Rattle.task_work.specs.Table.{at}
@@ -37,16 +39,16 @@ unfolding writes
 writes_once p proper t = rises_once 0 _ (subst (RisesFrom 0) (sym (proper.tasks t).writes) (below_rises (count_pairs p) _))
 
 -- a Run writes at its own site what its jobs make
-run_writes : (jobs : List PlanJob) (k : Option TaskKind) (s f : ℕ) → is_run_kind k ≡ true → kind_writes jobs k s f ≡ true → makes jobs (jobs_in k) f ≡ true
+run_writes : (jobs : List PlanJob) (k : Option TaskKind) (s f : ℕ) → is_run_kind k ≡ true → kind_writes jobs k s f ≡ true → jobs_make jobs (jobs_in k) f ≡ true
 run_writes jobs None s f run h = absurd cc
 run_writes jobs (Some (Transfer g from to)) s f run h = absurd cc
-run_writes jobs (Some (Run a js)) s f run h = (both (nat_eq a.0 s) (makes jobs js f) h).1
+run_writes jobs (Some (Run a js)) s f run h = (both (nat_eq a.0 s) (jobs_make jobs js f) h).1
 run_writes jobs (Some (CleanTask q)) s f run h = absurd cc
 
 run_site : (jobs : List PlanJob) (k : Option TaskKind) (s r f g : ℕ) → is_run_kind k ≡ true → kind_writes jobs k s f ≡ true → kind_writes jobs k r g ≡ true → s ≡ r
 run_site jobs None s r f g run h i = absurd cc
 run_site jobs (Some (Transfer x from to)) s r f g run h i = absurd cc
-run_site jobs (Some (Run a js)) s r f g run h i = sym (same_number a.0 s (both (nat_eq a.0 s) (makes jobs js f) h).0) ∙ same_number a.0 r (both (nat_eq a.0 r) (makes jobs js g) i).0
+run_site jobs (Some (Run a js)) s r f g run h i = sym (same_number a.0 s (both (nat_eq a.0 s) (jobs_make jobs js f) h).0) ∙ same_number a.0 r (both (nat_eq a.0 r) (jobs_make jobs js g) i).0
 run_site jobs (Some (CleanTask q)) s r f g run h i = absurd cc
 
 -- pairs of files of their own
@@ -76,10 +78,10 @@ module _ (p : Plan) (proper : IsProper p) (listed : (t q s f : ℕ) → is_pair 
   pub outputs_once : AreOnce (files_of p (writes p t))
   outputs_once = files_once p (writes p t) apart (writes_once p proper t)
 
-  pub outputs_made : (f : ℕ) → has (files_of p (writes p t)) f ≡ true → makes p.jobs (jobs_in (kind p t)) f ≡ true
+  pub outputs_made : (f : ℕ) → has (files_of p (writes p t)) f ≡ true → jobs_make p.jobs (jobs_in (kind p t)) f ≡ true
   outputs_made f h =
       let found = pair_with p f (writes p t) h in
-      subst (λ g. makes p.jobs (jobs_in (kind p t)) g ≡ true) found.2 (run_writes p.jobs (kind p t) (pair_site p found.0) (pair_file p found.0) run (writes_here found.0 found.1))
+      subst (λ g. jobs_make p.jobs (jobs_in (kind p t)) g ≡ true) found.2 (run_writes p.jobs (kind p t) (pair_site p found.0) (pair_file p found.0) run (writes_here found.0 found.1))
 
 -- from the jobs to the task
 map_same : (g h : ℕ → Option (List ℕ)) (fs : List ℕ) → ((f : ℕ) → g f ≡ h f) → map g fs ≡ map h fs

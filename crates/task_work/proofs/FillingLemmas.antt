@@ -1,8 +1,8 @@
 -- Lists of parts, and what a caller has of the promises.
 use Rattle.std.proofs.Common.{◌≡◌, ℕ, ◌+◌, ◌≤◌, ◌<◌, true, List, [], ◌∷◌, length, map, get_or, set, refl, sym, ap, ◌∙◌, subst, arith}
 use Rattle.std.specs.Prelude.{Option, Some, None, option_map, is_some, IfSome, Result, Ok, Err}
-use Rattle.outside.specs.Counts.{Rose}
-use Rattle.outside.specs.Parts.{DraftState, Drafted, ReadState, extended, part_faults}
+use Rattle.outside.specs.code.Counts.{Rose}
+use Rattle.outside.specs.code.Parts.{DraftState, Drafted, ReadState, extended, part_faults}
 use Rattle.outside.specs.declared.host.HostFault.{HostFault}
 use Rattle.outside.specs.declared.host.HostFault.TheVariants as fault
 use Rattle.outside.specs.declared.place.Place.{Place}

@@ -3,12 +3,12 @@ use Rattle.std.proofs.Common.{◌≡◌, ℕ, zero, suc, ◌+◌, ◌-◌, ◌^�
 use Rattle.std.specs.Prelude.{Result, Ok, Err}
 use Rattle.std.proofs.lemmas.List.{drop-set-lt, length-map}
 use Rattle.std.proofs.Math.ListN.{get_or-map}
-use Rattle.outside.specs.Counts.{Rose}
-use Rattle.outside.specs.Parts.{DraftState, ReadState, draft_faults, reading_faults}
+use Rattle.outside.specs.code.Counts.{Rose}
+use Rattle.outside.specs.code.Parts.{DraftState, ReadState, draft_faults, reading_faults}
 use Rattle.outside.specs.declared.host.HostFault.{HostFault}
 use Rattle.outside.specs.declared.host.HostFault.TheVariants.{Absent, Failed, Over, Memory}
 use Rattle.plan_core.specs.declared.plan.Plan.{Plan}
-use Rattle.lease_rules.specs.Storing.{pair_limit, AreWithin}
+use Rattle.lease_rules.specs.code.Storing.{pair_limit, AreWithin}
 use Rattle.task_work.specs.Making.{AreBegun, AreEmpty, AreWritten, Each, Fits, IsFaultOf, limit_of}
 use Rattle.task_work.specs.Pieces.{HasWritten, IsReadFault, IsSteadyDraft, IsSteadyReading}
 use Rattle.task_work.proofs.PieceLemmas.{no_longer, steady_draft}

@@ -9,13 +9,15 @@ use Rattle.plan_core.specs.declared.plan.Plan.{Plan}
 use Rattle.plan_core.specs.declared.plan.PlanJob.{PlanJob}
 use Rattle.plan_core.specs.declared.plan.TaskKind.{TaskKind}
 use Rattle.plan_core.specs.declared.plan.TaskKind.TheVariants.{Transfer, Run, Clean as CleanTask}
-use Rattle.plan_core.specs.Kinds.{kind_carries, kind_writes, makes, writes_file}
+use Rattle.plan_core.specs.code.Kinds.{kind_carries}
+use Rattle.plan_core.specs.Kinds.{kind_writes, jobs_make, writes_file}
 use Rattle.plan_core.specs.Numbers.{has}
-use Rattle.plan_core.specs.Words.{count_pairs, file_numbers, is_pair, is_run, is_run_kind, job_numbers, kind, outputs, pair_numbers, reads, writes}
+use Rattle.plan_core.specs.Words.{count_pairs, file_numbers, is_run, is_run_kind, job_numbers, kind, outputs, pair_numbers, reads, writes}
+use Rattle.plan_core.specs.code.Words.{is_pair}
 use Rattle.plan_core.proofs.TestLemmas.{both, is_itself, or_left, or_right}
 use Rattle.run_record.specs.declared.entry.Cause.TheVariants.{Oversize}
 use Rattle.lease_rules.specs.Legal.{CauseFits, is_too_long}
-use Rattle.lease_rules.specs.Storing.{pair_limit, AreWithin, IsFirstPast, IsOverlong}
+use Rattle.lease_rules.specs.code.Storing.{pair_limit, AreWithin, IsFirstPast, IsOverlong}
 use Rattle.plan_core.specs.Names.{pair_file, pair_site}
 use Rattle.task_work.proofs.PairLemmas.{written_file}
 
@@ -66,13 +68,13 @@ nth_job [] k x h = absurd (omega (arith, h))
 nth_job (j ∷ js) zero x h = same_id j.0 (job_numbers js)
 nth_job (j ∷ js) (suc k) x h = or_right (nat_eq j.0 (get_or js k x).0) (has (job_numbers js) (get_or js k x).0) (nth_job js k x (omega (arith, h)))
 
-drop_more : (jobs : List PlanJob) (js : List JobId) (f k : ℕ) (x : JobId) → k < length js → has (outputs jobs (get_or js k x).0) f ≡ false → makes jobs (drop k js) f ≡ true → makes jobs (drop (suc k) js) f ≡ true
+drop_more : (jobs : List PlanJob) (js : List JobId) (f k : ℕ) (x : JobId) → k < length js → has (outputs jobs (get_or js k x).0) f ≡ false → jobs_make jobs (drop k js) f ≡ true → jobs_make jobs (drop (suc k) js) f ≡ true
 drop_more jobs [] f k x h unmade h2 = absurd (omega (arith, h))
-drop_more jobs (j ∷ js) f zero x h unmade h2 = subst (λ b. (b || makes jobs js f) ≡ true) unmade h2
+drop_more jobs (j ∷ js) f zero x h unmade h2 = subst (λ b. (b || jobs_make jobs js f) ≡ true) unmade h2
 drop_more jobs (j ∷ js) f (suc k) x h unmade h2 = drop_more jobs js f k x (omega (arith, h)) unmade h2
 
-pub drop_next : (jobs : List PlanJob) (js : List JobId) (f k : ℕ) (x : JobId) (b : Bool) → k < length js → b ≡ has (outputs jobs (get_or js k x).0) f → b ≡ false → makes jobs (drop k js) f ≡ true → makes jobs (drop (k + 1) js) f ≡ true
-drop_next jobs js f k x b h is unmade h2 = subst (λ n. makes jobs (drop n js) f ≡ true) (next_is k) (drop_more jobs js f k x h (sym is ∙ unmade) h2)
+pub drop_next : (jobs : List PlanJob) (js : List JobId) (f k : ℕ) (x : JobId) (b : Bool) → k < length js → b ≡ has (outputs jobs (get_or js k x).0) f → b ≡ false → jobs_make jobs (drop k js) f ≡ true → jobs_make jobs (drop (k + 1) js) f ≡ true
+drop_next jobs js f k x b h is unmade h2 = subst (λ n. jobs_make jobs (drop n js) f ≡ true) (next_is k) (drop_more jobs js f k x h (sym is ∙ unmade) h2)
 
 -- an output that is longer than declared
 past_long : (p : Plan) (qs : List ℕ) (bs : List (List ℕ)) (x n : ℕ) → IsFirstPast p qs bs x n → pair_limit p x < n
@@ -102,7 +104,7 @@ over_fits p t outs j f n over =
 run_carries : (jobs : List PlanJob) (k : Option TaskKind) (s f : ℕ) → is_run_kind k ≡ true → kind_writes jobs k s f ≡ true → kind_carries jobs k f ≡ true
 run_carries jobs None s f run h = absurd cc
 run_carries jobs (Some (Transfer g from to)) s f run h = absurd cc
-run_carries jobs (Some (Run a js)) s f run h = (both (nat_eq a.0 s) (makes jobs js f) h).1
+run_carries jobs (Some (Run a js)) s f run h = (both (nat_eq a.0 s) (jobs_make jobs js f) h).1
 run_carries jobs (Some (CleanTask q)) s f run h = absurd cc
 
 pub past_carried : (p : Plan) → ((t q s f : ℕ) → is_pair p q s f ≡ true → has (writes p t) q ≡ writes_file p t s f) → ((t q : ℕ) → (has (reads p t) q || has (writes p t) q) ≡ true → q < count_pairs p) → (t : ℕ) (bs : List (List ℕ)) (x n : ℕ) → is_run p t ≡ true → IsFirstPast p (writes p t) bs x n → kind_carries p.jobs (kind p t) (pair_file p x) ≡ true

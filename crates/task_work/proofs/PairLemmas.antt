@@ -5,7 +5,8 @@ use Rattle.plan_core.specs.declared.plan.Pair.{Pair}
 use Rattle.plan_core.specs.declared.plan.Plan.{Plan}
 use Rattle.plan_core.specs.Kinds.{writes_file}
 use Rattle.plan_core.specs.Numbers.{has}
-use Rattle.plan_core.specs.Words.{count_pairs, is_pair, pair, pair_at, reads, writes}
+use Rattle.plan_core.specs.Words.{count_pairs, pair, reads, writes}
+use Rattle.plan_core.specs.code.Words.{is_pair, pair_at}
 use Rattle.plan_core.proofs.TestLemmas.{by_bool, is_itself, or_left, or_right, same_number}
 use Rattle.plan_core.specs.Names.{file_in, pair_file, pair_site, site_in}
 use Rattle.task_work.specs.Computing.{files_of}

@@ -7,7 +7,7 @@ use Rattle.sha2.specs.Sha256.{sha256}
 use Rattle.sha2.specs.declared.Sha256.{Sha256}
 use Rattle.outside.specs.declared.host.HostFault.{HostFault}
 use Rattle.outside.specs.declared.host.HostFault.TheVariants.{Absent, Failed, Over, Memory}
-use Rattle.outside.specs.Parts.{AppendsOn, DraftState, Drafted, ReadState, ReadsNext, ReadsOn, extended, longer}
+use Rattle.outside.specs.code.Parts.{AppendsOn, DraftState, Drafted, ReadState, ReadsNext, ReadsOn, extended, longer}
 use Rattle.task_work.specs.Pieces.{HasMoved, HasRead, HasWritten, IsPartFault, IsReadFault, IsSteadyDraft, IsSteadyReading, fails_in}
 
 nil_after : {A : Type 0} (r : List A) → r ++ [] ≡ r

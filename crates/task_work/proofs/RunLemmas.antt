@@ -3,7 +3,7 @@ use Rattle.std.proofs.Common.{◌≡◌, ℕ, ◌+◌, ◌≤◌, List, [], ◌�
 use Rattle.std.specs.Prelude.{Some, Err}
 use Rattle.std.proofs.lemmas.List.{length-map}
 use Rattle.values.specs.Apply.{Apply}
-use Rattle.outside.specs.Parts.{DraftState, ReadState}
+use Rattle.outside.specs.code.Parts.{DraftState, ReadState}
 use Rattle.outside.specs.declared.host.HostFault.{HostFault}
 use Rattle.outside.specs.declared.host.HostFault.TheVariants as fault
 use Rattle.plan_core.specs.declared.plan.Plan.{Plan}
@@ -13,7 +13,7 @@ use Rattle.run_record.specs.declared.entry.Cause.TheVariants as why
 use Rattle.storage_simulation.specs.Goods.{makes}
 use Rattle.lease_rules.specs.Legal.{AreOfFirst, CauseFits}
 use Rattle.plan_core.specs.Names.{pair_file}
-use Rattle.lease_rules.specs.Storing.{AreWithin}
+use Rattle.lease_rules.specs.code.Storing.{AreWithin}
 use Rattle.task_work.specs.Computing.{Computes, Makes, computed, files_of}
 use Rattle.task_work.specs.Making.{AreStored, AreWritten, Each, IsFaultOf, IsRunCause, IsShown, MakesWithin, OfRead, blames}
 use Rattle.task_work.specs.Moving.{part_cause}

@@ -4,18 +4,18 @@ use Rattle.std.specs.Prelude.{Option, Some, None, is_some, if◌then◌else◌, 
 use Rattle.std.specs.declared.alloc.Global.{Global}
 use Rattle.task_work.specs.Table.{IsFound}
 use Rattle.std.proofs.Math.Path.{fun_ext}
-use Rattle.outside.specs.Counts.{Rose}
+use Rattle.outside.specs.code.Counts.{Rose}
 use Rattle.values.specs.Apply.{Apply, all_of, part}
 use Rattle.values.specs.declared.numbers.JobId.{JobId}
 use Rattle.plan_core.specs.declared.plan.PlanJob.{PlanJob}
 use Rattle.plan_core.specs.Carried.{after_job, after_jobs}
-use Rattle.plan_core.specs.Kinds.{makes}
+use Rattle.plan_core.specs.Kinds.{jobs_make}
 use Rattle.plan_core.specs.Numbers.{has, or_else}
-use Rattle.plan_core.specs.Words.{file_numbers, inputs, inputs_in, job_numbers, made, outputs, outputs_in}
+use Rattle.plan_core.specs.Words.{file_numbers, inputs, inputs_in, job_numbers, tool_outputs as made, outputs, outputs_in}
 use Rattle.plan_core.proofs.TestLemmas.{by_bool, is_itself, or_left, or_right}
 use Rattle.run_record.specs.declared.entry.Cause.{Cause}
 use Rattle.run_record.specs.declared.entry.Cause.TheVariants as why
-use Rattle.plan_core.specs.Declined.{declined_among, next_declined}
+use Rattle.plan_core.specs.code.Declined.{declined_among, next_declined}
 use Rattle.task_work.specs.Running.{IsToolCause, Places, RanJob, RanJobs, RunsJob, RunsJobs, RunsTool, made_by, made_of}
 
 -- a job by its number
@@ -108,13 +108,13 @@ after_next apply jobs left rest j v w f all cut job e =
 keeps_there : (apply : Apply) (jobs : List PlanJob) (j : ℕ) (v w : ℕ → Option (List ℕ)) (f : ℕ) → RanJob apply jobs j v w → has (outputs jobs j) f ≡ false → w f ≡ v f
 keeps_there apply jobs j v w f job off = job.at f ∙ ap (λ b. if b then option_and_then (part f (outputs jobs j)) (made_of apply jobs j v) else v f) off
 
-pub there_next : (apply : Apply) (jobs : List PlanJob) (left rest : List JobId) (j : JobId) (v w : ℕ → Option (List ℕ)) (f : ℕ) → left ≡ j ∷ rest → RanJob apply jobs j.0 v w → (is_some (v f) || makes jobs left f) ≡ true → (is_some (w f) || makes jobs rest f) ≡ true
+pub there_next : (apply : Apply) (jobs : List PlanJob) (left rest : List JobId) (j : JobId) (v w : ℕ → Option (List ℕ)) (f : ℕ) → left ≡ j ∷ rest → RanJob apply jobs j.0 v w → (is_some (v f) || jobs_make jobs left f) ≡ true → (is_some (w f) || jobs_make jobs rest f) ≡ true
 there_next apply jobs left rest j v w f cut job h = by_bool (has (outputs jobs j.0) f)
-    (λ made_here. or_left (is_some (w f)) (makes jobs rest f) (job.there f made_here))
+    (λ made_here. or_left (is_some (w f)) (jobs_make jobs rest f) (job.there f made_here))
     (λ off.
-    ap (λ o. is_some o || makes jobs rest f) (keeps_there apply jobs j.0 v w f job off)
-    ∙ sym (ap (λ b. is_some (v f) || (b || makes jobs rest f)) off)
-    ∙ sym (ap (λ l. is_some (v f) || makes jobs l f) cut)
+    ap (λ o. is_some o || jobs_make jobs rest f) (keeps_there apply jobs j.0 v w f job off)
+    ∙ sym (ap (λ b. is_some (v f) || (b || jobs_make jobs rest f)) off)
+    ∙ sym (ap (λ l. is_some (v f) || jobs_make jobs l f) cut)
     ∙ h)
 
 -- all have run
@@ -122,11 +122,11 @@ no_more : (b : Bool) → (b || false) ≡ true → b ≡ true
 no_more true h = refl
 no_more false h = absurd cc
 
-pub ran_all : (apply : Apply) (jobs : List PlanJob) (js left : List JobId) (v w : ℕ → Option (List ℕ)) → left ≡ [] → declined_among apply jobs left w ≡ declined_among apply jobs js v → ((f : ℕ) → after_jobs apply jobs left w f ≡ after_jobs apply jobs js v f) → ((f : ℕ) → makes jobs js f ≡ true → (is_some (w f) || makes jobs left f) ≡ true) → RanJobs apply jobs js v w
+pub ran_all : (apply : Apply) (jobs : List PlanJob) (js left : List JobId) (v w : ℕ → Option (List ℕ)) → left ≡ [] → declined_among apply jobs left w ≡ declined_among apply jobs js v → ((f : ℕ) → after_jobs apply jobs left w f ≡ after_jobs apply jobs js v f) → ((f : ℕ) → jobs_make jobs js f ≡ true → (is_some (w f) || jobs_make jobs left f) ≡ true) → RanJobs apply jobs js v w
 ran_all apply jobs js left v w none declines after_ there = record {
   none = sym declines ∙ ap (λ l. declined_among apply jobs l w) none;
   at = λ f. sym (ap (λ (g : ℕ → Option (List ℕ)). g f) (after_none apply jobs w)) ∙ sym (ap (λ l. after_jobs apply jobs l w f) none) ∙ after_ f;
-  there = λ f h. no_more (is_some (w f)) (sym (ap (λ l. is_some (w f) || makes jobs l f) none) ∙ there f h);
+  there = λ f h. no_more (is_some (w f)) (sym (ap (λ l. is_some (w f) || jobs_make jobs l f) none) ∙ there f h);
 }
 
 -- one that stopped
@@ -168,8 +168,8 @@ all_dropped [] (suc k) h = refl
 all_dropped (j ∷ js) zero h = absurd (omega (arith, h))
 all_dropped (j ∷ js) (suc k) h = all_dropped js k (omega (arith, h))
 
-pub makes_first : (jobs : List PlanJob) (js : List JobId) (b : Bool) (f : ℕ) → makes jobs js f ≡ true → (b || makes jobs js f) ≡ true
-makes_first jobs js b f h = or_right b (makes jobs js f) h
+pub makes_first : (jobs : List PlanJob) (js : List JobId) (b : Bool) (f : ℕ) → jobs_make jobs js f ≡ true → (b || jobs_make jobs js f) ≡ true
+makes_first jobs js b f h = or_right b (jobs_make jobs js f) h
 
 -- what a look-up found
 pub found_some : (x : Option (List (List ℕ))) (o : Option (Vec (List ℕ) Global)) (v : Vec (List ℕ) Global) → IsFound x o → o ≡ Some v → x ≡ Some v.items

@@ -1,19 +1,19 @@
 -- What the jobs of a Run make of the bytes that it reads.
 use Rattle.std.specs.Prelude.{◌≡◌, ℕ, true, List, [], map, Option, Some, None, Result, Ok, Err, Vec}
 use Rattle.std.specs.declared.alloc.Global.{Global}
-use Rattle.outside.specs.Counts.{Rose}
 use Rattle.values.specs.Apply.{Apply, part}
 use Rattle.values.specs.declared.numbers.JobId.{JobId}
+use Rattle.outside.specs.code.Counts.{Rose}
 use Rattle.plan_core.specs.declared.plan.Plan.{Plan}
 use Rattle.plan_core.specs.declared.plan.TaskKind.{TaskKind}
 use Rattle.plan_core.specs.declared.plan.TaskKind.TheVariants.{Run}
 use Rattle.plan_core.specs.Carried.{after_jobs}
 use Rattle.plan_core.specs.Words.{kind, reads, writes}
+use Rattle.plan_core.specs.Names.{pair_file}
+use Rattle.plan_core.specs.code.Declined.{declined, declined_among}
 use Rattle.run_record.specs.declared.entry.Cause.{Cause}
 use Rattle.run_record.specs.declared.entry.Cause.TheVariants.{Declined, ToolFailed, Memory}
 use Rattle.lease_rules.specs.Legal.{has_job}
-use Rattle.plan_core.specs.Names.{pair_file}
-use Rattle.plan_core.specs.Declined.{declined, declined_among}
 
 -- the jobs of a Run
 abbrev pub jobs_in : Option TaskKind → List JobId

@@ -1,8 +1,8 @@
 -- What a task's readings and drafts come to, over their states before and after.
 use Rattle.std.specs.Prelude.{◌≡◌, ℕ, ◌≤◌, true, List, [], ◌∷◌, length, map, Option, Some, Result, Ok, Err}
 use Rattle.values.specs.Apply.{Apply}
-use Rattle.outside.specs.Counts.{Rose}
-use Rattle.outside.specs.Parts.{DraftState, ReadState, part_faults}
+use Rattle.outside.specs.code.Counts.{Rose}
+use Rattle.outside.specs.code.Parts.{DraftState, ReadState, part_faults}
 use Rattle.plan_core.specs.declared.plan.Plan.{Plan}
 use Rattle.plan_core.specs.declared.plan.TaskKind.{TaskKind}
 use Rattle.plan_core.specs.declared.plan.TaskKind.TheVariants.{Transfer, Run}
@@ -11,7 +11,7 @@ use Rattle.storage_simulation.specs.Goods.{is_delivery}
 use Rattle.run_record.specs.declared.entry.Cause.{Cause}
 use Rattle.run_record.specs.declared.entry.Cause.TheVariants.{Checksum, HostFailed, Memory}
 use Rattle.lease_rules.specs.Legal.{is_from_pfn, is_wrong_for}
-use Rattle.lease_rules.specs.Storing.{pair_limit}
+use Rattle.lease_rules.specs.code.Storing.{pair_limit}
 use Rattle.task_work.specs.Making.{AreStored, IsRunCause, OfRead, limit_of}
 use Rattle.task_work.specs.Moving.{IsAgreeing, digest_of}
 use Rattle.task_work.specs.Pieces.{HasMoved}

@@ -2,16 +2,16 @@
 use Rattle.std.specs.Prelude.{◌≡◌, ℕ, ◌≤◌, List, [], ◌∷◌, length, map, Some, Result, Ok, Err, Vec}
 use Rattle.std.specs.declared.alloc.Global.{Global}
 use Rattle.values.specs.Apply.{Apply}
-use Rattle.outside.specs.Counts.{Rose}
-use Rattle.outside.specs.Parts.{DraftState, ReadState}
+use Rattle.outside.specs.code.Counts.{Rose}
+use Rattle.outside.specs.code.Parts.{DraftState, ReadState}
 use Rattle.outside.specs.declared.host.HostFault.{HostFault}
 use Rattle.outside.specs.declared.host.HostFault.TheVariants as fault
 use Rattle.plan_core.specs.declared.plan.Plan.{Plan}
 use Rattle.plan_core.specs.Words.{reads, writes}
 use Rattle.run_record.specs.declared.entry.Cause.{Cause}
 use Rattle.run_record.specs.declared.entry.Cause.TheVariants.{Declined, HostFailed, Memory, Oversize, ToolFailed}
-use Rattle.lease_rules.specs.Causes.{fault_in}
-use Rattle.lease_rules.specs.Storing.{AreWithin, IsOverlong}
+use Rattle.lease_rules.specs.code.Causes.{fault_in}
+use Rattle.lease_rules.specs.code.Storing.{AreWithin, IsOverlong}
 use Rattle.task_work.specs.Computing.{Computes, Makes, first_declined}
 use Rattle.task_work.specs.Pieces.{HasRead, HasWritten}
 

@@ -1,7 +1,7 @@
 -- A Transfer's bytes, and their digest.
 use Rattle.std.specs.Prelude.{◌≡◌, ℕ, ◌+◌, Bool, true, cond, List, Option, Some, None, Result, Ok, Err, IfSome}
-use Rattle.outside.specs.Counts.{Rose}
-use Rattle.outside.specs.Parts.{DraftState, ReadState}
+use Rattle.outside.specs.code.Counts.{Rose}
+use Rattle.outside.specs.code.Parts.{DraftState, ReadState}
 use Rattle.outside.specs.declared.host.HostFault.{HostFault}
 use Rattle.outside.specs.declared.host.HostFault.TheVariants as fault
 use Rattle.plan_core.specs.declared.plan.Plan.{Plan}

@@ -1,10 +1,10 @@
 -- Bytes between parts.
 use Rattle.std.specs.Prelude.{◌≡◌, ℕ, ◌+◌, ◌≤◌, List, length, option_map, Result, Ok, Err, IfSome}
 use Rattle.sha2.specs.Sha256.{sha256}
-use Rattle.outside.specs.Counts.{Rose}
+use Rattle.outside.specs.code.Counts.{Rose}
 use Rattle.outside.specs.declared.host.HostFault.{HostFault}
 use Rattle.outside.specs.declared.host.HostFault.TheVariants.{Failed, Over, Memory}
-use Rattle.outside.specs.Parts.{AppendsOn, DraftState, ReadState, extended}
+use Rattle.outside.specs.code.Parts.{AppendsOn, DraftState, ReadState, extended}
 
 -- what a reading keeps in any case: its bytes and its length; its count doesn't fall
 pub record IsSteadyReading (r0 r1 : ReadState) : Type 0 where

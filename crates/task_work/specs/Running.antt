@@ -1,16 +1,16 @@
 -- What jobs make of what stands at the files, one after the other.
 use Rattle.std.specs.Prelude.{◌≡◌, ℕ, true, List, length, map, is_some, Option, Some, None, option_and_then, Result, Ok, Err}
-use Rattle.outside.specs.Counts.{Rose}
 use Rattle.values.specs.Apply.{Apply, all_of, part}
 use Rattle.values.specs.declared.numbers.JobId.{JobId}
+use Rattle.outside.specs.code.Counts.{Rose}
 use Rattle.plan_core.specs.declared.plan.PlanJob.{PlanJob}
 use Rattle.plan_core.specs.Carried.{after_job, after_jobs}
-use Rattle.plan_core.specs.Kinds.{makes}
+use Rattle.plan_core.specs.Kinds.{jobs_make}
 use Rattle.plan_core.specs.Numbers.{has, or_else}
-use Rattle.plan_core.specs.Words.{file_numbers, inputs, job_numbers, made, outputs}
+use Rattle.plan_core.specs.Words.{file_numbers, inputs, job_numbers, tool_outputs as made, outputs}
+use Rattle.plan_core.specs.code.Declined.{declined_among}
 use Rattle.run_record.specs.declared.entry.Cause.{Cause}
 use Rattle.run_record.specs.declared.entry.Cause.TheVariants.{Declined, ToolFailed, Memory}
-use Rattle.plan_core.specs.Declined.{declined_among}
 
 -- what a job's tool makes of these inputs
 abbrev pub made_by : Apply → PlanJob → List (List ℕ) → Option (List (List ℕ))
@@ -57,7 +57,7 @@ pub record RanJobs (apply : Apply) (jobs : List PlanJob) (js : List JobId)
     (v w : ℕ → Option (List ℕ)) : Type 0 where
   pub none : declined_among apply jobs js v ≡ None
   pub at : (f : ℕ) → w f ≡ after_jobs apply jobs js v f
-  pub there : (f : ℕ) → makes jobs js f ≡ true → is_some (w f) ≡ true
+  pub there : (f : ℕ) → jobs_make jobs js f ≡ true → is_some (w f) ≡ true
 
 abbrev pub RunsJobs : Apply → List PlanJob → List JobId → (ℕ → Option (List ℕ)) → (ℕ → Option (List ℕ)) → ℕ
     → ℕ → Result (Unit {0}) Cause → Type 0

@@ -2,7 +2,7 @@
 
 ghost use Rattle.std.specs.Prelude.{◌≡◌, ◌≤◌, ℕ, IfOk, Some, is_some, map, true};
 ghost use Rattle.plan_core.specs.Numbers.{has};
-ghost use Rattle.plan_core.specs.Proper.{IsProper};
+ghost use Rattle.plan_core.specs.code.Proper.{IsProper};
 ghost use Rattle.plan_core.specs.Words.{file_numbers, is_run, kind, pair_numbers, writes};
 ghost use Rattle.storage_simulation.specs.Following.{AreOnce};
 ghost use Rattle.task_work.specs.Computing.{Computes, files_of, given, jobs_in};

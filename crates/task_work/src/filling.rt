@@ -1,12 +1,12 @@
 //! What a task's bytes become: its readings are read, and its drafts filled.
 
 ghost use Rattle.std.specs.Prelude.{◌≡◌, ◌+◌, ◌≤◌, [], IfErr, IfOk, map, true};
-ghost use Rattle.plan_core.specs.Proper.{IsProper};
+ghost use Rattle.plan_core.specs.code.Proper.{IsProper};
 ghost use Rattle.plan_core.specs.Words.{is_transfer, kind};
 ghost use Rattle.lease_rules.specs.Legal.{CauseFits};
 ghost use Rattle.task_work.specs.Filling.{AreParts, FillsTransfer, HasFilled, IsWhy};
 ghost use Rattle.task_work.specs.Making.{AreBegun, AreEmpty, Each, IsShown, blames};
-ghost use Rattle.outside.specs.Parts.{part_faults};
+ghost use Rattle.outside.specs.code.Parts.{part_faults};
 ghost use Rattle.task_work.specs.Pieces.{IsSteadyDraft, IsSteadyReading};
 
 use crate::making::make_files;

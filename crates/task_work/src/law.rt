@@ -4,10 +4,10 @@ ghost use Rattle.std.specs.Prelude.{◌≡◌, ℕ, List, Option, Some, map, tru
 ghost use Rattle.values.specs.Apply.{Apply};
 ghost use Rattle.plan_core.specs.declared.plan.Plan.{Plan};
 ghost use Rattle.plan_core.specs.Carried.{Bytes, carried};
-ghost use Rattle.plan_core.specs.Proper.{IsProper};
+ghost use Rattle.plan_core.specs.code.Proper.{IsProper};
 ghost use Rattle.plan_core.specs.Words.{is_run, reads};
 ghost use Rattle.task_work.specs.Computing.{IsComputed};
-ghost use Rattle.plan_core.specs.Names.{content};
+ghost use Rattle.plan_core.specs.code.Names.{content};
 
 use plan_core::{carried_is_carried_along, files_are_listed_by_pair};
 

@@ -1,12 +1,12 @@
 //! What a Run's drafts hold: what its jobs make of its readings.
 
 ghost use Rattle.std.specs.Prelude.{◌≡◌, ◌+◌, ◌≤◌, ◌++◌, ◌∷◌, [], IfErr, IfOk, OnOk, length, map, true};
-ghost use Rattle.plan_core.specs.Proper.{IsProper};
+ghost use Rattle.plan_core.specs.code.Proper.{IsProper};
 ghost use Rattle.plan_core.specs.Words.{is_run, reads, writes};
 ghost use Rattle.lease_rules.specs.Legal.{CauseFits};
-ghost use Rattle.lease_rules.specs.Storing.{pair_limit};
+ghost use Rattle.lease_rules.specs.code.Storing.{pair_limit};
 ghost use Rattle.task_work.specs.Making.{AreBegun, AreEmpty, AreStored, AreWritten, Each, Fits, IsFaultOf, IsRunCause, IsShown, MakesWithin, OfRead, blames, limit_of};
-ghost use Rattle.outside.specs.Parts.{draft_faults, part_faults, reading_faults};
+ghost use Rattle.outside.specs.code.Parts.{draft_faults, part_faults, reading_faults};
 ghost use Rattle.task_work.specs.Pieces.{HasRead, IsSteadyDraft, IsSteadyReading, fails_in};
 
 use crate::computing::compute;

@@ -1,7 +1,7 @@
 //! The file of a pair, and its declared size.
 
 ghost use Rattle.std.specs.Prelude.{◌≡◌};
-ghost use Rattle.lease_rules.specs.Storing.{pair_limit};
+ghost use Rattle.lease_rules.specs.code.Storing.{pair_limit};
 ghost use Rattle.plan_core.specs.Names.{pair_file};
 
 use outside::{FileId, PairId};

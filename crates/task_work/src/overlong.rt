@@ -4,11 +4,12 @@ ghost use Rattle.std.specs.Prelude.{◌≡◌, ◌==◌, length, true, MatchOpti
 ghost use Rattle.std.specs.List.{list_any};
 ghost use Rattle.values.specs.declared.numbers.FileId.{FileId};
 ghost use Rattle.plan_core.specs.Numbers.{has};
-ghost use Rattle.plan_core.specs.Kinds.{carries, makes};
-ghost use Rattle.plan_core.specs.Proper.{IsProper};
+ghost use Rattle.plan_core.specs.code.Kinds.{carries};
+ghost use Rattle.plan_core.specs.Kinds.{jobs_make};
+ghost use Rattle.plan_core.specs.code.Proper.{IsProper};
 ghost use Rattle.plan_core.specs.Words.{file_numbers, is_run, job_numbers, kind, outputs, pair_numbers, writes};
 ghost use Rattle.lease_rules.specs.Legal.{has_job};
-ghost use Rattle.lease_rules.specs.Storing.{AreWithin, IsFirstPast, IsOverlong};
+ghost use Rattle.lease_rules.specs.code.Storing.{AreWithin, IsFirstPast, IsOverlong};
 
 use crate::names::{pair_file, pair_limit};
 use outside::{Blob, FileId, JobId, PairId, TaskId};
@@ -66,7 +67,7 @@ fn makes_file(jobs: &[PlanJob], job: JobId, file: FileId) -> bool
 
 /// The first of some jobs that makes a file.
 fn maker_among(jobs: &[PlanJob], some: &[JobId], file: FileId) -> JobId
-    requires { makes jobs.now some.now file.0 ≡ true }
+    requires { jobs_make jobs.now some.now file.0 ≡ true }
     ensures job { has (job_numbers some.now) result.0 ≡ true }
     ensures made { has (outputs jobs.now result.0) file.0 ≡ true }
 {

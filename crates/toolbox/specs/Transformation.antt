@@ -1,4 +1,10 @@
 -- The transformations: their names, and what making an output answers.
+use Rattle.std.specs.Prelude.{◌≡◌, ℕ, List, codes, if◌then◌else◌, Option, Some, None, Result, Ok, Err}
+use Rattle.std.specs.Str.{bytes_eq}
+use Rattle.outside.specs.declared.tool.ToolFault.{ToolFault}
+use Rattle.outside.specs.declared.tool.ToolFault.TheVariants.{Declined, Failed, Memory}
+use Rattle.toolbox.specs.declared.transformation.Transformation.{Transformation}
+use Rattle.toolbox.specs.declared.transformation.Transformation.TheVariants as variants
 pub mod Text
 pub mod Join
 pub mod Take
@@ -11,12 +17,6 @@ pub mod Holds
 pub mod Column
 pub mod Total
 pub mod Digest
-use Rattle.std.specs.Prelude.{◌≡◌, ℕ, List, codes, if◌then◌else◌, Option, Some, None, Result, Ok, Err}
-use Rattle.outside.specs.declared.tool.ToolFault.{ToolFault}
-use Rattle.outside.specs.declared.tool.ToolFault.TheVariants.{Declined, Failed, Memory}
-use Rattle.std.specs.Str.{bytes_eq}
-use Rattle.toolbox.specs.declared.transformation.Transformation.{Transformation}
-use Rattle.toolbox.specs.declared.transformation.Transformation.TheVariants as variants
 
 -- the transformation of a name
 abbrev pub named : List ℕ → Option Transformation

@@ -7,14 +7,14 @@ use Rattle.std.proofs.lemmas.List.Folds.{list_any-append}
 use Rattle.std.proofs.lemmas.List.Elements.{All-nil, All-cons}
 use Rattle.values.specs.declared.numbers.JobId.{JobId}
 use Rattle.workflow_core.specs.declared.workflow.Workflow.{Workflow}
-use Rattle.workflow_core.specs.WellFormed.{before, after}
+use Rattle.workflow_core.specs.WellFormed.{parent_of, child_of}
 use Rattle.dependency_graph.specs.Edges.{read_by, written_by}
 use Rattle.plan_core.specs.Numbers.{has}
 use Rattle.plan_core.specs.Words.{job_numbers}
-use Rattle.transfer_refiner.specs.Draft.{Draft, uses, makes, needs, site_of, stands}
+use Rattle.transfer_refiner.specs.Draft.{Draft, part_uses, part_makes, part_needs, site_of, stands}
 use Rattle.transfer_refiner.specs.Tasks.{part_of, comes_after}
-use Rattle.transfer_refiner.specs.Edges.{fan, held_edges, job_edges, part_edges, stood_edges, fan_apart, all_apart}
-use Rattle.transfer_refiner.specs.Conditions.{IsDraft}
+use Rattle.transfer_refiner.specs.code.Edges.{fan, held_edges, job_edges, part_edges, stood_edges, fan_apart, all_apart}
+use Rattle.transfer_refiner.specs.code.Conditions.{IsDraft}
 use Rattle.plan_core.proofs.TestLemmas.{same_number, other_number, is_itself, both, and_both, or_left, or_right, by_bool}
 use Rattle.transfer_refiner.proofs.JobsLemmas.{any_same}
 use Rattle.transfer_refiner.proofs.StandingLemmas.{stands_within}
@@ -140,7 +140,7 @@ job_any w a s f j =
     ∙ ap (λ (b : Bool). (nat_eq a s && has (read_by w j.0) f) || b) (fan_any a (written_by w j.0) s f)
     ∙ join (nat_eq a s) (has (read_by w j.0) f) (has (written_by w j.0) f)
 
-part_any : (d : Draft) (s f : ℕ) (js : List JobId) → list_any (is_edge s f) (part_edges d js) ≡ (nat_eq (site_of d js) s && (uses d js f || makes d js f))
+part_any : (d : Draft) (s f : ℕ) (js : List JobId) → list_any (is_edge s f) (part_edges d js) ≡ (nat_eq (site_of d js) s && (part_uses d js f || part_makes d js f))
 part_any d s f js =
     any_flat (is_edge s f) (job_edges d.workflow (site_of d js)) js
     ∙ any_same (λ (j : JobId). list_any (is_edge s f) (job_edges d.workflow (site_of d js) j)) (λ (j : JobId). nat_eq (site_of d js) s && (has (read_by d.workflow j.0) f || has (written_by d.workflow j.0) f)) js (λ j. job_any d.workflow (site_of d js) s f j)
@@ -158,9 +158,9 @@ stood_all : (d : Draft) (s f : ℕ) → list_any (is_edge s f) (stood_edges d) �
 unfolding stands
 stood_all d s f =
     any_flat (is_edge s f) (part_edges d) d.parts
-    ∙ any_same (λ (js : List JobId). list_any (is_edge s f) (part_edges d js)) (λ (js : List JobId). (nat_eq (site_of d js) s && makes d js f) || (nat_eq (site_of d js) s && needs d js f)) d.parts
-    (λ js. part_any d s f js ∙ split (nat_eq (site_of d js) s) (uses d js f) (makes d js f))
-    ∙ any_or (λ (js : List JobId). nat_eq (site_of d js) s && makes d js f) (λ (js : List JobId). nat_eq (site_of d js) s && needs d js f) d.parts
+    ∙ any_same (λ (js : List JobId). list_any (is_edge s f) (part_edges d js)) (λ (js : List JobId). (nat_eq (site_of d js) s && part_makes d js f) || (nat_eq (site_of d js) s && part_needs d js f)) d.parts
+    (λ js. part_any d s f js ∙ split (nat_eq (site_of d js) s) (part_uses d js f) (part_makes d js f))
+    ∙ any_or (λ (js : List JobId). nat_eq (site_of d js) s && part_makes d js f) (λ (js : List JobId). nat_eq (site_of d js) s && part_needs d js f) d.parts
 
 pub stood_are : (d : Draft) (es : List (ℕ × ℕ)) → es ≡ stood_edges d → (s f : ℕ) → list_any (is_edge s f) es ≡ stands d s f
 stood_are d es is s f = ap (list_any (is_edge s f)) is ∙ stood_all d s f
@@ -245,13 +245,13 @@ all_apart_any us ts u t =
     out (v ∷ vs) = ap (λ (b : Bool). (nat_eq v u && (not (nat_eq t u) && has ts t)) || b) (out vs) ∙ step (nat_eq v u) (has vs u) (not (nat_eq t u) && has ts t)
 
 -- the edges of one pair more
-pub stated_pair : (d : Draft) (old new : List (ℕ × ℕ)) (us ts : List ℕ) (p : JobId × JobId) (u t : ℕ) → new ≡ old ++ all_apart us ts → ((c : ℕ) → has us c ≡ has (part_of d c) (before p)) → ((c : ℕ) → has ts c ≡ has (part_of d c) (after p))
-    → list_any (is_edge u t) new ≡ (list_any (is_edge u t) old || (not (nat_eq t u) && (has (part_of d u) (before p) && has (part_of d t) (after p))))
+pub stated_pair : (d : Draft) (old new : List (ℕ × ℕ)) (us ts : List ℕ) (p : JobId × JobId) (u t : ℕ) → new ≡ old ++ all_apart us ts → ((c : ℕ) → has us c ≡ has (part_of d c) (parent_of p)) → ((c : ℕ) → has ts c ≡ has (part_of d c) (child_of p))
+    → list_any (is_edge u t) new ≡ (list_any (is_edge u t) old || (not (nat_eq t u) && (has (part_of d u) (parent_of p) && has (part_of d t) (child_of p))))
 stated_pair d old new us ts p u t is one two =
     ap (list_any (is_edge u t)) is ∙ list_any-append (is_edge u t) old (all_apart us ts) ∙ ap (λ (b : Bool). list_any (is_edge u t) old || b) (all_apart_any us ts u t
     ∙ turn (has us u) (not (nat_eq t u)) (has ts t)
     ∙ ap (λ (b : Bool). not (nat_eq t u) && (b && has ts t)) (one u)
-    ∙ ap (λ (b : Bool). not (nat_eq t u) && (has (part_of d u) (before p) && b)) (two t))
+    ∙ ap (λ (b : Bool). not (nat_eq t u) && (has (part_of d u) (parent_of p) && b)) (two t))
   where
     turn : (a n b : Bool) → (a && (n && b)) ≡ (n && (a && b))
     turn true n b = refl
@@ -265,13 +265,13 @@ stated_more false false p r = refl
 
 pub after_within : (d : Draft) (u t : ℕ) → comes_after d t u ≡ true → (u < length d.parts) × (t < length d.parts)
 unfolding comes_after
-after_within d u t h = at d.workflow.pairs (both (not (nat_eq t u)) (list_any (λ (pair : JobId × JobId). has (part_of d u) (before pair) && has (part_of d t) (after pair)) d.workflow.pairs) h).1
+after_within d u t h = at d.workflow.pairs (both (not (nat_eq t u)) (list_any (λ (pair : JobId × JobId). has (part_of d u) (parent_of pair) && has (part_of d t) (child_of pair)) d.workflow.pairs) h).1
   where
-    at : (ps : List (JobId × JobId)) → list_any (λ (pair : JobId × JobId). has (part_of d u) (before pair) && has (part_of d t) (after pair)) ps ≡ true → (u < length d.parts) × (t < length d.parts)
+    at : (ps : List (JobId × JobId)) → list_any (λ (pair : JobId × JobId). has (part_of d u) (parent_of pair) && has (part_of d t) (child_of pair)) ps ≡ true → (u < length d.parts) × (t < length d.parts)
     at [] k = absurd cc
-    at (p ∷ ps) k = by_bool (has (part_of d u) (before p) && has (part_of d t) (after p))
-        (λ e. let parts = both (has (part_of d u) (before p)) (has (part_of d t) (after p)) e in (part_below d u (before p) parts.0, part_below d t (after p) parts.1))
-        (λ e. at ps (sym (ap (λ (b : Bool). b || list_any (λ (pair : JobId × JobId). has (part_of d u) (before pair) && has (part_of d t) (after pair)) ps) e) ∙ k))
+    at (p ∷ ps) k = by_bool (has (part_of d u) (parent_of p) && has (part_of d t) (child_of p))
+        (λ e. let parts = both (has (part_of d u) (parent_of p)) (has (part_of d t) (child_of p)) e in (part_below d u (parent_of p) parts.0, part_below d t (child_of p) parts.1))
+        (λ e. at ps (sym (ap (λ (b : Bool). b || list_any (λ (pair : JobId × JobId). has (part_of d u) (parent_of pair) && has (part_of d t) (child_of pair)) ps) e) ∙ k))
 
 pub stated_within : (d : Draft) (es : List (ℕ × ℕ)) (n : ℕ) → ((u t : ℕ) → list_any (is_edge u t) es ≡ comes_after d t u) → n ≡ length d.parts → All (λ (p : ℕ × ℕ). (p.0 < n) × (p.1 < n)) es
 stated_within d es n are long = all_edges (λ (p : ℕ × ℕ). (p.0 < n) × (p.1 < n)) es (λ a b k.
@@ -280,6 +280,6 @@ stated_within d es n are long = all_edges (λ (p : ℕ × ℕ). (p.0 < n) × (p.
     let two : b < length d.parts = within.1 in
     (omega (arith, one, long), omega (arith, two, long)))
 
-pub stated_none : (d : Draft) (u t : ℕ) → (not (nat_eq t u) && list_any (λ (pair : JobId × JobId). has (part_of d u) (before pair) && has (part_of d t) (after pair)) d.workflow.pairs) ≡ comes_after d t u
+pub stated_none : (d : Draft) (u t : ℕ) → (not (nat_eq t u) && list_any (λ (pair : JobId × JobId). has (part_of d u) (parent_of pair) && has (part_of d t) (child_of pair)) d.workflow.pairs) ≡ comes_after d t u
 unfolding comes_after
 stated_none d u t = refl

@@ -9,7 +9,7 @@ use Rattle.plan_core.specs.declared.plan.TaskKind.{TaskKind}
 use Rattle.plan_core.specs.Kinds.{kind_reads, kind_writes, on_pair}
 use Rattle.plan_core.specs.Numbers.{below}
 use Rattle.plan_core.specs.Words.{pair_numbers}
-use Rattle.transfer_refiner.specs.Steps.{IsListed}
+use Rattle.transfer_refiner.specs.code.Steps.{IsListed}
 
 pub listed_of : (jobs : List PlanJob) (pairs : List Pair) (kind : TaskKind) (t : Task) → t.kind ≡ kind → pair_numbers t.reads ≡ below (length pairs) (λ q. on_pair (kind_reads jobs (Some kind)) (slice_get pairs q)) → pair_numbers t.writes ≡ below (length pairs) (λ q. on_pair (kind_writes jobs (Some kind)) (slice_get pairs q)) → IsListed jobs pairs t
 listed_of jobs pairs kind t is reads writes = record {

@@ -12,10 +12,11 @@ use Rattle.plan_core.proofs.TestLemmas.{same_number, is_itself, or_left, or_righ
 use Rattle.transfer_refiner.proofs.SliceLemmas.{any_at_place, place_of_any}
 use Rattle.transfer_refiner.proofs.JobsLemmas.{made_below}
 use Rattle.transfer_refiner.proofs.StandingLemmas.{part_at, home_made, home_none}
-use Rattle.transfer_refiner.specs.Draft.{Draft, makes, site_of, made_at, home, home_among}
-use Rattle.transfer_refiner.specs.Tasks.{count_files, is_made, part_of}
-use Rattle.transfer_refiner.specs.Conditions.{IsDraft}
-use Rattle.transfer_refiner.specs.Listing.{is_at, first_site_of}
+use Rattle.transfer_refiner.specs.Draft.{Draft, part_makes, site_of, made_at, home, home_among}
+use Rattle.transfer_refiner.specs.Tasks.{count_files, part_of}
+use Rattle.transfer_refiner.specs.code.Tasks.{is_made}
+use Rattle.transfer_refiner.specs.code.Conditions.{IsDraft}
+use Rattle.transfer_refiner.specs.code.Listing.{is_at, first_site_of}
 
 -- a job of some that passes is one of their numbers
 pub job_of_any : (test : ℕ → Bool) (js : List JobId) → list_any (λ (j : JobId). test j.0) js ≡ true → (j : ℕ) × (has (job_numbers js) j ≡ true) × (test j ≡ true)
@@ -42,7 +43,7 @@ pub in_part : (d : Draft) (c : ℕ) (js : List JobId) → slice_get d.parts c �
 in_part d c js e = ap job_numbers (get_or_from_slice_get d.parts c js [] e)
 
 -- two parts that make a file are one
-pub one_part : (d : Draft) → IsDraft d → (a b f : ℕ) (js ks : List JobId) → slice_get d.parts a ≡ Some js → slice_get d.parts b ≡ Some ks → makes d js f ≡ true → makes d ks f ≡ true → a ≡ b
+pub one_part : (d : Draft) → IsDraft d → (a b f : ℕ) (js ks : List JobId) → slice_get d.parts a ≡ Some js → slice_get d.parts b ≡ Some ks → part_makes d js f ≡ true → part_makes d ks f ≡ true → a ≡ b
 one_part d draft a b f js ks at bt h k =
     let one = job_of_any (λ j. has (written_by d.workflow j) f) js h in
     let two = job_of_any (λ j. has (written_by d.workflow j) f) ks k in
@@ -50,13 +51,13 @@ one_part d draft a b f js ks at bt h k =
     draft.one_part a b one.0 (ap (λ (ns : List ℕ). has ns one.0) (in_part d a js at) ∙ one.1) (ap (has (part_of d b)) same ∙ ap (λ (ns : List ℕ). has ns two.0) (in_part d b ks bt) ∙ two.1)
 
 -- the site of a part that makes the file is where it is made
-pub home_from : (d : Draft) → IsDraft d → (c f : ℕ) (js : List JobId) → f < count_files d → slice_get d.parts c ≡ Some js → makes d js f ≡ true → home d f ≡ Some (site_of d js)
+pub home_from : (d : Draft) → IsDraft d → (c f : ℕ) (js : List JobId) → f < count_files d → slice_get d.parts c ≡ Some js → part_makes d js f ≡ true → home d f ≡ Some (site_of d js)
 home_from d draft c f js low at makes_it = by (home d f) refl
   where
     by : (o : Option ℕ) → home d f ≡ o → home d f ≡ Some (site_of d js)
-    by None e = absurd (let z : true ≡ false = sym (any_at_place (λ (xs : List JobId). makes d xs f) d.parts c js at makes_it) ∙ home_none d f e in cc)
+    by None e = absurd (let z : true ≡ false = sym (any_at_place (λ (xs : List JobId). part_makes d xs f) d.parts c js at makes_it) ∙ home_none d f e in cc)
     by (Some a) e =
-        let found = part_at d a (λ xs. makes d xs f) (home_made d f a e) in
+        let found = part_at d a (λ xs. part_makes d xs f) (home_made d f a e) in
         let same : found.c ≡ c = one_part d draft found.c c f found.js js found.at at found.passes makes_it in
         let here : Some found.js ≡ Some js = sym found.at ∙ ap (slice_get d.parts) same ∙ at in
         let one : found.js ≡ js = cc in
@@ -68,7 +69,7 @@ made_home d draft s f low = by_bool (made_at d s f) made_there (λ e. e ∙ sym 
   where
     made_there : made_at d s f ≡ true → made_at d s f ≡ is_at (home d f) s
     made_there e =
-        let found = part_at d s (λ xs. makes d xs f) e in
+        let found = part_at d s (λ xs. part_makes d xs f) e in
         e ∙ sym (ap (λ (o : Option ℕ). is_at o s) (home_from d draft found.c f found.js low found.at found.passes) ∙ ap (λ (n : ℕ). nat_eq n s) found.site ∙ is_itself s)
 
     not_there : (o : Option ℕ) → home d f ≡ o → made_at d s f ≡ false → is_at (home d f) s ≡ false
@@ -76,11 +77,11 @@ made_home d draft s f low = by_bool (made_at d s f) made_there (λ e. e ∙ sym 
     not_there (Some a) h e = ap (λ (o : Option ℕ). is_at o s) h ∙ by_bool (nat_eq a s) (λ k. absurd (let x : true ≡ false = sym (home_made d f s (h ∙ ap Some (same_number a s k))) ∙ e in cc)) (λ k. k)
 
 -- whether a file is made at all
-home_there : (d : Draft) (parts : List (List JobId)) (f : ℕ) → is_some (home_among d parts f) ≡ list_any (λ (js : List JobId). makes d js f) parts
+home_there : (d : Draft) (parts : List (List JobId)) (f : ℕ) → is_some (home_among d parts f) ≡ list_any (λ (js : List JobId). part_makes d js f) parts
 home_there d [] f = refl
-home_there d (js ∷ parts) f = by (makes d js f) (home_there d parts f)
+home_there d (js ∷ parts) f = by (part_makes d js f) (home_there d parts f)
   where
-    by : (b : Bool) → is_some (home_among d parts f) ≡ list_any (λ (js : List JobId). makes d js f) parts → is_some (cond b (Some (site_of d js)) (home_among d parts f)) ≡ (b || list_any (λ (js : List JobId). makes d js f) parts)
+    by : (b : Bool) → is_some (home_among d parts f) ≡ list_any (λ (js : List JobId). part_makes d js f) parts → is_some (cond b (Some (site_of d js)) (home_among d parts f)) ≡ (b || list_any (λ (js : List JobId). part_makes d js f) parts)
     by true rest = refl
     by false rest = rest
 
@@ -117,7 +118,7 @@ home_of_parts d draft f j [] low only held = sym (no_home d f (by_bool (is_made 
   where
     none : is_made d f ≡ true → ⊥
     none h =
-        let found = place_of_any (λ (js : List JobId). makes d js f) d.parts h in
+        let found = place_of_any (λ (js : List JobId). part_makes d js f) d.parts h in
         let job = job_of_any (λ a. has (written_by d.workflow a) f) found.1 found.3 in
         let is : has (makers d.workflow f) job.0 ≡ true = makers_are d.workflow f job.0 ∙ job.2 in
         let same : j ≡ job.0 = one_of_one (j ∷ []) j job.0 (omega arith) (or_left (nat_eq j j) false (is_itself j)) (ap (λ (ns : List ℕ). has ns job.0) (sym only) ∙ is) in
@@ -125,7 +126,7 @@ home_of_parts d draft f j [] low only held = sym (no_home d f (by_bool (is_made 
 home_of_parts d draft f j (c ∷ cs) low only held =
     let there = part_there d c j (sym (held c) ∙ or_left (nat_eq c c) (has cs c) (is_itself c)) in
     let writes_it : has (written_by d.workflow j) f ≡ true = sym (makers_are d.workflow f j) ∙ ap (λ (ns : List ℕ). has ns j) only ∙ or_left (nat_eq j j) false (is_itself j) in
-    let makes_it : makes d there.0 f ≡ true = any_number (λ a. has (written_by d.workflow a) f) there.0 j there.2 writes_it in
+    let makes_it : part_makes d there.0 f ≡ true = any_number (λ a. has (written_by d.workflow a) f) there.0 j there.2 writes_it in
     ap (λ (js : List JobId). Some (site_of d js)) (get_or_from_slice_get d.parts c there.0 [] there.1) ∙ sym (home_from d draft c f there.0 low there.1 makes_it)
 
 pub home_unmade : (d : Draft) (f : ℕ) → makers d.workflow f ≡ [] → home d f ≡ None
@@ -133,7 +134,7 @@ home_unmade d f made_none = no_home d f (by_bool (is_made d f) (λ h. absurd (no
   where
     none : is_made d f ≡ true → ⊥
     none h =
-        let found = place_of_any (λ (js : List JobId). makes d js f) d.parts h in
+        let found = place_of_any (λ (js : List JobId). part_makes d js f) d.parts h in
         let job = job_of_any (λ a. has (written_by d.workflow a) f) found.1 found.3 in
         let is : has (makers d.workflow f) job.0 ≡ true = makers_are d.workflow f job.0 ∙ job.2 in
         let x : false ≡ true = ap (λ (ns : List ℕ). has ns job.0) (sym made_none) ∙ is in cc

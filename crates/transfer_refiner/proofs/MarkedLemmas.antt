@@ -5,9 +5,10 @@ use Rattle.workflow_core.specs.declared.workflow.Job.{Job}
 use Rattle.workflow_core.specs.declared.workflow.Output.{Output}
 use Rattle.workflow_core.specs.declared.workflow.Workflow.{Workflow}
 use Rattle.workflow_core.specs.Requested.{requests, is_requested}
-use Rattle.workflow_core.specs.WellFormed.{IsJobOver, IsWellFormed}
-use Rattle.plan_core.specs.Numbers.{has, below, RisesFrom}
-use Rattle.transfer_refiner.specs.Marked.{requested_by, flagged_by, all_requested, all_flagged}
+use Rattle.workflow_core.specs.code.WellFormed.{IsJobOver, IsWellFormed}
+use Rattle.plan_core.specs.Numbers.{has, below}
+use Rattle.plan_core.specs.code.Numbers.{RisesFrom}
+use Rattle.transfer_refiner.specs.code.Marked.{requested_by, flagged_by, all_requested, all_flagged}
 use Rattle.transfer_refiner.specs.Tasks.{flags, is_flagged}
 use Rattle.plan_core.proofs.TestLemmas.{same_number, both, by_bool}
 use Rattle.plan_core.proofs.RisingLemmas.{rising_is_below}

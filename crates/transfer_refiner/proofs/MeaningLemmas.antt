@@ -1,6 +1,6 @@
 -- Where replicas hold the values of their files, each task of a draft's plan carries the values of its files.
 use Rattle.std.proofs.Common.{◌≡◌, ℕ, zero, suc, ◌<◌, ◌^◌, Bool, true, false, cond, not, ◌||◌, ◌&&◌, List, [], ◌∷◌, ◌++◌, length, map, refl, sym, ap, subst, ◌∙◌, nat_eq, arith, ◌⊎◌, inl, inr}
-use Rattle.std.specs.Prelude.{Option, Some, None, option_and_then, option_map, slice_get, slice_index_or}
+use Rattle.std.specs.Prelude.{Option, Some, None, option_and_then, option_map, slice_get, slice_index_or, unwrap_or}
 use Rattle.std.specs.Str.{bytes_eq}
 use Rattle.std.specs.List.{list_any, AllByRecursion}
 use Rattle.std.proofs.lemmas.List.{append-nil, append_assoc, length-map}
@@ -15,6 +15,7 @@ use Rattle.workflow_core.specs.WellFormed.{inputs_of, outputs_of}
 use Rattle.dependency_graph.specs.Edges.{has_output, read_by, written_by}
 use Rattle.replica_catalog.specs.declared.catalog.Pfn.{Pfn}
 use Rattle.replica_catalog.specs.Lookup.{has_pfn, is_registered, pfns_in}
+use Rattle.plan_request.specs.declared.request.Execution.{Execution}
 use Rattle.plan_request.specs.declared.request.ToolOf.{ToolOf}
 use Rattle.plan_request.specs.JobTools.{tool_of}
 use Rattle.plan_core.specs.declared.plan.Plan.{Plan}
@@ -23,21 +24,24 @@ use Rattle.plan_core.specs.declared.plan.Target.{Target}
 use Rattle.plan_core.specs.declared.plan.Target.TheVariants.{Site as Into, Delivery}
 use Rattle.plan_core.specs.declared.plan.TaskKind.{TaskKind}
 use Rattle.plan_core.specs.declared.plan.TaskKind.TheVariants.{Transfer, Run, Clean}
-use Rattle.plan_core.specs.Carried.{Bytes, IsCarrying, after_job, after_jobs, carried, carried_by, read, stored, writer}
-use Rattle.plan_core.specs.Grounded.{Grounded, ground}
+use Rattle.plan_core.specs.Carried.{Bytes, after_job, after_jobs, carried, carried_by, read, stored, writer}
+use Rattle.plan_core.specs.code.Carried.{IsCarrying}
+use Rattle.plan_core.specs.code.Grounded.{Grounded, ground}
 use Rattle.plan_core.specs.Kinds as kinds
-use Rattle.plan_core.specs.Kinds.{kind_carries, kind_reads, kind_writes, reads_file, writes_file}
+use Rattle.plan_core.specs.code.Kinds.{kind_carries}
+use Rattle.plan_core.specs.Kinds.{kind_reads, kind_writes, reads_file, writes_file}
 use Rattle.plan_core.specs.Numbers.{has, least, or_else}
-use Rattle.plan_core.specs.Proper.{IsProper, is_parent}
-use Rattle.plan_core.specs.Words.{inputs, kind, made, outputs}
+use Rattle.plan_core.specs.code.Proper.{IsProper, is_parent}
+use Rattle.plan_core.specs.Words.{inputs, kind, tool_outputs as made, outputs}
 use Rattle.plan_core.proofs.NumbersLemmas.{none_least}
 use Rattle.plan_core.proofs.TestLemmas.{and_both, both, by_bool, either, is_itself, or_left, or_right, same_number}
 use Rattle.transfer_refiner.specs.declared.fault.RefineFault.TheVariants.{NoReplica, NoSize}
-use Rattle.transfer_refiner.specs.Conditions.{IsDraft, IsOrdered}
-use Rattle.transfer_refiner.specs.Draft.{Draft, chosen, first_of, first_on, entry_in, home, makes, name_in, name_of, needs, pfns_of, site_of, uses}
-use Rattle.transfer_refiner.specs.Meaning.{AreAtHand, AreHeld, AreValues}
+use Rattle.transfer_refiner.specs.code.Conditions.{IsDraft, IsOrdered}
+use Rattle.transfer_refiner.specs.Draft.{Draft, chosen, first_pfn, first_on, entry_in, home, part_makes, draft_file_name, part_needs, pfns_of, site_of, part_uses}
+use Rattle.transfer_refiner.specs.code.Meaning.{AreAtHand, AreHeld, AreValues}
 use Rattle.transfer_refiner.specs.Refined.{IsRefined}
-use Rattle.transfer_refiner.specs.Tasks.{count_all, count_files, first_fault, is_made, jobs_of, lacks_replica, lacks_size, planned_job, source, too_many, used}
+use Rattle.transfer_refiner.specs.code.Tasks.{count_all, first_fault, is_made, lacks_replica, lacks_size, too_many, used}
+use Rattle.transfer_refiner.specs.Tasks.{count_files, jobs_of, planned_job, source}
 use Rattle.transfer_refiner.proofs.GroundingLemmas.{task_grounded}
 use Rattle.transfer_refiner.proofs.PlanJobsLemmas.{inputs_are, makes_are, needs_are, outputs_are}
 use Rattle.transfer_refiner.proofs.PlanPairsLemmas.{has_kind}
@@ -47,7 +51,7 @@ use Rattle.transfer_refiner.proofs.StandingLemmas.{home_none, moved_needed}
 use Rattle.transfer_refiner.proofs.TogetherLemmas.{fault_none, or_first}
 
 -- registered copies
-first_held : (told : Bytes → Option Bytes) (v : Option Bytes) (xs : List Pfn) → has_pfn xs ≡ true → AllByRecursion (λ (x : Pfn). told x.pfn ≡ v) xs → told (first_of xs) ≡ v
+first_held : (told : Bytes → Option Bytes) (v : Option Bytes) (xs : List Pfn) → has_pfn xs ≡ true → AllByRecursion (λ (x : Pfn). told x.pfn ≡ v) xs → told (first_pfn xs) ≡ v
 first_held told v [] e all = absurd cc
 first_held told v (x ∷ xs) e all = all.0
 
@@ -110,8 +114,8 @@ job_value apply v d p draft refined are j f h =
 
 -- what stands at the files when some jobs of a part are done
 record Known (d : Draft) (js done : List JobId) (env v : ℕ → Option Bytes) : Type 0 where
-  pub made : (g : ℕ) → makes d done g ≡ true → env g ≡ v g
-  pub needed : (g : ℕ) → needs d js g ≡ true → env g ≡ v g
+  pub made : (g : ℕ) → part_makes d done g ≡ true → env g ≡ v g
+  pub needed : (g : ℕ) → part_needs d js g ≡ true → env g ≡ v g
 
 split_any : (test : JobId → Bool) (js done later : List JobId) (j : JobId) → js ≡ done ++ j ∷ later → list_any test js ≡ (list_any test done || (test j || list_any test later))
 split_any test js done later j e = ap (list_any test) e ∙ list_any-append test done (j ∷ later)
@@ -120,13 +124,13 @@ known_on : (apply : Apply) (v : ℕ → Option Bytes) (d : Draft) (p : Plan) →
 known_on apply v d p draft refined are js done later j ordered is env known = record { made = made_now; needed = needed_now }
   where
     at_input : (g : ℕ) → has (inputs p.jobs j.0) g ≡ true → env g ≡ v g
-    at_input g h = by_bool (makes d js g) (λ m. known.made g (ordered done later j is g reads_it m)) (λ m. known.needed g (and_both (uses d js g) (not (makes d js g)) used_it (ap not m)))
+    at_input g h = by_bool (part_makes d js g) (λ m. known.made g (ordered done later j is g reads_it m)) (λ m. known.needed g (and_both (part_uses d js g) (not (part_makes d js g)) used_it (ap not m)))
       where
         reads_it : has (read_by d.workflow j.0) g ≡ true
         reads_it = ap (λ (xs : List ℕ). has xs g) (sym (inputs_are d p draft refined j.0)) ∙ h
 
-        used_it : uses d js g ≡ true
-        used_it = split_any (λ (i : JobId). has (read_by d.workflow i.0) g) js done later j is ∙ or_right (uses d done g) (has (read_by d.workflow j.0) g || uses d later g) (or_left (has (read_by d.workflow j.0) g) (uses d later g) reads_it)
+        used_it : part_uses d js g ≡ true
+        used_it = split_any (λ (i : JobId). has (read_by d.workflow i.0) g) js done later j is ∙ or_right (part_uses d done g) (has (read_by d.workflow j.0) g || part_uses d later g) (or_left (has (read_by d.workflow j.0) g) (part_uses d later g) reads_it)
 
     writes_same : (g : ℕ) → has (outputs p.jobs j.0) g ≡ has (written_by d.workflow j.0) g
     writes_same g = ap (λ (xs : List ℕ). has xs g) (outputs_are d p draft refined j.0)
@@ -140,22 +144,22 @@ known_on apply v d p draft refined are js done later j ordered is env known = re
     elsewhere : (g : ℕ) → has (outputs p.jobs j.0) g ≡ false → after_job apply p.jobs j.0 env g ≡ env g
     elsewhere g h = ap (λ (b : Bool). cond b (option_and_then (part g (outputs p.jobs j.0)) (option_and_then (made apply p.jobs j.0) (all_of (map env (inputs p.jobs j.0))))) (env g)) h
 
-    made_now : (g : ℕ) → makes d (done ++ j ∷ []) g ≡ true → after_job apply p.jobs j.0 env g ≡ v g
+    made_now : (g : ℕ) → part_makes d (done ++ j ∷ []) g ≡ true → after_job apply p.jobs j.0 env g ≡ v g
     made_now g h = by_bool (has (outputs p.jobs j.0) g) (here g) (λ k. elsewhere g k ∙ known.made g (before g k h))
       where
-        before : (g : ℕ) → has (outputs p.jobs j.0) g ≡ false → makes d (done ++ j ∷ []) g ≡ true → makes d done g ≡ true
-        before g k h = by (either (makes d done g) (has (written_by d.workflow j.0) g || false) (sym (list_any-append (λ (i : JobId). has (written_by d.workflow i.0) g) done (j ∷ [])) ∙ h))
+        before : (g : ℕ) → has (outputs p.jobs j.0) g ≡ false → part_makes d (done ++ j ∷ []) g ≡ true → part_makes d done g ≡ true
+        before g k h = by (either (part_makes d done g) (has (written_by d.workflow j.0) g || false) (sym (list_any-append (λ (i : JobId). has (written_by d.workflow i.0) g) done (j ∷ [])) ∙ h))
           where
-            by : (makes d done g ≡ true) ⊎ ((has (written_by d.workflow j.0) g || false) ≡ true) → makes d done g ≡ true
+            by : (part_makes d done g ≡ true) ⊎ ((has (written_by d.workflow j.0) g || false) ≡ true) → part_makes d done g ≡ true
             by (inl m) = m
             by (inr m) = absurd (let x : false ≡ true = sym (ap (λ (b : Bool). b || false) (sym (writes_same g) ∙ k)) ∙ m in cc)
 
-    needed_now : (g : ℕ) → needs d js g ≡ true → after_job apply p.jobs j.0 env g ≡ v g
+    needed_now : (g : ℕ) → part_needs d js g ≡ true → after_job apply p.jobs j.0 env g ≡ v g
     needed_now g h = by_bool (has (outputs p.jobs j.0) g) (here g) (λ k. elsewhere g k ∙ known.needed g h)
 
-after_all : (apply : Apply) (v : ℕ → Option Bytes) (d : Draft) (p : Plan) → IsDraft d → IsRefined d p → AreValues apply d.request.tools d.workflow v → (js : List JobId) → IsOrdered d js → (later done : List JobId) → js ≡ done ++ later → (env : ℕ → Option Bytes) → Known d js done env v → (f : ℕ) → makes d js f ≡ true → after_jobs apply p.jobs later env f ≡ v f
+after_all : (apply : Apply) (v : ℕ → Option Bytes) (d : Draft) (p : Plan) → IsDraft d → IsRefined d p → AreValues apply d.request.tools d.workflow v → (js : List JobId) → IsOrdered d js → (later done : List JobId) → js ≡ done ++ later → (env : ℕ → Option Bytes) → Known d js done env v → (f : ℕ) → part_makes d js f ≡ true → after_jobs apply p.jobs later env f ≡ v f
 unfolding after_jobs
-after_all apply v d p draft refined are js ordered [] done is env known f h = known.made f (ap (λ (xs : List JobId). makes d xs f) (sym (is ∙ append-nil done)) ∙ h)
+after_all apply v d p draft refined are js ordered [] done is env known f h = known.made f (ap (λ (xs : List JobId). part_makes d xs f) (sym (is ∙ append-nil done)) ∙ h)
 after_all apply v d p draft refined are js ordered (j ∷ later) done is env known f h =
     after_all apply v d p draft refined are js ordered later (done ++ j ∷ []) (is ∙ sym (append_assoc done (j ∷ []) later)) (after_job apply p.jobs j.0 env) (known_on apply v d p draft refined are js done later j ordered is env known) f h
 
@@ -163,7 +167,7 @@ writes_carries : (jobs : List PlanJob) (o : Option TaskKind) (s f : ℕ) → kin
 writes_carries jobs None s f h = absurd cc
 writes_carries jobs (Some (Transfer g from (Into a))) s f h = (both (nat_eq a.0 s) (nat_eq g.0 f) h).1
 writes_carries jobs (Some (Transfer g from Delivery)) s f h = absurd cc
-writes_carries jobs (Some (Run a js)) s f h = (both (nat_eq a.0 s) (kinds.makes jobs js f) h).1
+writes_carries jobs (Some (Run a js)) s f h = (both (nat_eq a.0 s) (kinds.jobs_make jobs js f) h).1
 writes_carries jobs (Some (Clean q)) s f h = absurd cc
 
 -- a file that comes from its home, or from an held copy
@@ -173,20 +177,20 @@ from_home apply told v jobs at None x g f to same held reading = held refl
 from_home apply told v jobs at (Some a) x g f to same held reading = reading a (and_both (nat_eq a a) (nat_eq g f) (is_itself a) same)
 
 -- a file that is registered has a pfn
-has_pfns : (d : Draft) (f : ℕ) → f < count_files d → is_registered d.replicas (name_of d f) ≡ true → has_pfn (pfns_of d f) ≡ true
+has_pfns : (d : Draft) (f : ℕ) → f < count_files d → is_registered d.replicas (draft_file_name d f) ≡ true → has_pfn (pfns_of d f) ≡ true
 has_pfns d f l registered = ap (λ (o : Option (List ℕ)). has_pfn (pfns_in (entry_in d.replicas o))) (slice_get-get_or d.workflow.files f [] l) ∙ registered
 
 -- a file that is needed and not made is registered
-registered_there : (d : Draft) (f : ℕ) → lacks_replica d f ≡ false → used d f ≡ true → home d f ≡ None → is_registered d.replicas (name_of d f) ≡ true
+registered_there : (d : Draft) (f : ℕ) → lacks_replica d f ≡ false → used d f ≡ true → home d f ≡ None → is_registered d.replicas (draft_file_name d f) ≡ true
 unfolding lacks_replica
-registered_there d f enough used_it none = by (is_registered d.replicas (name_of d f)) refl
+registered_there d f enough used_it none = by (is_registered d.replicas (draft_file_name d f)) refl
   where
-    by : (b : Bool) → is_registered d.replicas (name_of d f) ≡ b → is_registered d.replicas (name_of d f) ≡ true
+    by : (b : Bool) → is_registered d.replicas (draft_file_name d f) ≡ b → is_registered d.replicas (draft_file_name d f) ≡ true
     by true e = e
-    by false e = absurd (let x : false ≡ true = sym enough ∙ and_both (used d f) (not (is_made d f) && not (is_registered d.replicas (name_of d f))) used_it (and_both (not (is_made d f)) (not (is_registered d.replicas (name_of d f))) (ap not (home_none d f none)) (ap not e)) in cc)
+    by false e = absurd (let x : false ≡ true = sym enough ∙ and_both (used d f) (not (is_made d f) && not (is_registered d.replicas (draft_file_name d f))) used_it (and_both (not (is_made d f)) (not (is_registered d.replicas (draft_file_name d f))) (ap not (home_none d f none)) (ap not e)) in cc)
 
 chosen_held : (told : Bytes → Option Bytes) (v : ℕ → Option Bytes) (d : Draft) (f s : ℕ) → AreHeld d told v → has_pfn (pfns_of d f) ≡ true → told (chosen d f s) ≡ v f
-chosen_held told v d f s held some = on_held told (v f) (name_in (slice_get d.request.execute s)) (first_of (pfns_of d f)) (pfns_of d f) (first_held told (v f) (pfns_of d f) some (held f)) (held f)
+chosen_held told v d f s held some = on_held told (v f) (unwrap_or (option_map (λ (e : Execution). e.site) (slice_get d.request.execute s)) []) (first_pfn (pfns_of d f)) (pfns_of d f) (first_held told (v f) (pfns_of d f) some (held f)) (held f)
 
 -- what plan_core says of a proper plan
 abbrev pub AreWritten : Plan → Type 0
@@ -215,9 +219,9 @@ carries_value apply told v d p draft refined along written enough are held hand 
 
         of_sort : Sort d a k → carried_by apply told p.jobs (read p (carried apply told p) a) (Some k) f ≡ v f
         of_sort (a_run js at is) =
-            let makes_it : makes d js f ≡ true = sym (makes_are d p draft refined js f) ∙ ap (λ (x : TaskKind). kind_carries p.jobs (Some x) f) is ∙ c in
+            let makes_it : part_makes d js f ≡ true = sym (makes_are d p draft refined js f) ∙ ap (λ (x : TaskKind). kind_carries p.jobs (Some x) f) is ∙ c in
             ap (λ (x : TaskKind). carried_by apply told p.jobs (read p (carried apply told p) a) (Some x) f) (sym is)
-            ∙ after_all apply v d p draft refined are js (ordered_part at) js [] refl (read p (carried apply told p) a (site_of d js)) (record { made = λ g x. absurd (let y : false ≡ true = x in cc); needed = λ g n. reading_kind (site_of d js) g (ap (λ (x : TaskKind). kind_reads p.jobs (Some x) (site_of d js) g) (sym is) ∙ and_both (nat_eq (site_of d js) (site_of d js)) (kinds.uses p.jobs js g && not (kinds.makes p.jobs js g)) (is_itself (site_of d js)) (needs_are d p draft refined js g ∙ n)) }) f makes_it
+            ∙ after_all apply v d p draft refined are js (ordered_part at) js [] refl (read p (carried apply told p) a (site_of d js)) (record { made = λ g x. absurd (let y : false ≡ true = x in cc); needed = λ g n. reading_kind (site_of d js) g (ap (λ (x : TaskKind). kind_reads p.jobs (Some x) (site_of d js) g) (sym is) ∙ and_both (nat_eq (site_of d js) (site_of d js)) (kinds.jobs_use p.jobs js g && not (kinds.jobs_make p.jobs js g)) (is_itself (site_of d js)) (needs_are d p draft refined js g ∙ n)) }) f makes_it
           where
             ordered_part : slice_get d.parts a ≡ Some js → IsOrdered d js
             ordered_part at = subst (IsOrdered d) (get_or_from_slice_get d.parts a js [] at) (draft.ordered a)
@@ -230,7 +234,7 @@ carries_value apply told v d p draft refined along written enough are held hand 
         of_sort (a_delivery g i l asked is there placed) =
             let same : nat_eq g f ≡ true = ap (λ (x : TaskKind). kind_carries p.jobs (Some x) f) is ∙ c in
             ap (λ (x : TaskKind). carried_by apply told p.jobs (read p (carried apply told p) a) (Some x) f) (sym is)
-            ∙ from_home apply told v p.jobs (read p (carried apply told p) a) (home d g) (first_of (pfns_of d g)) g f Delivery same
+            ∙ from_home apply told v p.jobs (read p (carried apply told p) a) (home d g) (first_pfn (pfns_of d g)) g f Delivery same
             (λ none. first_held told (v g) (pfns_of d g) (has_pfns d g l (hand g asked (home_none d g none))) (held g) ∙ ap v (same_number g f same))
             (λ x r. reading_kind x f (ap (λ (y : TaskKind). kind_reads p.jobs (Some y) x f) (sym is) ∙ r))
 
@@ -239,9 +243,9 @@ enough_pfns : (d : Draft) (limit : ℕ) → first_fault d limit ≡ None → (f 
 unfolding first_fault
 enough_pfns d limit e f l =
     none_least (count_files d) (lacks_replica d)
-    (fault_none (least (count_files d) (lacks_replica d)) (λ f. NoReplica (name_of d f))
-    (or_first (option_map (λ f. NoReplica (name_of d f)) (least (count_files d) (lacks_replica d)))
-    (or_else (option_map (λ f. NoSize (name_of d f)) (least (count_files d) (lacks_size d))) (too_many (count_all d) limit)) e)) f l
+    (fault_none (least (count_files d) (lacks_replica d)) (λ f. NoReplica (draft_file_name d f))
+    (or_first (option_map (λ f. NoReplica (draft_file_name d f)) (least (count_files d) (lacks_replica d)))
+    (or_else (option_map (λ f. NoSize (draft_file_name d f)) (least (count_files d) (lacks_size d))) (too_many (count_all d) limit)) e)) f l
 
 pub means : ((apply : Apply) (told : Bytes → Option Bytes) (p : Plan) → IsProper p → IsCarrying apply told p (carried apply told p)) → ((p : Plan) → IsProper p → AreWritten p)
     → (apply : Apply) (told : Bytes → Option Bytes) (v : ℕ → Option Bytes) (d : Draft) (limit : ℕ) (p : Plan) → IsDraft d → limit < 2 ^ 32 → first_fault d limit ≡ None → IsRefined d p → AreValues apply d.request.tools d.workflow v → AreHeld d told v → AreAtHand d

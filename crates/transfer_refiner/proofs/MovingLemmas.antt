@@ -6,12 +6,13 @@ use Rattle.std.proofs.lemmas.List.Folds.{list_any-append}
 use Rattle.values.specs.declared.numbers.JobId.{JobId}
 use Rattle.workflow_core.specs.Requested.{is_requested}
 use Rattle.dependency_graph.specs.Edges.{makers}
-use Rattle.dependency_graph.specs.Graph.{Links, IsGraphOf, made_at as graph_maker}
-use Rattle.plan_core.specs.Numbers.{has, below, RisesFrom}
+use Rattle.dependency_graph.specs.Graph.{Links, IsGraphOf, producer_of_file as graph_maker}
+use Rattle.plan_core.specs.Numbers.{has, below}
+use Rattle.plan_core.specs.code.Numbers.{RisesFrom}
 use Rattle.transfer_refiner.specs.Draft.{Draft, made_at, needed_at, stands, moves, home}
-use Rattle.transfer_refiner.specs.Tasks.{count_files, count_sites, grid, part_of}
-use Rattle.transfer_refiner.specs.Listing.{is_at, moved_from, first_site_of}
-use Rattle.transfer_refiner.specs.Conditions.{IsDraft}
+use Rattle.transfer_refiner.specs.Tasks.{count_files, count_execution_sites, grid, part_of}
+use Rattle.transfer_refiner.specs.code.Listing.{is_at, moved_from, first_site_of}
+use Rattle.transfer_refiner.specs.code.Conditions.{IsDraft}
 use Rattle.plan_core.proofs.TestLemmas.{same_number, both}
 use Rattle.plan_core.proofs.RisingLemmas.{rising_is_below, below_rises}
 use Rattle.transfer_refiner.proofs.SliceLemmas.{grid_place, below_place}
@@ -93,10 +94,10 @@ moves_is d draft f s low = ap (λ (b : Bool). (made_at d s f || needed_at d s f)
     turn false n = refl
 
 pub moves_are : (d : Draft) (f : ℕ) (h : Option ℕ) (xs : List ℕ) → IsDraft d → f < count_files d → h ≡ home d f → RisesFrom 0 xs → ((s : ℕ) → has xs s ≡ stands d s f)
-    → moved_from h f xs ≡ map (λ (s : ℕ). (f, s)) (below (count_sites d) (moves d f))
+    → moved_from h f xs ≡ map (λ (s : ℕ). (f, s)) (below (count_execution_sites d) (moves d f))
 moves_are d f h xs draft low is rises are =
     ap (λ (o : Option ℕ). moved_from o f xs) is ∙ moved_kept (home d f) f xs
-    ∙ ap (λ (ns : List ℕ). map (λ (s : ℕ). (f, s)) ns) (rising_is_below (count_sites d) (moves d f) (kept (λ s. not (is_at (home d f) s)) xs) (kept_from (λ s. not (is_at (home d f) s)) 0 xs rises)
+    ∙ ap (λ (ns : List ℕ). map (λ (s : ℕ). (f, s)) ns) (rising_is_below (count_execution_sites d) (moves d f) (kept (λ s. not (is_at (home d f) s)) xs) (kept_from (λ s. not (is_at (home d f) s)) 0 xs rises)
     (λ s k. let there = both (stands d s f) (not (is_at (home d f) s)) (moves_is d draft f s low ∙ sym (same s) ∙ k) in ((stands_within d draft s f there.0).site, sym (same s) ∙ k))
     (λ s l k. same s ∙ k))
   where
@@ -108,8 +109,8 @@ all_at : {A : Type 0} (P : A → Type 0) (xs : List A) → ((i : ℕ) (x : A) �
 all_at P [] h = All-nil P
 all_at P (x ∷ xs) h = All-cons P x xs (h 0 x refl) (all_at P xs (λ i y e. h (suc i) y e))
 
-pub moved_low : (d : Draft) (xs : List (ℕ × ℕ)) → xs ≡ grid (count_files d) (count_sites d) (moves d) → All (λ (x : ℕ × ℕ). x.0 < count_files d) xs
-moved_low d xs is = all_at (λ (x : ℕ × ℕ). x.0 < count_files d) xs (λ i x e. (grid_place (count_files d) (count_sites d) (moves d) i x (ap (λ (ys : List (ℕ × ℕ)). slice_get ys i) (sym is) ∙ e)).0)
+pub moved_low : (d : Draft) (xs : List (ℕ × ℕ)) → xs ≡ grid (count_files d) (count_execution_sites d) (moves d) → All (λ (x : ℕ × ℕ). x.0 < count_files d) xs
+moved_low d xs is = all_at (λ (x : ℕ × ℕ). x.0 < count_files d) xs (λ i x e. (grid_place (count_files d) (count_execution_sites d) (moves d) i x (ap (λ (ys : List (ℕ × ℕ)). slice_get ys i) (sym is) ∙ e)).0)
 
 pub requested_low : (d : Draft) (xs : List ℕ) → xs ≡ below (count_files d) (is_requested d.workflow) → All (λ f. f < count_files d) xs
 requested_low d xs is = all_at (λ f. f < count_files d) xs (λ i x e. (below_place (count_files d) (is_requested d.workflow) i x (ap (λ (ys : List ℕ). slice_get ys i) (sym is) ∙ e)).0)

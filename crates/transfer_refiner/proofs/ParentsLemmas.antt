@@ -5,7 +5,8 @@ use Rattle.plan_core.specs.declared.plan.Task.{Task}
 use Rattle.std.specs.List.{list_any}
 use Rattle.plan_core.specs.declared.plan.TaskKind.{TaskKind}
 use Rattle.plan_core.specs.declared.plan.TaskKind.TheVariants.{Transfer, Run, Clean}
-use Rattle.plan_core.specs.Numbers.{below, has, RisesFrom}
+use Rattle.plan_core.specs.Numbers.{below, has}
+use Rattle.plan_core.specs.code.Numbers.{RisesFrom}
 use Rattle.plan_core.specs.Words.{is_clean_kind, kind_in, reads_in, writes_in, parents_in, task_numbers}
 use Rattle.plan_core.specs.Kinds.{sweeps, task_waits}
 use Rattle.plan_core.proofs.TestLemmas.{same_number, other_number, by_bool}
@@ -14,7 +15,7 @@ use Rattle.plan_core.proofs.RisingLemmas.{rising_is_below}
 use Rattle.transfer_refiner.proofs.JobsLemmas.{any_same}
 use Rattle.transfer_refiner.proofs.SliceLemmas.{place_of_any}
 use Rattle.transfer_refiner.proofs.WritersLemmas.{task_below}
-use Rattle.transfer_refiner.specs.Steps.{IsSame, AreParented}
+use Rattle.transfer_refiner.specs.code.Steps.{IsSame, AreParented}
 
 front : {A : Type 0} (xs : List A) (x : A) (u : ℕ) → u < length xs → slice_get (xs ++ x ∷ []) u ≡ slice_get xs u
 front [] x u l = absurd (omega arith)

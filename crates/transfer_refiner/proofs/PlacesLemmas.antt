@@ -9,11 +9,12 @@ use Rattle.std.proofs.lemmas.List.{append_assoc, at_drop_more}
 use Rattle.std.proofs.lemmas.Option.{slice_get_within}
 use Rattle.plan_core.specs.declared.plan.Pair.{Pair}
 use Rattle.plan_core.specs.Kinds.{on_pair}
-use Rattle.plan_core.specs.Numbers.{has, below, RisesFrom}
-use Rattle.plan_core.specs.Words.{pair_at}
+use Rattle.plan_core.specs.Numbers.{has, below}
+use Rattle.plan_core.specs.code.Numbers.{RisesFrom}
+use Rattle.plan_core.specs.code.Words.{pair_at}
 use Rattle.plan_core.specs.declared.files.SiteFiles.{SiteFiles}
-use Rattle.plan_core.specs.Files.{AreFilesOf}
-use Rattle.transfer_refiner.specs.Places.{is_place, is_pair_of, place_of, places_at, AreOnce}
+use Rattle.plan_core.specs.code.Files.{AreFilesOf}
+use Rattle.transfer_refiner.specs.code.Places.{is_place, is_pair_of, place_of, places_at, AreOnce}
 use Rattle.plan_core.proofs.TestLemmas.{same_number, both, by_bool}
 use Rattle.plan_core.proofs.RisingLemmas.{rising_is_below}
 use Rattle.transfer_refiner.proofs.JobsLemmas.{any_same}

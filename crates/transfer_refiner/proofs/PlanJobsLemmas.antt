@@ -13,10 +13,10 @@ use Rattle.plan_core.specs.declared.plan.PlanJob.{PlanJob}
 use Rattle.plan_core.specs.Numbers.{has}
 use Rattle.plan_core.specs.Words.{file_numbers, inputs_in, outputs_in, inputs, outputs}
 use Rattle.plan_core.specs.Kinds as kinds
-use Rattle.transfer_refiner.specs.Draft.{Draft, uses, makes, needs}
+use Rattle.transfer_refiner.specs.Draft.{Draft, part_uses, part_makes, part_needs}
 use Rattle.transfer_refiner.specs.Tasks.{jobs_of}
 use Rattle.transfer_refiner.specs.Refined.{IsRefined}
-use Rattle.transfer_refiner.specs.Conditions.{IsDraft}
+use Rattle.transfer_refiner.specs.code.Conditions.{IsDraft}
 use Rattle.transfer_refiner.proofs.JobsLemmas.{any_same}
 
 outputs_map : (os : List Output) → file_numbers (map (λ (o : Output). o.file) os) ≡ map (λ (o : Output). o.file.0) os
@@ -43,11 +43,11 @@ pub outputs_are : (d : Draft) (p : Plan) → IsDraft d → IsRefined d p → (j 
 unfolding outputs
 outputs_are d p draft refined j = ap (λ (js : List PlanJob). outputs_in (slice_get js j)) refined.jobs ∙ outputs_same d.request.tools d.workflow.jobs d.sites draft.jobs_placed j
 
-pub uses_are : (d : Draft) (p : Plan) → IsDraft d → IsRefined d p → (js : List JobId) (f : ℕ) → kinds.uses p.jobs js f ≡ uses d js f
+pub uses_are : (d : Draft) (p : Plan) → IsDraft d → IsRefined d p → (js : List JobId) (f : ℕ) → kinds.jobs_use p.jobs js f ≡ part_uses d js f
 uses_are d p draft refined js f = any_same (λ (j : JobId). has (inputs p.jobs j.0) f) (λ (j : JobId). has (read_by d.workflow j.0) f) js (λ j. ap (λ (xs : List ℕ). has xs f) (inputs_are d p draft refined j.0))
 
-pub makes_are : (d : Draft) (p : Plan) → IsDraft d → IsRefined d p → (js : List JobId) (f : ℕ) → kinds.makes p.jobs js f ≡ makes d js f
+pub makes_are : (d : Draft) (p : Plan) → IsDraft d → IsRefined d p → (js : List JobId) (f : ℕ) → kinds.jobs_make p.jobs js f ≡ part_makes d js f
 makes_are d p draft refined js f = any_same (λ (j : JobId). has (outputs p.jobs j.0) f) (λ (j : JobId). has (written_by d.workflow j.0) f) js (λ j. ap (λ (xs : List ℕ). has xs f) (outputs_are d p draft refined j.0))
 
-pub needs_are : (d : Draft) (p : Plan) → IsDraft d → IsRefined d p → (js : List JobId) (f : ℕ) → (kinds.uses p.jobs js f && not (kinds.makes p.jobs js f)) ≡ needs d js f
-needs_are d p draft refined js f = ap (λ (b : Bool). b && not (kinds.makes p.jobs js f)) (uses_are d p draft refined js f) ∙ ap (λ (b : Bool). uses d js f && not b) (makes_are d p draft refined js f)
+pub needs_are : (d : Draft) (p : Plan) → IsDraft d → IsRefined d p → (js : List JobId) (f : ℕ) → (kinds.jobs_use p.jobs js f && not (kinds.jobs_make p.jobs js f)) ≡ part_needs d js f
+needs_are d p draft refined js f = ap (λ (b : Bool). b && not (kinds.jobs_make p.jobs js f)) (uses_are d p draft refined js f) ∙ ap (λ (b : Bool). part_uses d js f && not b) (makes_are d p draft refined js f)

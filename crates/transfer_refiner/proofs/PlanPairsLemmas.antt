@@ -8,13 +8,14 @@ use Rattle.plan_core.specs.declared.plan.TaskKind.{TaskKind}
 use Rattle.plan_core.specs.declared.plan.TaskKind.TheVariants.{Transfer}
 use Rattle.plan_core.specs.declared.plan.Target.{Target}
 use Rattle.transfer_refiner.specs.Tasks.{grid}
-use Rattle.plan_core.specs.Words.{kind, is_pair, pair_at}
+use Rattle.plan_core.specs.Words.{kind}
+use Rattle.plan_core.specs.code.Words.{is_pair, pair_at}
 use Rattle.plan_core.specs.Kinds as kinds
 use Rattle.plan_core.specs.Kinds.{kind_reads, kind_writes, reads_file, writes_file}
 use Rattle.plan_core.proofs.TestLemmas.{same_number, is_itself, both, and_both, by_bool}
-use Rattle.transfer_refiner.specs.Draft.{Draft, makes, needs, site_of, made_at, needed_at, moves, stands, home, pfns_of, chosen, first_of}
-use Rattle.transfer_refiner.specs.Tasks.{count_files, count_sites, source, run, transfer, delivery, pair_of, pairs_of}
-use Rattle.transfer_refiner.specs.Conditions.{IsDraft}
+use Rattle.transfer_refiner.specs.Draft.{Draft, part_makes, part_needs, site_of, made_at, needed_at, moves, stands, home, pfns_of, chosen, first_pfn}
+use Rattle.transfer_refiner.specs.Tasks.{count_files, count_execution_sites, source, run, transfer, delivery, pair_of, pairs_of}
+use Rattle.transfer_refiner.specs.code.Conditions.{IsDraft}
 use Rattle.transfer_refiner.specs.Refined.{IsRefined}
 use Rattle.transfer_refiner.proofs.SliceLemmas.{place_map, map_place, grid_place, place_grid}
 use Rattle.transfer_refiner.proofs.SortLemmas.{Sort, a_run, a_transfer, a_delivery, the_run, the_transfer}
@@ -35,20 +36,20 @@ moved_from d jobs g x to s f h = by (home d g) refl h
 pub read_is : (d : Draft) (p : Plan) → IsDraft d → IsRefined d p → (t : ℕ) (k : TaskKind) → Sort d t k → (s f : ℕ) → kind_reads p.jobs (Some k) s f ≡ true → stands d s f ≡ true
 read_is d p draft refined t k (a_run js at is) s f h =
     let reads_it : kind_reads p.jobs (Some (run d js)) s f ≡ true = ap (λ (x : TaskKind). kind_reads p.jobs (Some x) s f) is ∙ h in
-    let parts = both (nat_eq (site_of d js) s) (kinds.uses p.jobs js f && not (kinds.makes p.jobs js f)) reads_it in
-    needed_stands d s f (at_part d s (λ js. needs d js f) t js at parts.0 (sym (needs_are d p draft refined js f) ∙ parts.1))
+    let parts = both (nat_eq (site_of d js) s) (kinds.jobs_use p.jobs js f && not (kinds.jobs_make p.jobs js f)) reads_it in
+    needed_stands d s f (at_part d s (λ js. part_needs d js f) t js at parts.0 (sym (needs_are d p draft refined js f) ∙ parts.1))
 read_is d p draft refined t k (a_transfer g a i l m moved is at place) s f h =
     let from = moved_from d p.jobs g (chosen d g a) _ s f (ap (λ (x : TaskKind). kind_reads p.jobs (Some x) s f) is ∙ h) in
     made_stands d s f (home_made d f s from.1)
 read_is d p draft refined t k (a_delivery g n l asked is at placed) s f h =
-    let from = moved_from d p.jobs g (first_of (pfns_of d g)) _ s f (ap (λ (x : TaskKind). kind_reads p.jobs (Some x) s f) is ∙ h) in
+    let from = moved_from d p.jobs g (first_pfn (pfns_of d g)) _ s f (ap (λ (x : TaskKind). kind_reads p.jobs (Some x) s f) is ∙ h) in
     made_stands d s f (home_made d f s from.1)
 
 pub written_is : (d : Draft) (p : Plan) → IsDraft d → IsRefined d p → (t : ℕ) (k : TaskKind) → Sort d t k → (s f : ℕ) → kind_writes p.jobs (Some k) s f ≡ true → stands d s f ≡ true
 written_is d p draft refined t k (a_run js at is) s f h =
     let writes_it : kind_writes p.jobs (Some (run d js)) s f ≡ true = ap (λ (x : TaskKind). kind_writes p.jobs (Some x) s f) is ∙ h in
-    let parts = both (nat_eq (site_of d js) s) (kinds.makes p.jobs js f) writes_it in
-    made_stands d s f (at_part d s (λ js. makes d js f) t js at parts.0 (sym (makes_are d p draft refined js f) ∙ parts.1))
+    let parts = both (nat_eq (site_of d js) s) (kinds.jobs_make p.jobs js f) writes_it in
+    made_stands d s f (at_part d s (λ js. part_makes d js f) t js at parts.0 (sym (makes_are d p draft refined js f) ∙ parts.1))
 written_is d p draft refined t k (a_transfer g a i l m moved is at place) s f h =
     let writes_it : kind_writes p.jobs (Some (transfer d (g, a))) s f ≡ true = ap (λ (x : TaskKind). kind_writes p.jobs (Some x) s f) is ∙ h in
     let parts = both (nat_eq a s) (nat_eq g f) writes_it in
@@ -70,8 +71,8 @@ pub pair_stands : (d : Draft) (p : Plan) → IsDraft d → IsRefined d p → (s 
 unfolding is_pair pairs_of
 pair_stands d p draft refined s f h =
     let within = stands_within d draft s f h in
-    let found = place_grid (count_sites d) (count_files d) (stands d) s f within.site within.file h in
-    let at : slice_get p.pairs found.0 ≡ Some (pair_of (s, f)) = ap (λ (qs : List Pair). slice_get qs found.0) refined.pairs ∙ map_place pair_of (grid (count_sites d) (count_files d) (stands d)) found.0 (s, f) found.1 in
+    let found = place_grid (count_execution_sites d) (count_files d) (stands d) s f within.site within.file h in
+    let at : slice_get p.pairs found.0 ≡ Some (pair_of (s, f)) = ap (λ (qs : List Pair). slice_get qs found.0) refined.pairs ∙ map_place pair_of (grid (count_execution_sites d) (count_files d) (stands d)) found.0 (s, f) found.1 in
     (found.0, ap (λ (o : Option Pair). pair_at o s f) at ∙ and_both (nat_eq s s) (nat_eq f f) (is_itself s) (is_itself f))
 
 pub stands_pair : (d : Draft) (p : Plan) → IsRefined d p → (q s f : ℕ) → is_pair p q s f ≡ true → stands d s f ≡ true
@@ -81,8 +82,8 @@ stands_pair d p refined q s f h = by (slice_get (pairs_of d) q) refl (ap (λ (qs
     by : (o : Option Pair) → slice_get (pairs_of d) q ≡ o → pair_at o s f ≡ true → stands d s f ≡ true
     by None e k = absurd cc
     by (Some x) e k =
-        let found = place_map pair_of (grid (count_sites d) (count_files d) (stands d)) q x e in
-        let is = grid_place (count_sites d) (count_files d) (stands d) q found.0 found.1 in
+        let found = place_map pair_of (grid (count_execution_sites d) (count_files d) (stands d)) q x e in
+        let is = grid_place (count_execution_sites d) (count_files d) (stands d) q found.0 found.1 in
         let parts = both (nat_eq x.site.0 s) (nat_eq x.file.0 f) k in
         let one : found.0.0 ≡ s = ap (λ (y : Pair). y.site.0) found.2 ∙ same_number x.site.0 s parts.0 in
         let two : found.0.1 ≡ f = ap (λ (y : Pair). y.file.0) found.2 ∙ same_number x.file.0 f parts.1 in
@@ -94,10 +95,10 @@ has_writer d p draft refined s f h = by_bool (made_at d s f) made_there moved_th
   where
     made_there : made_at d s f ≡ true → (t : ℕ) × (writes_file p t s f ≡ true)
     made_there k =
-        let part = part_at d s (λ js. makes d js f) k in (
+        let part = part_at d s (λ js. part_makes d js f) k in (
           part.c,
           ap (λ (o : Option TaskKind). kind_writes p.jobs o s f) (the_run d p refined part.c part.js part.at)
-              ∙ and_both (nat_eq (site_of d part.js) s) (kinds.makes p.jobs part.js f) (ap (λ (n : ℕ). nat_eq n s) part.site ∙ is_itself s) (makes_are d p draft refined part.js f ∙ part.passes),
+              ∙ and_both (nat_eq (site_of d part.js) s) (kinds.jobs_make p.jobs part.js f) (ap (λ (n : ℕ). nat_eq n s) part.site ∙ is_itself s) (makes_are d p draft refined part.js f ∙ part.passes),
         )
 
     moved_there : made_at d s f ≡ false → (t : ℕ) × (writes_file p t s f ≡ true)

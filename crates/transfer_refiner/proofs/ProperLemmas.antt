@@ -10,14 +10,18 @@ use Rattle.plan_core.specs.declared.plan.PlanFile.{PlanFile}
 use Rattle.plan_core.specs.declared.plan.Task.{Task}
 use Rattle.plan_core.specs.declared.plan.TaskKind.{TaskKind}
 use Rattle.plan_core.specs.Numbers.{has, below}
-use Rattle.plan_core.specs.Words.{kind, reads, writes, writes_in, pair_numbers, is_pair, pair_at, kind_cleans, delivers, kind_delivers, declared, declared_in, count_pairs}
-use Rattle.plan_core.specs.Kinds.{kind_reads, kind_writes, kind_carries, on_pair, writes_file, writes_pair}
-use Rattle.plan_core.specs.Proper.{is_written, is_parent, is_sequence_kind, IsProper, IsTask, HasFlow}
-use Rattle.plan_core.specs.Proper as proper
-use Rattle.transfer_refiner.specs.Draft.{Draft, makes, needs, uses, needed_at, moves, declared_of}
-use Rattle.transfer_refiner.specs.Tasks.{count_files, count_sites, grid, planned_file, used, is_made, first_fault}
-use Rattle.transfer_refiner.specs.Conditions.{IsDraft}
-use Rattle.transfer_refiner.specs.Refined.{IsRefined, Refines}
+use Rattle.plan_core.specs.Words.{kind, reads, writes, writes_in, pair_numbers, kind_cleans, delivers, kind_delivers, declared, declared_in, count_pairs}
+use Rattle.plan_core.specs.code.Words.{is_pair, pair_at}
+use Rattle.plan_core.specs.Kinds.{kind_reads, kind_writes, on_pair, writes_file, writes_pair}
+use Rattle.plan_core.specs.code.Kinds.{kind_carries}
+use Rattle.plan_core.specs.code.Proper.{is_written, is_parent, is_sequence_kind, IsProper, IsTask, HasFlow}
+use Rattle.plan_core.specs.code.Proper as proper
+use Rattle.transfer_refiner.specs.Draft.{Draft, part_makes, part_needs, part_uses, needed_at, moves, declared_of}
+use Rattle.transfer_refiner.specs.Tasks.{count_files, count_execution_sites, grid, planned_file}
+use Rattle.transfer_refiner.specs.code.Tasks.{used, is_made, first_fault}
+use Rattle.transfer_refiner.specs.code.Conditions.{IsDraft}
+use Rattle.transfer_refiner.specs.Refined.{IsRefined}
+use Rattle.transfer_refiner.specs.code.Refined.{Refines}
 use Rattle.transfer_refiner.specs.declared.fault.RefineFault.{RefineFault}
 use Rattle.plan_core.proofs.TestLemmas.{same_number, is_itself, both, and_both, or_left, or_right}
 use Rattle.plan_core.proofs.NumbersLemmas.{below_has, has_below}
@@ -45,7 +49,7 @@ stands_of p q s f h = by (slice_get p.pairs q) refl h
     by (Some x) e k = any_at_place (λ (y : Pair). pair_at (Some y) s f) p.pairs q x e k
 
 pub needed_used : (d : Draft) (s f : ℕ) → needed_at d s f ≡ true → used d f ≡ true
-needed_used d s f h = let part = part_at d s (λ js. needs d js f) h in any_at_place (λ (js : List JobId). uses d js f) d.parts part.c part.js part.at (both (uses d part.js f) (not (makes d part.js f)) part.passes).0
+needed_used d s f h = let part = part_at d s (λ js. part_needs d js f) h in any_at_place (λ (js : List JobId). part_uses d js f) d.parts part.c part.js part.at (both (part_uses d part.js f) (not (part_makes d part.js f)) part.passes).0
 
 -- the declared size of a file of the plan
 size_at : (d : Draft) (ns : List ℕ) (f i : ℕ) → slice_get ns i ≡ Some f → declared_in (slice_get (map (planned_file d) ns) i) ≡ declared_of d f
@@ -74,8 +78,8 @@ sized d limit p draft none refined t f h =
   where
     touched : (k : TaskKind) → Sort d t k → kind_carries p.jobs (Some k) f ≡ true → (f < count_files d) × ((used d f || (is_made d f || is_requested d.workflow f)) ≡ true)
     touched k (a_run js at is) c =
-        let makes_it : makes d js f ≡ true = sym (makes_are d p draft refined js f) ∙ ap (λ (x : TaskKind). kind_carries p.jobs (Some x) f) is ∙ c in
-        (made_below d draft js f makes_it, or_right (used d f) (is_made d f || is_requested d.workflow f) (or_left (is_made d f) (is_requested d.workflow f) (any_at_place (λ (js : List JobId). makes d js f) d.parts t js at makes_it)))
+        let makes_it : part_makes d js f ≡ true = sym (makes_are d p draft refined js f) ∙ ap (λ (x : TaskKind). kind_carries p.jobs (Some x) f) is ∙ c in
+        (made_below d draft js f makes_it, or_right (used d f) (is_made d f || is_requested d.workflow f) (or_left (is_made d f) (is_requested d.workflow f) (any_at_place (λ (js : List JobId). part_makes d js f) d.parts t js at makes_it)))
     touched k (a_transfer g s i l m moved is there place) c =
         let same : g ≡ f = same_number g f (ap (λ (x : TaskKind). kind_carries p.jobs (Some x) f) is ∙ c) in
         (omega (arith, same, l), or_left (used d f) (is_made d f || is_requested d.workflow f) (ap (used d) (sym same) ∙ needed_used d s g (moved_needed d g s moved).0))
@@ -126,7 +130,7 @@ one_delivery d p refined t u f h k =
     let two = has_kind p u (λ o. kind_delivers o f) k refl in
     let a = delivered_at d t f one.0 (sorted d p refined t one.0 one.1) one.2 in
     let b = delivered_at d u f two.0 (sorted d p refined u two.0 two.1) two.2 in
-    let same = below_once (count_files d) (is_requested d.workflow) (a.0 - length (grid (count_files d) (count_sites d) (moves d))) (b.0 - length (grid (count_files d) (count_sites d) (moves d))) f a.2.at b.2.at in
+    let same = below_once (count_files d) (is_requested d.workflow) (a.0 - length (grid (count_files d) (count_execution_sites d) (moves d))) (b.0 - length (grid (count_files d) (count_execution_sites d) (moves d))) f a.2.at b.2.at in
     omega (arith, same, a.1, b.1, a.2.after, b.2.after)
 
 written_at : (d : Draft) (p : Plan) → IsRefined d p → (t q : ℕ) → has (writes p t) q ≡ true → on_pair (writes_file p t) (slice_get p.pairs q) ≡ true

@@ -2,7 +2,7 @@
 use Rattle.std.proofs.Common.{◌≡◌, ℕ, suc, ◌<◌, Bool, List, [], ◌∷◌, sym, arith, subst}
 use Rattle.std.proofs.lemmas.List.Elements.{All-head}
 use Rattle.digraph.specs.Adjacency.{neighbours, IsRising, AreNeighbours}
-use Rattle.plan_core.specs.Numbers.{RisesFrom}
+use Rattle.plan_core.specs.code.Numbers.{RisesFrom}
 
 after_first : (n : ℕ) (ns : List ℕ) → IsRising (n ∷ ns) → RisesFrom (suc n) ns
 after_first n [] h = tt

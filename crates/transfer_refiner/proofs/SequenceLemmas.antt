@@ -7,16 +7,17 @@ use Rattle.std.proofs.lemmas.List.Folds.{list_any-append}
 use Rattle.std.proofs.lemmas.Option.{get_or_from_slice_get}
 use Rattle.values.specs.declared.numbers.JobId.{JobId}
 use Rattle.workflow_core.specs.declared.workflow.Job.{Job}
-use Rattle.workflow_core.specs.WellFormed as formed
-use Rattle.workflow_core.specs.WellFormed.{outputs_of, IsJobOver}
+use Rattle.workflow_core.specs.code.WellFormed as formed
+use Rattle.workflow_core.specs.WellFormed.{outputs_of}
+use Rattle.workflow_core.specs.code.WellFormed.{IsJobOver}
 use Rattle.dependency_graph.specs.Edges.{read_by, written_by}
 use Rattle.plan_core.specs.declared.plan.Plan.{Plan}
 use Rattle.plan_core.specs.Numbers.{has}
 use Rattle.plan_core.specs.Words.{inputs, outputs, job_numbers}
-use Rattle.plan_core.specs.Proper.{are_new, is_sequence}
-use Rattle.transfer_refiner.specs.Draft.{Draft, uses, makes}
+use Rattle.plan_core.specs.code.Proper.{are_new, is_sequence}
+use Rattle.transfer_refiner.specs.Draft.{Draft, part_uses, part_makes}
 use Rattle.transfer_refiner.specs.Tasks.{count_files}
-use Rattle.transfer_refiner.specs.Conditions.{IsDraft, IsOrdered}
+use Rattle.transfer_refiner.specs.code.Conditions.{IsDraft, IsOrdered}
 use Rattle.transfer_refiner.specs.Refined.{IsRefined}
 use Rattle.plan_core.proofs.TestLemmas.{both, and_both, either, not_true, or_left, or_right}
 use Rattle.plan_core.proofs.NumbersLemmas.{any_one}
@@ -24,7 +25,7 @@ use Rattle.transfer_refiner.proofs.JobsLemmas.{made_below}
 use Rattle.transfer_refiner.proofs.MakersLemmas.{job_of_any, one_maker}
 use Rattle.transfer_refiner.proofs.PlanJobsLemmas.{inputs_are, outputs_are}
 
-twice : (d : Draft) → IsDraft d → (c : ℕ) (js done later : List JobId) (j : JobId) (f : ℕ) → slice_get d.parts c ≡ Some js → js ≡ done ++ j ∷ later → has (written_by d.workflow j.0) f ≡ true → makes d later f ≡ true → ⊥
+twice : (d : Draft) → IsDraft d → (c : ℕ) (js done later : List JobId) (j : JobId) (f : ℕ) → slice_get d.parts c ≡ Some js → js ≡ done ++ j ∷ later → has (written_by d.workflow j.0) f ≡ true → part_makes d later f ≡ true → ⊥
 twice d draft c js done later j f at is one two =
     let other = job_of_any (λ i. has (written_by d.workflow i) f) later two in
     let low : f < count_files d = made_below d draft later f two in
@@ -37,14 +38,14 @@ turn_false true h = absurd (h refl)
 turn_false false h = refl
 
 -- a job reads nothing that it or a later job makes
-earlier : (d : Draft) → IsDraft d → (c : ℕ) (js done later : List JobId) (j : JobId) (f : ℕ) → slice_get d.parts c ≡ Some js → js ≡ done ++ j ∷ later → has (read_by d.workflow j.0) f ≡ true → makes d (j ∷ later) f ≡ true → ⊥
+earlier : (d : Draft) → IsDraft d → (c : ℕ) (js done later : List JobId) (j : JobId) (f : ℕ) → slice_get d.parts c ≡ Some js → js ≡ done ++ j ∷ later → has (read_by d.workflow j.0) f ≡ true → part_makes d (j ∷ later) f ≡ true → ⊥
 earlier d draft c js done later j f at is reads_it makes_it =
     let ordered : IsOrdered d js = subst (IsOrdered d) (get_or_from_slice_get d.parts c js [] at) (draft.ordered c) in
-    let all : makes d js f ≡ true = ap (λ (xs : List JobId). makes d xs f) is ∙ list_any-append (λ (i : JobId). has (written_by d.workflow i.0) f) done (j ∷ later) ∙ or_right (makes d done f) (makes d (j ∷ later) f) makes_it in
+    let all : part_makes d js f ≡ true = ap (λ (xs : List JobId). part_makes d xs f) is ∙ list_any-append (λ (i : JobId). has (written_by d.workflow i.0) f) done (j ∷ later) ∙ or_right (part_makes d done f) (part_makes d (j ∷ later) f) makes_it in
     let found = any_one (λ (i : JobId). has (written_by d.workflow i.0) f) done (ordered done later j is f reads_it all) in
     twice d draft c js found.1 (found.2 ++ j ∷ later) found.0 f at
     (is ∙ ap (λ (xs : List JobId). xs ++ j ∷ later) found.3 ∙ append_assoc found.1 (found.0 ∷ found.2) (j ∷ later)) found.4
-    (list_any-append (λ (i : JobId). has (written_by d.workflow i.0) f) found.2 (j ∷ later) ∙ or_right (makes d found.2 f) (makes d (j ∷ later) f) makes_it)
+    (list_any-append (λ (i : JobId). has (written_by d.workflow i.0) f) found.2 (j ∷ later) ∙ or_right (part_makes d found.2 f) (part_makes d (j ∷ later) f) makes_it)
 
 eq_turned : (a b : ℕ) → nat_eq a b ≡ nat_eq b a
 eq_turned a b = grind arith
@@ -68,7 +69,7 @@ once_at n [] all j = refl
 once_at n (x ∷ js) all zero = all.0.outputs_once
 once_at n (x ∷ js) all (suc j) = once_at n js all.1 j
 
-pub sequence : (d : Draft) (p : Plan) → IsDraft d → IsRefined d p → (c : ℕ) (js done later : List JobId) (seen : List ℕ) → slice_get d.parts c ≡ Some js → js ≡ done ++ later → ((f : ℕ) → has seen f ≡ true → (uses d done f || makes d done f) ≡ true) → is_sequence p.jobs seen later ≡ true
+pub sequence : (d : Draft) (p : Plan) → IsDraft d → IsRefined d p → (c : ℕ) (js done later : List JobId) (seen : List ℕ) → slice_get d.parts c ≡ Some js → js ≡ done ++ later → ((f : ℕ) → has seen f ≡ true → (part_uses d done f || part_makes d done f) ≡ true) → is_sequence p.jobs seen later ≡ true
 sequence d p draft refined c js done [] seen at is known = refl
 sequence d p draft refined c js done (j ∷ later) seen at is known =
     and_both (are_new (seen ++ inputs p.jobs j.0) (outputs p.jobs j.0)) (is_sequence p.jobs (seen ++ inputs p.jobs j.0 ++ outputs p.jobs j.0) later)
@@ -78,17 +79,17 @@ sequence d p draft refined c js done (j ∷ later) seen at is known =
     (sequence d p draft refined c js (done ++ j ∷ []) later (seen ++ inputs p.jobs j.0 ++ outputs p.jobs j.0) at (is ∙ sym (append_assoc done (j ∷ []) later)) more)
   where
     old : (f : ℕ) → has (written_by d.workflow j.0) f ≡ true → (has seen f ≡ true) ⊎ (has (inputs p.jobs j.0) f ≡ true) → ⊥
-    old f writes_it (inr h) = earlier d draft c js done later j f at is (ap (λ (xs : List ℕ). has xs f) (sym (inputs_are d p draft refined j.0)) ∙ h) (or_left (has (written_by d.workflow j.0) f) (makes d later f) writes_it)
-    old f writes_it (inl h) = on (either (uses d done f) (makes d done f) (known f h))
+    old f writes_it (inr h) = earlier d draft c js done later j f at is (ap (λ (xs : List ℕ). has xs f) (sym (inputs_are d p draft refined j.0)) ∙ h) (or_left (has (written_by d.workflow j.0) f) (part_makes d later f) writes_it)
+    old f writes_it (inl h) = on (either (part_uses d done f) (part_makes d done f) (known f h))
       where
-        later_makes : (rest : List JobId) → makes d (rest ++ j ∷ later) f ≡ true
-        later_makes rest = list_any-append (λ (i : JobId). has (written_by d.workflow i.0) f) rest (j ∷ later) ∙ or_right (makes d rest f) (makes d (j ∷ later) f) (or_left (has (written_by d.workflow j.0) f) (makes d later f) writes_it)
+        later_makes : (rest : List JobId) → part_makes d (rest ++ j ∷ later) f ≡ true
+        later_makes rest = list_any-append (λ (i : JobId). has (written_by d.workflow i.0) f) rest (j ∷ later) ∙ or_right (part_makes d rest f) (part_makes d (j ∷ later) f) (or_left (has (written_by d.workflow j.0) f) (part_makes d later f) writes_it)
 
-        on : (uses d done f ≡ true) ⊎ (makes d done f ≡ true) → ⊥
+        on : (part_uses d done f ≡ true) ⊎ (part_makes d done f ≡ true) → ⊥
         on (inl k) =
             let found = any_one (λ (i : JobId). has (read_by d.workflow i.0) f) done k in
             earlier d draft c js found.1 (found.2 ++ j ∷ later) found.0 f at (is ∙ ap (λ (xs : List JobId). xs ++ j ∷ later) found.3 ∙ append_assoc found.1 (found.0 ∷ found.2) (j ∷ later)) found.4
-            (or_right (has (written_by d.workflow found.0.0) f) (makes d (found.2 ++ j ∷ later) f) (later_makes found.2))
+            (or_right (has (written_by d.workflow found.0.0) f) (part_makes d (found.2 ++ j ∷ later) f) (later_makes found.2))
         on (inr k) =
             let found = any_one (λ (i : JobId). has (written_by d.workflow i.0) f) done k in
             twice d draft c js found.1 (found.2 ++ j ∷ later) found.0 f at (is ∙ ap (λ (xs : List JobId). xs ++ j ∷ later) found.3 ∙ append_assoc found.1 (found.0 ∷ found.2) (j ∷ later)) found.4 (later_makes found.2)
@@ -111,22 +112,22 @@ sequence d p draft refined c js done (j ∷ later) seen at is known =
     fresh_made false false false true h = refl
     fresh_made false false false false h = absurd cc
 
-    whole : (f : ℕ) → ((uses d done f || (has (read_by d.workflow j.0) f || false)) || (makes d done f || (has (written_by d.workflow j.0) f || false))) ≡ true → (uses d (done ++ j ∷ []) f || makes d (done ++ j ∷ []) f) ≡ true
+    whole : (f : ℕ) → ((part_uses d done f || (has (read_by d.workflow j.0) f || false)) || (part_makes d done f || (has (written_by d.workflow j.0) f || false))) ≡ true → (part_uses d (done ++ j ∷ []) f || part_makes d (done ++ j ∷ []) f) ≡ true
     whole f h =
-        ap (λ (b : Bool). b || makes d (done ++ j ∷ []) f) (list_any-append (λ (i : JobId). has (read_by d.workflow i.0) f) done (j ∷ []))
-        ∙ ap (λ (b : Bool). (uses d done f || (has (read_by d.workflow j.0) f || false)) || b) (list_any-append (λ (i : JobId). has (written_by d.workflow i.0) f) done (j ∷ [])) ∙ h
+        ap (λ (b : Bool). b || part_makes d (done ++ j ∷ []) f) (list_any-append (λ (i : JobId). has (read_by d.workflow i.0) f) done (j ∷ []))
+        ∙ ap (λ (b : Bool). (part_uses d done f || (has (read_by d.workflow j.0) f || false)) || b) (list_any-append (λ (i : JobId). has (written_by d.workflow i.0) f) done (j ∷ [])) ∙ h
 
-    more : (f : ℕ) → has (seen ++ inputs p.jobs j.0 ++ outputs p.jobs j.0) f ≡ true → (uses d (done ++ j ∷ []) f || makes d (done ++ j ∷ []) f) ≡ true
+    more : (f : ℕ) → has (seen ++ inputs p.jobs j.0 ++ outputs p.jobs j.0) f ≡ true → (part_uses d (done ++ j ∷ []) f || part_makes d (done ++ j ∷ []) f) ≡ true
     more f h = whole f (top (either (has (seen ++ inputs p.jobs j.0) f) (has (outputs p.jobs j.0) f) (sym (list_any-append (λ y. nat_eq y f) (seen ++ inputs p.jobs j.0) (outputs p.jobs j.0)) ∙ h)))
       where
-        rest : (has (inputs p.jobs j.0) f ≡ true) ⊎ (has (outputs p.jobs j.0) f ≡ true) → ((uses d done f || (has (read_by d.workflow j.0) f || false)) || (makes d done f || (has (written_by d.workflow j.0) f || false))) ≡ true
-        rest (inl k) = fresh_read (uses d done f) (makes d done f) (has (read_by d.workflow j.0) f) (has (written_by d.workflow j.0) f) (ap (λ (xs : List ℕ). has xs f) (sym (inputs_are d p draft refined j.0)) ∙ k)
-        rest (inr k) = fresh_made (uses d done f) (makes d done f) (has (read_by d.workflow j.0) f) (has (written_by d.workflow j.0) f) (ap (λ (xs : List ℕ). has xs f) (sym (outputs_are d p draft refined j.0)) ∙ k)
+        rest : (has (inputs p.jobs j.0) f ≡ true) ⊎ (has (outputs p.jobs j.0) f ≡ true) → ((part_uses d done f || (has (read_by d.workflow j.0) f || false)) || (part_makes d done f || (has (written_by d.workflow j.0) f || false))) ≡ true
+        rest (inl k) = fresh_read (part_uses d done f) (part_makes d done f) (has (read_by d.workflow j.0) f) (has (written_by d.workflow j.0) f) (ap (λ (xs : List ℕ). has xs f) (sym (inputs_are d p draft refined j.0)) ∙ k)
+        rest (inr k) = fresh_made (part_uses d done f) (part_makes d done f) (has (read_by d.workflow j.0) f) (has (written_by d.workflow j.0) f) (ap (λ (xs : List ℕ). has xs f) (sym (outputs_are d p draft refined j.0)) ∙ k)
 
-        low : (has seen f ≡ true) ⊎ (has (inputs p.jobs j.0) f ≡ true) → ((uses d done f || (has (read_by d.workflow j.0) f || false)) || (makes d done f || (has (written_by d.workflow j.0) f || false))) ≡ true
-        low (inl k) = shift (uses d done f) (makes d done f) (has (read_by d.workflow j.0) f) (has (written_by d.workflow j.0) f) (known f k)
+        low : (has seen f ≡ true) ⊎ (has (inputs p.jobs j.0) f ≡ true) → ((part_uses d done f || (has (read_by d.workflow j.0) f || false)) || (part_makes d done f || (has (written_by d.workflow j.0) f || false))) ≡ true
+        low (inl k) = shift (part_uses d done f) (part_makes d done f) (has (read_by d.workflow j.0) f) (has (written_by d.workflow j.0) f) (known f k)
         low (inr k) = rest (inl k)
 
-        top : (has (seen ++ inputs p.jobs j.0) f ≡ true) ⊎ (has (outputs p.jobs j.0) f ≡ true) → ((uses d done f || (has (read_by d.workflow j.0) f || false)) || (makes d done f || (has (written_by d.workflow j.0) f || false))) ≡ true
+        top : (has (seen ++ inputs p.jobs j.0) f ≡ true) ⊎ (has (outputs p.jobs j.0) f ≡ true) → ((part_uses d done f || (has (read_by d.workflow j.0) f || false)) || (part_makes d done f || (has (written_by d.workflow j.0) f || false))) ≡ true
         top (inl k) = low (either (has seen f) (has (inputs p.jobs j.0) f) (sym (list_any-append (λ y. nat_eq y f) seen (inputs p.jobs j.0)) ∙ k))
         top (inr k) = rest (inr k)

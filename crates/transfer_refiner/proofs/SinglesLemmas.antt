@@ -15,10 +15,10 @@ use Rattle.plan_request.specs.declared.request.PlanRequest.{PlanRequest}
 use Rattle.replica_catalog.specs.declared.catalog.Replica.{Replica}
 use Rattle.replica_catalog.specs.declared.catalog.ReplicaCatalog.{ReplicaCatalog}
 use Rattle.workflow_core.specs.declared.clusters.Clusters.{Clusters}
-use Rattle.transfer_refiner.specs.Draft.{Draft, planned, site_in, site_of}
-use Rattle.transfer_refiner.specs.Conditions.{IsDraft, IsOnce, IsOrdered, leads}
+use Rattle.transfer_refiner.specs.Draft.{Draft, planned, number_of_site, site_of}
+use Rattle.transfer_refiner.specs.code.Conditions.{IsDraft, IsOnce, IsOrdered, leads}
 use Rattle.transfer_refiner.specs.Tasks.{part_of}
-use Rattle.transfer_refiner.specs.Singles.{ArePlaced, single, singles}
+use Rattle.transfer_refiner.specs.code.Singles.{ArePlaced, single, singles}
 use Rattle.transfer_refiner.proofs.SitesLemmas.{few_sites, site_names}
 use Rattle.transfer_refiner.proofs.LookupLemmas.{list_at, list_none}
 use Rattle.plan_core.proofs.TestLemmas.{both, or_left, or_right, same_number}
@@ -181,7 +181,7 @@ has_site w js sites rs r p c l = by (part_is js c)
     by (One j e k) =
         let s = (p.placed c j e).0 in
         let is : slice_get sites j.0 ≡ Some (Some s) = (p.placed c j e).1 in
-        let small : site_in (slice_get sites j.0) < length r.execute = subst (λ (o : Option (Option SiteId)). site_in o < length r.execute) (sym is) (p.sites_below j.0 s is) in
+        let small : number_of_site (slice_get sites j.0) < length r.execute = subst (λ (o : Option (Option SiteId)). number_of_site o < length r.execute) (sym is) (p.sites_below j.0 s is) in
         subst (λ (xs : List JobId). site_of d xs < length r.execute) (sym k) small
 
 one_part_each : (w : Workflow) (js : List JobId) (sites : List (Option SiteId)) (r : PlanRequest) → ArePlaced w r sites js → (a b j : ℕ) → Holds js a j → Holds js b j → a ≡ b

@@ -6,12 +6,12 @@ use Rattle.std.specs.Cmp.Lexicographic.{bytes_decides}
 use Rattle.std.specs.Str.{bytes_eq}
 use Rattle.std.proofs.lemmas.List.Folds.{list_any-append}
 use Rattle.peg_json.specs.Tree.{◌>>=◌}
-use Rattle.peg_json.specs.Duplicates.{first_repeat, refused}
+use Rattle.peg_json.specs.Elements.{first_repeat, refused}
 use Rattle.peg_json.specs.declared.read_fault.Counted.TheVariants.{Sites}
 use Rattle.peg_json.specs.declared.read_fault.ReadFault.{ReadFault}
 use Rattle.peg_json.specs.declared.read_fault.ReadFault.TheVariants.{DuplicateSite, TooMany}
 use Rattle.plan_request.specs.declared.request.Execution.{Execution}
-use Rattle.plan_request.specs.Reader.{execute_checked}
+use Rattle.plan_request.specs.Request.{execute_checked}
 use Rattle.plan_core.proofs.TestLemmas.{or_left, or_right}
 
 any_more : {X : Type 0} (test : X → Bool) (xs : List X) (x : X) → list_any test (xs ++ x ∷ []) ≡ (list_any test xs || test x)

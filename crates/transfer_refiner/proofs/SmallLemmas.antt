@@ -6,8 +6,8 @@ use Rattle.std.specs.Map.{lookup}
 use Rattle.std.specs.Option.{option_or}
 use Rattle.std.specs.Str.{bytes_eq}
 use Rattle.std.proofs.lemmas.List.{length-map}
-use Rattle.workflow_core.specs.WellFormed.{IsSmallSize}
-use Rattle.plan_request.specs.Limits.{IsSmallDefault, IsWithinLimits}
+use Rattle.workflow_core.specs.code.WellFormed.{IsSmallSize}
+use Rattle.plan_request.specs.code.Limits.{IsSmallDefault, IsWithinLimits}
 use Rattle.plan_request.specs.FileSizes.{declared_size, declared_sizes, named_size}
 use Rattle.plan_request.specs.declared.request.PlanRequest.{PlanRequest}
 use Rattle.plan_request.specs.declared.request.SizeOf.{SizeOf}
@@ -16,7 +16,7 @@ use Rattle.plan_core.specs.declared.plan.PlanFile.{PlanFile}
 use Rattle.plan_core.specs.Numbers.{below}
 use Rattle.plan_core.specs.Words.{declared, declared_in, is_clean, kind}
 use Rattle.transfer_refiner.specs.Draft.{Draft}
-use Rattle.transfer_refiner.specs.Conditions.{IsDraft}
+use Rattle.transfer_refiner.specs.code.Conditions.{IsDraft}
 use Rattle.transfer_refiner.specs.Tasks.{count_files, planned_file, planned_site}
 use Rattle.transfer_refiner.specs.Refined.{IsRefined}
 use Rattle.transfer_refiner.proofs.TogetherLemmas.{below_short, no_cleans}

@@ -5,18 +5,18 @@ use Rattle.std.specs.List.{list_any}
 use Rattle.std.proofs.lemmas.Option.{get_or_from_slice_get, slice_get_within}
 use Rattle.values.specs.declared.numbers.JobId.{JobId}
 use Rattle.plan_core.proofs.TestLemmas.{same_number, is_itself, both, and_both, either, or_left, or_right, not_true}
-use Rattle.transfer_refiner.specs.Draft.{Draft, uses, makes, needs, site_of, made_at, needed_at, moves, stands, home, home_among}
-use Rattle.transfer_refiner.specs.Tasks.{count_files, count_sites}
-use Rattle.transfer_refiner.specs.Conditions.{IsDraft}
+use Rattle.transfer_refiner.specs.Draft.{Draft, part_uses, part_makes, part_needs, site_of, made_at, needed_at, moves, stands, home, home_among}
+use Rattle.transfer_refiner.specs.Tasks.{count_files, count_execution_sites}
+use Rattle.transfer_refiner.specs.code.Conditions.{IsDraft}
 use Rattle.transfer_refiner.proofs.SliceLemmas.{place_of_any, any_at_place}
 use Rattle.transfer_refiner.proofs.JobsLemmas.{used_below, made_below}
 
 -- a file at a site, both in range
 pub record IsWithin (d : Draft) (s f : ℕ) : Type 0 where
   pub file : f < count_files d
-  pub site : s < count_sites d
+  pub site : s < count_execution_sites d
 
-pub site_in_range : (d : Draft) → IsDraft d → (c s : ℕ) (js : List JobId) → slice_get d.parts c ≡ Some js → site_of d js ≡ s → s < count_sites d
+pub site_in_range : (d : Draft) → IsDraft d → (c s : ℕ) (js : List JobId) → slice_get d.parts c ≡ Some js → site_of d js ≡ s → s < count_execution_sites d
 site_in_range d draft c s js e h =
     let is : slice_index_or d.parts c [] ≡ js = get_or_from_slice_get d.parts c js [] e in
     let low : site_of d (slice_index_or d.parts c []) < length d.request.execute = draft.site_below c (slice_get_within d.parts c js e) in
@@ -41,10 +41,10 @@ pub at_part : (d : Draft) (s : ℕ) (test : List JobId → Bool) (c : ℕ) (js :
 at_part d s test c js e h k = any_at_place (λ (js : List JobId). nat_eq (site_of d js) s && test js) d.parts c js e (and_both (nat_eq (site_of d js) s) (test js) h k)
 
 pub made_within : (d : Draft) → IsDraft d → (s f : ℕ) → made_at d s f ≡ true → IsWithin d s f
-made_within d draft s f h = let part = part_at d s (λ js. makes d js f) h in record { file = made_below d draft part.js f part.passes; site = site_in_range d draft part.c s part.js part.at part.site }
+made_within d draft s f h = let part = part_at d s (λ js. part_makes d js f) h in record { file = made_below d draft part.js f part.passes; site = site_in_range d draft part.c s part.js part.at part.site }
 
 pub needed_within : (d : Draft) → IsDraft d → (s f : ℕ) → needed_at d s f ≡ true → IsWithin d s f
-needed_within d draft s f h = let part = part_at d s (λ js. needs d js f) h in record { file = used_below d draft part.js f (both (uses d part.js f) (not (makes d part.js f)) part.passes).0; site = site_in_range d draft part.c s part.js part.at part.site }
+needed_within d draft s f h = let part = part_at d s (λ js. part_needs d js f) h in record { file = used_below d draft part.js f (both (part_uses d part.js f) (not (part_makes d part.js f)) part.passes).0; site = site_in_range d draft part.c s part.js part.at part.site }
 
 pub stands_within : (d : Draft) → IsDraft d → (s f : ℕ) → stands d s f ≡ true → IsWithin d s f
 unfolding stands
@@ -67,28 +67,28 @@ unfolding moves
 moved_needed d f s h = let parts = both (needed_at d s f) (not (made_at d s f)) h in (parts.0, not_true (made_at d s f) parts.1)
 
 -- where the file is made
-home_at : (d : Draft) (parts : List (List JobId)) (f a : ℕ) → home_among d parts f ≡ Some a → list_any (λ (js : List JobId). nat_eq (site_of d js) a && makes d js f) parts ≡ true
+home_at : (d : Draft) (parts : List (List JobId)) (f a : ℕ) → home_among d parts f ≡ Some a → list_any (λ (js : List JobId). nat_eq (site_of d js) a && part_makes d js f) parts ≡ true
 home_at d [] f a h = absurd cc
-home_at d (js ∷ parts) f a h = by (makes d js f) refl h (λ k. home_at d parts f a k)
+home_at d (js ∷ parts) f a h = by (part_makes d js f) refl h (λ k. home_at d parts f a k)
   where
-    by : (b : Bool) → makes d js f ≡ b → cond b (Some (site_of d js)) (home_among d parts f) ≡ Some a → (home_among d parts f ≡ Some a → list_any (λ (js : List JobId). nat_eq (site_of d js) a && makes d js f) parts ≡ true) → ((nat_eq (site_of d js) a && makes d js f) || list_any (λ (js : List JobId). nat_eq (site_of d js) a && makes d js f) parts) ≡ true
+    by : (b : Bool) → part_makes d js f ≡ b → cond b (Some (site_of d js)) (home_among d parts f) ≡ Some a → (home_among d parts f ≡ Some a → list_any (λ (js : List JobId). nat_eq (site_of d js) a && part_makes d js f) parts ≡ true) → ((nat_eq (site_of d js) a && part_makes d js f) || list_any (λ (js : List JobId). nat_eq (site_of d js) a && part_makes d js f) parts) ≡ true
     by true e k rest =
         let same : site_of d js ≡ a = cc in
-        or_left (nat_eq (site_of d js) a && makes d js f) (list_any (λ (js : List JobId). nat_eq (site_of d js) a && makes d js f) parts) (and_both (nat_eq (site_of d js) a) (makes d js f) (ap (λ (n : ℕ). nat_eq n a) same ∙ is_itself a) e)
-    by false e k rest = or_right (nat_eq (site_of d js) a && makes d js f) (list_any (λ (js : List JobId). nat_eq (site_of d js) a && makes d js f) parts) (rest k)
+        or_left (nat_eq (site_of d js) a && part_makes d js f) (list_any (λ (js : List JobId). nat_eq (site_of d js) a && part_makes d js f) parts) (and_both (nat_eq (site_of d js) a) (part_makes d js f) (ap (λ (n : ℕ). nat_eq n a) same ∙ is_itself a) e)
+    by false e k rest = or_right (nat_eq (site_of d js) a && part_makes d js f) (list_any (λ (js : List JobId). nat_eq (site_of d js) a && part_makes d js f) parts) (rest k)
 
 pub home_made : (d : Draft) (f a : ℕ) → home d f ≡ Some a → made_at d a f ≡ true
 unfolding home
 home_made d f a h = home_at d d.parts f a h
 
-home_none_at : (d : Draft) (parts : List (List JobId)) (f : ℕ) → home_among d parts f ≡ None → list_any (λ (js : List JobId). makes d js f) parts ≡ false
+home_none_at : (d : Draft) (parts : List (List JobId)) (f : ℕ) → home_among d parts f ≡ None → list_any (λ (js : List JobId). part_makes d js f) parts ≡ false
 home_none_at d [] f h = refl
-home_none_at d (js ∷ parts) f h = by (makes d js f) refl h (λ k. home_none_at d parts f k)
+home_none_at d (js ∷ parts) f h = by (part_makes d js f) refl h (λ k. home_none_at d parts f k)
   where
-    by : (b : Bool) → makes d js f ≡ b → cond b (Some (site_of d js)) (home_among d parts f) ≡ None → (home_among d parts f ≡ None → list_any (λ (js : List JobId). makes d js f) parts ≡ false) → (b || list_any (λ (js : List JobId). makes d js f) parts) ≡ false
+    by : (b : Bool) → part_makes d js f ≡ b → cond b (Some (site_of d js)) (home_among d parts f) ≡ None → (home_among d parts f ≡ None → list_any (λ (js : List JobId). part_makes d js f) parts ≡ false) → (b || list_any (λ (js : List JobId). part_makes d js f) parts) ≡ false
     by true e k rest = absurd cc
     by false e k rest = rest k
 
-pub home_none : (d : Draft) (f : ℕ) → home d f ≡ None → list_any (λ (js : List JobId). makes d js f) d.parts ≡ false
+pub home_none : (d : Draft) (f : ℕ) → home d f ≡ None → list_any (λ (js : List JobId). part_makes d js f) d.parts ≡ false
 unfolding home
 home_none d f h = home_none_at d d.parts f h

@@ -10,7 +10,7 @@ use Rattle.values.specs.declared.numbers.FileId.{FileId}
 use Rattle.values.specs.declared.numbers.JobId.{JobId}
 use Rattle.values.specs.declared.numbers.SiteId.{SiteId}
 use Rattle.workflow_core.specs.declared.workflow.Job.{Job}
-use Rattle.workflow_core.specs.WellFormed.{are_new}
+use Rattle.workflow_core.specs.code.WellFormed.{are_new}
 use Rattle.dependency_graph.specs.Edges.{read_by, written_by}
 use Rattle.plan_request.specs.declared.request.Execution.{Execution}
 use Rattle.plan_request.specs.declared.request.ToolOf.{ToolOf}
@@ -23,10 +23,11 @@ use Rattle.plan_core.specs.declared.plan.Task.{Task}
 use Rattle.plan_core.specs.declared.plan.TaskKind.{TaskKind}
 use Rattle.plan_core.specs.Numbers.{has, below}
 use Rattle.plan_core.specs.Words.{kind, kind_in, inputs_in, outputs_in, inputs, outputs, file_numbers, job_numbers}
-use Rattle.plan_core.specs.Proper.{is_site_below, are_files_below, are_jobs_below, is_source_below, is_pair_in_range, is_job_in_range, is_kind_in_range, IsInRange, is_before, rise_after, are_rising, HasTables}
-use Rattle.transfer_refiner.specs.Draft.{Draft, site_of, stands, home, pfns_of, chosen, first_of, name_of}
-use Rattle.transfer_refiner.specs.Tasks.{count_files, count_sites, grid, source, pair_of, pairs_of, jobs_of, planned_site, planned_file, kinds_of, first_fault}
-use Rattle.transfer_refiner.specs.Conditions.{IsDraft}
+use Rattle.plan_core.specs.code.Proper.{is_site_below, are_files_below, are_jobs_below, is_source_below, is_pair_in_range, is_job_in_range, is_kind_in_range, IsInRange, is_before, rise_after, are_rising, HasTables}
+use Rattle.transfer_refiner.specs.Draft.{Draft, site_of, stands, home, pfns_of, chosen, first_pfn, draft_file_name}
+use Rattle.transfer_refiner.specs.Tasks.{count_files, count_execution_sites, grid, source, pair_of, pairs_of, jobs_of, planned_site, planned_file, kinds_of}
+use Rattle.transfer_refiner.specs.code.Tasks.{first_fault}
+use Rattle.transfer_refiner.specs.code.Conditions.{IsDraft}
 use Rattle.transfer_refiner.specs.Refined.{IsRefined}
 use Rattle.plan_core.proofs.TestLemmas.{is_itself, both, and_both, not_true, or_left, or_right}
 use Rattle.transfer_refiner.proofs.SliceLemmas.{place_map, map_place, grid_place, any_at_place}
@@ -60,7 +61,7 @@ count_jobs_is d p draft refined = ap length refined.jobs ∙ jobs_long d.request
 pub count_files_is : (d : Draft) (p : Plan) → IsRefined d p → length p.files ≡ count_files d
 count_files_is d p refined = ap length refined.files ∙ length-map (below (count_files d) (λ f. true)) (planned_file d) ∙ all_long (count_files d)
 
-pub count_sites_is : (d : Draft) (p : Plan) → IsRefined d p → length p.sites ≡ count_sites d
+pub count_sites_is : (d : Draft) (p : Plan) → IsRefined d p → length p.sites ≡ count_execution_sites d
 count_sites_is d p refined = ap length refined.sites ∙ length-map d.request.execute planned_site
 
 low_true : (a b : ℕ) → a < b → nat_lt a b ≡ true
@@ -70,18 +71,18 @@ all_listed : {A : Type 0} (test : A → Bool) (xs : List A) → ((i : ℕ) (x : 
 all_listed test [] h = refl
 all_listed test (x ∷ xs) h = and_both (test x) (list_all test xs) (h 0 x refl) (all_listed test xs (λ i y e. h (suc i) y e))
 
-source_below : (d : Draft) → IsDraft d → (n g : ℕ) (x : List ℕ) → n ≡ count_sites d → is_source_below n (source (home d g) x) ≡ true
+source_below : (d : Draft) → IsDraft d → (n g : ℕ) (x : List ℕ) → n ≡ count_execution_sites d → is_source_below n (source (home d g) x) ≡ true
 source_below d draft n g x e = by (home d g) refl
   where
     by : (o : Option ℕ) → home d g ≡ o → is_source_below n (source o x) ≡ true
     by None h = refl
-    by (Some a) h = low_true a n (let l : a < count_sites d = (made_within d draft a g (home_made d g a h)).site in omega arith)
+    by (Some a) h = low_true a n (let l : a < count_execution_sites d = (made_within d draft a g (home_made d g a h)).site in omega arith)
 
 kind_in_range : (d : Draft) (p : Plan) → IsDraft d → IsRefined d p → (t : ℕ) (k : TaskKind) → Sort d t k → is_kind_in_range p k ≡ true
 kind_in_range d p draft refined t k (a_run js at is) =
     ap (is_kind_in_range p) (sym is)
     ∙ and_both (nat_lt (site_of d js) (length p.sites)) (are_jobs_below (length p.jobs) js)
-    (low_true (site_of d js) (length p.sites) (let l : site_of d js < count_sites d = site_in_range d draft t (site_of d js) js at refl in omega (arith, l, count_sites_is d p refined)))
+    (low_true (site_of d js) (length p.sites) (let l : site_of d js < count_execution_sites d = site_in_range d draft t (site_of d js) js at refl in omega (arith, l, count_sites_is d p refined)))
     (all_listed (λ (j : JobId). nat_lt j.0 (length p.jobs)) js (λ i j e. low_true j.0 (length p.jobs) (
     let there : has (job_numbers js) j.0 ≡ true = any_at_place (λ y. nat_eq y j.0) (job_numbers js) i j.0 (map_place (λ (x : JobId). x.0) js i j e) (is_itself j.0) in
     let l : j.0 < length d.workflow.jobs = draft.jobs_below t j.0 (ap (λ (ns : List ℕ). has ns j.0) (in_part d t js at) ∙ there) in omega (arith, l, count_jobs_is d p draft refined))))
@@ -91,14 +92,14 @@ kind_in_range d p draft refined t k (a_transfer g s i l m moved is there place) 
     (and_both (is_source_below (length p.sites) (source (home d g) (chosen d g s))) (nat_lt s (length p.sites)) (source_below d draft (length p.sites) g (chosen d g s) (count_sites_is d p refined)) (low_true s (length p.sites) (omega (arith, m, count_sites_is d p refined))))
 kind_in_range d p draft refined t k (a_delivery g i l asked is there placed) =
     ap (is_kind_in_range p) (sym is)
-    ∙ and_both (nat_lt g (length p.files)) (is_source_below (length p.sites) (source (home d g) (first_of (pfns_of d g))) && true) (low_true g (length p.files) (omega (arith, l, count_files_is d p refined)))
-    (and_both (is_source_below (length p.sites) (source (home d g) (first_of (pfns_of d g)))) true (source_below d draft (length p.sites) g (first_of (pfns_of d g)) (count_sites_is d p refined)) refl)
+    ∙ and_both (nat_lt g (length p.files)) (is_source_below (length p.sites) (source (home d g) (first_pfn (pfns_of d g))) && true) (low_true g (length p.files) (omega (arith, l, count_files_is d p refined)))
+    (and_both (is_source_below (length p.sites) (source (home d g) (first_pfn (pfns_of d g)))) true (source_below d draft (length p.sites) g (first_pfn (pfns_of d g)) (count_sites_is d p refined)) refl)
 
 pair_in_range : (d : Draft) (p : Plan) → IsDraft d → IsRefined d p → (i : ℕ) (q : Pair) → slice_get p.pairs i ≡ Some q → is_pair_in_range p q ≡ true
 unfolding pairs_of
 pair_in_range d p draft refined i q e =
-    let found = place_map pair_of (grid (count_sites d) (count_files d) (stands d)) i q (ap (λ (qs : List Pair). slice_get qs i) (sym refined.pairs) ∙ e) in
-    let is = grid_place (count_sites d) (count_files d) (stands d) i found.0 found.1 in
+    let found = place_map pair_of (grid (count_execution_sites d) (count_files d) (stands d)) i q (ap (λ (qs : List Pair). slice_get qs i) (sym refined.pairs) ∙ e) in
+    let is = grid_place (count_execution_sites d) (count_files d) (stands d) i found.0 found.1 in
     let one : found.0.0 ≡ q.site.0 = ap (λ (x : Pair). x.site.0) found.2 in
     let two : found.0.1 ≡ q.file.0 = ap (λ (x : Pair). x.file.0) found.2 in
     and_both (nat_lt q.site.0 (length p.sites)) (nat_lt q.file.0 (length p.files)) (low_true q.site.0 (length p.sites) (omega (arith, is.0, one, count_sites_is d p refined))) (low_true q.file.0 (length p.files) (omega (arith, is.1, two, count_files_is d p refined)))
@@ -169,9 +170,9 @@ site_names_are : (es : List Execution) → map (λ (s : PlanSite). s.name) (map 
 site_names_are [] = refl
 site_names_are (e ∷ es) = ap (λ (ns : List (List ℕ)). e.site ∷ ns) (site_names_are es)
 
-file_names_of : (d : Draft) (ns : List ℕ) → map (λ (f : PlanFile). f.lfn) (map (planned_file d) ns) ≡ map (name_of d) ns
+file_names_of : (d : Draft) (ns : List ℕ) → map (λ (f : PlanFile). f.lfn) (map (planned_file d) ns) ≡ map (draft_file_name d) ns
 file_names_of d [] = refl
-file_names_of d (n ∷ ns) = ap (λ (xs : List (List ℕ)). name_of d n ∷ xs) (file_names_of d ns)
+file_names_of d (n ∷ ns) = ap (λ (xs : List (List ℕ)). draft_file_name d n ∷ xs) (file_names_of d ns)
 
 take_all : {A : Type 0} (xs : List A) (n : ℕ) → n ≡ length xs → take n xs ≡ xs
 take_all [] zero e = refl
@@ -206,10 +207,10 @@ rising_of (q ∷ qs) h = rise_from q qs h
 pairs_rise : (d : Draft) (p : Plan) → IsRefined d p → are_rising p.pairs ≡ true
 unfolding pairs_of
 pairs_rise d p refined = rising_of p.pairs (λ i j x y l e f.
-    let one = place_map pair_of (grid (count_sites d) (count_files d) (stands d)) i x (ap (λ (qs : List Pair). slice_get qs i) (sym refined.pairs) ∙ e) in
-    let two = place_map pair_of (grid (count_sites d) (count_files d) (stands d)) j y (ap (λ (qs : List Pair). slice_get qs j) (sym refined.pairs) ∙ f) in
+    let one = place_map pair_of (grid (count_execution_sites d) (count_files d) (stands d)) i x (ap (λ (qs : List Pair). slice_get qs i) (sym refined.pairs) ∙ e) in
+    let two = place_map pair_of (grid (count_execution_sites d) (count_files d) (stands d)) j y (ap (λ (qs : List Pair). slice_get qs j) (sym refined.pairs) ∙ f) in
     ap (λ (z : Pair). is_before z y) (sym one.2) ∙ ap (is_before (pair_of one.0)) (sym two.2)
-    ∙ by one.0 two.0 (grid_rises (count_sites d) (count_files d) (stands d) i j one.0 two.0 l one.1 two.1))
+    ∙ by one.0 two.0 (grid_rises (count_execution_sites d) (count_files d) (stands d) i j one.0 two.0 l one.1 two.1))
   where
     by : (x y : ℕ × ℕ) → IsBefore x.0 x.1 y.0 y.1 → is_before (pair_of x) (pair_of y) ≡ true
     by x y (inl l) = or_left (nat_lt x.0 y.0) (nat_eq x.0 y.0 && nat_lt x.1 y.1) (low_true x.0 y.0 l)

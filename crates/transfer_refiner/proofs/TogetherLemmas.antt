@@ -15,15 +15,18 @@ use Rattle.plan_core.specs.declared.plan.Task.{Task}
 use Rattle.plan_core.specs.declared.plan.TaskKind.{TaskKind}
 use Rattle.plan_core.specs.Kinds.{on_pair, kind_reads, kind_writes, sweeps, task_waits, waits_for}
 use Rattle.plan_core.specs.Numbers.{has, below, least, or_else}
-use Rattle.plan_core.specs.Words.{count_pairs, count_tasks, is_clean_kind, kind_in, reads_in, writes_in, kind, reads, writes, parents, pair_at}
+use Rattle.plan_core.specs.Words.{count_pairs, count_tasks, is_clean_kind, kind_in, reads_in, writes_in, kind, reads, writes, parents}
+use Rattle.plan_core.specs.code.Words.{pair_at}
 use Rattle.transfer_refiner.specs.declared.fault.RefineFault.{RefineFault}
 use Rattle.transfer_refiner.specs.declared.fault.RefineFault.TheVariants.{NoReplica, NoSize, TooMany, Memory}
-use Rattle.transfer_refiner.specs.Draft.{Draft, moves, stands, name_of, declared_of}
-use Rattle.transfer_refiner.specs.Tasks.{comes_after, count_all, count_cleans, count_files, count_sites, delivery, files_of, first_fault, grid, jobs_of, is_made, kinds_of, lacks_replica, lacks_size, pair_of, pairs_of, planned_site, run, too_many, transfer, used}
-use Rattle.transfer_refiner.specs.Conditions.{IsDraft}
-use Rattle.transfer_refiner.specs.Refined.{IsRefined, Refines}
-use Rattle.transfer_refiner.specs.Places.{AreOnce}
-use Rattle.transfer_refiner.specs.Steps.{IsListed, AreParented, AreTasks}
+use Rattle.transfer_refiner.specs.Draft.{Draft, moves, stands, draft_file_name, declared_of}
+use Rattle.transfer_refiner.specs.Tasks.{comes_after, count_files, count_execution_sites, delivery, plan_files, grid, jobs_of, kinds_of, pair_of, pairs_of, planned_site, run, transfer}
+use Rattle.transfer_refiner.specs.code.Tasks.{count_all, count_cleans, first_fault, is_made, lacks_replica, lacks_size, too_many, used}
+use Rattle.transfer_refiner.specs.code.Conditions.{IsDraft}
+use Rattle.transfer_refiner.specs.Refined.{IsRefined}
+use Rattle.transfer_refiner.specs.code.Refined.{Refines}
+use Rattle.transfer_refiner.specs.code.Places.{AreOnce}
+use Rattle.transfer_refiner.specs.code.Steps.{IsListed, AreParented, AreTasks}
 use Rattle.plan_core.proofs.TestLemmas.{same_number, and_both, both, by_bool}
 use Rattle.plan_core.proofs.NumbersLemmas.{below_has, none_least, same_below}
 use Rattle.transfer_refiner.proofs.SliceLemmas.{any_at_place, map_place, place_map, slice_get_there}
@@ -83,7 +86,7 @@ tasks_are d jobs pairs bare ts later kinds_are listed pairs_are are stated = rec
     below_old : (t : ℕ) → t < length ts → t < length bare
     below_old t l = let e : length ts ≡ length bare = are.long in omega arith
 
-pub refined_of : (d : Draft) (p : Plan) → p.workflow ≡ d.workflow.name → p.policy ≡ d.request.policy → p.sites ≡ map planned_site d.request.execute → p.files ≡ files_of d → p.jobs ≡ jobs_of d.request.tools d.workflow.jobs d.sites → p.pairs ≡ pairs_of d → AreTasks d p.jobs p.tasks → IsRefined d p
+pub refined_of : (d : Draft) (p : Plan) → p.workflow ≡ d.workflow.name → p.policy ≡ d.request.policy → p.sites ≡ map planned_site d.request.execute → p.files ≡ plan_files d → p.jobs ≡ jobs_of d.request.tools d.workflow.jobs d.sites → p.pairs ≡ pairs_of d → AreTasks d p.jobs p.tasks → IsRefined d p
 unfolding kind reads writes parents waits_for
 refined_of d p workflow policy sites files jobs pairs are = record {
   workflow = workflow;
@@ -123,16 +126,16 @@ grid_short (suc m) n test =
 pub few_pairs : (d : Draft) (pairs : List Pair) → IsDraft d → pairs ≡ pairs_of d → length pairs ≤ 3200000
 unfolding pairs_of
 few_pairs d pairs draft is =
-    let same : length (map pair_of (grid (count_sites d) (count_files d) (stands d))) ≡ length (grid (count_sites d) (count_files d) (stands d)) = length-map (grid (count_sites d) (count_files d) (stands d)) pair_of in
-    let short : length (grid (count_sites d) (count_files d) (stands d)) ≤ count_sites d * count_files d = grid_short (count_sites d) (count_files d) (stands d) in
-    let product : count_sites d * count_files d ≤ count_sites d * 50000 = mul-le-mul_left (count_sites d) draft.formed.few_files in
+    let same : length (map pair_of (grid (count_execution_sites d) (count_files d) (stands d))) ≡ length (grid (count_execution_sites d) (count_files d) (stands d)) = length-map (grid (count_execution_sites d) (count_files d) (stands d)) pair_of in
+    let short : length (grid (count_execution_sites d) (count_files d) (stands d)) ≤ count_execution_sites d * count_files d = grid_short (count_execution_sites d) (count_files d) (stands d) in
+    let product : count_execution_sites d * count_files d ≤ count_execution_sites d * 50000 = mul-le-mul_left (count_execution_sites d) draft.formed.few_files in
     let sites : length d.request.execute ≤ 64 = draft.few_sites in
     omega (arith, ap length is, same, short, product, sites)
 
-pub few_moved : (d : Draft) (moved : List (ℕ × ℕ)) → IsDraft d → moved ≡ grid (count_files d) (count_sites d) (moves d) → length moved ≤ 3200000
+pub few_moved : (d : Draft) (moved : List (ℕ × ℕ)) → IsDraft d → moved ≡ grid (count_files d) (count_execution_sites d) (moves d) → length moved ≤ 3200000
 few_moved d moved draft is =
-    let short : length (grid (count_files d) (count_sites d) (moves d)) ≤ count_files d * count_sites d = grid_short (count_files d) (count_sites d) (moves d) in
-    let product : count_files d * count_sites d ≤ count_files d * 64 = mul-le-mul_left (count_files d) draft.few_sites in
+    let short : length (grid (count_files d) (count_execution_sites d) (moves d)) ≤ count_files d * count_execution_sites d = grid_short (count_files d) (count_execution_sites d) (moves d) in
+    let product : count_files d * count_execution_sites d ≤ count_files d * 64 = mul-le-mul_left (count_files d) draft.few_sites in
     let files : length d.workflow.files ≤ 50000 = draft.formed.few_files in
     omega (arith, ap length is, short, product, files)
 
@@ -142,30 +145,30 @@ few_requested d fs draft is =
     let files : length d.workflow.files ≤ 50000 = draft.formed.few_files in
     omega (arith, ap length is, short, files)
 
-pub kinds_long : (d : Draft) (moved : List (ℕ × ℕ)) (fs : List ℕ) → moved ≡ grid (count_files d) (count_sites d) (moves d) → fs ≡ below (count_files d) (is_requested d.workflow) → length d.parts + (length moved + length fs) ≡ length (kinds_of d)
+pub kinds_long : (d : Draft) (moved : List (ℕ × ℕ)) (fs : List ℕ) → moved ≡ grid (count_files d) (count_execution_sites d) (moves d) → fs ≡ below (count_files d) (is_requested d.workflow) → length d.parts + (length moved + length fs) ≡ length (kinds_of d)
 unfolding kinds_of
 kinds_long d moved fs m r =
     let one = map (run d) d.parts in
-    let two = map (transfer d) (grid (count_files d) (count_sites d) (moves d)) in
+    let two = map (transfer d) (grid (count_files d) (count_execution_sites d) (moves d)) in
     let three = map (delivery d) (below (count_files d) (is_requested d.workflow)) in
-    omega (arith, length-append one (two ++ three), length-append two three, length-map d.parts (run d), length-map (grid (count_files d) (count_sites d) (moves d)) (transfer d), length-map (below (count_files d) (is_requested d.workflow)) (delivery d), ap length m, ap length r)
+    omega (arith, length-append one (two ++ three), length-append two three, length-map d.parts (run d), length-map (grid (count_files d) (count_execution_sites d) (moves d)) (transfer d), length-map (below (count_files d) (is_requested d.workflow)) (delivery d), ap length m, ap length r)
 
 -- ---- what the steps ask
 
 pub pairs_once : (d : Draft) (pairs : List Pair) → pairs ≡ pairs_of d → AreOnce pairs
 unfolding pairs_of
-pairs_once d pairs is q r s f h k = grid_once (count_sites d) (count_files d) (stands d) q r (s, f) (at q h) (at r k)
+pairs_once d pairs is q r s f h k = grid_once (count_execution_sites d) (count_files d) (stands d) q r (s, f) (at q h) (at r k)
   where
-    by : (q : ℕ) (o : Option Pair) → slice_get pairs q ≡ o → pair_at o s f ≡ true → slice_get (grid (count_sites d) (count_files d) (stands d)) q ≡ Some (s, f)
+    by : (q : ℕ) (o : Option Pair) → slice_get pairs q ≡ o → pair_at o s f ≡ true → slice_get (grid (count_execution_sites d) (count_files d) (stands d)) q ≡ Some (s, f)
     by q None e g = absurd cc
     by q (Some x) e g =
-        let found = place_map pair_of (grid (count_sites d) (count_files d) (stands d)) q x (ap (λ (qs : List Pair). slice_get qs q) (sym is) ∙ e) in
+        let found = place_map pair_of (grid (count_execution_sites d) (count_files d) (stands d)) q x (ap (λ (qs : List Pair). slice_get qs q) (sym is) ∙ e) in
         let parts = both (nat_eq x.site.0 s) (nat_eq x.file.0 f) g in
         let one : found.0.0 ≡ s = ap (λ (y : Pair). y.site.0) found.2 ∙ same_number x.site.0 s parts.0 in
         let two : found.0.1 ≡ f = ap (λ (y : Pair). y.file.0) found.2 ∙ same_number x.file.0 f parts.1 in
         found.1 ∙ ap (λ (n : ℕ). Some (n, found.0.1)) one ∙ ap (λ (n : ℕ). Some (s, n)) two
 
-    at : (q : ℕ) → pair_at (slice_get pairs q) s f ≡ true → slice_get (grid (count_sites d) (count_files d) (stands d)) q ≡ Some (s, f)
+    at : (q : ℕ) → pair_at (slice_get pairs q) s f ≡ true → slice_get (grid (count_execution_sites d) (count_files d) (stands d)) q ≡ Some (s, f)
     at q g = by q (slice_get pairs q) refl g
 
 pub written_low : (jobs : List PlanJob) (pairs : List Pair) (bare : List Task) → All (IsListed jobs pairs) bare → (t q : ℕ) → has (writes_in (slice_get bare t)) q ≡ true → q < length pairs
@@ -181,12 +184,12 @@ unfolding kinds_of
 none_cleans d =
     let test : TaskKind → Bool = λ k. is_clean_kind (Some k) in
     let one = map (run d) d.parts in
-    let two = map (transfer d) (grid (count_files d) (count_sites d) (moves d)) in
+    let two = map (transfer d) (grid (count_files d) (count_execution_sites d) (moves d)) in
     let three = map (delivery d) (below (count_files d) (is_requested d.workflow)) in
     list_any-append test one (two ++ three)
     ∙ ap (λ (b : Bool). b || list_any test (two ++ three)) (map_none (run d) (λ x. refl) d.parts)
     ∙ list_any-append test two three
-    ∙ ap (λ (b : Bool). b || list_any test three) (map_none (transfer d) (λ x. refl) (grid (count_files d) (count_sites d) (moves d)))
+    ∙ ap (λ (b : Bool). b || list_any test three) (map_none (transfer d) (λ x. refl) (grid (count_files d) (count_execution_sites d) (moves d)))
     ∙ map_none (delivery d) (λ x. refl) (below (count_files d) (is_requested d.workflow))
 
 pub no_cleans : (d : Draft) (bare : List Task) → map (λ (t : Task). t.kind) bare ≡ kinds_of d → (u : ℕ) → is_clean_kind (kind_in (slice_get bare u)) ≡ false
@@ -203,7 +206,7 @@ no_cleans d bare is u = by (slice_get bare u) refl
 pub stated_low : (d : Draft) (bare : List Task) (e : ℕ → ℕ → Bool) → map (λ (t : Task). t.kind) bare ≡ kinds_of d → ((u t : ℕ) → e u t ≡ comes_after d t u) → (u v : ℕ) → e u v ≡ true → u < length bare
 stated_low d bare e is are u v h =
     let low : u < length d.parts = (after_within d u v (sym (are u v) ∙ h)).0 in
-    let long : length d.parts + (length (grid (count_files d) (count_sites d) (moves d)) + length (below (count_files d) (is_requested d.workflow))) ≡ length (kinds_of d) = kinds_long d (grid (count_files d) (count_sites d) (moves d)) (below (count_files d) (is_requested d.workflow)) refl refl in
+    let long : length d.parts + (length (grid (count_files d) (count_execution_sites d) (moves d)) + length (below (count_files d) (is_requested d.workflow))) ≡ length (kinds_of d) = kinds_long d (grid (count_files d) (count_execution_sites d) (moves d)) (below (count_files d) (is_requested d.workflow)) refl refl in
     let same : length (map (λ (t : Task). t.kind) bare) ≡ length bare = length-map bare (λ (t : Task). t.kind) in
     omega (arith, low, long, same, ap length is)
 
@@ -233,8 +236,8 @@ all_small : (d : Draft) (limit : ℕ) → first_fault d limit ≡ None → count
 unfolding first_fault
 all_small d limit e =
     not_many (count_all d) limit
-    (or_second (option_map (λ f. NoSize (name_of d f)) (least (count_files d) (lacks_size d))) (too_many (count_all d) limit)
-    (or_second (option_map (λ f. NoReplica (name_of d f)) (least (count_files d) (lacks_replica d))) (or_else (option_map (λ f. NoSize (name_of d f)) (least (count_files d) (lacks_size d))) (too_many (count_all d) limit)) e))
+    (or_second (option_map (λ f. NoSize (draft_file_name d f)) (least (count_files d) (lacks_size d))) (too_many (count_all d) limit)
+    (or_second (option_map (λ f. NoReplica (draft_file_name d f)) (least (count_files d) (lacks_replica d))) (or_else (option_map (λ f. NoSize (draft_file_name d f)) (least (count_files d) (lacks_size d))) (too_many (count_all d) limit)) e))
 
 pub count_small : (d : Draft) (limit : ℕ) → first_fault d limit ≡ None → length (kinds_of d) ≤ limit
 unfolding count_all
@@ -272,9 +275,9 @@ pub no_size : (d : Draft) (limit : ℕ) → first_fault d limit ≡ None → (f 
 unfolding first_fault lacks_size
 no_size d limit e f l h =
     by (is_some (declared_of d f)) refl (none_least (count_files d) (lacks_size d)
-    (fault_none (least (count_files d) (lacks_size d)) (λ f. NoSize (name_of d f))
-    (or_first (option_map (λ f. NoSize (name_of d f)) (least (count_files d) (lacks_size d))) (too_many (count_all d) limit)
-    (or_second (option_map (λ f. NoReplica (name_of d f)) (least (count_files d) (lacks_replica d))) (or_else (option_map (λ f. NoSize (name_of d f)) (least (count_files d) (lacks_size d))) (too_many (count_all d) limit)) e))) f l)
+    (fault_none (least (count_files d) (lacks_size d)) (λ f. NoSize (draft_file_name d f))
+    (or_first (option_map (λ f. NoSize (draft_file_name d f)) (least (count_files d) (lacks_size d))) (too_many (count_all d) limit)
+    (or_second (option_map (λ f. NoReplica (draft_file_name d f)) (least (count_files d) (lacks_replica d))) (or_else (option_map (λ f. NoSize (draft_file_name d f)) (least (count_files d) (lacks_size d))) (too_many (count_all d) limit)) e))) f l)
   where
     by : (b : Bool) → is_some (declared_of d f) ≡ b → lacks_size d f ≡ false → is_some (declared_of d f) ≡ true
     by true g none = g

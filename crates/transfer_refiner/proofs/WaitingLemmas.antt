@@ -6,7 +6,7 @@ use Rattle.std.specs.Option.{unwrap_or}
 use Rattle.std.proofs.lemmas.Option.{slice_get_past, unwrap_or-slice_get}
 use Rattle.std.proofs.lemmas.Bool.{cases_lt}
 use Rattle.values.specs.declared.numbers.JobId.{JobId}
-use Rattle.workflow_core.specs.WellFormed.{before, after}
+use Rattle.workflow_core.specs.WellFormed.{parent_of, child_of}
 use Rattle.plan_core.specs.declared.plan.Plan.{Plan}
 use Rattle.plan_core.specs.declared.plan.Pair.{Pair}
 use Rattle.plan_core.specs.declared.plan.Task.{Task}
@@ -15,7 +15,7 @@ use Rattle.plan_core.specs.declared.plan.TaskKind.TheVariants.{Transfer, Run, Cl
 use Rattle.plan_core.specs.Numbers.{has, below}
 use Rattle.plan_core.specs.Words.{reads, writes, parents, reads_in, writes_in, parents_in, kind_in, kind, job_numbers, is_run, is_run_kind, count_tasks, count_pairs}
 use Rattle.plan_core.specs.Kinds.{on_pair, kind_reads, kind_writes, reads_file, writes_file, reads_pair, writes_pair, sweeps, task_waits, waits_for}
-use Rattle.plan_core.specs.Proper.{AreParents, is_parent}
+use Rattle.plan_core.specs.code.Proper.{AreParents, is_parent}
 use Rattle.plan_core.proofs.TestLemmas.{is_itself, both, either, or_left, or_right}
 use Rattle.plan_core.proofs.NumbersLemmas.{below_has, has_below, same_below}
 use Rattle.transfer_refiner.specs.Draft.{Draft}
@@ -114,15 +114,15 @@ pub record After (d : Draft) (t u : ℕ) : Type 0 where
   pub i : ℕ
   pub pair : JobId × JobId
   pub at : slice_get d.workflow.pairs i ≡ Some pair
-  pub first : has (part_of d u) (before pair) ≡ true
-  pub second : has (part_of d t) (after pair) ≡ true
+  pub first : has (part_of d u) (parent_of pair) ≡ true
+  pub second : has (part_of d t) (child_of pair) ≡ true
 
 pub after_pair : (d : Draft) (t u : ℕ) → comes_after d t u ≡ true → After d t u
 unfolding comes_after
 after_pair d t u h =
-    let split = both (not (nat_eq t u)) (list_any (λ (pair : JobId × JobId). has (part_of d u) (before pair) && has (part_of d t) (after pair)) d.workflow.pairs) h in
-    let found = place_of_any (λ (pair : JobId × JobId). has (part_of d u) (before pair) && has (part_of d t) (after pair)) d.workflow.pairs split.1 in
-    let ends = both (has (part_of d u) (before found.1)) (has (part_of d t) (after found.1)) found.3 in
+    let split = both (not (nat_eq t u)) (list_any (λ (pair : JobId × JobId). has (part_of d u) (parent_of pair) && has (part_of d t) (child_of pair)) d.workflow.pairs) h in
+    let found = place_of_any (λ (pair : JobId × JobId). has (part_of d u) (parent_of pair) && has (part_of d t) (child_of pair)) d.workflow.pairs split.1 in
+    let ends = both (has (part_of d u) (parent_of found.1)) (has (part_of d t) (child_of found.1)) found.3 in
     record { apart = not_true_is (nat_eq t u) split.0; i = found.0; pair = found.1; at = found.2; first = ends.0; second = ends.1 }
   where
     not_true_is : (b : Bool) → not b ≡ true → b ≡ false
@@ -144,7 +144,7 @@ are_parents d p refined t = by (cases_lt t (count_tasks p))
   where
     allowed : (u : ℕ) → (waits_for p t u ≡ true) ⊎ (comes_after d t u ≡ true) → (waits_for p t u || (is_run p t && is_run p u)) ≡ true
     allowed u (inl h) = or_left (waits_for p t u) (is_run p t && is_run p u) h
-    allowed u (inr h) = let is = after_pair d t u h in or_right (waits_for p t u) (is_run p t && is_run p u) (ap (λ (b : Bool). b && is_run p u) (part_runs d p refined t (after is.pair) is.second) ∙ part_runs d p refined u (before is.pair) is.first)
+    allowed u (inr h) = let is = after_pair d t u h in or_right (waits_for p t u) (is_run p t && is_run p u) (ap (λ (b : Bool). b && is_run p u) (part_runs d p refined t (child_of is.pair) is.second) ∙ part_runs d p refined u (parent_of is.pair) is.first)
 
     none : (u : ℕ) → count_tasks p ≤ t → has (parents p t) u ≡ false
     none u l = ap (λ (xs : List ℕ). has xs u) (no_parents p t l)

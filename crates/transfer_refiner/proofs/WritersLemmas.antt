@@ -8,8 +8,8 @@ use Rattle.std.proofs.lemmas.List.Folds.{list_any-append}
 use Rattle.plan_core.specs.declared.plan.Task.{Task}
 use Rattle.plan_core.specs.Numbers.{has}
 use Rattle.plan_core.specs.Words.{writes_in}
-use Rattle.transfer_refiner.specs.Edges.{fan}
-use Rattle.transfer_refiner.specs.Steps.{writer_edges}
+use Rattle.transfer_refiner.specs.code.Edges.{fan}
+use Rattle.transfer_refiner.specs.code.Steps.{writer_edges}
 use Rattle.plan_core.proofs.TestLemmas.{same_number, other_number, by_bool}
 use Rattle.transfer_refiner.proofs.EdgesLemmas.{is_edge, fan_any, all_edges}
 

@@ -2,14 +2,5 @@
 pub mod Draft
 pub mod Tasks
 pub mod Refined
-pub mod Conditions
-pub mod Singles
-pub mod Meaning
--- Steps
-pub mod View
-pub mod Edges
-pub mod Marked
-pub mod Tables
-pub mod Listing
-pub mod Places
-pub mod Steps
+-- What only the code's own contracts say.
+pub mod code

@@ -1,17 +1,14 @@
 -- The tables of a draft's plan, its tasks in order, and the first fault.
-use Rattle.std.specs.Prelude.{ℕ, zero, suc, ◌+◌, ◌==◌, ◌&&◌, ◌||◌, Bool, true, not, List, [], ◌∷◌, ◌++◌, length, map, if◌then◌else◌, Option, Some, None, is_some, option_and_then, option_map, slice_index_or, nat_lt}
+use Rattle.std.specs.Prelude.{ℕ, zero, suc, ◌==◌, ◌&&◌, Bool, true, not, List, [], ◌∷◌, ◌++◌, length, map, Option, Some, None, option_and_then, slice_index_or}
 use Rattle.std.specs.List.{list_any}
 use Rattle.values.specs.declared.numbers.JobId.{JobId}
 use Rattle.values.specs.declared.numbers.SiteId.{SiteId}
 use Rattle.workflow_core.specs.declared.workflow.Job.{Job}
 use Rattle.workflow_core.specs.declared.workflow.Output.{Output}
 use Rattle.workflow_core.specs.declared.workflow.Workflow.{Workflow}
-use Rattle.workflow_core.specs.WellFormed.{before, after}
+use Rattle.workflow_core.specs.WellFormed.{parent_of, child_of}
 use Rattle.workflow_core.specs.Requested.{is_requested}
 use Rattle.replica_catalog.specs.declared.catalog.Replica.{Replica}
-use Rattle.replica_catalog.specs.Lookup.{is_registered}
-use Rattle.plan_request.specs.declared.request.Cleanup.{Cleanup}
-use Rattle.plan_request.specs.declared.request.Cleanup.TheVariants.{None as NoCleanup, Inplace, Constraint}
 use Rattle.plan_request.specs.declared.request.Execution.{Execution}
 use Rattle.plan_request.specs.declared.request.ToolOf.{ToolOf}
 use Rattle.plan_request.specs.JobTools.{tool_of}
@@ -24,17 +21,15 @@ use Rattle.plan_core.specs.declared.plan.Source.TheVariants.{Pfn, Site}
 use Rattle.plan_core.specs.declared.plan.Target.TheVariants.{Site as Into, Delivery}
 use Rattle.plan_core.specs.declared.plan.TaskKind.{TaskKind}
 use Rattle.plan_core.specs.declared.plan.TaskKind.TheVariants.{Transfer, Run}
-use Rattle.plan_core.specs.Numbers.{has, below, least, or_else}
+use Rattle.plan_core.specs.Numbers.{has, below}
 use Rattle.plan_core.specs.Words.{job_numbers}
-use Rattle.transfer_refiner.specs.declared.fault.RefineFault.{RefineFault}
-use Rattle.transfer_refiner.specs.declared.fault.RefineFault.TheVariants.{NoReplica, NoSize, TooMany}
-use Rattle.transfer_refiner.specs.Draft.{Draft, uses, makes, site_of, moves, stands, home, name_of, entry_of, pfns_of, first_of, chosen, declared_of}
+use Rattle.transfer_refiner.specs.Draft.{Draft, site_of, moves, stands, home, draft_file_name, replica_in_draft, pfns_of, first_pfn, chosen, declared_of}
 
 abbrev pub count_files : Draft → ℕ
 count_files d = length d.workflow.files
 
-abbrev pub count_sites : Draft → ℕ
-count_sites d = length d.request.execute
+abbrev pub count_execution_sites : Draft → ℕ
+count_execution_sites d = length d.request.execute
 
 -- the pairs (a, b) with a below m and b below n that pass, by a, then b
 unfoldable pub grid : ℕ → ℕ → (ℕ → ℕ → Bool) → List (ℕ × ℕ)
@@ -56,11 +51,11 @@ transfer d x = Transfer (record { 0 = x.0 }) (source (home d x.0) (chosen d x.0 
     (Into (record { 0 = x.1 }))
 
 abbrev pub delivery : Draft → ℕ → TaskKind
-delivery d f = Transfer (record { 0 = f }) (source (home d f) (first_of (pfns_of d f))) Delivery
+delivery d f = Transfer (record { 0 = f }) (source (home d f) (first_pfn (pfns_of d f))) Delivery
 
 -- a Run for each part; a Transfer for each file and site that it has to come to, by (file, site); a delivery for each requested file
 unfoldable pub kinds_of : Draft → List TaskKind
-kinds_of d = map (run d) d.parts ++ (map (transfer d) (grid (count_files d) (count_sites d) (moves d))
+kinds_of d = map (run d) d.parts ++ (map (transfer d) (grid (count_files d) (count_execution_sites d) (moves d))
     ++ map (delivery d) (below (count_files d) (is_requested d.workflow)))
 
 -- the jobs of the part with a number
@@ -70,8 +65,8 @@ part_of d t = job_numbers (slice_index_or d.parts t [])
 -- part t holds the second job of a stated pair of which part u holds the first
 unfoldable pub comes_after : Draft → ℕ → ℕ → Bool
 comes_after d t u = not (t == u) && list_any
-    (λ (pair : JobId × JobId). has (part_of d u) (before pair)
-    && has (part_of d t) (after pair)) d.workflow.pairs
+    (λ (pair : JobId × JobId). has (part_of d u) (parent_of pair)
+    && has (part_of d t) (child_of pair)) d.workflow.pairs
 
 -- ---- tables
 
@@ -80,7 +75,7 @@ abbrev pub pair_of : ℕ × ℕ → Pair
 pair_of x = record { site = record { 0 = x.0 }; file = record { 0 = x.1 } }
 
 unfoldable pub pairs_of : Draft → List Pair
-pairs_of d = map pair_of (grid (count_sites d) (count_files d) (stands d))
+pairs_of d = map pair_of (grid (count_execution_sites d) (count_files d) (stands d))
 
 abbrev pub planned_site : Execution → PlanSite
 planned_site e = record { name = e.site; bound = e.bound }
@@ -110,48 +105,11 @@ is_flagged w f = list_any (flags f) w.jobs
 
 abbrev pub planned_file : Draft → ℕ → PlanFile
 planned_file d f = record {
-  lfn = name_of d f;
+  lfn = draft_file_name d f;
   declared = declared_of d f;
-  checksum = option_and_then (λ (e : Replica). e.checksum) (entry_of d f);
+  checksum = option_and_then (λ (e : Replica). e.checksum) (replica_in_draft d f);
   register = is_flagged d.workflow f;
 }
 
-abbrev pub files_of : Draft → List PlanFile
-files_of d = map (planned_file d) (below (count_files d) (λ f. true))
-
--- ---- faults
-
--- a kept job reads the file; makes it
-abbrev pub used : Draft → ℕ → Bool
-used d f = list_any (λ (js : List JobId). uses d js f) d.parts
-
-abbrev pub is_made : Draft → ℕ → Bool
-is_made d f = list_any (λ (js : List JobId). makes d js f) d.parts
-
--- a kept job reads the file, no kept job makes it, and it isn't registered
-unfoldable pub lacks_replica : Draft → ℕ → Bool
-lacks_replica d f = used d f && (not (is_made d f) && not (is_registered d.replicas (name_of d f)))
-
--- a task moves or writes the file, and it has no declared size
-unfoldable pub lacks_size : Draft → ℕ → Bool
-lacks_size d f = (used d f || (is_made d f || is_requested d.workflow f)) && not (is_some (declared_of d f))
-
--- how many Cleans a strategy adds to so many pairs
-abbrev pub count_cleans : Cleanup → ℕ → ℕ
-count_cleans NoCleanup n = 0
-count_cleans Inplace n = n
-count_cleans Constraint n = n
-
--- how many tasks there are with the Cleans that are added later
-unfoldable pub count_all : Draft → ℕ
-count_all d = length (kinds_of d) + count_cleans d.request.cleanup (length (pairs_of d))
-
-abbrev pub too_many : ℕ → ℕ → Option RefineFault
-too_many count limit = if nat_lt limit count then Some (TooMany count limit) else None
-
--- the first fault, in their order
-unfoldable pub first_fault : Draft → ℕ → Option RefineFault
-first_fault d limit =
-    or_else (option_map (λ f. NoReplica (name_of d f)) (least (count_files d) (lacks_replica d)))
-    (or_else (option_map (λ f. NoSize (name_of d f)) (least (count_files d) (lacks_size d)))
-    (too_many (count_all d) limit))
+abbrev pub plan_files : Draft → List PlanFile
+plan_files d = map (planned_file d) (below (count_files d) (λ f. true))

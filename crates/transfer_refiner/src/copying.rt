@@ -1,12 +1,13 @@
 //! The tables of sites, jobs and files.
 
 ghost use Rattle.std.specs.Prelude.{◌≡◌, ◌≤◌, ◌<◌, ℕ, true, map, length, IfOk};
-ghost use Rattle.plan_core.specs.Numbers.{RisesFrom, below, has};
+ghost use Rattle.plan_core.specs.code.Numbers.{RisesFrom};
+ghost use Rattle.plan_core.specs.Numbers.{below, has};
 ghost use Rattle.workflow_core.specs.declared.workflow.Output.{Output};
-ghost use Rattle.transfer_refiner.specs.Conditions.{IsDraft};
-ghost use Rattle.transfer_refiner.specs.Tables.{AreTables};
-ghost use Rattle.transfer_refiner.specs.Tasks.{count_files, files_of, is_flagged, jobs_of, planned_file, planned_job, planned_site};
-ghost use Rattle.transfer_refiner.specs.View.{draft_of};
+ghost use Rattle.transfer_refiner.specs.code.Conditions.{IsDraft};
+ghost use Rattle.transfer_refiner.specs.code.Tables.{AreTables};
+ghost use Rattle.transfer_refiner.specs.Tasks.{count_files, plan_files, is_flagged, jobs_of, planned_file, planned_job, planned_site};
+ghost use Rattle.transfer_refiner.specs.code.View.{draft_of};
 
 use crate::marked::flagged_files;
 use crate::tables::{Tables, declared_of, entry_of, name_of};
@@ -146,7 +147,7 @@ fn planned_files(
     requires tables { AreTables (draft_of view.now) tables.now }
     requires rises { RisesFrom 0 flagged.now }
     requires same { (f : ℕ) → has flagged.now f ≡ is_flagged view.now.workflow.now f }
-    ensures { IfOk result (λ files. files.items ≡ files_of (draft_of view.now)) }
+    ensures { IfOk result (λ files. files.items ≡ plan_files (draft_of view.now)) }
 {
     let mut files = Vec::new(alloc);
     for file in 0..view.workflow.files.as_slice().len() {
@@ -159,7 +160,7 @@ fn planned_files(
 pub fn files_of(alloc: Global, view: &View<'_>, tables: &Tables) -> Result<Items<PlanFile>, Memory>
     requires draft { IsDraft (draft_of view.now) }
     requires tables { AreTables (draft_of view.now) tables.now }
-    ensures { IfOk result (λ files. files ≡ files_of (draft_of view.now)) }
+    ensures { IfOk result (λ files. files ≡ plan_files (draft_of view.now)) }
 {
     let flagged = flagged_files(alloc, view.workflow)?;
     let files = planned_files(alloc, view, tables, &flagged);

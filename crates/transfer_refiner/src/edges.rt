@@ -3,15 +3,15 @@
 ghost use Rattle.std.specs.Prelude.{◌≡◌, ◌<◌, ◌^◌, ◌++◌, ◌&&◌, ◌||◌, ◌==◌, not, ℕ, length, map, IfOk, OnOk};
 ghost use Rattle.std.specs.List.{list_any};
 ghost use Rattle.workflow_core.specs.declared.workflow.Output.{Output};
-ghost use Rattle.workflow_core.specs.WellFormed.{before, after};
-ghost use Rattle.digraph.specs.Digraph.{count, edge};
+ghost use Rattle.workflow_core.specs.WellFormed.{parent_of, child_of};
+ghost use Rattle.digraph.specs.code.Digraph.{count, edge};
 ghost use Rattle.plan_core.specs.Numbers.{has};
 ghost use Rattle.plan_core.specs.Words.{file_numbers, job_numbers};
-ghost use Rattle.transfer_refiner.specs.Conditions.{IsDraft};
+ghost use Rattle.transfer_refiner.specs.code.Conditions.{IsDraft};
 ghost use Rattle.transfer_refiner.specs.Draft.{stands};
-ghost use Rattle.transfer_refiner.specs.Edges.{fan, job_edges, part_edges, stood_edges, held_edges, fan_apart, all_apart};
+ghost use Rattle.transfer_refiner.specs.code.Edges.{fan, job_edges, part_edges, stood_edges, held_edges, fan_apart, all_apart};
 ghost use Rattle.transfer_refiner.specs.Tasks.{part_of, comes_after};
-ghost use Rattle.transfer_refiner.specs.View.{draft_of};
+ghost use Rattle.transfer_refiner.specs.code.View.{draft_of};
 
 use crate::jobs::{inputs, outputs, part, site_of};
 use crate::rows::{before, larger};
@@ -147,8 +147,8 @@ fn push_stated(
     ensures { OnOk result ((u t : ℕ)
         → list_any (λ (p : ℕ × ℕ). p.0 == u && p.1 == t) edges.new.items
         ≡ (list_any (λ (p : ℕ × ℕ). p.0 == u && p.1 == t) edges.old.items
-        || (not (t == u) && (has (part_of (draft_of view.now) u) (before pair.now)
-        && has (part_of (draft_of view.now) t) (after pair.now))))) }
+        || (not (t == u) && (has (part_of (draft_of view.now) u) (parent_of pair.now)
+        && has (part_of (draft_of view.now) t) (child_of pair.now))))) }
 {
     let firsts = before(held, pair.0.0);
     let seconds = before(held, pair.1.0);

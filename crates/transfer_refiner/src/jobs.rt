@@ -6,7 +6,7 @@ ghost use Rattle.dependency_graph.specs.Edges.{read_by, written_by};
 ghost use Rattle.plan_core.specs.Words.{file_numbers, job_numbers};
 ghost use Rattle.transfer_refiner.specs.Draft.{site_of};
 ghost use Rattle.transfer_refiner.specs.Tasks.{part_of};
-ghost use Rattle.transfer_refiner.specs.View.{draft_of};
+ghost use Rattle.transfer_refiner.specs.code.View.{draft_of};
 
 use crate::view::View;
 use values::{FileId, JobId, SiteId};

@@ -7,11 +7,13 @@ ghost use Rattle.workflow_core.specs.Requested.{is_requested};
 ghost use Rattle.replica_catalog.specs.Lookup.{is_registered};
 ghost use Rattle.plan_core.specs.Numbers.{least};
 ghost use Rattle.transfer_refiner.specs.declared.fault.RefineFault.TheVariants.{NoReplica, NoSize, TooMany};
-ghost use Rattle.transfer_refiner.specs.Conditions.{IsDraft};
-ghost use Rattle.transfer_refiner.specs.Draft.{is_empty, name_of};
-ghost use Rattle.transfer_refiner.specs.Tables.{AreTables};
-ghost use Rattle.transfer_refiner.specs.Tasks.{count_all, count_files, is_made, used, lacks_replica, lacks_size, too_many, first_fault};
-ghost use Rattle.transfer_refiner.specs.View.{draft_of};
+ghost use Rattle.transfer_refiner.specs.code.Conditions.{IsDraft};
+ghost use Rattle.transfer_refiner.specs.code.Draft.{is_empty};
+ghost use Rattle.transfer_refiner.specs.Draft.{draft_file_name};
+ghost use Rattle.transfer_refiner.specs.code.Tables.{AreTables};
+ghost use Rattle.transfer_refiner.specs.code.Tasks.{count_all, is_made, used, lacks_replica, lacks_size, too_many, first_fault};
+ghost use Rattle.transfer_refiner.specs.Tasks.{count_files};
+ghost use Rattle.transfer_refiner.specs.code.View.{draft_of};
 
 use crate::fault::RefineFault;
 use crate::rows::before;
@@ -54,7 +56,7 @@ fn is_asked(view: &View<'_>, tables: &Tables, file: FileId) -> bool
 /// Whether the file is registered.
 fn is_registered(view: &View<'_>, file: FileId) -> bool
     requires in_range { file.0 < length view.now.workflow.now.files }
-    ensures { result ≡ is_registered view.now.replicas (name_of (draft_of view.now) file.0) }
+    ensures { result ≡ is_registered view.now.replicas (draft_file_name (draft_of view.now) file.0) }
 {
     let names = view.workflow.files.as_slice();
     view.replicas.is_registered(&names[file.0 as usize])
@@ -140,7 +142,7 @@ fn replica_fault(
     requires draft { IsDraft (draft_of view.now) }
     requires graph { IsGraphOf view.now.workflow.now view.now.graph.now }
     requires tables { AreTables (draft_of view.now) tables.now }
-    ensures { IfOk result (λ o. o ≡ option_map (λ f. NoReplica (name_of (draft_of view.now) f))
+    ensures { IfOk result (λ o. o ≡ option_map (λ f. NoReplica (draft_file_name (draft_of view.now) f))
         (least (count_files (draft_of view.now)) (lacks_replica (draft_of view.now)))) }
 {
     match without_replica(view, tables) {
@@ -156,7 +158,7 @@ fn size_fault(
 ) -> Result<Option<RefineFault>, Memory>
     requires draft { IsDraft (draft_of view.now) }
     requires tables { AreTables (draft_of view.now) tables.now }
-    ensures { IfOk result (λ o. o ≡ option_map (λ f. NoSize (name_of (draft_of view.now) f))
+    ensures { IfOk result (λ o. o ≡ option_map (λ f. NoSize (draft_file_name (draft_of view.now) f))
         (least (count_files (draft_of view.now)) (lacks_size (draft_of view.now)))) }
 {
     match without_size(view, tables) {
@@ -176,7 +178,7 @@ fn too_many(count: u64, limit: u64) -> Option<RefineFault>
 }
 
 /// The first fault, in their order; there would be `count` tasks.
-#[tactic(auto, unfolding(crate::specs::Tasks::first_fault))]
+#[tactic(auto, unfolding(crate::specs::code::Tasks::first_fault))]
 pub fn first_fault(
     alloc: Global,
     view: &View<'_>,

@@ -2,12 +2,12 @@
 
 ghost use Rattle.std.specs.Prelude.{◌≡◌, ◌<◌, ◌≤◌, ◌+◌, ◌^◌, ℕ, false, length, None, Some};
 ghost use Rattle.plan_core.specs.declared.plan.Plan.{Plan};
-ghost use Rattle.plan_core.specs.Proper.{IsProper};
+ghost use Rattle.plan_core.specs.code.Proper.{IsProper};
 ghost use Rattle.plan_core.specs.Words.{count_pairs, count_tasks, declared, is_clean};
-ghost use Rattle.plan_request.specs.Limits.{IsWithinLimits};
+ghost use Rattle.plan_request.specs.code.Limits.{IsWithinLimits};
 ghost use Rattle.transfer_refiner.specs.Draft.{Draft};
-ghost use Rattle.transfer_refiner.specs.Tasks.{count_cleans, first_fault};
-ghost use Rattle.transfer_refiner.specs.Conditions.{IsDraft};
+ghost use Rattle.transfer_refiner.specs.code.Tasks.{count_cleans, first_fault};
+ghost use Rattle.transfer_refiner.specs.code.Conditions.{IsDraft};
 ghost use Rattle.transfer_refiner.specs.Refined.{IsRefined};
 
 /// The plan of a draft without a fault is proper.

@@ -1,9 +1,9 @@
 //! The plan of a workflow whose jobs are clustered and placed: a Run for each cluster, the Transfers that bring files to
 //! their sites, the deliveries, and for whom each task waits.
 //!
-//! What is planned is a `Draft` (`specs/Draft.antt`), and `specs/Conditions.antt` says what is asked of it. [`refine`]
-//! answers the one plan of `specs/Refined.antt`, or the first fault of `specs/Tasks.antt`. Every answer is proper, as
-//! `plan_core` has it ([`refined_plan_is_proper`]).
+//! What is planned is a `Draft` (`specs/Draft.antt`), and `specs/code/Conditions.antt` says what is asked of it.
+//! [`refine`] answers the one plan of `specs/Refined.antt`, or the first fault of `specs/Tasks.antt`. Every answer is
+//! proper, as `plan_core` has it ([`refined_plan_is_proper`]).
 //!
 //! The plan is worked out over graphs of numbers: which part holds each job and which files stand at each site
 //! (`edges`, `tables`), what has to move (`listing`), the numbers of pairs (`places`), and who writes what others read

@@ -5,12 +5,12 @@ ghost use Rattle.values.specs.declared.numbers.SiteId.{SiteId};
 ghost use Rattle.workflow_core.specs.Requested.{is_requested};
 ghost use Rattle.dependency_graph.specs.Graph.{IsGraphOf};
 ghost use Rattle.plan_core.specs.Numbers.{below, has};
-ghost use Rattle.transfer_refiner.specs.Conditions.{IsDraft};
+ghost use Rattle.transfer_refiner.specs.code.Conditions.{IsDraft};
 ghost use Rattle.transfer_refiner.specs.Draft.{moves, stands};
-ghost use Rattle.transfer_refiner.specs.Listing.{is_at, moved_from};
-ghost use Rattle.transfer_refiner.specs.Tables.{AreTables};
-ghost use Rattle.transfer_refiner.specs.Tasks.{count_files, count_sites, delivery, grid, kinds_of, pair_of, pairs_of, run, transfer};
-ghost use Rattle.transfer_refiner.specs.View.{draft_of};
+ghost use Rattle.transfer_refiner.specs.code.Listing.{is_at, moved_from};
+ghost use Rattle.transfer_refiner.specs.code.Tables.{AreTables};
+ghost use Rattle.transfer_refiner.specs.Tasks.{count_files, count_execution_sites, delivery, grid, kinds_of, pair_of, pairs_of, run, transfer};
+ghost use Rattle.transfer_refiner.specs.code.View.{draft_of};
 
 use crate::jobs::site_of;
 use crate::rows::{after, before};
@@ -99,7 +99,7 @@ fn push_moves(
     requires tables { AreTables (draft_of view.now) tables.now }
     requires in_range { file < length view.now.workflow.now.files }
     ensures { OnOk result (moved.new.items ≡ moved.old.items
-        ++ map (λ (s : ℕ). (file, s)) (below (count_sites (draft_of view.now))
+        ++ map (λ (s : ℕ). (file, s)) (below (count_execution_sites (draft_of view.now))
         (moves (draft_of view.now) file))) }
 {
     let home = home(view, tables, FileId(file));
@@ -115,7 +115,7 @@ pub fn moved(alloc: Global, view: &View<'_>, tables: &Tables) -> Result<Vec<(u32
     requires graph { IsGraphOf view.now.workflow.now view.now.graph.now }
     requires tables { AreTables (draft_of view.now) tables.now }
     ensures { IfOk result (λ v. v.items ≡ grid (count_files (draft_of view.now))
-        (count_sites (draft_of view.now)) (moves (draft_of view.now))) }
+        (count_execution_sites (draft_of view.now)) (moves (draft_of view.now))) }
 {
     let mut moved = Vec::new(alloc);
     for file in 0..view.workflow.files.as_slice().len() {
@@ -186,7 +186,7 @@ pub fn kinds_of(
     requires draft { IsDraft (draft_of view.now) }
     requires graph { IsGraphOf view.now.workflow.now view.now.graph.now }
     requires tables { AreTables (draft_of view.now) tables.now }
-    requires moved { moved.now ≡ grid (count_files (draft_of view.now)) (count_sites (draft_of view.now))
+    requires moved { moved.now ≡ grid (count_files (draft_of view.now)) (count_execution_sites (draft_of view.now))
         (moves (draft_of view.now)) }
     ensures { IfOk result (λ kinds. kinds.items ≡ kinds_of (draft_of view.now)) }
 {

@@ -1,10 +1,11 @@
 //! The files that outputs mark: those to be delivered, and those to be registered.
 
 ghost use Rattle.std.specs.Prelude.{◌≡◌, ◌++◌, ℕ, length, IfOk, OnOk};
-ghost use Rattle.workflow_core.specs.WellFormed.{IsWellFormed};
+ghost use Rattle.workflow_core.specs.code.WellFormed.{IsWellFormed};
 ghost use Rattle.workflow_core.specs.Requested.{is_requested};
-ghost use Rattle.plan_core.specs.Numbers.{RisesFrom, below, has};
-ghost use Rattle.transfer_refiner.specs.Marked.{requested_by, flagged_by, all_requested, all_flagged};
+ghost use Rattle.plan_core.specs.code.Numbers.{RisesFrom};
+ghost use Rattle.plan_core.specs.Numbers.{below, has};
+ghost use Rattle.transfer_refiner.specs.code.Marked.{requested_by, flagged_by, all_requested, all_flagged};
 ghost use Rattle.transfer_refiner.specs.Tasks.{is_flagged};
 
 use plan_core::sorted;

@@ -4,12 +4,12 @@ ghost use Rattle.std.specs.Prelude.{◌≡◌, ◌<◌, ◌^◌, ℕ, true, List
 ghost use Rattle.values.specs.Apply.{Apply};
 ghost use Rattle.plan_core.specs.declared.plan.Plan.{Plan};
 ghost use Rattle.plan_core.specs.Carried.{carried};
-ghost use Rattle.plan_core.specs.Kinds.{carries};
-ghost use Rattle.transfer_refiner.specs.Conditions.{IsDraft};
+ghost use Rattle.plan_core.specs.code.Kinds.{carries};
+ghost use Rattle.transfer_refiner.specs.code.Conditions.{IsDraft};
 ghost use Rattle.transfer_refiner.specs.Draft.{Draft};
-ghost use Rattle.transfer_refiner.specs.Meaning.{AreAtHand, AreHeld, AreValues};
+ghost use Rattle.transfer_refiner.specs.code.Meaning.{AreAtHand, AreHeld, AreValues};
 ghost use Rattle.transfer_refiner.specs.Refined.{IsRefined};
-ghost use Rattle.transfer_refiner.specs.Tasks.{first_fault};
+ghost use Rattle.transfer_refiner.specs.code.Tasks.{first_fault};
 
 use plan_core::{carried_is_carried_along, parents_write_what_is_read};
 

@@ -5,8 +5,8 @@ ghost use Rattle.indexmap.specs.IndexMap.{get_by};
 ghost use Rattle.plan_core.specs.Kinds.{on_pair};
 ghost use Rattle.plan_core.specs.Numbers.{below};
 ghost use Rattle.plan_core.specs.Words.{pair_numbers};
-ghost use Rattle.plan_core.specs.Files.{AreFilesOf};
-ghost use Rattle.transfer_refiner.specs.Places.{is_place, is_pair_of, place_of, places_at, AreOnce};
+ghost use Rattle.plan_core.specs.code.Files.{AreFilesOf};
+ghost use Rattle.transfer_refiner.specs.code.Places.{is_place, is_pair_of, place_of, places_at, AreOnce};
 
 use indexmap::IndexMap;
 use plan_core::{Pair, SiteFiles, sorted};

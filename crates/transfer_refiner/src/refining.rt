@@ -1,19 +1,21 @@
 //! The plan of a workflow whose jobs are clustered and placed.
 
 ghost use Rattle.std.specs.Prelude.{◌≡◌, ◌<◌, ◌^◌, ◌+◌, ℕ, true, length, map, slice_get, IfOk};
-ghost use Rattle.digraph.specs.Digraph.{edge};
+ghost use Rattle.digraph.specs.code.Digraph.{edge};
 ghost use Rattle.dependency_graph.specs.Graph.{IsGraphOf};
 ghost use Rattle.plan_core.specs.declared.plan.Task.{Task as DeclaredTask};
 ghost use Rattle.plan_core.specs.Numbers.{has};
 ghost use Rattle.plan_core.specs.Words.{writes_in};
-ghost use Rattle.transfer_refiner.specs.Conditions.{IsDraft};
-ghost use Rattle.transfer_refiner.specs.Refined.{IsRefined, Refines};
-ghost use Rattle.transfer_refiner.specs.Steps.{AreParented, AreTasks};
-ghost use Rattle.transfer_refiner.specs.Tables.{AreTables};
-ghost use Rattle.plan_core.specs.Proper.{IsProper};
+ghost use Rattle.transfer_refiner.specs.code.Conditions.{IsDraft};
+ghost use Rattle.transfer_refiner.specs.Refined.{IsRefined};
+ghost use Rattle.transfer_refiner.specs.code.Refined.{Refines};
+ghost use Rattle.transfer_refiner.specs.code.Steps.{AreParented, AreTasks};
+ghost use Rattle.transfer_refiner.specs.code.Tables.{AreTables};
+ghost use Rattle.plan_core.specs.code.Proper.{IsProper};
 ghost use Rattle.transfer_refiner.specs.Draft.{moves, planned};
-ghost use Rattle.transfer_refiner.specs.Tasks.{comes_after, count_all, count_cleans, count_files, count_sites, grid, kinds_of, pairs_of, part_of};
-ghost use Rattle.transfer_refiner.specs.View.{draft_of};
+ghost use Rattle.transfer_refiner.specs.Tasks.{comes_after, count_files, count_execution_sites, grid, kinds_of, pairs_of, part_of};
+ghost use Rattle.transfer_refiner.specs.code.Tasks.{count_all, count_cleans};
+ghost use Rattle.transfer_refiner.specs.code.View.{draft_of};
 
 use crate::copying::{files_of, jobs_of, policy_copied, sites_of};
 use crate::edges::stated;
@@ -144,7 +146,7 @@ fn count_cleans(cleanup: &Cleanup, pairs: &[Pair]) -> u64
 fn count_all(view: &View<'_>, tables: &Tables, moved: &[(u32, u32)], pairs: &[Pair]) -> u64
     requires draft { IsDraft (draft_of view.now) }
     requires tables { AreTables (draft_of view.now) tables.now }
-    requires moved { moved.now ≡ grid (count_files (draft_of view.now)) (count_sites (draft_of view.now))
+    requires moved { moved.now ≡ grid (count_files (draft_of view.now)) (count_execution_sites (draft_of view.now))
         (moves (draft_of view.now)) }
     requires pairs { pairs.now ≡ pairs_of (draft_of view.now) }
     ensures { result ≡ count_all (draft_of view.now) }
@@ -164,7 +166,7 @@ fn plan_without_fault(
     requires draft { IsDraft (draft_of view.now) }
     requires graph { IsGraphOf view.now.workflow.now view.now.graph.now }
     requires tables { AreTables (draft_of view.now) tables.now }
-    requires moved { moved.now ≡ grid (count_files (draft_of view.now)) (count_sites (draft_of view.now))
+    requires moved { moved.now ≡ grid (count_files (draft_of view.now)) (count_execution_sites (draft_of view.now))
         (moves (draft_of view.now)) }
     requires pairs { pairs ≡ pairs_of (draft_of view.now) }
     requires few { length (kinds_of (draft_of view.now)) < 2 ^ 32 }
@@ -190,7 +192,7 @@ fn plan_or_fault(
     requires draft { IsDraft (draft_of view.now) }
     requires graph { IsGraphOf view.now.workflow.now view.now.graph.now }
     requires tables { AreTables (draft_of view.now) tables.now }
-    requires moved { moved.now ≡ grid (count_files (draft_of view.now)) (count_sites (draft_of view.now))
+    requires moved { moved.now ≡ grid (count_files (draft_of view.now)) (count_execution_sites (draft_of view.now))
         (moves (draft_of view.now)) }
     requires pairs { pairs ≡ pairs_of (draft_of view.now) }
     requires few { limit < 2 ^ 32 }

@@ -1,9 +1,11 @@
 //! Rows of a graph: the numbers before and after a node.
 
 ghost use Rattle.std.specs.Prelude.{◌≡◌, ◌≤◌, ◌<◌, ◌^◌, ℕ};
-ghost use Rattle.digraph.specs.Adjacency.{lists_of, neighbours};
-ghost use Rattle.digraph.specs.Digraph.{edge};
-ghost use Rattle.plan_core.specs.Numbers.{RisesFrom, has};
+ghost use Rattle.digraph.specs.code.Adjacency.{lists_of};
+ghost use Rattle.digraph.specs.Adjacency.{neighbours};
+ghost use Rattle.digraph.specs.code.Digraph.{edge};
+ghost use Rattle.plan_core.specs.code.Numbers.{RisesFrom};
+ghost use Rattle.plan_core.specs.Numbers.{has};
 
 use digraph::Digraph;
 

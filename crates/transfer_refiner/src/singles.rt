@@ -7,9 +7,9 @@ ghost use Rattle.workflow_core.specs.declared.workflow.Workflow.{Workflow};
 ghost use Rattle.plan_request.specs.declared.request.PlanRequest.{PlanRequest};
 ghost use Rattle.replica_catalog.specs.declared.catalog.ReplicaCatalog.{ReplicaCatalog};
 ghost use Rattle.workflow_core.specs.declared.clusters.Clusters.{Clusters};
-ghost use Rattle.transfer_refiner.specs.Conditions.{IsDraft};
+ghost use Rattle.transfer_refiner.specs.code.Conditions.{IsDraft};
 ghost use Rattle.transfer_refiner.specs.Draft.{planned};
-ghost use Rattle.transfer_refiner.specs.Singles.{ArePlaced, singles};
+ghost use Rattle.transfer_refiner.specs.code.Singles.{ArePlaced, singles};
 
 /// Kept jobs that are placed can be refined, each as a cluster of its own.
 pub fn single_jobs_are_a_draft()

@@ -5,11 +5,11 @@ ghost use Rattle.std.specs.Option.{option_copied};
 ghost use Rattle.values.specs.declared.numbers.SiteId.{SiteId};
 ghost use Rattle.dependency_graph.specs.Graph.{IsGraphOf};
 ghost use Rattle.plan_core.specs.declared.plan.Target.TheVariants.{Site as Into, Delivery};
-ghost use Rattle.transfer_refiner.specs.Conditions.{IsDraft};
-ghost use Rattle.transfer_refiner.specs.Draft.{chosen, first_of, first_on, pfns_of};
-ghost use Rattle.transfer_refiner.specs.Tables.{AreTables};
+ghost use Rattle.transfer_refiner.specs.code.Conditions.{IsDraft};
+ghost use Rattle.transfer_refiner.specs.Draft.{chosen, first_pfn, first_on, pfns_of};
+ghost use Rattle.transfer_refiner.specs.code.Tables.{AreTables};
 ghost use Rattle.transfer_refiner.specs.Tasks.{source, transfer, delivery};
-ghost use Rattle.transfer_refiner.specs.View.{draft_of};
+ghost use Rattle.transfer_refiner.specs.code.View.{draft_of};
 
 use crate::tables::{Tables, entry_of, home};
 use crate::view::View;
@@ -30,7 +30,7 @@ fn pfns_of<'b>(view: &'b View<'_>, file: FileId) -> &'b [Pfn]
 
 /// The first pfn.
 fn first_of(alloc: Global, pfns: &[Pfn]) -> Result<Text, Memory>
-    ensures { IfOk result (λ x. x ≡ first_of pfns.now) }
+    ensures { IfOk result (λ x. x ≡ first_pfn pfns.now) }
 {
     match pfns {
         [] => Text::copy_of(alloc, ""),
@@ -40,7 +40,7 @@ fn first_of(alloc: Global, pfns: &[Pfn]) -> Result<Text, Memory>
 
 /// The first pfn on a site of this name, else the first.
 fn first_on(alloc: Global, name: &Text, pfns: &[Pfn]) -> Result<Text, Memory>
-    ensures { IfOk result (λ x. x ≡ first_on name.now pfns.now (first_of pfns.now)) }
+    ensures { IfOk result (λ x. x ≡ first_on name.now pfns.now (first_pfn pfns.now)) }
 {
     for i in 0..pfns.len() {
         if pfns[i].site == *name {

@@ -4,11 +4,11 @@ ghost use Rattle.std.specs.Prelude.{◌≡◌, ◌<◌, ℕ, length, option_map,
 ghost use Rattle.std.specs.Option.{option_copied};
 ghost use Rattle.values.specs.declared.numbers.SiteId.{SiteId};
 ghost use Rattle.dependency_graph.specs.Graph.{IsGraphOf};
-ghost use Rattle.transfer_refiner.specs.Conditions.{IsDraft};
-ghost use Rattle.transfer_refiner.specs.Draft.{declared_of, entry_of, home, name_of};
-ghost use Rattle.transfer_refiner.specs.Listing.{first_site_of};
-ghost use Rattle.transfer_refiner.specs.Tables.{AreTables};
-ghost use Rattle.transfer_refiner.specs.View.{draft_of};
+ghost use Rattle.transfer_refiner.specs.code.Conditions.{IsDraft};
+ghost use Rattle.transfer_refiner.specs.Draft.{declared_of, replica_in_draft, home, draft_file_name};
+ghost use Rattle.transfer_refiner.specs.code.Listing.{first_site_of};
+ghost use Rattle.transfer_refiner.specs.code.Tables.{AreTables};
+ghost use Rattle.transfer_refiner.specs.code.View.{draft_of};
 
 use crate::edges::{held, stood};
 use crate::jobs::{part, site_of};
@@ -75,7 +75,7 @@ pub fn home(view: &View<'_>, tables: &Tables, file: FileId) -> Option<SiteId>
 
 /// The entry of a file in the replica catalogue.
 pub fn entry_of<'b>(view: &'b View<'_>, file: FileId) -> Option<&'b Replica>
-    ensures { option_copied result ≡ entry_of (draft_of view.now) file.0 }
+    ensures { option_copied result ≡ replica_in_draft (draft_of view.now) file.0 }
 {
     match view.workflow.files.as_slice().get(file.0 as usize) {
         Some(name) => view.replicas.entry_of(name),
@@ -96,7 +96,7 @@ pub fn declared_of(tables: &Tables, file: FileId) -> Option<u64>
 
 #[tactic(auto, using(crate::proofs::LookupLemmas::list_at, crate::proofs::LookupLemmas::list_none))]
 pub fn name_of(alloc: Global, view: &View<'_>, file: FileId) -> Result<Text, Memory>
-    ensures { IfOk result (λ name. name ≡ name_of (draft_of view.now) file.0) }
+    ensures { IfOk result (λ name. name ≡ draft_file_name (draft_of view.now) file.0) }
 {
     match view.workflow.files.as_slice().get(file.0 as usize) {
         Some(found) => found.copied(alloc),

@@ -5,8 +5,8 @@ ghost use Rattle.plan_core.specs.declared.plan.Task.{Task as DeclaredTask};
 ghost use Rattle.plan_core.specs.Kinds.{kind_reads, kind_writes, on_pair};
 ghost use Rattle.plan_core.specs.Numbers.{below};
 ghost use Rattle.plan_core.specs.Words.{pair_numbers};
-ghost use Rattle.transfer_refiner.specs.Places.{AreOnce};
-ghost use Rattle.transfer_refiner.specs.Steps.{IsListed};
+ghost use Rattle.transfer_refiner.specs.code.Places.{AreOnce};
+ghost use Rattle.transfer_refiner.specs.code.Steps.{IsListed};
 
 use crate::places::{Places, pairs_at};
 use plan_core::{Pair, PlanJob, Task, TaskKind, files_read, files_written, kind_copied};

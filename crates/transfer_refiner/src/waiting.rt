@@ -1,14 +1,14 @@
 //! The tasks for which tasks wait.
 
 ghost use Rattle.std.specs.Prelude.{◌≡◌, ◌<◌, ◌^◌, ◌++◌, ◌||◌, ℕ, true, false, length, slice_get, IfOk, OnOk};
-ghost use Rattle.digraph.specs.Digraph.{edge};
+ghost use Rattle.digraph.specs.code.Digraph.{edge};
 ghost use Rattle.plan_core.specs.Kinds.{task_waits};
 ghost use Rattle.plan_core.specs.Numbers.{below, has};
 ghost use Rattle.plan_core.specs.Words.{kind_in, pair_numbers, reads_in, task_numbers, writes_in};
 ghost use Rattle.std.specs.List.{list_any};
 ghost use Rattle.plan_core.specs.Words.{is_clean_kind};
-ghost use Rattle.transfer_refiner.specs.Edges.{fan};
-ghost use Rattle.transfer_refiner.specs.Steps.{AreParented, IsSame, writer_edges};
+ghost use Rattle.transfer_refiner.specs.code.Edges.{fan};
+ghost use Rattle.transfer_refiner.specs.code.Steps.{AreParented, IsSame, writer_edges};
 
 use crate::rows::{before, larger};
 use digraph::Digraph;

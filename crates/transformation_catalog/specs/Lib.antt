@@ -1,7 +1,4 @@
-pub mod TransformationSite
-pub mod TransformationEntry
-pub mod Root
-pub mod Key
+pub mod Catalog
 pub mod Lookup
-pub mod Duplicates
-pub mod Reader
+-- What only the code's own contracts say.
+pub mod code

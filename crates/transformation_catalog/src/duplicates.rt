@@ -1,8 +1,8 @@
 //! Transformations that come twice.
 
 ghost use Rattle.std.specs.Prelude.{◌≡◌, None, OnOk};
-ghost use Rattle.peg_json.specs.ReadFault.{GivesRead};
-ghost use Rattle.transformation_catalog.specs.Duplicates.{listed_once, repeat_in};
+ghost use Rattle.peg_json.specs.code.ReadFault.{GivesRead};
+ghost use Rattle.transformation_catalog.specs.Catalog.{listed_once, repeat_in};
 
 use crate::catalog::TransformationEntry;
 use crate::key::Key;

@@ -30,7 +30,8 @@ impl<'a> Key<'a> {
 
 impl<'a> PartialEq for Key<'a> {
     ghost use Rattle.std.specs.Cmp.{partial_equiv_from_equiv};
-    ghost use Rattle.transformation_catalog.specs.Key.{same_transformation, sameness};
+    ghost use Rattle.transformation_catalog.specs.Catalog.{same_transformation};
+    ghost use Rattle.transformation_catalog.specs.code.Key.{sameness};
 
     ghost eq = { same_transformation };
 
@@ -44,7 +45,7 @@ impl<'a> PartialEq for Key<'a> {
 }
 
 impl<'a> Eq for Key<'a> {
-    ghost use Rattle.transformation_catalog.specs.Key.{sameness};
+    ghost use Rattle.transformation_catalog.specs.code.Key.{sameness};
 
     ghost laws = { sameness };
 }

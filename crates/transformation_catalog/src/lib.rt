@@ -1,5 +1,5 @@
 //! Transformation catalogues: a catalogue is the one that its document's definition gives, `read_of` of
-//! `specs/Reader.antt`.
+//! `specs/Catalog.antt`.
 //!
 //! The tree part has one file for each object of the format: its table, its reading and its unknown keys
 //! (`root`, `transformation_entry`, `transformation_site`). `duplicates` refuses a transformation that comes

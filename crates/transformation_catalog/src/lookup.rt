@@ -3,7 +3,7 @@
 ghost use Rattle.std.specs.Prelude.{◌≡◌, ◌<◌, length, IfOk, IfSome};
 ghost use Rattle.indexmap.specs.IndexMap.{get_by};
 ghost use Rattle.workflow_core.specs.declared.workflow.Transformation.{Transformation};
-ghost use Rattle.transformation_catalog.specs.Key.{same_transformation};
+ghost use Rattle.transformation_catalog.specs.Catalog.{same_transformation};
 ghost use Rattle.transformation_catalog.specs.Lookup.{place_of};
 
 use crate::catalog::{TransformationCatalog, TransformationEntry};

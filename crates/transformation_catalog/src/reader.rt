@@ -5,10 +5,11 @@ ghost use Rattle.std.specs.List.Sorted.{IsPermutation, IsSorted};
 ghost use Rattle.std.specs.Ordering.{nat_cmp};
 ghost use Rattle.std.specs.Cmp.Lexicographic.{slice_cmp};
 ghost use Rattle.serde_json.specs.View.{view as tree_view};
-ghost use Rattle.peg_json.specs.ReadFault.{GivesRead};
-ghost use Rattle.transformation_catalog.specs.Duplicates.{catalog_of, repeat_in};
-ghost use Rattle.transformation_catalog.specs.Reader.{view, from_tree_of, read_of, unknown_in_text};
-ghost use Rattle.transformation_catalog.specs.Root.{unknown_of};
+ghost use Rattle.peg_json.specs.code.ReadFault.{GivesRead};
+ghost use Rattle.transformation_catalog.specs.Catalog.{distinct_transformations, repeat_in};
+ghost use Rattle.transformation_catalog.specs.Catalog.{transformation_view, transformation_catalog_from_tree, transformation_catalog_from_text};
+ghost use Rattle.transformation_catalog.specs.code.Unknown.{unknown_in_text};
+ghost use Rattle.transformation_catalog.specs.code.Unknown.{unknown_of};
 
 use crate::catalog::{TransformationCatalog, TransformationEntry};
 use crate::duplicates::check_listed_once;
@@ -19,13 +20,13 @@ use std::alloc::Global;
 use values::{Items, Text};
 
 /// The catalogue of these entries, none of which may come twice.
-#[tactic(auto, unfolding(crate::specs::Duplicates::catalog_of))]
+#[tactic(auto, unfolding(crate::specs::Catalog::distinct_transformations))]
 fn catalog_of(
     alloc: Global,
     entries: Vec<TransformationEntry>,
     ignored: Vec<Text>,
 ) -> Result<TransformationCatalog, ReadFault>
-    ensures answer { GivesRead view result (catalog_of entries.items) }
+    ensures answer { GivesRead transformation_view result (distinct_transformations entries.items) }
     ensures ignored { IfOk result (λ c. c.ignored ≡ ignored.items) }
     ensures distinct { IfOk result (λ c. repeat_in c.entries ≡ None) }
 {
@@ -37,13 +38,13 @@ fn catalog_of(
 }
 
 /// Reads the tree of a transformation catalogue, which stands under a path.
-#[tactic(auto, unfolding(crate::specs::Reader::from_tree_of))]
+#[tactic(auto, unfolding(crate::specs::Catalog::transformation_catalog_from_tree))]
 pub fn from_tree(
     alloc: Global,
     value: &Value,
     path: &Text,
 ) -> Result<TransformationCatalog, ReadFault>
-    ensures answer { GivesRead view result (from_tree_of path.now (tree_view value.now)) }
+    ensures answer { GivesRead transformation_view result (transformation_catalog_from_tree path.now (tree_view value.now)) }
     ensures ignored { IfOk result
         (λ c. IsPermutation (unknown_of path.now (tree_view value.now)) c.ignored) }
     ensures order { IfOk result (λ c. IsSorted (slice_cmp nat_cmp) c.ignored) }
@@ -56,9 +57,9 @@ pub fn from_tree(
 }
 
 /// Reads a transformation catalogue's document.
-#[tactic(auto, unfolding(crate::specs::Reader::read_of, crate::specs::Reader::unknown_in_text))]
+#[tactic(auto, unfolding(crate::specs::Catalog::transformation_catalog_from_text, crate::specs::code::Unknown::unknown_in_text))]
 pub fn read(alloc: Global, bytes: &[u8]) -> Result<TransformationCatalog, ReadFault>
-    ensures answer { GivesRead view result (read_of bytes.now) }
+    ensures answer { GivesRead transformation_view result (transformation_catalog_from_text bytes.now) }
     ensures ignored { IfOk result
         (λ c. IsPermutation (unknown_in_text bytes.now) c.ignored) }
     ensures order { IfOk result (λ c. IsSorted (slice_cmp nat_cmp) c.ignored) }

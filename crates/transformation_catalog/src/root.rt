@@ -1,8 +1,8 @@
 //! A whole document: its table, its reading, and the keys that are in no table.
 
 ghost use Rattle.std.specs.Prelude.{◌≡◌};
-ghost use Rattle.peg_json.specs.Table.{rows_of};
-ghost use Rattle.transformation_catalog.specs.Root.{root_rows};
+ghost use Rattle.peg_json.specs.code.Table.{rows_of};
+ghost use Rattle.transformation_catalog.specs.Catalog.{transformation_document_rows};
 
 use crate::catalog::TransformationEntry;
 use peg_json::{
@@ -32,7 +32,7 @@ const ROOT: [KeyRow; 3] = [
 ];
 
 fn root_table() -> KeyTable<3>
-    ensures { rows_of result.rows.now ≡ root_rows }
+    ensures { rows_of result.rows.now ≡ transformation_document_rows }
 {
     KeyTable { rows: &ROOT }
 }
@@ -46,15 +46,15 @@ pub struct Document {
 impl FromTree for Document {
     ghost use Rattle.std.specs.Prelude.{List};
     ghost use Rattle.transformation_catalog.specs.declared.catalog.TransformationEntry as declared;
-    ghost use Rattle.transformation_catalog.specs.Root.{document_of};
+    ghost use Rattle.transformation_catalog.specs.Catalog.{transformation_document_of};
 
     ghost Seen = { List declared.TransformationEntry };
 
     ghost seen = { λ d. d.entries.items };
 
-    ghost reads = { document_of };
+    ghost reads = { transformation_document_of };
 
-    #[tactic(auto, unfolding(crate::specs::Root::document_of))]
+    #[tactic(auto, unfolding(crate::specs::Catalog::transformation_document_of))]
     fn from_tree(alloc: Global, value: &Value, path: &Text) -> Result<Document, TreeFault> {
         checked(alloc, value, path, &root_table())?;
         optional_version(alloc, value, path, "pegasus")?;
@@ -65,11 +65,11 @@ impl FromTree for Document {
 }
 
 impl Listed for Document {
-    ghost use Rattle.transformation_catalog.specs.Root.{unknown_of};
+    ghost use Rattle.transformation_catalog.specs.code.Unknown.{unknown_of};
 
     ghost unknown = { unknown_of };
 
-    #[tactic(auto, unfolding(crate::specs::Root::unknown_of))]
+    #[tactic(auto, unfolding(crate::specs::code::Unknown::unknown_of))]
     fn gather(
         alloc: Global,
         value: &Value,

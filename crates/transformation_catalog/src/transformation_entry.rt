@@ -1,8 +1,8 @@
 //! A transformation: its table, its reading, and the keys that are in no table.
 
 ghost use Rattle.std.specs.Prelude.{◌≡◌};
-ghost use Rattle.peg_json.specs.Table.{rows_of};
-ghost use Rattle.transformation_catalog.specs.TransformationEntry.{transformation_rows};
+ghost use Rattle.peg_json.specs.code.Table.{rows_of};
+ghost use Rattle.transformation_catalog.specs.Catalog.{transformation_rows};
 
 use crate::catalog::{TransformationEntry, TransformationSite};
 use peg_json::{
@@ -57,7 +57,7 @@ fn transformation_table() -> KeyTable<6>
 
 impl FromTree for TransformationEntry {
     ghost use Rattle.transformation_catalog.specs.declared.catalog.TransformationEntry as declared;
-    ghost use Rattle.transformation_catalog.specs.TransformationEntry.{transformation_of};
+    ghost use Rattle.transformation_catalog.specs.Catalog.{transformation_of};
 
     ghost Seen = { declared.TransformationEntry };
 
@@ -65,7 +65,7 @@ impl FromTree for TransformationEntry {
 
     ghost reads = { transformation_of };
 
-    #[tactic(auto, unfolding(crate::specs::TransformationEntry::transformation_of))]
+    #[tactic(auto, unfolding(crate::specs::Catalog::transformation_of))]
     fn from_tree(
         alloc: Global,
         value: &Value,
@@ -92,11 +92,11 @@ impl FromTree for TransformationEntry {
 }
 
 impl Listed for TransformationEntry {
-    ghost use Rattle.transformation_catalog.specs.TransformationEntry.{unknown_transformation};
+    ghost use Rattle.transformation_catalog.specs.code.Unknown.{unknown_transformation};
 
     ghost unknown = { unknown_transformation };
 
-    #[tactic(auto, unfolding(crate::specs::TransformationEntry::unknown_transformation))]
+    #[tactic(auto, unfolding(crate::specs::code::Unknown::unknown_transformation))]
     fn gather(
         alloc: Global,
         value: &Value,

@@ -2,9 +2,9 @@
 
 ghost use Rattle.std.specs.Prelude.{◌≡◌};
 ghost use Rattle.serde_json.specs.View.{view as tree_view};
-ghost use Rattle.peg_json.specs.Tree.{Gives};
-ghost use Rattle.peg_json.specs.Table.{rows_of};
-ghost use Rattle.transformation_catalog.specs.TransformationSite.{site_rows, installed_at};
+ghost use Rattle.peg_json.specs.code.Tree.{Gives};
+ghost use Rattle.peg_json.specs.code.Table.{rows_of};
+ghost use Rattle.transformation_catalog.specs.Catalog.{transformation_site_rows, installed_at};
 
 use crate::catalog::TransformationSite;
 use peg_json::{
@@ -38,7 +38,7 @@ const SITE: [KeyRow; 4] = [
 ];
 
 fn site_table() -> KeyTable<4>
-    ensures { rows_of result.rows.now ≡ site_rows }
+    ensures { rows_of result.rows.now ≡ transformation_site_rows }
 {
     KeyTable { rows: &SITE }
 }
@@ -56,15 +56,15 @@ fn installed(alloc: Global, value: &Value, path: &Text, key: &str) -> Result<boo
 
 impl FromTree for TransformationSite {
     ghost use Rattle.transformation_catalog.specs.declared.catalog.TransformationSite as declared;
-    ghost use Rattle.transformation_catalog.specs.TransformationSite.{site_of};
+    ghost use Rattle.transformation_catalog.specs.Catalog.{transformation_site_of};
 
     ghost Seen = { declared.TransformationSite };
 
     ghost seen = { λ s. s };
 
-    ghost reads = { site_of };
+    ghost reads = { transformation_site_of };
 
-    #[tactic(auto, unfolding(crate::specs::TransformationSite::site_of))]
+    #[tactic(auto, unfolding(crate::specs::Catalog::transformation_site_of))]
     fn from_tree(
         alloc: Global,
         value: &Value,
@@ -79,11 +79,11 @@ impl FromTree for TransformationSite {
 }
 
 impl Listed for TransformationSite {
-    ghost use Rattle.transformation_catalog.specs.TransformationSite.{unknown_site};
+    ghost use Rattle.transformation_catalog.specs.code.Unknown.{unknown_site};
 
     ghost unknown = { unknown_site };
 
-    #[tactic(auto, unfolding(crate::specs::TransformationSite::unknown_site))]
+    #[tactic(auto, unfolding(crate::specs::code::Unknown::unknown_site))]
     fn gather(
         alloc: Global,
         value: &Value,

@@ -14,7 +14,7 @@ use Rattle.std.specs.FinMap.{find, get-empty, get-from_entries, get-insert, get-
 use Rattle.std.specs.Cmp.{eq_by_cmp_equiv}
 use Rattle.std.proofs.lemmas.Cmp.{nat_list_cmp_total, nat_list_eq_equiv}
 use Rattle.std.proofs.lemmas.Map.Text.{is_eq-slice_cmp, btree_map_updates_text}
-use Rattle.values.specs.FileMap.{named, files_of}
+use Rattle.values.specs.code.FileMap.{named, files_of}
 
 abbrev Texts : Type 0
 Texts = List (String Global × Vec ℕ Global)

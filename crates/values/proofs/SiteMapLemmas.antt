@@ -17,7 +17,7 @@ use Rattle.std.specs.Prelude.{Result, Ok, Err, OnOk, OnErr, IsSome, is_some, Dec
 use Rattle.std.specs.declared.cmp.Ordering.{Ordering}
 use Rattle.std.specs.declared.cmp.Ordering.TheVariants.{Less, Equal, Greater}
 use Rattle.values.specs.FileMap.{Files}
-use Rattle.values.specs.SiteMap.{sited, sites_of, or_empty, at_site, pair_at, put_pair, take_pair, IsEmptyAt}
+use Rattle.values.specs.code.SiteMap.{sited, sites_of, or_empty, at_site, pair_at, put_pair, take_pair, IsEmptyAt}
 
 abbrev Texts : Type 0
 Texts = List (String Global × Files)

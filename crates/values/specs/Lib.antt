@@ -1,7 +1,8 @@
 -- What the plain values mean.
 pub mod FileMap
-pub mod SiteMap
 pub mod Apply
-pub mod Policy
 pub mod Printed
-pub mod Line
+pub mod Numbers
+pub mod Distinct
+-- What only the code's own contracts say.
+pub mod code

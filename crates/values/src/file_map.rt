@@ -15,7 +15,8 @@ pub struct FileMap {
 }
 
 impl Model for FileMap {
-    ghost use Rattle.values.specs.FileMap.{Files, files_of};
+    ghost use Rattle.values.specs.FileMap.{Files};
+    ghost use Rattle.values.specs.code.FileMap.{files_of};
     ghost use Rattle.std.specs.Coded.{coded_ℕ, coded_list};
     ghost use Rattle.std.specs.FinMap as map;
 

@@ -2,7 +2,7 @@
 
 ghost use Rattle.std.specs.Prelude.{◌≡◌, ◌++◌, OnOk, codes};
 ghost use Rattle.std.specs.Fmt.{decimal};
-ghost use Rattle.values.specs.Line.{line, printed_names, spaced_names, word_text, words_text};
+ghost use Rattle.values.specs.code.Line.{line, printed_names, spaced_names, word_text, words_text};
 
 use crate::memory::Memory;
 use crate::printed::push_name;

@@ -1,7 +1,7 @@
 //! How a run goes on where a task fails or waits.
 
 ghost use Rattle.std.specs.Prelude.{◌≡◌};
-ghost use Rattle.values.specs.Policy.{plain};
+ghost use Rattle.values.specs.code.Policy.{plain};
 
 /// A run's policy.
 #[derive(Drop)]

@@ -2,7 +2,7 @@
 
 ghost use Rattle.std.specs.Prelude.{◌≡◌, ℕ, List, Option, Some, None, option_map, OnOk, OnErr, Decides, is_some, true, false};
 ghost use Rattle.std.specs.FinMap as map;
-ghost use Rattle.values.specs.SiteMap.{at_site, pair_at, put_pair, take_pair, IsEmptyAt};
+ghost use Rattle.values.specs.code.SiteMap.{at_site, pair_at, put_pair, take_pair, IsEmptyAt};
 
 use crate::file_map::FileMap;
 use crate::memory::Memory;
@@ -17,7 +17,7 @@ pub struct SiteMap {
 }
 
 impl Model for SiteMap {
-    ghost use Rattle.values.specs.SiteMap.{Sites, sites_of};
+    ghost use Rattle.values.specs.code.SiteMap.{Sites, sites_of};
     ghost use Rattle.std.specs.Coded.{coded_ℕ, coded_list};
     ghost use Rattle.std.specs.FinMap as map;
 

@@ -11,9 +11,9 @@ use Rattle.lease_rules.specs.State.{State}
 use Rattle.ruled_lock.specs.Chronicle.{GrowsAlike}
 use Rattle.site_yard.specs.declared.leased.Leased.{Leased}
 use Rattle.site_yard.specs.declared.leased.Leased.TheVariants as leased
-use Rattle.site_yard.specs.Yard.{Adds, IsAgain, IsFail, IsFailure, IsLending, IsStop, Leases}
-use Rattle.worker_gate.specs.Asking.{AreAskedBy, AsksOwn, IsAskedAt, IsAskedBy}
-use Rattle.worker_gate.specs.Tending.{EndsTask, IsDone}
+use Rattle.site_yard.specs.code.Yard.{Adds, IsAgain, IsFail, IsFailure, IsLending, IsStop, Leases}
+use Rattle.worker_gate.specs.code.Asking.{AreAskedBy, AsksOwn, IsAskedAt, IsAskedBy}
+use Rattle.worker_gate.specs.code.Tending.{EndsTask, IsDone}
 
 -- lists
 pub no_more : (xs : List ℕ) → xs ++ [] ≡ xs

@@ -1,7 +1,7 @@
 -- Calls of the host, entry by entry.
 use Rattle.std.proofs.Common.{◌≡◌, ℕ, ◌+◌, ◌≤◌, Bool, true, false, cond, inl, inr, List, [], ◌∷◌, ◌++◌, length, refl, sym, ap, subst, ◌∙◌, append_assoc, arith}
 use Rattle.std.specs.Prelude.{Option}
-use Rattle.outside.specs.Counts.{IsLater}
+use Rattle.outside.specs.code.Counts.{IsLater}
 use Rattle.outside.specs.declared.counts.Counts.{Counts}
 use Rattle.outside.specs.declared.store.Store.{Store}
 use Rattle.values.specs.declared.numbers.TaskId.{TaskId}
@@ -10,12 +10,12 @@ use Rattle.run_record.specs.declared.entry.Cause.{Cause}
 use Rattle.run_record.specs.Events.{Event, Grant, Arrive, End, Clean, Fail, Again, Regrant}
 use Rattle.lease_book.specs.Book.{failure, is_tried_again}
 use Rattle.lease_rules.specs.State.{State}
-use Rattle.site_yard.specs.Failures.{AreMore, IsMore}
-use Rattle.site_yard.specs.Lending.{count_parts}
-use Rattle.site_yard.specs.Loan.{targets}
-use Rattle.site_yard.specs.Yard.{Adds, IsAgain, IsFail, IsFailure, IsSettled, Leases, TakesPublished, TakesWithin}
+use Rattle.site_yard.specs.code.Failures.{AreMore, IsMore}
+use Rattle.site_yard.specs.code.Lending.{count_parts}
+use Rattle.site_yard.specs.code.Loan.{targets}
+use Rattle.site_yard.specs.code.Yard.{Adds, IsAgain, IsFail, IsFailure, IsSettled, Leases, TakesPublished, TakesWithin}
 use Rattle.site_yard.specs.declared.leased.Leased.TheVariants as leased
-use Rattle.worker_gate.specs.Calls.{AddsCalls, AreAllCalls, AreCalls, EndsCalls}
+use Rattle.worker_gate.specs.code.Calls.{AddsCalls, AreAllCalls, AreCalls, EndsCalls}
 
 -- two steps
 pub more_then : (n k a b c : ℕ) → IsMore n a b → IsMore k b c → b ≤ c → IsMore (n + k) a c

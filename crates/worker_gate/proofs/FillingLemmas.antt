@@ -4,30 +4,30 @@ use Rattle.std.proofs.lemmas.List.{length-map}
 use Rattle.std.specs.Prelude.{Option, Some, None, Result, Ok, Err}
 use Rattle.std.specs.FinMap as files
 use Rattle.values.specs.Apply.{Apply}
-use Rattle.outside.specs.Counts.{Rose}
-use Rattle.outside.specs.Parts.{DraftState, ReadState, part_faults}
+use Rattle.outside.specs.code.Counts.{Rose}
+use Rattle.outside.specs.code.Parts.{DraftState, ReadState, part_faults}
 use Rattle.outside.specs.declared.store.Store.{Store}
 use Rattle.plan_core.specs.declared.plan.Plan.{Plan}
-use Rattle.plan_core.specs.Proper.{IsProper}
+use Rattle.plan_core.specs.code.Proper.{IsProper}
 use Rattle.plan_core.specs.Words.{kind}
 use Rattle.run_record.specs.declared.entry.Cause.{Cause}
 use Rattle.run_record.specs.declared.entry.Cause.TheVariants as why
 use Rattle.run_record.specs.Events.{Event}
 use Rattle.lease_rules.specs.Legal.{CauseFits}
 use Rattle.site_yard.specs.Changes.{carries}
-use Rattle.lease_rules.specs.Causes.{fault_in}
-use Rattle.site_yard.specs.Failures.{RoseBy}
-use Rattle.site_yard.specs.Kept.{IsOpening}
-use Rattle.site_yard.specs.Law.{HasPlanLaws}
-use Rattle.site_yard.specs.Truthful.{IsCause}
-use Rattle.site_yard.specs.Yard.{IsBehind, IsTold, IsWorkers}
+use Rattle.lease_rules.specs.code.Causes.{fault_in}
+use Rattle.site_yard.specs.code.Failures.{RoseBy}
+use Rattle.site_yard.specs.code.Kept.{IsOpening}
+use Rattle.site_yard.specs.code.Law.{HasPlanLaws}
+use Rattle.site_yard.specs.code.Truthful.{IsCause}
+use Rattle.site_yard.specs.code.Yard.{IsBehind, IsTold, IsWorkers}
 use Rattle.task_work.specs.Filling.{IsWhy}
 use Rattle.task_work.specs.Making.{Each, IsShown}
 use Rattle.task_work.specs.Pieces.{IsSteadyDraft}
 use Rattle.task_work.specs.declared.filling.Filled.{Filled}
 use Rattle.task_work.specs.declared.filling.Filled.TheVariants.{Moved, Made}
-use Rattle.worker_gate.specs.Inputs.{IsFilledOf}
-use Rattle.worker_gate.specs.Tending.{CanFinish, Fills, IsHeld, failures_in}
+use Rattle.worker_gate.specs.code.Inputs.{IsFilledOf}
+use Rattle.worker_gate.specs.code.Tending.{CanFinish, Fills, IsHeld, failures_in}
 use Rattle.worker_gate.proofs.LoanLemmas.{no_faults, steady_loan, steady_many, still_whole}
 use Rattle.worker_gate.proofs.MadeLemmas.{CarryLaw, declined_so, job_run, made_settles, overlong_so}
 use Rattle.worker_gate.proofs.MovedLemmas.{checksum_so, digest_of_bytes, moved_bytes, moved_settles}

@@ -9,7 +9,7 @@ use Rattle.ruled_lock.specs.Lock.{IsOf}
 use Rattle.ruled_lock.specs.Pass.{IsIdle, IsNewPass, charter_of, count_of, joined_of, lists_of, mine_of, seen_of, worker_of}
 use Rattle.worker_gate.specs.declared.hands.Hand.{Hand}
 use Rattle.ruled_lock.proofs.ListLemmas.{prefix_trans}
-use Rattle.worker_gate.specs.Hands.{AreDealt, AreOthers, AreReady, AreReadyToJoin, AreSeenBy, IsDealt, IsGathered, IsReady, member_of, own_list}
+use Rattle.worker_gate.specs.code.Hands.{AreDealt, AreOthers, AreReady, AreReadyToJoin, AreSeenBy, IsDealt, IsGathered, IsReady, member_of, own_list}
 
 -- the first element and the rest
 pub first_and_rest : {X : Type 0} (xs ys : List X) (x : X) → 0 < length xs → x ≡ get_or xs 0 x → ys ≡ drop 1 xs → xs ≡ x ∷ ys

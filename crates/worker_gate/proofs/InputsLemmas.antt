@@ -17,15 +17,15 @@ use Rattle.lease_book.specs.Book.{failure, is_tried_again}
 use Rattle.lease_rules.specs.Owning.{worker}
 use Rattle.lease_rules.specs.State.{State}
 use Rattle.ruled_lock.specs.Chronicle.{AddsAtMostOne, GrowsAlike}
-use Rattle.site_yard.specs.Yard.{Adds, IsAgain, IsFail, IsFailure, IsLending, IsSettled, IsStop, Leases}
+use Rattle.site_yard.specs.code.Yard.{Adds, IsAgain, IsFail, IsFailure, IsLending, IsSettled, IsStop, Leases}
 use Rattle.site_yard.specs.declared.chronicle.Charter.{Charter}
 use Rattle.site_yard.specs.declared.leased.Leased.{Leased}
 use Rattle.site_yard.specs.declared.leased.Leased.TheVariants as leased
 use Rattle.task_work.specs.declared.filling.Filled.{Filled}
 use Rattle.task_work.specs.declared.filling.Filled.TheVariants.{Moved, Made}
-use Rattle.worker_gate.specs.Inputs.{AddsOfInputs, AreBytesMoved, AreLengths, AreOfInputs, IsCauseOfInputs, IsFilledOf, IsOfInputs}
-use Rattle.worker_gate.specs.Tending.{sizes_in}
-use Rattle.worker_gate.specs.Turning.{plan_of}
+use Rattle.worker_gate.specs.code.Inputs.{AddsOfInputs, AreBytesMoved, AreLengths, AreOfInputs, IsCauseOfInputs, IsFilledOf, IsOfInputs}
+use Rattle.worker_gate.specs.code.Tending.{sizes_in}
+use Rattle.worker_gate.specs.code.Turning.{plan_of}
 
 -- causes that are the host's, or want of memory
 stop_is : (apply : Apply) (p : Plan) (t : ℕ) (c : Cause) → IsStop c → IsCauseOfInputs apply p t c

@@ -4,28 +4,28 @@ use Rattle.std.specs.Prelude.{Option, Some, None, option_map, is_some, Err}
 use Rattle.std.specs.FinMap as files
 use Rattle.std.proofs.lemmas.List.{length-append, length-map}
 use Rattle.values.specs.Apply.{Apply}
-use Rattle.outside.specs.Lending.{IsOpened, TellsFound}
-use Rattle.outside.specs.Parts.{DraftState, ReadState, extended, draft_faults, part_faults, reading_faults}
+use Rattle.outside.specs.code.Lending.{IsOpened, TellsFound}
+use Rattle.outside.specs.code.Parts.{DraftState, ReadState, extended, draft_faults, part_faults, reading_faults}
 use Rattle.outside.specs.declared.store.Store.{Store}
 use Rattle.plan_core.specs.declared.plan.Plan.{Plan}
 use Rattle.plan_core.specs.declared.plan.Source.TheVariants.{Pfn, Site}
 use Rattle.plan_core.specs.declared.plan.TaskKind.{TaskKind}
 use Rattle.plan_core.specs.declared.plan.TaskKind.TheVariants.{Transfer, Run, Clean as CleanTask}
-use Rattle.plan_core.specs.Proper.{IsProper}
+use Rattle.plan_core.specs.code.Proper.{IsProper}
 use Rattle.plan_core.specs.Words.{declared, is_transfer_kind, kind, reads, writes}
 use Rattle.storage_simulation.specs.Goods.{or_zero}
 use Rattle.run_record.specs.declared.entry.Cause.TheVariants as why
 use Rattle.run_record.specs.Events.{Event}
-use Rattle.site_yard.specs.Law.{HasPlanLaws}
-use Rattle.lease_rules.specs.Storing.{pair_limit}
-use Rattle.site_yard.specs.Loan.{Aim, AreDrafts, AreOpened, AreReadings, IsDraftOf, IsLent, IsLoan, IsReplica, at_pair, count_readings, fresh_at, pair_target, targets, targets_in}
-use Rattle.site_yard.specs.Yard.{IsTold}
+use Rattle.site_yard.specs.code.Law.{HasPlanLaws}
+use Rattle.lease_rules.specs.code.Storing.{pair_limit}
+use Rattle.site_yard.specs.code.Loan.{Aim, AreDrafts, AreOpened, AreReadings, IsDraftOf, IsLent, IsLoan, IsReplica, at_pair, count_readings, fresh_at, pair_target, targets, targets_in}
+use Rattle.site_yard.specs.code.Yard.{IsTold}
 use Rattle.site_yard.proofs.AimLemmas.{aim_of, moved_limit}
 use Rattle.site_yard.proofs.PlanLemmas.{transfer_reads}
 use Rattle.task_work.specs.Filling.{AreParts}
 use Rattle.task_work.specs.Making.{AreBegun, AreEmpty, Each, limit_of}
 use Rattle.task_work.specs.Pieces.{IsSteadyDraft, IsSteadyReading}
-use Rattle.worker_gate.specs.Tending.{AreUnread, CanFinish, HasLoan, IsHeld, IsUnread, limits_in}
+use Rattle.worker_gate.specs.code.Tending.{AreUnread, CanFinish, HasLoan, IsHeld, IsUnread, limits_in}
 
 -- as it was lent
 tells_all : (found o : Option (List ℕ)) → TellsFound (Some found) o → is_some o ≡ true

@@ -3,31 +3,32 @@ use Rattle.std.proofs.Common.{◌≡◌, ℕ, ◌≤◌, ◌<◌, inl, inr, Bool
 use Rattle.std.specs.Prelude.{Option, Some, None, option_map, IfSome}
 use Rattle.std.specs.FinMap as files
 use Rattle.values.specs.Apply.{Apply}
-use Rattle.outside.specs.Parts.{DraftState, ReadState, part_faults}
+use Rattle.outside.specs.code.Parts.{DraftState, ReadState, part_faults}
 use Rattle.outside.specs.declared.store.Store.{Store}
 use Rattle.plan_core.specs.declared.plan.Plan.{Plan}
 use Rattle.plan_core.specs.declared.plan.TaskKind.{TaskKind}
 use Rattle.plan_core.specs.declared.plan.TaskKind.TheVariants.{Transfer, Run, Clean as CleanTask}
 use Rattle.plan_core.specs.Carried.{carried}
 use Rattle.plan_core.specs.Numbers.{has}
-use Rattle.plan_core.specs.Proper.{IsProper}
+use Rattle.plan_core.specs.code.Proper.{IsProper}
 use Rattle.plan_core.specs.Words.{is_run, is_run_kind, kind, outputs, reads, writes}
 use Rattle.storage_simulation.specs.Goods.{is_delivery, is_delivery_kind}
 use Rattle.run_record.specs.Events.{Event}
 use Rattle.lease_rules.specs.Legal.{has_job}
 use Rattle.site_yard.specs.Changes.{carries}
-use Rattle.site_yard.specs.Kept.{IsOpening}
-use Rattle.site_yard.specs.Law.{HasPlanLaws}
-use Rattle.site_yard.specs.Loan.{Aim, AreCarried, AreSmall, CanSettle, draft_size, fresh_at, inputs, pair_target, targets, targets_in}
-use Rattle.lease_rules.specs.Storing.{pair_limit, AreWithin, IsFirstPast, IsOverlong}
-use Rattle.plan_core.specs.Names.{pair_file, content}
-use Rattle.plan_core.specs.Declined.{declined}
-use Rattle.site_yard.specs.Truthful.{HasChecksum, IsLongAs, is_over, oversize_among}
+use Rattle.site_yard.specs.code.Kept.{IsOpening}
+use Rattle.site_yard.specs.code.Law.{HasPlanLaws}
+use Rattle.site_yard.specs.code.Loan.{Aim, AreCarried, AreSmall, CanSettle, draft_size, fresh_at, inputs, pair_target, targets, targets_in}
+use Rattle.lease_rules.specs.code.Storing.{pair_limit, AreWithin, IsFirstPast, IsOverlong}
+use Rattle.plan_core.specs.Names.{pair_file}
+use Rattle.plan_core.specs.code.Names.{content}
+use Rattle.plan_core.specs.code.Declined.{declined}
+use Rattle.site_yard.specs.code.Truthful.{HasChecksum, IsLongAs, is_over, oversize_among}
 use Rattle.task_work.specs.Computing.{IsComputed, Makes, computed, files_of, first_declined}
 use Rattle.task_work.specs.Making.{AreStored, AreWritten, Each, MakesOverlong, OfRead}
 use Rattle.task_work.specs.Pieces.{HasRead, IsSteadyDraft, IsSteadyReading}
 use Rattle.task_work.proofs.FillingLemmas.{AllTell, AllTellNone, told_read, told_written}
-use Rattle.worker_gate.specs.Tending.{AreUnread, IsHeld, limits_in}
+use Rattle.worker_gate.specs.code.Tending.{AreUnread, IsHeld, limits_in}
 use Rattle.worker_gate.proofs.LoanLemmas.{steady_loan}
 
 -- the law of what a Run carries

@@ -11,30 +11,32 @@ use Rattle.values.specs.declared.memory.Memory.{Memory}
 use Rattle.outside.specs.declared.store.Store.{Store}
 use Rattle.storage_simulation.specs.declared.ordered.Ordered.{Ordered}
 use Rattle.plan_core.specs.declared.plan.Plan.{Plan}
-use Rattle.plan_core.specs.Proper.{IsProper}
+use Rattle.plan_core.specs.code.Proper.{IsProper}
 use Rattle.plan_core.specs.Words.{task_numbers}
 use Rattle.run_record.specs.Events.{Event, Grant, Arrive, End, Clean, Fail, Again, Regrant}
 use Rattle.lease_book.specs.declared.book.Book.{Book}
-use Rattle.lease_rules.specs.Law.{FitsFromStart}
+use Rattle.lease_rules.specs.code.Law.{FitsFromStart}
 use Rattle.lease_rules.specs.Legal.{IsComplete, Legal}
-use Rattle.lease_rules.specs.Owning.{entries_by, is_open, is_open_after, worker}
+use Rattle.lease_rules.specs.code.Owning.{entries_by, is_open, is_open_after}
+use Rattle.lease_rules.specs.Owning.{worker}
 use Rattle.lease_rules.specs.State.{now}
 use Rattle.ruled_lock.specs.Chronicle.{items_of, list_of}
 use Rattle.ruled_lock.specs.Pass.{charter_of, count_of, lists_of, mine_of, seen_of, worker_of}
 use Rattle.ruled_lock.specs.declared.lock.RuledLock.{RuledLock}
 use Rattle.ruled_lock.specs.declared.pass.Pass.{Pass}
 use Rattle.ruled_lock.proofs.ListLemmas.{prefix_trans}
-use Rattle.site_yard.specs.Failures.{RoseBy, tool_fault_in, tool_faults, tool_faults_of}
+use Rattle.site_yard.specs.code.Failures.{RoseBy, tool_fault_in, tool_faults, tool_faults_of}
 use Rattle.site_yard.specs.Faults.{AllBelow}
 use Rattle.site_yard.specs.declared.chronicle.Charter.{Charter}
-use Rattle.worker_gate.specs.Alone.{IsOver}
-use Rattle.worker_gate.specs.Asking.{AreAskedBy, AreGatesAsked, AsksOwn, IsAskedFor}
-use Rattle.worker_gate.specs.Hands.{AreDealt, AreReady, IsDealt, IsGathered, count_at, member_of, own_list}
-use Rattle.worker_gate.specs.Inputs.{AddsOfInputs, AreOfInputs}
-use Rattle.worker_gate.specs.Many.{AreToolsCounted, CanAllWork, HasWorked, HaveAllAsked, HaveAllWorked, WorksMany}
-use Rattle.worker_gate.specs.Telling.{AreGatesTold, HaveAllTold, IsToldOf, placed_by}
-use Rattle.worker_gate.specs.Turning.{IsPlanOf, NoneOpenBy, plan_of, state_of}
-use Rattle.worker_gate.specs.Working.{Works}
+use Rattle.worker_gate.specs.code.Alone.{IsOver}
+use Rattle.worker_gate.specs.code.Asking.{AreAskedBy, AreGatesAsked, AsksOwn, IsAskedFor}
+use Rattle.worker_gate.specs.code.Hands.{AreDealt, AreReady, IsDealt, IsGathered, count_at, member_of, own_list}
+use Rattle.worker_gate.specs.code.Inputs.{AddsOfInputs, AreOfInputs}
+use Rattle.worker_gate.specs.code.Many.{AreToolsCounted, CanAllWork, HasWorked, HaveAllAsked, HaveAllWorked, WorksMany}
+use Rattle.worker_gate.specs.code.Telling.{AreGatesTold, HaveAllTold, IsToldOf}
+use Rattle.worker_gate.specs.Telling.{placed_by}
+use Rattle.worker_gate.specs.code.Turning.{IsPlanOf, NoneOpenBy, plan_of, state_of}
+use Rattle.worker_gate.specs.code.Working.{Works}
 use Rattle.worker_gate.specs.declared.hands.Hand.{Hand}
 use Rattle.worker_gate.proofs.AskingLemmas.{no_more}
 use Rattle.worker_gate.proofs.RunLemmas.{no_faults}

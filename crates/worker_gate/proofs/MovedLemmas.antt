@@ -4,31 +4,32 @@ use Rattle.std.specs.Prelude.{Option, Some, None, option_map, is_some, IfSome}
 use Rattle.std.specs.FinMap as files
 use Rattle.sha2.specs.Sha256.{sha256}
 use Rattle.values.specs.Apply.{Apply}
-use Rattle.outside.specs.Parts.{DraftState, Drafted, ReadState, extended, part_faults}
+use Rattle.outside.specs.code.Parts.{DraftState, Drafted, ReadState, extended, part_faults}
 use Rattle.outside.specs.declared.store.Store.{Store}
 use Rattle.plan_core.specs.declared.plan.Plan.{Plan}
 use Rattle.plan_core.specs.declared.plan.Source.TheVariants.{Pfn, Site}
 use Rattle.plan_core.specs.declared.plan.TaskKind.{TaskKind}
 use Rattle.plan_core.specs.declared.plan.TaskKind.TheVariants.{Transfer, Run, Clean as CleanTask}
 use Rattle.plan_core.specs.Carried.{carried_by, read}
-use Rattle.plan_core.specs.Proper.{IsProper}
+use Rattle.plan_core.specs.code.Proper.{IsProper}
 use Rattle.plan_core.specs.Words.{is_transfer, is_transfer_kind, kind, reads}
 use Rattle.storage_simulation.specs.Goods.{is_delivery}
 use Rattle.run_record.specs.Events.{Event}
 use Rattle.lease_rules.specs.Legal.{checksum, is_from_pfn}
-use Rattle.site_yard.specs.Changes.{carries, moved}
+use Rattle.site_yard.specs.Changes.{carries}
+use Rattle.site_yard.specs.code.Changes.{moved}
 use Rattle.site_yard.specs.Delivered.{IsDigestOf}
-use Rattle.site_yard.specs.Kept.{IsOpening}
-use Rattle.site_yard.specs.Law.{HasPlanLaws}
-use Rattle.site_yard.specs.Loan.{Aim, AreCarried, AreSmall, CanSettle, draft_bytes, draft_size, fresh_at, inputs, read_told}
-use Rattle.site_yard.specs.Truthful.{HasChecksum, HasSum, IsAtPfn, IsDigest}
+use Rattle.site_yard.specs.code.Kept.{IsOpening}
+use Rattle.site_yard.specs.code.Law.{HasPlanLaws}
+use Rattle.site_yard.specs.code.Loan.{Aim, AreCarried, AreSmall, CanSettle, draft_bytes, draft_size, fresh_at, inputs, read_told}
+use Rattle.site_yard.specs.code.Truthful.{HasChecksum, HasSum, IsAtPfn, IsDigest}
 use Rattle.site_yard.proofs.AimLemmas.{IsAimOf, aim_of, moved_limit}
 use Rattle.task_work.specs.Filling.{AreMoved, IsTransferred}
 use Rattle.task_work.specs.Making.{Each}
 use Rattle.task_work.specs.Moving.{IsAgreeing, digest_of}
 use Rattle.task_work.specs.Pieces.{HasMoved, IsSteadyDraft, IsSteadyReading}
-use Rattle.worker_gate.specs.Inputs.{AreBytesMoved, IsDigestOfBytes}
-use Rattle.worker_gate.specs.Tending.{AreUnread, IsHeld, IsUnread}
+use Rattle.worker_gate.specs.code.Inputs.{AreBytesMoved, IsDigestOfBytes}
+use Rattle.worker_gate.specs.code.Tending.{AreUnread, IsHeld, IsUnread}
 use Rattle.worker_gate.proofs.LoanLemmas.{one_limit, steady_loan}
 
 -- the one reading, and the one draft before and after

@@ -5,12 +5,12 @@ use Rattle.plan_core.specs.declared.plan.Plan.{Plan}
 use Rattle.plan_core.proofs.TestLemmas.{by_bool}
 use Rattle.storage_simulation.specs.Following.{AreOnce}
 use Rattle.run_record.specs.Events.{Event, Grant, Arrive, End, Clean, Fail, Again, Regrant}
-use Rattle.lease_rules.specs.Law.{IsConsistent}
+use Rattle.lease_rules.specs.code.Law.{IsConsistent}
 use Rattle.lease_rules.specs.Legal.{IsOpen, LegalFrom}
 use Rattle.lease_rules.specs.State.{State, after, without}
 use Rattle.lease_rules.proofs.ListLemmas.{without_absent, without_gone, without_head}
-use Rattle.worker_gate.specs.Alone.{NoneOpen, TakeFirst, begun, is_repeat, without_repeats}
-use Rattle.worker_gate.specs.Law.{HasLeaseLaws}
+use Rattle.worker_gate.specs.code.Alone.{NoneOpen, TakeFirst, begun, is_repeat, without_repeats}
+use Rattle.worker_gate.specs.code.Law.{HasLeaseLaws}
 use Rattle.worker_gate.proofs.StateLemmas.{granted_only, none_after, none_only, same_number, still_open_arrive, still_open_end, still_open_fail, still_open_again}
 
 -- the tasks that are left without the one that was begun last

@@ -8,12 +8,12 @@ use Rattle.run_record.specs.Events.{Event}
 use Rattle.lease_book.specs.declared.book.Book.{Book}
 use Rattle.lease_book.specs.Book.{state_at}
 use Rattle.lease_rules.specs.Legal.{Legal, LegalFrom}
-use Rattle.lease_rules.specs.Room.{entries_room}
+use Rattle.lease_rules.specs.code.Room.{entries_room}
 use Rattle.lease_rules.specs.State.{now, now_from, opened}
-use Rattle.site_yard.specs.Failures.{RoseBy, tool_faults}
-use Rattle.worker_gate.specs.Alone.{AllBy, IsOver, NoneOpen, TakeFirst, WorksAlone, tried}
-use Rattle.worker_gate.specs.Law.{HasLeaseLaws}
-use Rattle.worker_gate.specs.Stepping.{WorksOn}
+use Rattle.site_yard.specs.code.Failures.{RoseBy, tool_faults}
+use Rattle.worker_gate.specs.code.Alone.{AllBy, IsOver, NoneOpen, TakeFirst, WorksAlone, tried}
+use Rattle.worker_gate.specs.code.Law.{HasLeaseLaws}
+use Rattle.worker_gate.specs.code.Stepping.{WorksOn}
 use Rattle.worker_gate.proofs.OrderLemmas.{at_first, in_order_from}
 use Rattle.worker_gate.proofs.StateLemmas.{first_append, legal_split, now_split, room_after}
 use Rattle.worker_gate.proofs.WorkLemmas.{IsOneRun, consistent_at, rose_both, rose_zero}

@@ -12,13 +12,13 @@ use Rattle.storage_simulation.specs.declared.standing.Phase.TheVariants.{Ended, 
 use Rattle.run_record.specs.declared.entry.Cause.{Cause}
 use Rattle.run_record.specs.Events.{Event, Grant, Arrive, End, Clean, Fail, Again, Regrant}
 use Rattle.lease_rules.specs.Choice.{IsChoice, IsFresh, IsFreshAmong}
-use Rattle.lease_rules.specs.Law.{IsConsistent, IsIdle, IsSafeState, IsSoundState}
+use Rattle.lease_rules.specs.code.Law.{IsConsistent, IsIdle, IsSafeState, IsSoundState}
 use Rattle.lease_rules.specs.Legal.{IsOpen, LegalFrom}
-use Rattle.lease_rules.specs.Room.{entries_room}
+use Rattle.lease_rules.specs.code.Room.{entries_room}
 use Rattle.lease_rules.specs.State.{State, after, now_from, put}
-use Rattle.worker_gate.specs.Alone.{NoneOpen, TakeFirst}
-use Rattle.worker_gate.specs.Law.{HasLeaseLaws}
-use Rattle.worker_gate.specs.Tending.{HasLoan, IsDone}
+use Rattle.worker_gate.specs.code.Alone.{NoneOpen, TakeFirst}
+use Rattle.worker_gate.specs.code.Law.{HasLeaseLaws}
+use Rattle.worker_gate.specs.code.Tending.{HasLoan, IsDone}
 use Rattle.worker_gate.proofs.SmallLemmas.{not_none, not_true, put_at, put_off, true_false}
 
 pub same_number : (t : ℕ) → eqb t t ≡ true

@@ -6,10 +6,12 @@ use Rattle.std.proofs.lemmas.List.{append-nil, append_cancel_left}
 use Rattle.std.proofs.lemmas.List.Elements.{filter-append}
 use mathlib.Core.List.{IsPrefix}
 use Rattle.run_record.specs.Events.{Event}
-use Rattle.lease_rules.specs.Owning.{entries_by, worker}
+use Rattle.lease_rules.specs.code.Owning.{entries_by}
+use Rattle.lease_rules.specs.Owning.{worker}
 use Rattle.ruled_lock.specs.Chronicle.{AddsAtMostOne}
 use Rattle.craft.specs.Placed.{last_placed, placed}
-use Rattle.worker_gate.specs.Telling.{IsToldOf, placed_by}
+use Rattle.worker_gate.specs.code.Telling.{IsToldOf}
+use Rattle.worker_gate.specs.Telling.{placed_by}
 use Rattle.worker_gate.proofs.StateLemmas.{same_number}
 
 -- entries and more of them

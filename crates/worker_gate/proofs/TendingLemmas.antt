@@ -8,10 +8,10 @@ use Rattle.run_record.specs.declared.entry.Cause.{Cause}
 use Rattle.run_record.specs.Events.{Event}
 use Rattle.lease_book.specs.Book.{failure, is_tried_again}
 use Rattle.lease_rules.specs.State.{State}
-use Rattle.site_yard.specs.Failures.{RoseBy, tool_fault_in}
-use Rattle.site_yard.specs.Yard.{Adds, IsFailure, IsSettled}
-use Rattle.worker_gate.specs.Stepping.{DoesTask}
-use Rattle.worker_gate.specs.Tending.{EndsTask, Finishes}
+use Rattle.site_yard.specs.code.Failures.{RoseBy, tool_fault_in}
+use Rattle.site_yard.specs.code.Yard.{Adds, IsFailure, IsSettled}
+use Rattle.worker_gate.specs.code.Stepping.{DoesTask}
+use Rattle.worker_gate.specs.code.Tending.{EndsTask, Finishes}
 use Rattle.worker_gate.proofs.TurningLemmas.{done_last}
 use Rattle.worker_gate.proofs.WorkLemmas.{failed_done, failed_faults, failure_done, rose_zero, settled_done}
 

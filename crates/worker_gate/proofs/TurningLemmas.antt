@@ -6,37 +6,38 @@ use Rattle.std.proofs.Math.Logic.{∥∥₁_elim}
 use mathlib.Core.Bool.{Bool-set}
 use mathlib.Core.List.{IsPrefix}
 use Rattle.values.specs.Apply.{Apply}
-use Rattle.outside.specs.Parts.{DraftState, ReadState}
+use Rattle.outside.specs.code.Parts.{DraftState, ReadState}
 use Rattle.outside.specs.declared.counts.Counts.{Counts}
 use Rattle.values.specs.declared.memory.Memory.{Memory}
 use Rattle.values.specs.declared.numbers.TaskId.{TaskId}
 use Rattle.outside.specs.declared.store.Store.{Store}
 use Rattle.plan_core.specs.declared.plan.Plan.{Plan}
-use Rattle.plan_core.specs.Proper.{IsProper}
+use Rattle.plan_core.specs.code.Proper.{IsProper}
 use Rattle.plan_core.specs.Words.{kind, task_numbers}
 use Rattle.run_record.specs.declared.entry.Cause.{Cause}
 use Rattle.run_record.specs.Events.{Event, Grant, Arrive, End, Clean, Fail, Again, Regrant}
 use Rattle.storage_simulation.specs.declared.ordered.Ordered.{Ordered}
 use Rattle.lease_book.specs.declared.book.Book.{Book}
 use Rattle.lease_book.specs.Book.{state_at}
-use Rattle.lease_rules.specs.Law.{FitsFromStart}
+use Rattle.lease_rules.specs.code.Law.{FitsFromStart}
 use Rattle.lease_rules.specs.Legal.{IsOpen, Legal, LegalFrom}
-use Rattle.lease_rules.specs.Owning.{entries_by, is_open, is_open_after, open_after, worker}
+use Rattle.lease_rules.specs.code.Owning.{entries_by, is_open, is_open_after, open_after}
+use Rattle.lease_rules.specs.Owning.{worker}
 use Rattle.lease_rules.specs.State.{State, after, now, opened}
 use Rattle.ruled_lock.specs.Chronicle.{AddsAtMostOne, GrowsAlike}
 use Rattle.site_yard.specs.declared.chronicle.Charter.{Charter}
 use Rattle.site_yard.specs.declared.leased.Leased.{Leased}
 use Rattle.site_yard.specs.declared.leased.Leased.TheVariants as leased
 use Rattle.site_yard.specs.Changes.{carries}
-use Rattle.site_yard.specs.Loan.{Aim, AreCarried, AreDrafts, IsDraftOf, IsLent, targets}
-use Rattle.site_yard.specs.Truthful.{IsCause}
-use Rattle.site_yard.specs.Yard.{Adds, IsAgain, IsFail, IsFailure, Leases}
-use Rattle.site_yard.specs.Failures.{tool_fault_in, tool_faults_of}
-use Rattle.worker_gate.specs.Alone.{IsOver}
+use Rattle.site_yard.specs.code.Loan.{Aim, AreCarried, AreDrafts, IsDraftOf, IsLent, targets}
+use Rattle.site_yard.specs.code.Truthful.{IsCause}
+use Rattle.site_yard.specs.code.Yard.{Adds, IsAgain, IsFail, IsFailure, Leases}
+use Rattle.site_yard.specs.code.Failures.{tool_fault_in, tool_faults_of}
+use Rattle.worker_gate.specs.code.Alone.{IsOver}
 use Rattle.task_work.specs.declared.filling.Filled.{Filled}
-use Rattle.worker_gate.specs.Inputs.{IsFilledOf}
-use Rattle.worker_gate.specs.Tending.{CanFinish, Finishes, HasLoan, IsDone, IsLast, digest_in}
-use Rattle.worker_gate.specs.Turning.{IsHeldFor, IsOverFor, IsPlanOf, LeasesOwn, NoneOpenBy, NoneOpenFor, plan_of, state_of, told_of}
+use Rattle.worker_gate.specs.code.Inputs.{IsFilledOf}
+use Rattle.worker_gate.specs.code.Tending.{CanFinish, Finishes, HasLoan, IsDone, IsLast, digest_in}
+use Rattle.worker_gate.specs.code.Turning.{IsHeldFor, IsOverFor, IsPlanOf, LeasesOwn, NoneOpenBy, NoneOpenFor, plan_of, state_of, told_of}
 use Rattle.worker_gate.proofs.StateLemmas.{same_number}
 use Rattle.worker_gate.proofs.LoanLemmas.{held_by, lent_held}
 use Rattle.worker_gate.proofs.WorkLemmas.{failure_done, if_zero, stop_zero}

@@ -2,7 +2,7 @@
 use Rattle.std.proofs.Common.{◌≡◌, ℕ, ◌+◌, ◌≤◌, ◌<◌, Bool, true, false, cond, inl, inr, List, [], ◌∷◌, ◌++◌, length, refl, sym, ap, subst, ◌∙◌, arith, append_assoc, length-append}
 use Rattle.std.specs.Prelude.{Option}
 use Rattle.std.proofs.Math.Path.{fun_ext}
-use Rattle.outside.specs.Counts.{Rose}
+use Rattle.outside.specs.code.Counts.{Rose}
 use Rattle.outside.specs.declared.counts.Counts.{Counts}
 use Rattle.values.specs.declared.numbers.TaskId.{TaskId}
 use Rattle.outside.specs.declared.store.Store.{Store}
@@ -15,18 +15,18 @@ use Rattle.storage_simulation.specs.declared.ordered.Ordered.{Ordered}
 use Rattle.lease_book.specs.declared.book.Book.{Book}
 use Rattle.lease_book.specs.Book.{state_at}
 use Rattle.lease_rules.specs.Choice.{IsChoice}
-use Rattle.lease_rules.specs.Law.{IsConsistent, IsSafeState}
+use Rattle.lease_rules.specs.code.Law.{IsConsistent, IsSafeState}
 use Rattle.lease_rules.specs.Legal.{IsOpen}
 use Rattle.lease_rules.specs.State.{State, after, now, opened}
 use Rattle.lease_book.specs.RunState.{IsSame, state_of}
-use Rattle.site_yard.specs.Failures.{RoseBy, tool_fault_in, tool_faults, tool_faults_of}
-use Rattle.site_yard.specs.Yard.{IsAgain, IsFail, IsFailure, IsLending, IsSettled, IsStop, Leases}
+use Rattle.site_yard.specs.code.Failures.{RoseBy, tool_fault_in, tool_faults, tool_faults_of}
+use Rattle.site_yard.specs.code.Yard.{IsAgain, IsFail, IsFailure, IsLending, IsSettled, IsStop, Leases}
 use Rattle.site_yard.specs.declared.leased.Leased.TheVariants as leased
 use Rattle.lease_rules.specs.Owning.{worker}
-use Rattle.worker_gate.specs.Alone.{IsNext, NoneOpen, TakesFirst}
-use Rattle.worker_gate.specs.Law.{HasLeaseLaws}
-use Rattle.worker_gate.specs.Stepping.{DoesTask, WorksOn}
-use Rattle.worker_gate.specs.Tending.{IsDone}
+use Rattle.worker_gate.specs.code.Alone.{IsNext, NoneOpen, TakesFirst}
+use Rattle.worker_gate.specs.code.Law.{HasLeaseLaws}
+use Rattle.worker_gate.specs.code.Stepping.{DoesTask, WorksOn}
+use Rattle.worker_gate.specs.code.Tending.{IsDone}
 use Rattle.worker_gate.proofs.StateLemmas.{Closes, OnlyOpen, choice_first, done_closes, granted_only, granted_open, no_fresh, none_after, none_only, none_runs, same_number, step_one}
 
 -- a count that stays

@@ -3,27 +3,27 @@ use Rattle.std.proofs.Common.{◌≡◌, ℕ, ◌+◌, ◌≤◌, true, false, i
 use Rattle.std.specs.Prelude.{◌⊎◌, Option, Some, None, IfOk, IfSome, Result, Ok, Err}
 use Rattle.values.specs.Apply.{Apply}
 use Rattle.values.specs.declared.memory.Memory.{Memory}
-use Rattle.outside.specs.Parts.{DraftState, ReadState}
+use Rattle.outside.specs.code.Parts.{DraftState, ReadState}
 use Rattle.plan_core.specs.declared.plan.Plan.{Plan}
-use Rattle.plan_core.specs.Proper.{IsProper}
+use Rattle.plan_core.specs.code.Proper.{IsProper}
 use Rattle.plan_core.specs.Words.{kind}
 use Rattle.run_record.specs.declared.entry.Cause.{Cause}
 use Rattle.run_record.specs.declared.entry.Cause.TheVariants as why
 use Rattle.run_record.specs.Events.{Event, Grant, Regrant}
-use Rattle.lease_rules.specs.Owning.{is_open_after}
+use Rattle.lease_rules.specs.code.Owning.{is_open_after}
 use Rattle.ruled_lock.specs.Pass.{IsSamePass}
 use Rattle.ruled_lock.specs.declared.lock.RuledLock.{RuledLock}
 use Rattle.ruled_lock.specs.declared.pass.Pass.{Pass}
-use Rattle.site_yard.specs.Failures.{RoseBy, tool_faults, tool_faults_of}
-use Rattle.site_yard.specs.Law.{HasPlanLaws}
+use Rattle.site_yard.specs.code.Failures.{RoseBy, tool_faults, tool_faults_of}
+use Rattle.site_yard.specs.code.Law.{HasPlanLaws}
 use Rattle.site_yard.specs.declared.chronicle.Charter.{Charter}
 use Rattle.task_work.specs.Filling.{AreParts}
 use Rattle.task_work.specs.Making.{AreBegun, AreEmpty}
 use Rattle.task_work.specs.declared.filling.Filled.{Filled}
-use Rattle.worker_gate.specs.Inputs.{IsFilledOf}
-use Rattle.worker_gate.specs.Tending.{CanFinish, Fills, Finishes, failures_in}
-use Rattle.worker_gate.specs.Turning.{IsHeldFor, IsOverFor, IsPlanOf, KeepsTurn, NoneOpenBy, plan_of, told_of}
-use Rattle.worker_gate.specs.Working.{DoesOwn, FillsWith, Works, WorksOwn}
+use Rattle.worker_gate.specs.code.Inputs.{IsFilledOf}
+use Rattle.worker_gate.specs.code.Tending.{CanFinish, Fills, Finishes, failures_in}
+use Rattle.worker_gate.specs.code.Turning.{IsHeldFor, IsOverFor, IsPlanOf, KeepsTurn, NoneOpenBy, plan_of, told_of}
+use Rattle.worker_gate.specs.code.Working.{DoesOwn, FillsWith, Works, WorksOwn}
 use Rattle.worker_gate.proofs.RunLemmas.{faults_append, no_faults, nothing_more}
 use Rattle.worker_gate.proofs.FillingLemmas.{fills_finish, fills_of, fills_rose}
 use Rattle.worker_gate.proofs.LoanLemmas.{held_begun, held_empty, memory_finishes, parts_are}

@@ -1,15 +1,3 @@
--- What the public contract says.
-pub mod Alone
-pub mod Tending
-pub mod Turning
-pub mod Working
-pub mod Many
-pub mod Inputs
-pub mod Calls
-pub mod Asking
 pub mod Telling
--- What the laws stand on.
-pub mod Law
--- What its parts answer.
-pub mod Stepping
-pub mod Hands
+-- What only the code's own contracts say.
+pub mod code

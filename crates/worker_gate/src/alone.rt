@@ -3,11 +3,11 @@
 ghost use Rattle.std.specs.Prelude.{◌≡◌, ◌≤◌};
 ghost use Rattle.plan_core.specs.Words.{task_numbers};
 ghost use Rattle.lease_book.specs.Book.{state_at};
-ghost use Rattle.site_yard.specs.Yard.{IsSameYard};
-ghost use Rattle.worker_gate.specs.Alone.{NoneOpen, WorksAlone};
-ghost use Rattle.worker_gate.specs.Calls.{AddsCalls};
-ghost use Rattle.worker_gate.specs.Inputs.{AddsOfInputs};
-ghost use Rattle.worker_gate.specs.Telling.{IsToldOf};
+ghost use Rattle.site_yard.specs.code.Yard.{IsSameYard};
+ghost use Rattle.worker_gate.specs.code.Alone.{NoneOpen, WorksAlone};
+ghost use Rattle.worker_gate.specs.code.Calls.{AddsCalls};
+ghost use Rattle.worker_gate.specs.code.Inputs.{AddsOfInputs};
+ghost use Rattle.worker_gate.specs.code.Telling.{IsToldOf};
 
 use crate::law::lease_laws;
 use crate::stepping::step;

@@ -4,7 +4,7 @@ ghost use Rattle.std.specs.Prelude.{◌≡◌, ℕ, ◌+◌, ◌++◌, ◌<◌, 
 ghost use mathlib.Core.List.{IsPrefix};
 ghost use Rattle.ruled_lock.specs.Lock.{IsOf, workers_of};
 ghost use Rattle.ruled_lock.specs.Pass.{IsIdle, IsNewPass, charter_of, count_of, joined_of, mine_of, seen_of, worker_of};
-ghost use Rattle.worker_gate.specs.Hands.{AreDealt, AreOthers, AreReady, AreReadyToJoin, AreSeenBy, IsDealt, IsGathered, member_of, own_list};
+ghost use Rattle.worker_gate.specs.code.Hands.{AreDealt, AreOthers, AreReady, AreReadyToJoin, AreSeenBy, IsDealt, IsGathered, member_of, own_list};
 
 use ruled_lock::{Chronicle, Pass, RuledLock};
 use std::alloc::Global;

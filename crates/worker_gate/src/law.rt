@@ -2,10 +2,10 @@
 
 ghost use Rattle.std.specs.Prelude.{◌≡◌, ℕ, List, []};
 ghost use Rattle.plan_core.specs.declared.plan.Plan.{Plan};
-ghost use Rattle.plan_core.specs.Proper.{IsProper};
+ghost use Rattle.plan_core.specs.code.Proper.{IsProper};
 ghost use Rattle.lease_rules.specs.State.{now};
-ghost use Rattle.worker_gate.specs.Alone.{NoneOpen};
-ghost use Rattle.worker_gate.specs.Law.{HasLeaseLaws};
+ghost use Rattle.worker_gate.specs.code.Alone.{NoneOpen};
+ghost use Rattle.worker_gate.specs.code.Law.{HasLeaseLaws};
 
 use lease_rules::{choice_is_one, entries_are_few};
 

@@ -3,10 +3,10 @@
 ghost use Rattle.std.specs.Prelude.{◌≡◌, ◌≤◌, ◌<◌, [], is_some, length, map, take, true};
 ghost use Rattle.ruled_lock.specs.Pass.{mine_of, seen_of, worker_of};
 ghost use Rattle.plan_core.specs.Words.{task_numbers};
-ghost use Rattle.worker_gate.specs.Asking.{AreGatesAsked, AsksOwn};
-ghost use Rattle.worker_gate.specs.Inputs.{AreOfInputs};
-ghost use Rattle.worker_gate.specs.Many.{AreToolsCounted, CanAllWork, CanWork, HasWorked, HaveAllAsked, HaveAllWorked, WorksMany};
-ghost use Rattle.worker_gate.specs.Telling.{AreGatesTold, HaveAllTold, IsToldOf};
+ghost use Rattle.worker_gate.specs.code.Asking.{AreGatesAsked, AsksOwn};
+ghost use Rattle.worker_gate.specs.code.Inputs.{AreOfInputs};
+ghost use Rattle.worker_gate.specs.code.Many.{AreToolsCounted, CanAllWork, CanWork, HasWorked, HaveAllAsked, HaveAllWorked, WorksMany};
+ghost use Rattle.worker_gate.specs.code.Telling.{AreGatesTold, HaveAllTold, IsToldOf};
 
 use crate::hands::{Hand, deal, gather};
 use crate::working::work_by;

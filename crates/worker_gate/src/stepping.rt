@@ -3,12 +3,12 @@
 ghost use Rattle.std.specs.Prelude.{◌≡◌, ◌≤◌};
 ghost use Rattle.lease_book.specs.Book.{state_at};
 ghost use Rattle.lease_rules.specs.Legal.{IsOpen};
-ghost use Rattle.site_yard.specs.Yard.{IsSameYard};
-ghost use Rattle.worker_gate.specs.Alone.{NoneOpen};
-ghost use Rattle.worker_gate.specs.Calls.{AddsCalls};
-ghost use Rattle.worker_gate.specs.Inputs.{AddsOfInputs};
-ghost use Rattle.worker_gate.specs.Stepping.{DoesTask, Steps};
-ghost use Rattle.worker_gate.specs.Telling.{IsToldOf};
+ghost use Rattle.site_yard.specs.code.Yard.{IsSameYard};
+ghost use Rattle.worker_gate.specs.code.Alone.{NoneOpen};
+ghost use Rattle.worker_gate.specs.code.Calls.{AddsCalls};
+ghost use Rattle.worker_gate.specs.code.Inputs.{AddsOfInputs};
+ghost use Rattle.worker_gate.specs.code.Stepping.{DoesTask, Steps};
+ghost use Rattle.worker_gate.specs.code.Telling.{IsToldOf};
 
 use crate::law::lease_laws;
 use crate::telling::{finish_told, lease_told, lend_told};

@@ -4,14 +4,14 @@ ghost use Rattle.std.specs.Prelude.{◌≡◌, ◌<◌, ◌++◌, [], IfNone, If
 ghost use Rattle.craft.specs.Placed.{last_placed};
 ghost use Rattle.lease_book.specs.Book.{state_at};
 ghost use Rattle.lease_rules.specs.Legal.{IsOpen};
-ghost use Rattle.site_yard.specs.Lending.{count_parts};
-ghost use Rattle.site_yard.specs.Loan.{IsLent};
-ghost use Rattle.site_yard.specs.Yard.{Adds, IsFailure, IsSameYard, Leases, TakesWithin};
-ghost use Rattle.site_yard.specs.Failures.{AreMore};
-ghost use Rattle.worker_gate.specs.Calls.{EndsCalls};
-ghost use Rattle.worker_gate.specs.Inputs.{AddsOfInputs, IsFilledOf};
-ghost use Rattle.worker_gate.specs.Telling.{IsToldOf};
-ghost use Rattle.worker_gate.specs.Tending.{CanFinish, EndsTask, failures_in};
+ghost use Rattle.site_yard.specs.code.Lending.{count_parts};
+ghost use Rattle.site_yard.specs.code.Loan.{IsLent};
+ghost use Rattle.site_yard.specs.code.Yard.{Adds, IsFailure, IsSameYard, Leases, TakesWithin};
+ghost use Rattle.site_yard.specs.code.Failures.{AreMore};
+ghost use Rattle.worker_gate.specs.code.Calls.{EndsCalls};
+ghost use Rattle.worker_gate.specs.code.Inputs.{AddsOfInputs, IsFilledOf};
+ghost use Rattle.worker_gate.specs.code.Telling.{IsToldOf};
+ghost use Rattle.worker_gate.specs.code.Tending.{CanFinish, EndsTask, failures_in};
 
 use crate::tending::finish_at;
 use craft::Gate;

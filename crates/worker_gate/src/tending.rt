@@ -1,16 +1,16 @@
 //! One task at a yard, as the worker that it is open for ends it.
 
 ghost use Rattle.std.specs.Prelude.{map, take};
-ghost use Rattle.plan_core.specs.Proper.{IsProper};
+ghost use Rattle.plan_core.specs.code.Proper.{IsProper};
 ghost use Rattle.plan_core.specs.Words.{kind};
 ghost use Rattle.lease_book.specs.Book.{state_at};
 ghost use Rattle.lease_rules.specs.Legal.{IsOpen};
-ghost use Rattle.site_yard.specs.Yard.{IsSameYard};
+ghost use Rattle.site_yard.specs.code.Yard.{IsSameYard};
 ghost use Rattle.task_work.specs.Filling.{AreParts};
 ghost use Rattle.task_work.specs.Making.{AreBegun, AreEmpty};
-ghost use Rattle.worker_gate.specs.Calls.{EndsCalls};
-ghost use Rattle.worker_gate.specs.Inputs.{AddsOfInputs, IsFilledOf};
-ghost use Rattle.worker_gate.specs.Tending.{CanFinish, EndsTask, Fills, failures_in};
+ghost use Rattle.worker_gate.specs.code.Calls.{EndsCalls};
+ghost use Rattle.worker_gate.specs.code.Inputs.{AddsOfInputs, IsFilledOf};
+ghost use Rattle.worker_gate.specs.code.Tending.{CanFinish, EndsTask, Fills, failures_in};
 
 use outside::{Host, TaskId, Tool};
 use plan_core::Plan;

@@ -3,14 +3,14 @@
 
 ghost use Rattle.std.specs.Prelude.{◌≡◌, ◌<◌, ◌++◌, ◌∷◌, [], ℕ, IfNone, IfOk, IfSome, List, false, map, true};
 ghost use Rattle.run_record.specs.Events.{Event};
-ghost use Rattle.lease_rules.specs.Owning.{is_open_after};
+ghost use Rattle.lease_rules.specs.code.Owning.{is_open_after};
 ghost use Rattle.ruled_lock.specs.Lock.{IsOf};
 ghost use Rattle.ruled_lock.specs.Pass.{IsIdle, charter_of, mine_of, seen_of, worker_of};
-ghost use Rattle.worker_gate.specs.Asking.{AsksOwn};
-ghost use Rattle.worker_gate.specs.Inputs.{AddsOfInputs, IsFilledOf};
-ghost use Rattle.worker_gate.specs.Telling.{IsToldOf};
-ghost use Rattle.worker_gate.specs.Tending.{CanFinish, Finishes, failures_in};
-ghost use Rattle.worker_gate.specs.Turning.{IsHeldFor, IsPlanOf, KeepsTurn, LeasesOwn, NoneOpenBy, NoneOpenFor, plan_of, told_of};
+ghost use Rattle.worker_gate.specs.code.Asking.{AsksOwn};
+ghost use Rattle.worker_gate.specs.code.Inputs.{AddsOfInputs, IsFilledOf};
+ghost use Rattle.worker_gate.specs.code.Telling.{IsToldOf};
+ghost use Rattle.worker_gate.specs.code.Tending.{CanFinish, Finishes, failures_in};
+ghost use Rattle.worker_gate.specs.code.Turning.{IsHeldFor, IsPlanOf, KeepsTurn, LeasesOwn, NoneOpenBy, NoneOpenFor, plan_of, told_of};
 
 use crate::telling::{finish_told, lease_told, lend_told};
 use craft::Gate;

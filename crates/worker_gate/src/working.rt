@@ -1,18 +1,18 @@
 //! One worker among many.
 
 ghost use Rattle.std.specs.Prelude.{◌≡◌, ◌≤◌, ◌<◌, IfOk, IfSome, false, map, true};
-ghost use Rattle.plan_core.specs.Proper.{IsProper};
+ghost use Rattle.plan_core.specs.code.Proper.{IsProper};
 ghost use Rattle.plan_core.specs.Words.{kind};
-ghost use Rattle.lease_rules.specs.Owning.{is_open_after};
+ghost use Rattle.lease_rules.specs.code.Owning.{is_open_after};
 ghost use Rattle.ruled_lock.specs.Lock.{IsOf};
 ghost use Rattle.ruled_lock.specs.Pass.{IsIdle, charter_of, mine_of, seen_of, worker_of};
-ghost use Rattle.worker_gate.specs.Asking.{AsksOwn};
-ghost use Rattle.worker_gate.specs.Inputs.{AddsOfInputs};
-ghost use Rattle.worker_gate.specs.Telling.{IsToldOf};
-ghost use Rattle.worker_gate.specs.Turning.{IsPlanOf, KeepsTurn, NoneOpenBy, NoneOpenFor, plan_of};
+ghost use Rattle.worker_gate.specs.code.Asking.{AsksOwn};
+ghost use Rattle.worker_gate.specs.code.Inputs.{AddsOfInputs};
+ghost use Rattle.worker_gate.specs.code.Telling.{IsToldOf};
+ghost use Rattle.worker_gate.specs.code.Turning.{IsPlanOf, KeepsTurn, NoneOpenBy, NoneOpenFor, plan_of};
 ghost use Rattle.task_work.specs.Filling.{AreParts};
 ghost use Rattle.task_work.specs.Making.{AreBegun, AreEmpty};
-ghost use Rattle.worker_gate.specs.Working.{DoesOwn, FillsWith, Works};
+ghost use Rattle.worker_gate.specs.code.Working.{DoesOwn, FillsWith, Works};
 
 use crate::tending::fill_loan;
 use crate::turning::{begin, copy_plan, finish, lease};

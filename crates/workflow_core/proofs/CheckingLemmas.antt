@@ -5,8 +5,9 @@ use Rattle.std.specs.List.{list_all, AllByRecursion}
 use Rattle.values.specs.declared.numbers.JobId.{JobId}
 use Rattle.workflow_core.specs.declared.workflow.Workflow.{Workflow}
 use Rattle.workflow_core.specs.declared.workflow.Job.{Job}
-use Rattle.workflow_core.specs.WellFormed.{are_distinct, inputs_of, outputs_of, before, after, IsJobOver, IsSmallSize, IsWellFormed}
-use Rattle.workflow_core.specs.Checking.{are_files, is_job_over, is_pair_of, is_small_size, are_sized, are_few, are_named, are_numbered, passes}
+use Rattle.workflow_core.specs.code.WellFormed.{are_distinct, IsJobOver, IsSmallSize, IsWellFormed}
+use Rattle.workflow_core.specs.WellFormed.{inputs_of, outputs_of, parent_of, child_of}
+use Rattle.workflow_core.specs.code.Checking.{are_files, is_job_over, is_pair_of, is_small_size, are_sized, are_few, are_named, are_numbered, passes}
 use Rattle.std.proofs.lemmas.Bool.{and_from, and_parts}
 
 -- a test at each element
@@ -57,13 +58,13 @@ passes_job : (n : ℕ) (j : Job) → IsJobOver n j → is_job_over n j ≡ true
 passes_job n j h = and_from _ _ (below_files n (inputs_of j) h.inputs h.inputs_once) (below_files n (outputs_of j) h.outputs h.outputs_once)
 
 abbrev IsPairOf : ℕ → JobId × JobId → Type 0
-IsPairOf n p = (before p < n) × (after p < n)
+IsPairOf n p = (parent_of p < n) × (child_of p < n)
 
 pair_passes : (n : ℕ) (p : JobId × JobId) → is_pair_of n p ≡ true → IsPairOf n p
-pair_passes n p h = (below (before p) n (and_parts _ _ h).0, below (after p) n (and_parts _ _ h).1)
+pair_passes n p h = (below (parent_of p) n (and_parts _ _ h).0, below (child_of p) n (and_parts _ _ h).1)
 
 passes_pair : (n : ℕ) (p : JobId × JobId) → IsPairOf n p → is_pair_of n p ≡ true
-passes_pair n p h = and_from _ _ (is_below (before p) n h.0) (is_below (after p) n h.1)
+passes_pair n p h = and_from _ _ (is_below (parent_of p) n h.0) (is_below (child_of p) n h.1)
 
 size_passes : (o : Option ℕ) → is_small_size o ≡ true → IsSmallSize o
 size_passes None h = tt

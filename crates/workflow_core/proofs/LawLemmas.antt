@@ -4,8 +4,10 @@ use Rattle.std.proofs.lemmas.List.Folds.{list_any-append}
 use Rattle.std.specs.List.{list_any, list_all}
 use Rattle.std.specs.Str.{bytes_eq}
 use Rattle.std.specs.Cmp.Lexicographic.{bytes_decides}
-use Rattle.workflow_core.specs.Names.{distinct, number, with_name, with_names}
-use Rattle.workflow_core.specs.WellFormed.{are_new, are_distinct}
+use Rattle.workflow_core.specs.Names.{number}
+use Rattle.workflow_core.specs.code.Names.{with_name, with_names}
+use Rattle.values.specs.Distinct.{distinct}
+use Rattle.workflow_core.specs.code.WellFormed.{are_new, are_distinct}
 use Rattle.workflow_core.proofs.NamesLemmas.{distinct_names}
 use Rattle.std.proofs.lemmas.Bool.{and_from, and_parts}
 use Rattle.std.proofs.Math.Bool.{or-true}

@@ -6,7 +6,9 @@ use Rattle.std.proofs.lemmas.List.{append-nil}
 use Rattle.std.specs.List.{list_any, position, prefix_len}
 use Rattle.std.specs.Str.{bytes_eq}
 use Rattle.std.specs.Cmp.Lexicographic.{bytes_decides}
-use Rattle.workflow_core.specs.Names.{distinct, number, with_name, with_names}
+use Rattle.workflow_core.specs.Names.{number}
+use Rattle.workflow_core.specs.code.Names.{with_name, with_names}
+use Rattle.values.specs.Distinct.{distinct}
 
 -- those that are not yet among the names
 abbrev fresh : List (List ℕ) → List ℕ → Bool

@@ -1,5 +1,5 @@
 -- The files of a workflow that are requested: those that some job makes to be delivered.
-use Rattle.std.specs.Prelude.{ℕ, suc, ◌==◌, ◌&&◌, Bool, List, [], ◌∷◌, if◌then◌else◌}
+use Rattle.std.specs.Prelude.{ℕ, ◌==◌, ◌&&◌, Bool}
 use Rattle.std.specs.List.{list_any}
 use Rattle.workflow_core.specs.declared.workflow.Workflow.{Workflow}
 use Rattle.workflow_core.specs.declared.workflow.Job.{Job}
@@ -11,13 +11,3 @@ requests f j = list_any (λ (o : Output). o.stage_out && (o.file.0 == f)) j.outp
 
 abbrev pub is_requested : Workflow → ℕ → Bool
 is_requested w f = list_any (requests f) w.jobs
-
--- of the files with these names, the first of which has number f, the requested ones
-abbrev pub requested_from : Workflow → ℕ → List (List ℕ) → List ℕ
-requested_from w f [] = []
-requested_from w f (name ∷ names) = if is_requested w f then f ∷ requested_from w (suc f) names
-    else requested_from w (suc f) names
-
--- the numbers of the requested files, rising
-abbrev pub requested : Workflow → List ℕ
-requested w = requested_from w 0 w.files

@@ -18,8 +18,8 @@ pub record WorkflowEntry : Type 0 where
   pub transformations : Option Data
 
 -- what a workflow says
-abbrev pub view : Workflow → WorkflowEntry
-view w = record {
+abbrev pub workflow_view : Workflow → WorkflowEntry
+workflow_view w = record {
   name = w.name;
   jobs = w.jobs;
   pairs = w.pairs;

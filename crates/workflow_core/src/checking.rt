@@ -5,8 +5,8 @@ ghost use Rattle.std.specs.List.{list_all};
 ghost use Rattle.std.specs.Str.{bytes_eq};
 ghost use Rattle.values.specs.declared.numbers.JobId.{JobId};
 ghost use Rattle.workflow_core.specs.declared.workflow.Job.{Job};
-ghost use Rattle.workflow_core.specs.WellFormed.{are_distinct, IsWellFormed};
-ghost use Rattle.workflow_core.specs.Checking.{are_files, is_job_over, is_pair_of, is_small_size, are_few, are_named, passes};
+ghost use Rattle.workflow_core.specs.code.WellFormed.{are_distinct, IsWellFormed};
+ghost use Rattle.workflow_core.specs.code.Checking.{are_files, is_job_over, is_pair_of, is_small_size, are_few, are_named, passes};
 
 use crate::names::Names;
 use crate::workflow::{Job, Workflow};

@@ -3,7 +3,8 @@
 ghost use Rattle.std.specs.Prelude.{◌≡◌, ◌≤◌, List, ℕ, [], length, OnOk, IfOk};
 ghost use Rattle.std.specs.List.{list_any};
 ghost use Rattle.std.specs.Str.{bytes_eq};
-ghost use Rattle.workflow_core.specs.Names.{number, with_name};
+ghost use Rattle.workflow_core.specs.Names.{number};
+ghost use Rattle.workflow_core.specs.code.Names.{with_name};
 
 use indexmap::IndexSet;
 use std::alloc::Global;

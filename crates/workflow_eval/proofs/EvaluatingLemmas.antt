@@ -2,13 +2,14 @@
 use Rattle.std.proofs.Common.{◌≡◌, ℕ, zero, suc, ◌+◌, ◌<◌, ◌≤◌, Bool, true, false, cond, List, [], ◌∷◌, ◌++◌, length, take, drop, map, refl, sym, ap, subst, ◌∙◌, drop-cons, arith}
 use Rattle.std.specs.Prelude.{Option, Some, None, IsSome, is_some, option_map, Err, slice_index_or}
 use Rattle.std.proofs.lemmas.List.{length-map, get_or-map, take_more, take-append-drop}
-use Rattle.outside.specs.Counts.{Rose}
+use Rattle.outside.specs.code.Counts.{Rose}
 use Rattle.values.specs.declared.numbers.JobId.{JobId}
 use Rattle.workflow_core.specs.declared.workflow.Workflow.{Workflow}
 use Rattle.workflow_core.specs.declared.workflow.Job.{Job}
-use Rattle.dependency_graph.specs.Value.{Basis, made_by, tool_at, value}
+use Rattle.dependency_graph.specs.Value.{Basis, value}
+use Rattle.dependency_graph.specs.code.Value.{made_by, tool_at}
 use Rattle.values.specs.Apply.{all_of}
-use Rattle.dependency_graph.specs.Flow.{FlowsAlong, is_there}
+use Rattle.dependency_graph.specs.code.Flow.{FlowsAlong, is_there}
 use Rattle.workflow_eval.specs.declared.fault.EvalFault.{EvalFault}
 use Rattle.workflow_eval.specs.declared.fault.EvalFault.TheVariants.{Declined, ToolFailed, Memory}
 use Rattle.workflow_eval.specs.FileTable.{at, IsFaultOf}

@@ -10,11 +10,13 @@ use Rattle.std.proofs.lemmas.List.Recursion.{or_push}
 use Rattle.values.specs.declared.numbers.JobId.{JobId}
 use Rattle.workflow_core.specs.declared.workflow.Workflow.{Workflow}
 use Rattle.workflow_core.specs.declared.workflow.Job.{Job}
-use Rattle.workflow_core.specs.WellFormed.{inputs_of, outputs_of, IsJobOver, IsWellFormed}
+use Rattle.workflow_core.specs.WellFormed.{inputs_of, outputs_of}
+use Rattle.workflow_core.specs.code.WellFormed.{IsJobOver, IsWellFormed}
 use Rattle.dependency_graph.specs.Edges.{is_among, has_output, producer, read_by, written_by}
-use Rattle.dependency_graph.specs.Value.{AllBased, Basis, run_of, tool_at, value, made_by}
+use Rattle.dependency_graph.specs.code.Value.{AllBased, tool_at, made_by}
+use Rattle.dependency_graph.specs.Value.{Basis, run_of, value}
 use Rattle.values.specs.Apply.{part, all_of}
-use Rattle.dependency_graph.specs.Flow.{FlowsAlong, is_base, is_there, is_written}
+use Rattle.dependency_graph.specs.code.Flow.{FlowsAlong, is_base, is_there, is_written}
 use Rattle.workflow_eval.specs.FileTable.{at, looked_up, placed}
 use Rattle.workflow_eval.proofs.PlaceLemmas.{at_placed, part_there}
 

@@ -3,7 +3,8 @@ use Rattle.std.specs.Prelude.{◌≡◌, ℕ, ◌<◌, List, [], ◌∷◌, leng
 use Rattle.std.specs.declared.alloc.Global.{Global}
 use Rattle.values.specs.declared.numbers.JobId.{JobId}
 use Rattle.workflow_core.specs.declared.workflow.Workflow.{Workflow}
-use Rattle.dependency_graph.specs.Value.{Basis, made_by, tool_at, value}
+use Rattle.dependency_graph.specs.Value.{Basis, value}
+use Rattle.dependency_graph.specs.code.Value.{made_by, tool_at}
 use Rattle.workflow_eval.specs.declared.fault.EvalFault.{EvalFault}
 use Rattle.workflow_eval.specs.declared.fault.EvalFault.TheVariants.{Declined, ToolFailed, Memory}
 

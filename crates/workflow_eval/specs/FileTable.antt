@@ -1,9 +1,9 @@
 -- A table with a place for each file, and what stands there so far.
 use Rattle.std.specs.Prelude.{◌≡◌, ℕ, List, [], ◌∷◌, map, Option, Some, None, slice_set, slice_index_or, Vec}
 use Rattle.std.specs.declared.alloc.Global.{Global}
+use Rattle.values.specs.Apply.{all_of}
 use Rattle.workflow_eval.specs.declared.fault.EvalFault.{EvalFault}
 use Rattle.workflow_eval.specs.declared.fault.EvalFault.TheVariants.{Declined, ToolFailed, Memory}
-use Rattle.values.specs.Apply.{all_of}
 
 -- what stands at a file's place
 abbrev pub at : List (Option (List ℕ)) → ℕ → Option (List ℕ)

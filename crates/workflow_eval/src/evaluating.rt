@@ -1,11 +1,12 @@
 //! The values of a workflow's files.
 
 ghost use Rattle.std.specs.Prelude.{◌≡◌, ◌≤◌, Some, Err, length, IfOk, IfErr};
-ghost use Rattle.outside.specs.Counts.{Rose};
+ghost use Rattle.outside.specs.code.Counts.{Rose};
 ghost use Rattle.values.specs.declared.numbers.JobId.{JobId};
-ghost use Rattle.workflow_core.specs.WellFormed.{IsWellFormed};
+ghost use Rattle.workflow_core.specs.code.WellFormed.{IsWellFormed};
 ghost use Rattle.dependency_graph.specs.Graph.{IsGraphOf};
-ghost use Rattle.dependency_graph.specs.Value.{run_of, basis, AllBased};
+ghost use Rattle.dependency_graph.specs.Value.{run_of, basis};
+ghost use Rattle.dependency_graph.specs.code.Value.{AllBased};
 ghost use Rattle.workflow_eval.specs.FileTable.{IsFaultOf};
 ghost use Rattle.workflow_eval.specs.declared.fault.EvalFault.TheVariants.{ToolFailed};
 ghost use Rattle.workflow_eval.specs.Evaluating.{Evaluates, IsReached};

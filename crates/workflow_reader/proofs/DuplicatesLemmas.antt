@@ -11,41 +11,41 @@ use Rattle.peg_json.specs.declared.read_fault.ReadFault.TheVariants.{UnknownJob}
 use Rattle.workflow_reader.specs.declared.document.Direction.{Direction}
 use Rattle.workflow_reader.specs.declared.document.Direction.TheVariants.{Input, Output}
 use Rattle.workflow_reader.specs.declared.document.Use.{Use}
-use Rattle.workflow_core.specs.Names.{with_name}
-use Rattle.peg_json.specs.Duplicates.{first_repeat, refused, first_unknown}
-use Rattle.workflow_reader.specs.Files.{same_direction, lfns_of, uses_as}
-use Rattle.workflow_reader.specs.Known.{repeat_after}
+use Rattle.workflow_core.specs.code.Names.{with_name}
+use Rattle.peg_json.specs.Elements.{first_repeat, refused, first_unknown}
+use Rattle.workflow_reader.specs.Linking.{same_direction, lfns_of_uses, uses_as}
+use Rattle.workflow_reader.specs.code.Known.{repeat_after}
 use Rattle.workflow_reader.specs.Linking.{same_use, ids_in}
 
 -- a use as d of the file with this name
 abbrev pub same_as : Direction → List ℕ → Use → Bool
 same_as d n v = same_direction d v.direction && bytes_eq n v.lfn
 
-pub known_as : (d : Direction) (n : List ℕ) (known : List Use) → list_any (same_as d n) known ≡ list_any (bytes_eq n) (lfns_of (uses_as d known))
+pub known_as : (d : Direction) (n : List ℕ) (known : List Use) → list_any (same_as d n) known ≡ list_any (bytes_eq n) (lfns_of_uses (uses_as d known))
 known_as d n [] = refl
 known_as d n (v ∷ known) = by (same_direction d v.direction) (known_as d n known)
   where
-    by : (b : Bool) → list_any (same_as d n) known ≡ list_any (bytes_eq n) (lfns_of (uses_as d known))
-        → ((b && bytes_eq n v.lfn) || list_any (same_as d n) known) ≡ list_any (bytes_eq n) (lfns_of (cond b (v ∷ uses_as d known) (uses_as d known)))
+    by : (b : Bool) → list_any (same_as d n) known ≡ list_any (bytes_eq n) (lfns_of_uses (uses_as d known))
+        → ((b && bytes_eq n v.lfn) || list_any (same_as d n) known) ≡ list_any (bytes_eq n) (lfns_of_uses (cond b (v ∷ uses_as d known) (uses_as d known)))
     by true rest = ap (λ (c : Bool). bytes_eq n v.lfn || c) rest
     by false rest = rest
 
 -- the names with those of one more use
-pub names_more : (d : Direction) (known : List Use) (u : Use) → lfns_of (uses_as d (known ++ u ∷ [])) ≡ lfns_of (uses_as d known) ++ lfns_of (uses_as d (u ∷ []))
+pub names_more : (d : Direction) (known : List Use) (u : Use) → lfns_of_uses (uses_as d (known ++ u ∷ [])) ≡ lfns_of_uses (uses_as d known) ++ lfns_of_uses (uses_as d (u ∷ []))
 names_more d [] u = refl
 names_more d (v ∷ known) u = by (same_direction d v.direction) (names_more d known u)
   where
-    by : (b : Bool) → lfns_of (uses_as d (known ++ u ∷ [])) ≡ lfns_of (uses_as d known) ++ lfns_of (uses_as d (u ∷ []))
-        → lfns_of (cond b (v ∷ uses_as d (known ++ u ∷ [])) (uses_as d (known ++ u ∷ []))) ≡ lfns_of (cond b (v ∷ uses_as d known) (uses_as d known)) ++ lfns_of (uses_as d (u ∷ []))
+    by : (b : Bool) → lfns_of_uses (uses_as d (known ++ u ∷ [])) ≡ lfns_of_uses (uses_as d known) ++ lfns_of_uses (uses_as d (u ∷ []))
+        → lfns_of_uses (cond b (v ∷ uses_as d (known ++ u ∷ [])) (uses_as d (known ++ u ∷ []))) ≡ lfns_of_uses (cond b (v ∷ uses_as d known) (uses_as d known)) ++ lfns_of_uses (uses_as d (u ∷ []))
     by true rest = ap (λ (ns : List (List ℕ)). v.lfn ∷ ns) rest
     by false rest = rest
 
 -- the names with that of one more use as e
-named : (d e : Direction) (known : List Use) (u : Use) → u.direction ≡ e → lfns_of (uses_as d (known ++ u ∷ [])) ≡ lfns_of (uses_as d known) ++ lfns_of (cond (same_direction d e) (u ∷ []) [])
-named d e known u is = names_more d known u ∙ ap (λ (f : Direction). lfns_of (uses_as d known) ++ lfns_of (cond (same_direction d f) (u ∷ []) [])) is
+named : (d e : Direction) (known : List Use) (u : Use) → u.direction ≡ e → lfns_of_uses (uses_as d (known ++ u ∷ [])) ≡ lfns_of_uses (uses_as d known) ++ lfns_of_uses (cond (same_direction d e) (u ∷ []) [])
+named d e known u is = names_more d known u ∙ ap (λ (f : Direction). lfns_of_uses (uses_as d known) ++ lfns_of_uses (cond (same_direction d f) (u ∷ []) [])) is
 
 abbrev names : Direction → List Use → List (List ℕ)
-names d known = lfns_of (uses_as d known)
+names d known = lfns_of_uses (uses_as d known)
 
 -- the first step, for a use as d
 abbrev Split : List Use → List Use → Use → Direction → Type 0

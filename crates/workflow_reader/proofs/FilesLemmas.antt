@@ -1,10 +1,10 @@
 -- Names that are added job by job.
 use Rattle.std.proofs.Common.{◌≡◌, ℕ, List, [], ◌∷◌, ◌++◌, refl, sym, ap, ◌∙◌}
 use Rattle.std.specs.List.{flat_map}
-use Rattle.workflow_core.specs.Law.{NumbersNames}
-use Rattle.workflow_core.specs.Names.{with_name, with_names}
+use Rattle.workflow_core.specs.code.Law.{NumbersNames}
+use Rattle.workflow_core.specs.code.Names.{with_name, with_names}
 use Rattle.workflow_reader.specs.declared.document.JobEntry.{JobEntry}
-use Rattle.workflow_reader.specs.Files.{lfns_in, files_of}
+use Rattle.workflow_reader.specs.Linking.{lfns_in, files_of}
 
 appended : (names xs ys : List (List ℕ)) → with_names names (xs ++ ys) ≡ with_names (with_names names xs) ys
 appended names [] ys = refl

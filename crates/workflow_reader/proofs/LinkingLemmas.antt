@@ -8,15 +8,16 @@ use Rattle.std.proofs.lemmas.List.{append-nil, length-map}
 use Rattle.std.proofs.lemmas.List.Folds.{list_all-append}
 use Rattle.values.specs.declared.numbers.FileId.{FileId}
 use Rattle.values.specs.declared.numbers.JobId.{JobId}
-use Rattle.peg_json.specs.Count.{few}
+use Rattle.peg_json.specs.Elements.{few}
 use Rattle.peg_json.specs.declared.read_fault.Counted.{Counted}
 use Rattle.peg_json.specs.declared.read_fault.Counted.TheVariants.{Jobs, Files}
 use Rattle.peg_json.specs.declared.read_fault.ReadFault.{ReadFault}
 use Rattle.peg_json.specs.declared.read_fault.ReadFault.TheVariants.{TooMany, DuplicateJob, UnknownJob}
-use Rattle.workflow_core.specs.Law.{NumbersNames}
+use Rattle.workflow_core.specs.code.Law.{NumbersNames}
 use Rattle.workflow_core.specs.Names.{number}
-use Rattle.workflow_core.specs.View.{WorkflowEntry, view}
-use Rattle.workflow_core.specs.WellFormed.{are_new, are_distinct, before, after, IsJobOver, IsSmallSize, IsWellFormed}
+use Rattle.workflow_core.specs.View.{WorkflowEntry, workflow_view}
+use Rattle.workflow_core.specs.code.WellFormed.{are_new, are_distinct, IsJobOver, IsSmallSize, IsWellFormed}
+use Rattle.workflow_core.specs.WellFormed.{parent_of, child_of}
 use Rattle.workflow_core.specs.declared.workflow.Job.{Job}
 use Rattle.workflow_core.specs.declared.workflow.Output.{Output}
 use Rattle.workflow_core.specs.declared.workflow.Workflow.{Workflow}
@@ -25,11 +26,11 @@ use Rattle.workflow_reader.specs.declared.document.Direction.TheVariants.{Input,
 use Rattle.workflow_reader.specs.declared.document.JobEntry.{JobEntry}
 use Rattle.workflow_reader.specs.declared.document.Use.{Use}
 use Rattle.workflow_reader.specs.declared.document.Dependency.{Dependency}
-use Rattle.workflow_reader.specs.Document.{DocumentEntry}
-use Rattle.peg_json.specs.Duplicates.{first_repeat, refused, first_unknown}
-use Rattle.workflow_reader.specs.Files.{same_direction, lfns_of, lfns_in, files_of, uses_as, file_of, output_of}
-use Rattle.workflow_reader.specs.Linking.{ids_of, same_use, used_once, all_used_once, ids_in, job_of, pairs_from, pairs_of, linked_job, workflow_entry, linked}
-use Rattle.workflow_reader.specs.Small.{AreSmall}
+use Rattle.workflow_reader.specs.Workflow.{DocumentEntry}
+use Rattle.peg_json.specs.Elements.{first_repeat, refused, first_unknown}
+use Rattle.workflow_reader.specs.Linking.{same_direction, lfns_of_uses, lfns_in, files_of, uses_as, file_of, output_of}
+use Rattle.workflow_reader.specs.Linking.{ids_of, same_use, used_once, all_used_once, ids_in, job_with_id, pairs_from, dependency_pairs, linked_job, workflow_entry, linked}
+use Rattle.workflow_reader.specs.code.Small.{AreSmall}
 use Rattle.workflow_reader.proofs.StepLemmas.{passed}
 use Rattle.workflow_reader.proofs.DuplicatesLemmas.{same_as, known_as, names_more}
 use Rattle.workflow_reader.proofs.SmallLemmas.{all_joined, sizes_small}
@@ -56,14 +57,14 @@ are_once {A} same known (x ∷ xs) h = by (list_any (same x) known) h (λ rest. 
     by false k rest = rest k
 
 -- the names of a job's uses as d
-names_once : (d : Direction) (known us : List Use) → first_repeat same_use known us ≡ None → are_new bytes_eq (lfns_of (uses_as d known)) (lfns_of (uses_as d us)) ≡ true
+names_once : (d : Direction) (known us : List Use) → first_repeat same_use known us ≡ None → are_new bytes_eq (lfns_of_uses (uses_as d known)) (lfns_of_uses (uses_as d us)) ≡ true
 names_once d known [] h = refl
-names_once d known (u ∷ us) h = by (list_any (same_use u) known) refl h (λ rest. subst (λ (ks : List (List ℕ)). are_new bytes_eq ks (lfns_of (uses_as d us)) ≡ true) (names_more d known u) (names_once d (known ++ u ∷ []) us rest))
+names_once d known (u ∷ us) h = by (list_any (same_use u) known) refl h (λ rest. subst (λ (ks : List (List ℕ)). are_new bytes_eq ks (lfns_of_uses (uses_as d us)) ≡ true) (names_more d known u) (names_once d (known ++ u ∷ []) us rest))
   where
     -- a use as d that isn't the same as a known one
     here : (e : Direction) → u.direction ≡ e → list_any (same_use u) known ≡ false → (b : Bool) → same_direction d e ≡ b
-        → are_new bytes_eq (lfns_of (uses_as d known) ++ lfns_of (cond b (u ∷ []) [])) (lfns_of (uses_as d us)) ≡ true
-        → are_new bytes_eq (lfns_of (uses_as d known)) (lfns_of (cond b (u ∷ uses_as d us) (uses_as d us))) ≡ true
+        → are_new bytes_eq (lfns_of_uses (uses_as d known) ++ lfns_of_uses (cond b (u ∷ []) [])) (lfns_of_uses (uses_as d us)) ≡ true
+        → are_new bytes_eq (lfns_of_uses (uses_as d known)) (lfns_of_uses (cond b (u ∷ uses_as d us) (uses_as d us))) ≡ true
     here e is new true same rest = and_from _ _ (ap not (sym (known_as d u.lfn known) ∙ as_this d e is same)) rest
       where
         as_this : (d e : Direction) → u.direction ≡ e → same_direction d e ≡ true → list_any (same_as d u.lfn) known ≡ false
@@ -71,11 +72,11 @@ names_once d known (u ∷ us) h = by (list_any (same_use u) known) refl h (λ re
         as_this Input Made is same = absurd cc
         as_this Made Input is same = absurd cc
         as_this Made Made is same = ap (λ (f : Direction). list_any (same_as f u.lfn) known) (sym is) ∙ new
-    here e is new false same rest = subst (λ (ks : List (List ℕ)). are_new bytes_eq ks (lfns_of (uses_as d us)) ≡ true) (append-nil (lfns_of (uses_as d known))) rest
+    here e is new false same rest = subst (λ (ks : List (List ℕ)). are_new bytes_eq ks (lfns_of_uses (uses_as d us)) ≡ true) (append-nil (lfns_of_uses (uses_as d known))) rest
 
     by : (b : Bool) → list_any (same_use u) known ≡ b → cond b (Some u) (first_repeat same_use (known ++ u ∷ []) us) ≡ None
-        → (first_repeat same_use (known ++ u ∷ []) us ≡ None → are_new bytes_eq (lfns_of (uses_as d known) ++ lfns_of (uses_as d (u ∷ []))) (lfns_of (uses_as d us)) ≡ true)
-        → are_new bytes_eq (lfns_of (uses_as d known)) (lfns_of (uses_as d (u ∷ us))) ≡ true
+        → (first_repeat same_use (known ++ u ∷ []) us ≡ None → are_new bytes_eq (lfns_of_uses (uses_as d known) ++ lfns_of_uses (uses_as d (u ∷ []))) (lfns_of_uses (uses_as d us)) ≡ true)
+        → are_new bytes_eq (lfns_of_uses (uses_as d known)) (lfns_of_uses (uses_as d (u ∷ us))) ≡ true
     by true e k rest = absurd cc
     by false e k rest = here u.direction refl e (same_direction d u.direction) refl (rest k)
 
@@ -85,19 +86,19 @@ names_once d known (u ∷ us) h = by (list_any (same_use u) known) refl h (λ re
 abbrev are_files : List (List ℕ) → List (List ℕ) → Bool
 are_files files ns = list_all (λ n. list_any (bytes_eq n) files) ns
 
-files_as : (files : List (List ℕ)) (d : Direction) (us : List Use) → are_files files (lfns_of us) ≡ true → are_files files (lfns_of (uses_as d us)) ≡ true
+files_as : (files : List (List ℕ)) (d : Direction) (us : List Use) → are_files files (lfns_of_uses us) ≡ true → are_files files (lfns_of_uses (uses_as d us)) ≡ true
 files_as files d [] there = refl
 files_as files d (u ∷ us) there = by (same_direction d u.direction) (files_as files d us (and_parts _ _ there).1)
   where
-    by : (b : Bool) → are_files files (lfns_of (uses_as d us)) ≡ true → are_files files (lfns_of (cond b (u ∷ uses_as d us) (uses_as d us))) ≡ true
+    by : (b : Bool) → are_files files (lfns_of_uses (uses_as d us)) ≡ true → are_files files (lfns_of_uses (cond b (u ∷ uses_as d us) (uses_as d us))) ≡ true
     by true rest = and_from _ _ (and_parts _ _ there).0 rest
     by false rest = rest
 
-input_numbers : (files : List (List ℕ)) (us : List Use) → map (number files) (lfns_of us) ≡ map (λ (f : FileId). f.0) (map (file_of files) us)
+input_numbers : (files : List (List ℕ)) (us : List Use) → map (number files) (lfns_of_uses us) ≡ map (λ (f : FileId). f.0) (map (file_of files) us)
 input_numbers files [] = refl
 input_numbers files (u ∷ us) = ap (λ (ks : List ℕ). number files u.lfn ∷ ks) (input_numbers files us)
 
-output_numbers : (files : List (List ℕ)) (us : List Use) → map (number files) (lfns_of us) ≡ map (λ (o : Output). o.file.0) (map (output_of files) us)
+output_numbers : (files : List (List ℕ)) (us : List Use) → map (number files) (lfns_of_uses us) ≡ map (λ (o : Output). o.file.0) (map (output_of files) us)
 output_numbers files [] = refl
 output_numbers files (u ∷ us) = ap (λ (ks : List ℕ). number files u.lfn ∷ ks) (output_numbers files us)
 
@@ -105,7 +106,7 @@ output_numbers files (u ∷ us) = ap (λ (ks : List ℕ). number files u.lfn ∷
 
 -- both jobs of a pair are there
 abbrev IsPair : ℕ → JobId × JobId → Type 0
-IsPair jobs p = (before p < jobs) × (after p < jobs)
+IsPair jobs p = (parent_of p < jobs) × (child_of p < jobs)
 
 all_there : (known ns : List (List ℕ)) → first_unknown known ns ≡ None → list_all (λ n. list_any (bytes_eq n) known) ns ≡ true
 all_there known [] h = refl
@@ -197,11 +198,11 @@ module _ (law : NumbersNames) where
   numbers_below files (n ∷ ns) there = (law.within files n (and_parts _ _ there).0, numbers_below files ns (and_parts _ _ there).1)
 
   -- those of a job's uses as d
-  below_as : (files : List (List ℕ)) (d : Direction) (us : List Use) → are_files files (lfns_of us) ≡ true → AllByRecursion (λ f. f < length files) (map (number files) (lfns_of (uses_as d us)))
-  below_as files d us there = numbers_below files (lfns_of (uses_as d us)) (files_as files d us there)
+  below_as : (files : List (List ℕ)) (d : Direction) (us : List Use) → are_files files (lfns_of_uses us) ≡ true → AllByRecursion (λ f. f < length files) (map (number files) (lfns_of_uses (uses_as d us)))
+  below_as files d us there = numbers_below files (lfns_of_uses (uses_as d us)) (files_as files d us there)
 
-  once_as : (files : List (List ℕ)) (d : Direction) (us : List Use) → are_files files (lfns_of us) ≡ true → first_repeat same_use [] us ≡ None → are_distinct nat_eq (map (number files) (lfns_of (uses_as d us))) ≡ true
-  once_as files d us there once = numbers_once files [] (lfns_of (uses_as d us)) (files_as files d us there) (names_once d [] us once)
+  once_as : (files : List (List ℕ)) (d : Direction) (us : List Use) → are_files files (lfns_of_uses us) ≡ true → first_repeat same_use [] us ≡ None → are_distinct nat_eq (map (number files) (lfns_of_uses (uses_as d us))) ≡ true
+  once_as files d us there once = numbers_once files [] (lfns_of_uses (uses_as d us)) (files_as files d us there) (names_once d [] us once)
 
   job_over : (files : List (List ℕ)) (j : JobEntry) → are_files files (lfns_in j) ≡ true → first_repeat same_use [] j.uses ≡ None → IsJobOver (length files) (linked_job files j)
   job_over files j there once = record {
@@ -218,16 +219,16 @@ module _ (law : NumbersNames) where
       let steps = passed (used_once j) (λ _. all_used_once js) u once in
       (job_over files j both.0 (not_refused _ (first_repeat same_use [] j.uses) steps.value steps.is), jobs_over files js u both.1 steps.rest)
 
-  children_there : (ids : List (List ℕ)) (id : List ℕ) (cs : List (List ℕ)) → number ids id < length ids → are_files ids cs ≡ true → AllByRecursion (IsPair (length ids)) (map (λ (c : List ℕ). (job_of ids id, job_of ids c)) cs)
+  children_there : (ids : List (List ℕ)) (id : List ℕ) (cs : List (List ℕ)) → number ids id < length ids → are_files ids cs ≡ true → AllByRecursion (IsPair (length ids)) (map (λ (c : List ℕ). (job_with_id ids id, job_with_id ids c)) cs)
   children_there ids id [] own there = tt
   children_there ids id (c ∷ cs) own there = ((own, law.within ids c (and_parts _ _ there).0), children_there ids id cs own (and_parts _ _ there).1)
 
-  pairs_there : (ids : List (List ℕ)) (ds : List Dependency) → are_files ids (ids_in ds) ≡ true → AllByRecursion (IsPair (length ids)) (pairs_of ids ds)
+  pairs_there : (ids : List (List ℕ)) (ds : List Dependency) → are_files ids (ids_in ds) ≡ true → AllByRecursion (IsPair (length ids)) (dependency_pairs ids ds)
   pairs_there ids [] there = tt
   pairs_there ids (d ∷ ds) there =
       let both = and_parts _ _ (sym (list_all-append (λ n. list_any (bytes_eq n) ids) (d.id ∷ d.children) (ids_in ds)) ∙ there) in
       let own = and_parts _ _ both.0 in
-      all_joined (IsPair (length ids)) (pairs_from ids d) (pairs_of ids ds)
+      all_joined (IsPair (length ids)) (pairs_from ids d) (dependency_pairs ids ds)
       (children_there ids d.id d.children (law.within ids d.id own.0) own.1)
       (pairs_there ids ds both.1)
 
@@ -244,10 +245,10 @@ module _ (law : NumbersNames) where
         subst (λ (ns : List (List ℕ)). are_distinct bytes_eq ns ≡ true) (ids_kept (files_of e.jobs) e.jobs) known.ids,
         law.once (flat_map lfns_in e.jobs),
         jobs_over (files_of e.jobs) e.jobs tt (law.known (flat_map lfns_in e.jobs)) known.used_once,
-        subst (λ (n : ℕ). AllByRecursion (IsPair n) (pairs_of (ids_of e.jobs) e.dependencies)) (ids_count ∙ sym same_count) (pairs_there (ids_of e.jobs) e.dependencies known.known_ids),
+        subst (λ (n : ℕ). AllByRecursion (IsPair n) (dependency_pairs (ids_of e.jobs) e.dependencies)) (ids_count ∙ sym same_count) (pairs_there (ids_of e.jobs) e.dependencies known.known_ids),
       )
 
-  pub well_formed : (e : DocumentEntry) (w : Workflow) → linked e ≡ Ok (view w) → AreSmall e.jobs → IsWellFormed w
+  pub well_formed : (e : DocumentEntry) (w : Workflow) → linked e ≡ Ok (workflow_view w) → AreSmall e.jobs → IsWellFormed w
   well_formed e w h small =
-      let well = well_entry e (view w) small h in
+      let well = well_entry e (workflow_view w) small h in
       record { few_jobs = well.0; few_files = well.1; sizes = well.2; small_sizes = well.3; ids = well.4; names = well.5; jobs = well.6; pairs = well.7 }

@@ -9,12 +9,12 @@ use Rattle.std.proofs.lemmas.Bool.{and_from, and_parts, both_ways, not-true}
 use Rattle.std.proofs.lemmas.List.Folds.{list_any-append}
 use Rattle.std.proofs.Math.Bool.{or-true}
 use Rattle.workflow_core.specs.Names.{number}
-use Rattle.workflow_core.specs.WellFormed.{are_new}
-use Rattle.workflow_core.specs.Law.{NumbersNames}
+use Rattle.workflow_core.specs.code.WellFormed.{are_new}
+use Rattle.workflow_core.specs.code.Law.{NumbersNames}
 use Rattle.workflow_reader.specs.declared.document.JobEntry.{JobEntry}
 use Rattle.workflow_reader.specs.declared.document.Use.{Use}
-use Rattle.workflow_reader.specs.Files.{uses_of, lfns_in, files_of, sizes_of, first_size}
-use Rattle.workflow_reader.specs.Known.{with_size, with_sizes}
+use Rattle.workflow_reader.specs.Linking.{uses_of, lfns_in, files_of, sizes_of, first_size}
+use Rattle.workflow_reader.specs.code.Known.{with_size, with_sizes}
 
 or_none : {X : Type 0} (o : Option X) → option_or o None ≡ o
 or_none None = refl

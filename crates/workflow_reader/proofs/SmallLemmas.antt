@@ -11,20 +11,20 @@ use Rattle.peg_json.specs.Table.{checks}
 use Rattle.peg_json.specs.declared.fault.TreeFault.TheVariants as faults
 use Rattle.peg_json.specs.Typed.{required, optional, any_of, text_of, name_of, number_of, number_within, flag_of}
 use Rattle.peg_json.specs.Versions.{version_at}
-use Rattle.workflow_core.specs.WellFormed.{IsSmallSize}
+use Rattle.workflow_core.specs.code.WellFormed.{IsSmallSize}
 use Rattle.workflow_reader.specs.declared.document.JobEntry.{JobEntry}
 use Rattle.workflow_reader.specs.declared.document.Use.{Use}
-use Rattle.workflow_reader.specs.Argument.{argument_of}
-use Rattle.workflow_reader.specs.ConstantText.{constant_at}
-use Rattle.workflow_reader.specs.Document.{DocumentEntry}
-use Rattle.workflow_reader.specs.Dependency.{dependency_of}
+use Rattle.workflow_reader.specs.Workflow.{argument_of}
+use Rattle.workflow_reader.specs.Workflow.{constant_at}
+use Rattle.workflow_reader.specs.Workflow.{DocumentEntry}
+use Rattle.workflow_reader.specs.Workflow.{dependency_of}
 use Rattle.peg_json.specs.Profiles.{profiles_or_none}
-use Rattle.workflow_reader.specs.JobEntry.{job_rows, job_of}
-use Rattle.peg_json.specs.Lists.{list_or_none}
-use Rattle.workflow_reader.specs.Root.{root_rows, document_of}
-use Rattle.workflow_reader.specs.Small.{IsSmallUse, AreSmall}
-use Rattle.workflow_reader.specs.UseEntry.{use_rows, direction_at, use_of}
-use Rattle.workflow_reader.specs.Files.{uses_of, first_size, files_of, sizes_of}
+use Rattle.workflow_reader.specs.Workflow.{job_rows, job_of}
+use Rattle.peg_json.specs.Typed.{list_or_none}
+use Rattle.workflow_reader.specs.Workflow.{workflow_document_rows, workflow_document_of}
+use Rattle.workflow_reader.specs.code.Small.{IsSmallUse, AreSmall}
+use Rattle.workflow_reader.specs.Workflow.{use_rows, direction_at, use_of}
+use Rattle.workflow_reader.specs.Linking.{uses_of, first_size, files_of, sizes_of}
 use Rattle.workflow_reader.proofs.StepLemmas.{passed, unwrapped, IfThere, required_has, optional_has, list_has, list_or_none_has}
 
 number_small : (limit : ℕ) (path : List ℕ) (n m : ℕ) → number_within limit path n ≡ Ok m → m ≤ limit
@@ -66,10 +66,10 @@ job_small path d j h =
     let nine = passed (profiles_or_none path d (codes "profiles")) _ j eight.rest in
     subst (λ (k : JobEntry). AllByRecursion IsSmallUse k.uses) (unwrapped _ j nine.rest) (list_or_none_has use_of IsSmallUse use_small path d (codes "uses") eight.value eight.is)
 
-pub document_small : (path : List ℕ) (d : Data) (e : DocumentEntry) → document_of path d ≡ Ok e → AreSmall e.jobs
-unfolding document_of
+pub document_small : (path : List ℕ) (d : Data) (e : DocumentEntry) → workflow_document_of path d ≡ Ok e → AreSmall e.jobs
+unfolding workflow_document_of
 document_small path d e h =
-    let one = passed (checks path d root_rows) _ e h in
+    let one = passed (checks path d workflow_document_rows) _ e h in
     let two = passed (version_at path d (codes "pegasus")) _ e one.rest in
     let three = passed (required text_of path d (codes "name")) _ e two.rest in
     let four = passed (required (list_in job_of) path d (codes "jobs")) _ e three.rest in

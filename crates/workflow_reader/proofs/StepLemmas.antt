@@ -10,7 +10,7 @@ use Rattle.peg_json.specs.Table.{member_of}
 use Rattle.peg_json.specs.Typed.{where_found, required, if_found, optional}
 use Rattle.peg_json.specs.declared.fault.TreeFault.{TreeFault}
 use Rattle.peg_json.specs.declared.fault.TreeFault.TheVariants as faults
-use Rattle.peg_json.specs.Lists.{list_or_none}
+use Rattle.peg_json.specs.Typed.{list_or_none}
 
 pub record Passed {E A B : Type 0} (r : Result A E) (f : A → Result B E) (b : B) : Type 0 where
   pub value : A

@@ -1,12 +1,4 @@
-pub mod Document
-pub mod ConstantText
-pub mod Argument
-pub mod UseEntry
-pub mod JobEntry
-pub mod Dependency
-pub mod Root
-pub mod Reader
-pub mod Files
-pub mod Known
+pub mod Workflow
 pub mod Linking
-pub mod Small
+-- What only the code's own contracts say.
+pub mod code

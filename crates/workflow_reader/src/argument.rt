@@ -2,9 +2,9 @@
 
 ghost use Rattle.std.specs.Prelude.{◌≡◌};
 ghost use Rattle.serde_json.specs.View.{view as tree_view};
-ghost use Rattle.peg_json.specs.Tree.{Gives};
-ghost use Rattle.workflow_reader.specs.Argument.{argument_of};
-ghost use Rattle.peg_json.specs.Lists.{list_or_none};
+ghost use Rattle.peg_json.specs.code.Tree.{Gives};
+ghost use Rattle.workflow_reader.specs.Workflow.{argument_of};
+ghost use Rattle.peg_json.specs.Typed.{list_or_none};
 
 use peg_json::{FromTree, TreeFault, list_or_none};
 use serde_json::Value;
@@ -24,7 +24,7 @@ impl FromTree for Argument {
 
     ghost reads = { argument_of };
 
-    #[tactic(auto, unfolding(crate::specs::Argument::argument_of))]
+    #[tactic(auto, unfolding(crate::specs::Workflow::argument_of))]
     fn from_tree(alloc: Global, value: &Value, path: &Text) -> Result<Argument, TreeFault> {
         if let Some(text) = value.as_str() {
             return Ok(Argument(Text::copy_of(alloc, text)?));

@@ -2,8 +2,8 @@
 
 ghost use Rattle.std.specs.Prelude.{◌≡◌};
 ghost use Rattle.serde_json.specs.View.{view as tree_view};
-ghost use Rattle.peg_json.specs.Tree.{Gives};
-ghost use Rattle.workflow_reader.specs.ConstantText.{constant_at};
+ghost use Rattle.peg_json.specs.code.Tree.{Gives};
+ghost use Rattle.workflow_reader.specs.Workflow.{constant_at};
 
 use peg_json::{TreeFault, at_key, row};
 use serde_json::Value;

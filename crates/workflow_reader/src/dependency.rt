@@ -1,8 +1,8 @@
 //! A dependency: its table, its reading, and the keys that are in no table.
 
 ghost use Rattle.std.specs.Prelude.{◌≡◌, IfOk, map};
-ghost use Rattle.peg_json.specs.Table.{rows_of};
-ghost use Rattle.workflow_reader.specs.Dependency.{dependency_rows};
+ghost use Rattle.peg_json.specs.code.Table.{rows_of};
+ghost use Rattle.workflow_reader.specs.Workflow.{dependency_rows};
 
 use crate::document::Dependency;
 use peg_json::{FromTree, KeyRow, KeyTable, Kind, Listed, Name, TreeFault, checked, gather, row};
@@ -39,7 +39,7 @@ fn texts_of(alloc: Global, names: Vec<Name>) -> Result<Items<Text>, Memory>
 
 impl FromTree for Dependency {
     ghost use Rattle.workflow_reader.specs.declared.document.Dependency as declared;
-    ghost use Rattle.workflow_reader.specs.Dependency.{dependency_of};
+    ghost use Rattle.workflow_reader.specs.Workflow.{dependency_of};
 
     ghost Seen = { declared.Dependency };
 
@@ -47,7 +47,7 @@ impl FromTree for Dependency {
 
     ghost reads = { dependency_of };
 
-    #[tactic(auto, unfolding(crate::specs::Dependency::dependency_of))]
+    #[tactic(auto, unfolding(crate::specs::Workflow::dependency_of))]
     fn from_tree(alloc: Global, value: &Value, path: &Text) -> Result<Dependency, TreeFault> {
         checked(alloc, value, path, &dependency_table())?;
         let id = row!(alloc, value, path, "id", Name);
@@ -60,11 +60,11 @@ impl FromTree for Dependency {
 }
 
 impl Listed for Dependency {
-    ghost use Rattle.workflow_reader.specs.Dependency.{unknown_dependency};
+    ghost use Rattle.workflow_reader.specs.code.Unknown.{unknown_dependency};
 
     ghost unknown = { unknown_dependency };
 
-    #[tactic(auto, unfolding(crate::specs::Dependency::unknown_dependency))]
+    #[tactic(auto, unfolding(crate::specs::code::Unknown::unknown_dependency))]
     fn gather(
         alloc: Global,
         value: &Value,

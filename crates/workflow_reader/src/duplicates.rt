@@ -3,11 +3,11 @@
 ghost use Rattle.std.specs.Prelude.{◌≡◌, ◌++◌, [], not, option_map, IfOk, OnOk};
 ghost use Rattle.std.specs.List.{list_any};
 ghost use Rattle.std.specs.Str.{bytes_eq};
-ghost use Rattle.peg_json.specs.ReadFault.{GivesRead};
+ghost use Rattle.peg_json.specs.code.ReadFault.{GivesRead};
 ghost use Rattle.peg_json.specs.declared.read_fault.ReadFault.TheVariants.{DuplicateJob};
-ghost use Rattle.workflow_core.specs.Names.{with_name};
-ghost use Rattle.peg_json.specs.Duplicates.{first_repeat, refused};
-ghost use Rattle.workflow_reader.specs.Known.{is_named, inputs_with, outputs_with, repeat_after};
+ghost use Rattle.workflow_core.specs.code.Names.{with_name};
+ghost use Rattle.peg_json.specs.Elements.{first_repeat, refused};
+ghost use Rattle.workflow_reader.specs.code.Known.{is_named, inputs_with, outputs_with, repeat_after};
 ghost use Rattle.workflow_reader.specs.Linking.{ids_of, same_use, used_once, all_used_once};
 
 use crate::document::{Direction, JobEntry, Use};

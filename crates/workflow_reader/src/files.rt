@@ -1,9 +1,9 @@
 //! The files that jobs use, and their sizes.
 
 ghost use Rattle.std.specs.Prelude.{◌≡◌, OnOk, IfOk};
-ghost use Rattle.workflow_core.specs.Names.{with_names};
-ghost use Rattle.workflow_reader.specs.Files.{lfns_in, files_of, sizes_of};
-ghost use Rattle.workflow_reader.specs.Known.{with_size, with_sizes};
+ghost use Rattle.workflow_core.specs.code.Names.{with_names};
+ghost use Rattle.workflow_reader.specs.Linking.{lfns_in, files_of, sizes_of};
+ghost use Rattle.workflow_reader.specs.code.Known.{with_size, with_sizes};
 
 use crate::document::{JobEntry, Use};
 use std::alloc::Global;

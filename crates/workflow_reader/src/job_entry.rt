@@ -1,8 +1,8 @@
 //! A job: its table, its reading, and the keys that are in no table.
 
 ghost use Rattle.std.specs.Prelude.{◌≡◌};
-ghost use Rattle.peg_json.specs.Table.{rows_of};
-ghost use Rattle.workflow_reader.specs.JobEntry.{job_rows};
+ghost use Rattle.peg_json.specs.code.Table.{rows_of};
+ghost use Rattle.workflow_reader.specs.Workflow.{job_rows};
 
 use crate::argument::arguments;
 use crate::constant_text::checked_constant;
@@ -67,7 +67,7 @@ fn job_table() -> KeyTable<8>
 
 impl FromTree for JobEntry {
     ghost use Rattle.workflow_reader.specs.declared.document.JobEntry as declared;
-    ghost use Rattle.workflow_reader.specs.JobEntry.{job_of};
+    ghost use Rattle.workflow_reader.specs.Workflow.{job_of};
 
     ghost Seen = { declared.JobEntry };
 
@@ -75,7 +75,7 @@ impl FromTree for JobEntry {
 
     ghost reads = { job_of };
 
-    #[tactic(auto, unfolding(crate::specs::JobEntry::job_of))]
+    #[tactic(auto, unfolding(crate::specs::Workflow::job_of))]
     fn from_tree(alloc: Global, value: &Value, path: &Text) -> Result<JobEntry, TreeFault> {
         checked(alloc, value, path, &job_table())?;
         checked_constant(alloc, value, path, "type", "job")?;
@@ -104,11 +104,11 @@ impl FromTree for JobEntry {
 }
 
 impl Listed for JobEntry {
-    ghost use Rattle.workflow_reader.specs.JobEntry.{unknown_job};
+    ghost use Rattle.workflow_reader.specs.code.Unknown.{unknown_job};
 
     ghost unknown = { unknown_job };
 
-    #[tactic(auto, unfolding(crate::specs::JobEntry::unknown_job))]
+    #[tactic(auto, unfolding(crate::specs::code::Unknown::unknown_job))]
     fn gather(
         alloc: Global,
         value: &Value,

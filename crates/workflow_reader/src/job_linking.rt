@@ -2,7 +2,7 @@
 
 ghost use Rattle.std.specs.Prelude.{◌≡◌, ◌≤◌, length, map, IfOk};
 ghost use Rattle.workflow_reader.specs.declared.document.Direction.TheVariants as directions;
-ghost use Rattle.workflow_reader.specs.Files.{uses_as, file_of, output_of};
+ghost use Rattle.workflow_reader.specs.Linking.{uses_as, file_of, output_of};
 ghost use Rattle.workflow_reader.specs.Linking.{linked_job};
 
 use crate::document::{Direction, JobEntry, Use};

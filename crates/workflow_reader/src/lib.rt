@@ -1,4 +1,4 @@
-//! Workflow documents: a workflow is the one that its document's definition gives, `read_of` of `specs/Reader.antt`.
+//! Workflow documents: a workflow is the one that its document's definition gives, `read_of` of `specs/Workflow.antt`.
 //!
 //! The tree part has one file for each object of the format: its table, its reading and its unknown keys
 //! (`root`, `job_entry`, `use_entry`, `dependency`). `linking` makes the workflow of what

@@ -1,15 +1,15 @@
 //! From what stands in a document to its workflow.
 
 ghost use Rattle.std.specs.Prelude.{◌≡◌, ◌≤◌, length, map, IfOk};
-ghost use Rattle.peg_json.specs.Count.{few};
-ghost use Rattle.peg_json.specs.ReadFault.{GivesRead};
+ghost use Rattle.peg_json.specs.Elements.{few};
+ghost use Rattle.peg_json.specs.code.ReadFault.{GivesRead};
 ghost use Rattle.peg_json.specs.declared.read_fault.Counted.TheVariants.{Files};
-ghost use Rattle.workflow_core.specs.View.{view};
-ghost use Rattle.workflow_core.specs.WellFormed.{IsWellFormed};
-ghost use Rattle.workflow_reader.specs.Document.{entry};
-ghost use Rattle.workflow_reader.specs.Files.{files_of, sizes_of};
-ghost use Rattle.workflow_reader.specs.Linking.{ids_of, pairs_of, linked_job, workflow_entry, linked};
-ghost use Rattle.workflow_reader.specs.Small.{AreSmall};
+ghost use Rattle.workflow_core.specs.View.{workflow_view};
+ghost use Rattle.workflow_core.specs.code.WellFormed.{IsWellFormed};
+ghost use Rattle.workflow_reader.specs.code.Document.{entry};
+ghost use Rattle.workflow_reader.specs.Linking.{files_of, sizes_of};
+ghost use Rattle.workflow_reader.specs.Linking.{ids_of, dependency_pairs, linked_job, workflow_entry, linked};
+ghost use Rattle.workflow_reader.specs.code.Small.{AreSmall};
 
 use crate::document::{Document, JobEntry};
 use crate::duplicates::{all_used_once, ids_of};
@@ -92,7 +92,7 @@ struct Numbers {
 fn numbers_of(alloc: Global, document: &Document, tables: &Tables) -> Result<Numbers, Memory>
     requires files { tables.now.files ≡ files_of document.now.jobs }
     requires few_ids { length tables.now.ids ≤ 10000 }
-    ensures pairs { IfOk result (λ n. n.pairs ≡ pairs_of tables.now.ids document.now.dependencies) }
+    ensures pairs { IfOk result (λ n. n.pairs ≡ dependency_pairs tables.now.ids document.now.dependencies) }
     ensures sizes { IfOk result (λ n. n.sizes ≡ sizes_of document.now.jobs) }
 {
     let pairs = pairs_of(alloc, &tables.ids, document.dependencies.as_slice())?;
@@ -141,7 +141,7 @@ fn numbered(
     requires ids { tables.ids ≡ ids_of document.jobs }
     requires few_files { length tables.files ≤ 50000 }
     requires few_ids { length tables.ids ≤ 10000 }
-    ensures entry { IfOk result (λ w. view w ≡ workflow_entry (entry document)) }
+    ensures entry { IfOk result (λ w. workflow_view w ≡ workflow_entry (entry document)) }
     ensures ignored { IfOk result (λ w. w.ignored ≡ ignored.items) }
 {
     let Ok(numbers) = numbers_of(alloc, &document, &tables) else {
@@ -179,7 +179,7 @@ pub fn workflow_of(
     document: Document,
     ignored: Vec<Text>,
 ) -> Result<Workflow, ReadFault>
-    ensures answer { GivesRead view result (linked (entry document)) }
+    ensures answer { GivesRead workflow_view result (linked (entry document)) }
     ensures ignored { IfOk result (λ w. w.ignored ≡ ignored.items) }
     ensures well_formed { IfOk result (λ w. AreSmall document.jobs → IsWellFormed w) }
 {

@@ -1,10 +1,10 @@
 //! The pairs of jobs that dependencies state.
 
 ghost use Rattle.std.specs.Prelude.{◌≡◌, ◌≤◌, ◌∷◌, ◌++◌, length, option_map, OnOk, IfOk};
-ghost use Rattle.peg_json.specs.ReadFault.{GivesRead};
+ghost use Rattle.peg_json.specs.code.ReadFault.{GivesRead};
 ghost use Rattle.peg_json.specs.declared.read_fault.ReadFault.TheVariants.{UnknownJob};
-ghost use Rattle.peg_json.specs.Duplicates.{refused, first_unknown};
-ghost use Rattle.workflow_reader.specs.Linking.{ids_in, job_of, pairs_from, pairs_of};
+ghost use Rattle.peg_json.specs.Elements.{refused, first_unknown};
+ghost use Rattle.workflow_reader.specs.Linking.{ids_in, job_with_id, pairs_from, dependency_pairs};
 
 use crate::document::Dependency;
 use peg_json::ReadFault;
@@ -43,7 +43,7 @@ pub fn all_known(alloc: Global, ids: &Names, dependencies: &[Dependency]) -> Res
 
 fn job_of(ids: &Names, id: &Text) -> JobId
     requires { length ids.now ≤ 10000 }
-    ensures { result ≡ job_of ids.now id.now }
+    ensures { result ≡ job_with_id ids.now id.now }
 {
     JobId(ids.number(id) as u32)
 }
@@ -70,7 +70,7 @@ pub fn pairs_of(
     dependencies: &[Dependency],
 ) -> Result<Items<(JobId, JobId)>, Memory>
     requires { length ids.now ≤ 10000 }
-    ensures { IfOk result (λ pairs. pairs ≡ pairs_of ids.now dependencies.now) }
+    ensures { IfOk result (λ pairs. pairs ≡ dependency_pairs ids.now dependencies.now) }
 {
     let mut pairs = Vec::new(alloc);
     for dependency in dependencies {

@@ -1,8 +1,8 @@
 //! A whole document: its table, its reading, and the keys that are in no table.
 
 ghost use Rattle.std.specs.Prelude.{◌≡◌};
-ghost use Rattle.peg_json.specs.Table.{rows_of};
-ghost use Rattle.workflow_reader.specs.Root.{root_rows};
+ghost use Rattle.peg_json.specs.code.Table.{rows_of};
+ghost use Rattle.workflow_reader.specs.Workflow.{workflow_document_rows};
 
 use crate::document::{Dependency, Document, JobEntry};
 use peg_json::{
@@ -53,22 +53,23 @@ const ROOT: [KeyRow; 7] = [
 ];
 
 fn root_table() -> KeyTable<7>
-    ensures { rows_of result.rows.now ≡ root_rows }
+    ensures { rows_of result.rows.now ≡ workflow_document_rows }
 {
     KeyTable { rows: &ROOT }
 }
 
 impl FromTree for Document {
-    ghost use Rattle.workflow_reader.specs.Document.{DocumentEntry, entry};
-    ghost use Rattle.workflow_reader.specs.Root.{document_of};
+    ghost use Rattle.workflow_reader.specs.Workflow.{DocumentEntry};
+    ghost use Rattle.workflow_reader.specs.code.Document.{entry};
+    ghost use Rattle.workflow_reader.specs.Workflow.{workflow_document_of};
 
     ghost Seen = { DocumentEntry };
 
     ghost seen = { entry };
 
-    ghost reads = { document_of };
+    ghost reads = { workflow_document_of };
 
-    #[tactic(auto, unfolding(crate::specs::Root::document_of))]
+    #[tactic(auto, unfolding(crate::specs::Workflow::workflow_document_of))]
     fn from_tree(alloc: Global, value: &Value, path: &Text) -> Result<Document, TreeFault> {
         checked(alloc, value, path, &root_table())?;
         version(alloc, value, path, "pegasus")?;
@@ -93,11 +94,11 @@ impl FromTree for Document {
 }
 
 impl Listed for Document {
-    ghost use Rattle.workflow_reader.specs.Root.{unknown_of};
+    ghost use Rattle.workflow_reader.specs.code.Unknown.{unknown_of};
 
     ghost unknown = { unknown_of };
 
-    #[tactic(auto, unfolding(crate::specs::Root::unknown_of))]
+    #[tactic(auto, unfolding(crate::specs::code::Unknown::unknown_of))]
     fn gather(
         alloc: Global,
         value: &Value,

@@ -2,9 +2,9 @@
 
 ghost use Rattle.std.specs.Prelude.{◌≡◌};
 ghost use Rattle.serde_json.specs.View.{view as tree_view};
-ghost use Rattle.peg_json.specs.Tree.{Gives};
-ghost use Rattle.peg_json.specs.Table.{rows_of};
-ghost use Rattle.workflow_reader.specs.UseEntry.{use_rows, direction_at};
+ghost use Rattle.peg_json.specs.code.Tree.{Gives};
+ghost use Rattle.peg_json.specs.code.Table.{rows_of};
+ghost use Rattle.workflow_reader.specs.Workflow.{use_rows, direction_at};
 
 use crate::document::{Direction, Use};
 use peg_json::{FromTree, KeyRow, KeyTable, Kind, Listed, TreeFault, at_key, checked, gather, row};
@@ -59,7 +59,7 @@ fn direction(alloc: Global, value: &Value, path: &Text, key: &str) -> Result<Dir
 
 impl FromTree for Use {
     ghost use Rattle.workflow_reader.specs.declared.document.Use as declared;
-    ghost use Rattle.workflow_reader.specs.UseEntry.{use_of};
+    ghost use Rattle.workflow_reader.specs.Workflow.{use_of};
 
     ghost Seen = { declared.Use };
 
@@ -67,7 +67,7 @@ impl FromTree for Use {
 
     ghost reads = { use_of };
 
-    #[tactic(auto, unfolding(crate::specs::UseEntry::use_of))]
+    #[tactic(auto, unfolding(crate::specs::Workflow::use_of))]
     fn from_tree(alloc: Global, value: &Value, path: &Text) -> Result<Use, TreeFault> {
         checked(alloc, value, path, &use_table())?;
         let lfn = row!(alloc, value, path, "lfn", Name);
@@ -86,11 +86,11 @@ impl FromTree for Use {
 }
 
 impl Listed for Use {
-    ghost use Rattle.workflow_reader.specs.UseEntry.{unknown_use};
+    ghost use Rattle.workflow_reader.specs.code.Unknown.{unknown_use};
 
     ghost unknown = { unknown_use };
 
-    #[tactic(auto, unfolding(crate::specs::UseEntry::unknown_use))]
+    #[tactic(auto, unfolding(crate::specs::code::Unknown::unknown_use))]
     fn gather(
         alloc: Global,
         value: &Value,

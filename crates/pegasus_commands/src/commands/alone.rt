@@ -1,10 +1,11 @@
 //! `alone`.
 
 ghost use Rattle.std.specs.Prelude.{◌≡◌};
-ghost use Rattle.plan_run.specs.Moments.{Tools, member_moment, work_moment, working};
-ghost use Rattle.pegasus_commands.specs.Commands.Alone.{RunsAlone, alone};
-ghost use Rattle.pegasus_commands.specs.CommandSpec.{Does, OfFirst, doing};
-ghost use Rattle.pegasus_commands.specs.Moments.{docs_moment};
+ghost use Rattle.plan_run.specs.Moments.{Tools};
+ghost use Rattle.plan_run.specs.code.Moments.{member_moment, work_moment, working};
+ghost use Rattle.pegasus_commands.specs.code.Commands.Alone.{RunsAlone, alone};
+ghost use Rattle.pegasus_commands.specs.code.CommandSpec.{Does, OfFirst, doing};
+ghost use Rattle.pegasus_commands.specs.code.Moments.{docs_moment};
 
 use crate::commands::Worked;
 use crate::ready_plan::{ended, ready_plan, unrun};

@@ -3,9 +3,9 @@
 ghost use Rattle.std.specs.Prelude.{◌≡◌, IfOk};
 ghost use Rattle.record_audit.specs.Text.{verdict_line};
 ghost use Rattle.plan_run.specs.Moments.{Tools, Work};
-ghost use Rattle.pegasus_commands.specs.Commands.Audit.{PrintsVerdict, SaysOf, audit};
-ghost use Rattle.pegasus_commands.specs.CommandSpec.{Does, doing};
-ghost use Rattle.pegasus_commands.specs.Moments.{docs_moment};
+ghost use Rattle.pegasus_commands.specs.code.Commands.Audit.{PrintsVerdict, SaysOf, audit};
+ghost use Rattle.pegasus_commands.specs.code.CommandSpec.{Does, doing};
+ghost use Rattle.pegasus_commands.specs.code.Moments.{docs_moment};
 
 use crate::commands::{Told, at_once};
 use crate::fault::CallFault;

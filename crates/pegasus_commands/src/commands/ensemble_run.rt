@@ -1,11 +1,12 @@
 //! `ensemble`.
 
 ghost use Rattle.std.specs.Prelude.{◌≡◌, drop, length};
-ghost use Rattle.plan_run.specs.Moments.{Tools, counting, crew_moment, first_shown, member_moment, work_moment, working};
-ghost use Rattle.pegasus_commands.specs.Commands.EnsembleRun.{ensemble, ensemble_by};
-ghost use Rattle.pegasus_commands.specs.CommandSpec.{Does, OfFirst, doing};
-ghost use Rattle.pegasus_commands.specs.Moments.{docs_moment};
-ghost use Rattle.command_words.specs.Words.{AreFew};
+ghost use Rattle.plan_run.specs.Moments.{Tools};
+ghost use Rattle.plan_run.specs.code.Moments.{counting, crew_moment, first_shown, member_moment, work_moment, working};
+ghost use Rattle.pegasus_commands.specs.code.Commands.EnsembleRun.{ensemble, ensemble_by};
+ghost use Rattle.pegasus_commands.specs.code.CommandSpec.{Does, OfFirst, doing};
+ghost use Rattle.pegasus_commands.specs.code.Moments.{docs_moment};
+ghost use Rattle.command_words.specs.code.Words.{AreFew};
 
 use crate::commands::{Worked, alone, run};
 use crate::ensembles::read_joint;

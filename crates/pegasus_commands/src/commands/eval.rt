@@ -1,11 +1,12 @@
 //! `eval`.
 
 ghost use Rattle.std.specs.Prelude.{◌≡◌, ℕ, List};
-ghost use Rattle.plan_run.specs.Moments.{Tools, gateless, work_moment, working};
+ghost use Rattle.plan_run.specs.Moments.{Tools, gateless};
+ghost use Rattle.plan_run.specs.code.Moments.{work_moment, working};
 ghost use Rattle.run_record.specs.Events.{Event};
-ghost use Rattle.pegasus_commands.specs.Commands.Eval.{Evaluates, eval};
-ghost use Rattle.pegasus_commands.specs.CommandSpec.{Does, OfFirst, doing};
-ghost use Rattle.pegasus_commands.specs.Moments.{docs_moment};
+ghost use Rattle.pegasus_commands.specs.code.Commands.Eval.{Evaluates, eval};
+ghost use Rattle.pegasus_commands.specs.code.CommandSpec.{Does, OfFirst, doing};
+ghost use Rattle.pegasus_commands.specs.code.Moments.{docs_moment};
 
 use crate::commands::{Told, at_once};
 use crate::fault::{CallFault, of_evaluation_fault};

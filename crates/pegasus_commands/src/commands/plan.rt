@@ -2,9 +2,9 @@
 
 ghost use Rattle.std.specs.Prelude.{◌≡◌, ◌≤◌, IfOk, length};
 ghost use Rattle.plan_run.specs.Moments.{Tools, Work};
-ghost use Rattle.pegasus_commands.specs.Commands.Plan.{ArePeaks, IsTextOf, Says, plan};
-ghost use Rattle.pegasus_commands.specs.CommandSpec.{Does, doing};
-ghost use Rattle.pegasus_commands.specs.Moments.{docs_moment};
+ghost use Rattle.pegasus_commands.specs.code.Commands.Plan.{ArePeaks, IsTextOf, Says, plan};
+ghost use Rattle.pegasus_commands.specs.code.CommandSpec.{Does, doing};
+ghost use Rattle.pegasus_commands.specs.code.Moments.{docs_moment};
 
 use crate::commands::{TASK_LIMIT, Told, at_once};
 use crate::fault::{CallFault, of_plan_fault};

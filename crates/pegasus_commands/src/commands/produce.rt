@@ -2,11 +2,12 @@
 
 ghost use Rattle.std.specs.Prelude.{◌≡◌, IfOk};
 ghost use Rattle.replica_writer.specs.Writer.{CanWrite};
-ghost use Rattle.plan_run.specs.Moments.{Tools, member_moment, work_moment, working};
-ghost use Rattle.pegasus_commands.specs.Commands.Produce.{AreFilesNamed, IsWritten, Produces, TellsRun, Writes, produce};
-ghost use Rattle.pegasus_commands.specs.CommandSpec.{Does, OfFirst, doing};
-ghost use Rattle.pegasus_commands.specs.Fault.{end_answer};
-ghost use Rattle.pegasus_commands.specs.Moments.{docs_moment};
+ghost use Rattle.plan_run.specs.Moments.{Tools};
+ghost use Rattle.plan_run.specs.code.Moments.{member_moment, work_moment, working};
+ghost use Rattle.pegasus_commands.specs.code.Commands.Produce.{AreFilesNamed, IsWritten, Produces, TellsRun, Writes, produce};
+ghost use Rattle.pegasus_commands.specs.code.CommandSpec.{Does, OfFirst, doing};
+ghost use Rattle.pegasus_commands.specs.code.Fault.{end_answer};
+ghost use Rattle.pegasus_commands.specs.code.Moments.{docs_moment};
 
 use crate::commands::{Told, Worked, at_once};
 use crate::fault::CallFault;

@@ -1,14 +1,16 @@
 //! `rehearse`.
 
 ghost use Rattle.std.specs.Prelude.{◌≡◌, ◌≤◌, IfSome, drop, length, true};
-ghost use Rattle.outside.specs.MemoryHost.{host_counts};
+ghost use Rattle.outside.specs.code.MemoryHost.{host_counts};
 ghost use Rattle.plan_core.specs.Words.{task_numbers};
 ghost use Rattle.rehearsal.specs.Preparing.{IsPrepared};
-ghost use Rattle.plan_run.specs.Moments.{Tools, WorkMoment, counting, crew_moment, first_shown, first_tool, member_moment, working};
-ghost use Rattle.pegasus_commands.specs.Commands.Rehearse.{AreFigures, ClosesOrMemory, IsOfTools, Rehearses, TellsEnd, prepared, rehearse, rehearse_by};
-ghost use Rattle.pegasus_commands.specs.CommandSpec.{Does, OfFirst, doing};
-ghost use Rattle.pegasus_commands.specs.Moments.{DocsMoment, with_first};
-ghost use Rattle.command_words.specs.Words.{AreFew, AreImages};
+ghost use Rattle.plan_run.specs.Moments.{Tools, WorkMoment};
+ghost use Rattle.plan_run.specs.code.Moments.{counting, crew_moment, first_shown, first_tool, member_moment, working};
+ghost use Rattle.pegasus_commands.specs.code.Commands.Rehearse.{AreFigures, ClosesOrMemory, IsOfTools, Rehearses, TellsEnd, prepared, rehearse, rehearse_by};
+ghost use Rattle.pegasus_commands.specs.code.CommandSpec.{Does, OfFirst, doing};
+ghost use Rattle.pegasus_commands.specs.Moments.{DocsMoment};
+ghost use Rattle.pegasus_commands.specs.code.Moments.{with_first};
+ghost use Rattle.command_words.specs.code.Words.{AreFew, AreImages};
 
 use crate::commands::{Told, at_once};
 use crate::fault::{CallFault, of_plan_fault};

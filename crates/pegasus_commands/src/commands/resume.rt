@@ -2,11 +2,11 @@
 
 ghost use Rattle.std.specs.Prelude.{◌≡◌, length, map};
 ghost use Rattle.craft.specs.declared.crew.Crew.{Crew};
-ghost use Rattle.plan_run.specs.Moments.{counting, crew_moment, first_shown, work_moment, working};
-ghost use Rattle.pegasus_commands.specs.Commands.Resume.{ResumesPlan, resume};
-ghost use Rattle.pegasus_commands.specs.CommandSpec.{Does, doing};
-ghost use Rattle.pegasus_commands.specs.Fault.{resumed_answer};
-ghost use Rattle.pegasus_commands.specs.Moments.{docs_moment};
+ghost use Rattle.plan_run.specs.code.Moments.{counting, crew_moment, first_shown, work_moment, working};
+ghost use Rattle.pegasus_commands.specs.code.Commands.Resume.{ResumesPlan, resume};
+ghost use Rattle.pegasus_commands.specs.code.CommandSpec.{Does, doing};
+ghost use Rattle.pegasus_commands.specs.code.Fault.{resumed_answer};
+ghost use Rattle.pegasus_commands.specs.code.Moments.{docs_moment};
 
 use crate::commands::{Told, Worked};
 use crate::fault::of_resume_fault;

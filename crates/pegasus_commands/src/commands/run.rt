@@ -1,11 +1,11 @@
 //! `run`.
 
 ghost use Rattle.std.specs.Prelude.{◌≡◌, drop, length};
-ghost use Rattle.plan_run.specs.Moments.{counting, crew_moment, first_shown, work_moment, working};
-ghost use Rattle.pegasus_commands.specs.Commands.Run.{RunsMany, run};
-ghost use Rattle.pegasus_commands.specs.CommandSpec.{Does, doing};
-ghost use Rattle.pegasus_commands.specs.Moments.{docs_moment};
-ghost use Rattle.command_words.specs.Words.{AreFew};
+ghost use Rattle.plan_run.specs.code.Moments.{counting, crew_moment, first_shown, work_moment, working};
+ghost use Rattle.pegasus_commands.specs.code.Commands.Run.{RunsMany, run};
+ghost use Rattle.pegasus_commands.specs.code.CommandSpec.{Does, doing};
+ghost use Rattle.pegasus_commands.specs.code.Moments.{docs_moment};
+ghost use Rattle.command_words.specs.code.Words.{AreFew};
 
 use crate::commands::Worked;
 use crate::ready_plan::{ended, ready_plan, unrun};

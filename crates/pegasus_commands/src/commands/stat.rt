@@ -5,10 +5,10 @@ ghost use Rattle.plan_core.specs.Words.{retries, task_numbers};
 ghost use Rattle.lease_rules.specs.Legal.{Legal};
 ghost use Rattle.record_audit.specs.Verdict.{IsJudged};
 ghost use Rattle.plan_run.specs.Moments.{Tools, Work};
-ghost use Rattle.pegasus_commands.specs.Commands.Audit.{SaysOf};
-ghost use Rattle.pegasus_commands.specs.Commands.Stat.{AddsSums, PrintsSums, stat};
-ghost use Rattle.pegasus_commands.specs.CommandSpec.{Does, doing};
-ghost use Rattle.pegasus_commands.specs.Moments.{docs_moment};
+ghost use Rattle.pegasus_commands.specs.code.Commands.Audit.{SaysOf};
+ghost use Rattle.pegasus_commands.specs.code.Commands.Stat.{AddsSums, PrintsSums, stat};
+ghost use Rattle.pegasus_commands.specs.code.CommandSpec.{Does, doing};
+ghost use Rattle.pegasus_commands.specs.code.Moments.{docs_moment};
 
 use crate::commands::audit::verdict_text;
 use crate::commands::{Told, at_once};

@@ -1,6 +1,6 @@
 use Rattle.std.proofs.Common.{◌≡◌, drop}
-use Rattle.dependency_graph.specs.Graph.{job_lists}
-use Rattle.clustering.specs.Labels.{first_apart}
+use Rattle.dependency_graph.specs.code.Graph.{job_lists}
+use Rattle.clustering.specs.code.Labels.{first_apart}
 use Rattle.clustering.proofs.by_label.check_sites.Given as goal
 
 abbrev pub invariant-loop-job : goal.invariant-loop-job

@@ -4,14 +4,17 @@ use Rattle.std.specs.List.{All}
 use Rattle.std.proofs.Math.Path.{fun_ext}
 use Rattle.std.proofs.lemmas.List.{length-map}
 use Rattle.values.specs.declared.numbers.JobId.{JobId}
-use Rattle.digraph.specs.Adjacency.{lists_of, neighbours}
-use Rattle.digraph.specs.Cycle.{IsNamedCycle, Returns}
-use Rattle.digraph.specs.Digraph as digraph
-use Rattle.dependency_graph.specs.Graph.{job_lists}
-use Rattle.clustering.specs.Condition.{leads}
-use Rattle.clustering.specs.Cycles.{first_id, sources_from}
-use Rattle.clustering.specs.Labels.{first_apart, holder, holder_in, labels_of}
-use Rattle.clustering.specs.Runs.{IsGroup}
+use Rattle.digraph.specs.code.Adjacency.{lists_of}
+use Rattle.digraph.specs.Adjacency.{neighbours}
+use Rattle.digraph.specs.code.Cycle.{IsNamedCycle}
+use Rattle.digraph.specs.Cycle.{Returns}
+use Rattle.digraph.specs.code.Digraph as digraph
+use Rattle.dependency_graph.specs.code.Graph.{job_lists}
+use Rattle.clustering.specs.code.Condition.{leads}
+use Rattle.clustering.specs.code.Cycles.{first_id, sources_from}
+use Rattle.clustering.specs.code.Labels.{first_apart, holder, holder_in}
+use Rattle.clustering.specs.Labels.{labels_of}
+use Rattle.clustering.specs.code.Runs.{IsGroup}
 use Rattle.clustering.proofs.CyclesLemmas.{AreSources, label_few, label_groups, label_jobs, label_sources}
 use Rattle.clustering.proofs.by_label.clusters_by_label.Goals as goal
 

@@ -1,6 +1,6 @@
 use Rattle.std.proofs.Common.{◌≡◌, map, take}
-use Rattle.dependency_graph.specs.Graph.{job_lists}
-use Rattle.clustering.specs.Cycles.{first_id}
+use Rattle.dependency_graph.specs.code.Graph.{job_lists}
+use Rattle.clustering.specs.code.Cycles.{first_id}
 use Rattle.clustering.proofs.cycles.first_ids.Given as goal
 
 abbrev pub invariant-loop-number : goal.invariant-loop-number

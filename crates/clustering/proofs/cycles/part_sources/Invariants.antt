@@ -1,5 +1,5 @@
 use Rattle.std.proofs.Common.{◌≡◌, ◌++◌, drop}
-use Rattle.clustering.specs.Cycles.{part_sources}
+use Rattle.clustering.specs.code.Cycles.{part_sources}
 use Rattle.clustering.proofs.cycles.part_sources.Given as goal
 
 abbrev pub invariant-loop-job : goal.invariant-loop-job

@@ -1,5 +1,5 @@
 use Rattle.std.proofs.Common.{◌≡◌, ◌++◌, drop}
-use Rattle.clustering.specs.Cycles.{other_parts}
+use Rattle.clustering.specs.code.Cycles.{other_parts}
 use Rattle.clustering.proofs.cycles.push_other_parts.Given as goal
 
 abbrev pub invariant-loop-job : goal.invariant-loop-job

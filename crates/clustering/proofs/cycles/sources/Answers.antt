@@ -3,9 +3,9 @@ use Rattle.std.specs.List.{All}
 use Rattle.std.proofs.lemmas.Grind.{common_steps}
 use Rattle.std.proofs.lemmas.List.{length-map, map-append}
 use Rattle.values.specs.declared.numbers.JobId.{JobId}
-use Rattle.digraph.specs.Adjacency.{lists_of}
-use Rattle.dependency_graph.specs.Graph.{job_lists}
-use Rattle.clustering.specs.Cycles.{sources_from}
+use Rattle.digraph.specs.code.Adjacency.{lists_of}
+use Rattle.dependency_graph.specs.code.Graph.{job_lists}
+use Rattle.clustering.specs.code.Cycles.{sources_from}
 use Rattle.clustering.proofs.CyclesLemmas.{sources_step}
 use Rattle.clustering.proofs.RunsLemmas.{items_at}
 use Rattle.clustering.proofs.cycles.sources.Goals as goal

@@ -1,7 +1,7 @@
 use Rattle.std.proofs.Common.{◌≡◌, ◌++◌, drop}
-use Rattle.digraph.specs.Adjacency.{lists_of}
-use Rattle.dependency_graph.specs.Graph.{job_lists}
-use Rattle.clustering.specs.Cycles.{sources_from}
+use Rattle.digraph.specs.code.Adjacency.{lists_of}
+use Rattle.dependency_graph.specs.code.Graph.{job_lists}
+use Rattle.clustering.specs.code.Cycles.{sources_from}
 use Rattle.clustering.proofs.cycles.sources.Given as goal
 
 abbrev pub invariant-loop-part : goal.invariant-loop-part

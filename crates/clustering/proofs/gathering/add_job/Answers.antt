@@ -1,8 +1,8 @@
 use Rattle.std.proofs.Common.{◌≡◌, ◌<◌, ◌≤◌, ◌++◌, [], ◌∷◌, length, ap, ◌∙◌, arith}
 use Rattle.std.specs.List.{position_or_len}
 use Rattle.std.proofs.lemmas.Grind.{common_steps}
-use Rattle.dependency_graph.specs.Graph.{job_lists}
-use Rattle.clustering.specs.Gathering.{with_at}
+use Rattle.dependency_graph.specs.code.Graph.{job_lists}
+use Rattle.clustering.specs.code.Gathering.{with_at}
 use Rattle.clustering.proofs.GatheringLemmas.{at_end, at_place}
 use Rattle.clustering.proofs.gathering.add_job.Goals as goal
 

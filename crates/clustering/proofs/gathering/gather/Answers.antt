@@ -4,8 +4,8 @@ use Rattle.std.specs.Vec.Iter.{into_iter_items}
 use Rattle.std.proofs.lemmas.Grind.{common_steps}
 use Rattle.std.proofs.lemmas.List.{length-map}
 use Rattle.indexmap.specs.IndexSet.{insert_key}
-use Rattle.dependency_graph.specs.Graph.{job_lists}
-use Rattle.clustering.specs.Gathering.{with_at}
+use Rattle.dependency_graph.specs.code.Graph.{job_lists}
+use Rattle.clustering.specs.code.Gathering.{with_at}
 use Rattle.clustering.proofs.GatheringLemmas.{Gathers, gathers_all, gathers_first, gathers_more, long_more}
 use Rattle.clustering.proofs.gathering.gather.Goals as goal
 

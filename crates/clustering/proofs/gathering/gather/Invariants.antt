@@ -1,6 +1,6 @@
 use Rattle.std.proofs.Common.{◌≡◌, length}
 use Rattle.std.specs.Vec.Iter.{into_iter_items}
-use Rattle.dependency_graph.specs.Graph.{job_lists}
+use Rattle.dependency_graph.specs.code.Graph.{job_lists}
 use Rattle.clustering.proofs.GatheringLemmas.{Gathers}
 use Rattle.clustering.proofs.gathering.gather.Given as goal
 

@@ -1,5 +1,5 @@
 use Rattle.std.proofs.Common.{◌≡◌, drop}
-use Rattle.clustering.specs.Basis.{first_bad}
+use Rattle.clustering.specs.code.Basis.{first_bad}
 use Rattle.clustering.proofs.horizontal.check_numbers.Given as goal
 
 abbrev pub invariant-loop-job : goal.invariant-loop-job

@@ -4,9 +4,10 @@ use Rattle.std.specs.List.{list_any}
 use Rattle.std.proofs.lemmas.Grind.{common_steps}
 use Rattle.std.proofs.lemmas.List.{length-map}
 use Rattle.values.specs.declared.numbers.JobId.{JobId}
-use Rattle.dependency_graph.specs.Graph.{job_lists}
-use Rattle.clustering.specs.Labels.{holder_from}
-use Rattle.clustering.specs.Runs.{IsGroup, is_job}
+use Rattle.dependency_graph.specs.code.Graph.{job_lists}
+use Rattle.clustering.specs.code.Labels.{holder_from}
+use Rattle.clustering.specs.code.Runs.{IsGroup}
+use Rattle.clustering.specs.Runs.{is_job}
 use Rattle.clustering.proofs.LabelsLemmas.{holder_step}
 use Rattle.clustering.proofs.RunsLemmas.{items_at}
 use Rattle.clustering.proofs.labels.holder_table.Goals as goal

@@ -1,7 +1,7 @@
 use Rattle.std.proofs.Common.{◌≡◌, ◌≤◌, drop, length}
 use Rattle.values.specs.declared.numbers.JobId.{JobId}
-use Rattle.dependency_graph.specs.Graph.{job_lists}
-use Rattle.clustering.specs.Labels.{holder_from, holder_in}
+use Rattle.dependency_graph.specs.code.Graph.{job_lists}
+use Rattle.clustering.specs.code.Labels.{holder_from, holder_in}
 use Rattle.clustering.proofs.labels.holder_table.Given as goal
 
 abbrev pub invariant-loop-left : goal.invariant-loop-left

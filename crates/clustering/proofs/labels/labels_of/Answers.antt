@@ -1,6 +1,7 @@
 use Rattle.std.proofs.Common.{arith}
 use Rattle.std.proofs.lemmas.Grind.{common_steps}
-use Rattle.clustering.specs.Labels.{label_key, labels_of}
+use Rattle.clustering.specs.code.Labels.{label_key}
+use Rattle.clustering.specs.Labels.{labels_of}
 use Rattle.clustering.proofs.labels.labels_of.Goals as goal
 
 pub returns : goal.returns

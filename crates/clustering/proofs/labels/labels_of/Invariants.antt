@@ -1,6 +1,6 @@
 use Rattle.std.proofs.Common.{◌≡◌, ◌++◌, drop, map}
 use Rattle.values.specs.declared.numbers.JobId.{JobId}
-use Rattle.clustering.specs.Labels.{label_key}
+use Rattle.clustering.specs.code.Labels.{label_key}
 use Rattle.clustering.proofs.labels.labels_of.Given as goal
 
 abbrev pub invariant-loop-job : goal.invariant-loop-job

@@ -1,6 +1,6 @@
 use Rattle.std.proofs.Common.{arith}
 use Rattle.std.proofs.lemmas.Grind.{common_steps}
-use Rattle.clustering.specs.Basis.{group_of}
+use Rattle.clustering.specs.code.Basis.{group_of}
 use Rattle.clustering.proofs.runs.groups.Goals as goal
 
 pub returns : goal.returns

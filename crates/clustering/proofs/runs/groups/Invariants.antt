@@ -1,6 +1,6 @@
 use Rattle.std.proofs.Common.{◌≡◌, ◌++◌, drop, map}
 use Rattle.values.specs.declared.numbers.JobId.{JobId}
-use Rattle.clustering.specs.Basis.{group_of}
+use Rattle.clustering.specs.code.Basis.{group_of}
 use Rattle.clustering.proofs.runs.groups.Given as goal
 
 abbrev pub invariant-loop-job : goal.invariant-loop-job

@@ -4,9 +4,10 @@ use Rattle.std.specs.List.{list_any}
 use Rattle.std.proofs.lemmas.Grind.{common_steps}
 use Rattle.std.proofs.lemmas.List.{length-map}
 use Rattle.values.specs.declared.numbers.JobId.{JobId}
-use Rattle.dependency_graph.specs.Graph.{job_lists}
+use Rattle.dependency_graph.specs.code.Graph.{job_lists}
 use Rattle.clustering.specs.Basis.{group_numbers}
-use Rattle.clustering.specs.Runs.{IsGroup, is_job, run_among, run_in}
+use Rattle.clustering.specs.code.Runs.{IsGroup}
+use Rattle.clustering.specs.Runs.{is_job, run_among, run_in}
 use Rattle.clustering.proofs.RunsLemmas.{items_at, run_step}
 use Rattle.clustering.proofs.runs.run_table.Goals as goal
 

@@ -1,7 +1,7 @@
 use Rattle.std.proofs.Common.{◌≡◌, ◌≤◌, drop, length}
 use Rattle.std.specs.Prelude.{slice_index_or}
 use Rattle.values.specs.declared.numbers.JobId.{JobId}
-use Rattle.dependency_graph.specs.Graph.{job_lists}
+use Rattle.dependency_graph.specs.code.Graph.{job_lists}
 use Rattle.clustering.specs.Runs.{run_among}
 use Rattle.clustering.proofs.runs.run_table.Given as goal
 

@@ -1,7 +1,7 @@
 use Rattle.std.proofs.Common.{◌≡◌, ◌++◌, drop, map}
 use Rattle.std.specs.Prelude.{slice_index_or}
 use Rattle.values.specs.declared.numbers.JobId.{JobId}
-use Rattle.clustering.specs.Basis.{group_of}
+use Rattle.clustering.specs.code.Basis.{group_of}
 use Rattle.clustering.proofs.runs.runs_of.Given as goal
 
 abbrev pub invariant-loop-job : goal.invariant-loop-job

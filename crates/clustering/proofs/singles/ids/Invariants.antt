@@ -1,5 +1,5 @@
 use Rattle.std.proofs.Common.{◌≡◌, ◌++◌, drop}
-use Rattle.clustering.specs.Singles.{job_numbers}
+use Rattle.dependency_graph.specs.Graph.{numbers as job_numbers}
 use Rattle.clustering.proofs.singles.ids.Given as goal
 
 abbrev pub invariant-loop-number : goal.invariant-loop-number

@@ -3,9 +3,9 @@ use Rattle.std.specs.Prelude.{replicate}
 use Rattle.std.specs.List.{list_any, AllByRecursion}
 use Rattle.std.proofs.lemmas.List.{length-replicate}
 use Rattle.workflow_core.specs.declared.workflow.Job.{Job}
-use Rattle.workflow_core.specs.WellFormed.{IsJobOver}
+use Rattle.workflow_core.specs.code.WellFormed.{IsJobOver}
 use Rattle.workflow_core.specs.Requested.{requests, is_requested}
-use Rattle.data_reuse.specs.Flags.{is_set}
+use Rattle.data_reuse.specs.code.Flags.{is_set}
 use Rattle.data_reuse.proofs.TestsLemmas.{all_at, or_false, rest_more, rest_none}
 use Rattle.data_reuse.proofs.FlagsLemmas.{none_set}
 use Rattle.data_reuse.proofs.flags.requested_files.Goals as goal

@@ -1,7 +1,7 @@
 use Rattle.std.proofs.Common.{◌≡◌, ◌||◌, ℕ, length, drop}
 use Rattle.std.specs.List.{list_any}
 use Rattle.workflow_core.specs.Requested.{requests, is_requested}
-use Rattle.data_reuse.specs.Flags.{is_set}
+use Rattle.data_reuse.specs.code.Flags.{is_set}
 use Rattle.data_reuse.proofs.flags.requested_files.Given as goal
 
 abbrev pub invariant-loop-job : goal.invariant-loop-job

@@ -2,7 +2,7 @@ use Rattle.std.proofs.Common.{◌∙◌, ◌<◌, ◌||◌, ℕ, true, List, len
 use Rattle.std.specs.List.{list_any}
 use Rattle.std.proofs.lemmas.List.{length-set}
 use Rattle.values.specs.declared.numbers.FileId.{FileId}
-use Rattle.data_reuse.specs.Flags.{is_set, reads}
+use Rattle.data_reuse.specs.code.Flags.{is_set, reads}
 use Rattle.data_reuse.proofs.TestsLemmas.{number_in, rest_more, rest_none}
 use Rattle.data_reuse.proofs.FlagsLemmas.{flag_true}
 use Rattle.data_reuse.proofs.flags.set_inputs.Goals as goal

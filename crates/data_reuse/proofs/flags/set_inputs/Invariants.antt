@@ -1,7 +1,7 @@
 use Rattle.std.proofs.Common.{◌≡◌, ◌||◌, ℕ, length, drop, nat_eq}
 use Rattle.std.specs.List.{list_any}
 use Rattle.values.specs.declared.numbers.FileId.{FileId}
-use Rattle.data_reuse.specs.Flags.{is_set, reads}
+use Rattle.data_reuse.specs.code.Flags.{is_set, reads}
 use Rattle.data_reuse.proofs.flags.set_inputs.Given as goal
 
 abbrev pub invariant-loop-file : goal.invariant-loop-file

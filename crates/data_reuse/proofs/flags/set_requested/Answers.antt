@@ -3,7 +3,7 @@ use Rattle.std.specs.List.{list_any}
 use Rattle.std.proofs.lemmas.List.{length-set}
 use Rattle.workflow_core.specs.declared.workflow.Output.{Output}
 use Rattle.workflow_core.specs.Requested.{requests}
-use Rattle.data_reuse.specs.Flags.{is_set}
+use Rattle.data_reuse.specs.code.Flags.{is_set}
 use Rattle.data_reuse.proofs.TestsLemmas.{number_in, rest_more, rest_none}
 use Rattle.data_reuse.proofs.FlagsLemmas.{flag_true}
 use Rattle.data_reuse.proofs.flags.set_requested.Goals as goal

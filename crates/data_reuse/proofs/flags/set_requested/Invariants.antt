@@ -2,7 +2,7 @@ use Rattle.std.proofs.Common.{◌≡◌, ◌||◌, ◌&&◌, ℕ, length, drop, 
 use Rattle.std.specs.List.{list_any}
 use Rattle.workflow_core.specs.declared.workflow.Output.{Output}
 use Rattle.workflow_core.specs.Requested.{requests}
-use Rattle.data_reuse.specs.Flags.{is_set}
+use Rattle.data_reuse.specs.code.Flags.{is_set}
 use Rattle.data_reuse.proofs.flags.set_requested.Given as goal
 
 abbrev pub invariant-loop-output : goal.invariant-loop-output

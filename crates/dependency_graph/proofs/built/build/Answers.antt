@@ -3,12 +3,13 @@ use Rattle.std.specs.Prelude.{Option, Vec, Err}
 use Rattle.std.specs.declared.alloc.Global.{Global}
 use Rattle.std.proofs.Math.Path.{fun_ext}
 use Rattle.values.specs.declared.numbers.JobId.{JobId}
-use Rattle.digraph.specs.Adjacency.{lists_of, neighbours, has}
-use Rattle.digraph.specs.Cycle.{IsNamedCycle}
-use Rattle.digraph.specs.Digraph as digraph
+use Rattle.digraph.specs.code.Adjacency.{lists_of}
+use Rattle.digraph.specs.Adjacency.{neighbours, has_node}
+use Rattle.digraph.specs.code.Cycle.{IsNamedCycle}
+use Rattle.digraph.specs.code.Digraph as digraph
 use Rattle.dependency_graph.specs.declared.fault.GraphFault.{GraphFault}
 use Rattle.dependency_graph.specs.Edges.{edge}
-use Rattle.dependency_graph.specs.Built.{AreProducers, Builds}
+use Rattle.dependency_graph.specs.code.Built.{AreProducers, Builds}
 use Rattle.dependency_graph.proofs.BuiltLemmas.{one_producer}
 use Rattle.dependency_graph.proofs.GraphLemmas.{graph_is}
 use Rattle.dependency_graph.proofs.built.build.Goals as goal
@@ -16,7 +17,7 @@ use Rattle.dependency_graph.proofs.built.build.Goals as goal
 pub returns-in_ok-graph_of-in-Some : goal.returns-in_ok-graph_of-in-Some
 returns-in_ok-graph_of-in-Some c =
     let same : digraph.edge c.in_ok-digraph.digraph ≡ edge c.args.workflow.now =
-    fun_ext (λ a. fun_ext (λ b. c.in_ok-digraph.ensures.edges a b ∙ ap (λ (vs : List (Vec ℕ Global)). has a (neighbours (lists_of vs) b)) c.deref-2.ensures.value ∙ c.in_ok-sources.ensures.edges a b)) in
+    fun_ext (λ a. fun_ext (λ b. c.in_ok-digraph.ensures.edges a b ∙ ap (λ (vs : List (Vec ℕ Global)). has_node a (neighbours (lists_of vs) b)) c.deref-2.ensures.value ∙ c.in_ok-sources.ensures.edges a b)) in
     record {
       answer = graph_is c.args.workflow.now c.in_ok-graph_of-in-Some.field-0 (digraph.edge c.in_ok-digraph.digraph) (digraph.count c.in_ok-digraph.digraph) c.in-Some.order.items
           same (c.in_ok-digraph.ensures.count ∙ ap length c.deref-2.ensures.value ∙ c.in_ok-sources.ensures.long)
@@ -28,7 +29,7 @@ returns-in_ok-graph_of-in-Some c =
 pub returns-in_ok-cycle_fault-in-None : goal.returns-in_ok-cycle_fault-in-None
 returns-in_ok-cycle_fault-in-None c =
     let same : digraph.edge c.in_ok-digraph.digraph ≡ edge c.args.workflow.now =
-    fun_ext (λ a. fun_ext (λ b. c.in_ok-digraph.ensures.edges a b ∙ ap (λ (vs : List (Vec ℕ Global)). has a (neighbours (lists_of vs) b)) c.deref-2.ensures.value ∙ c.in_ok-sources.ensures.edges a b)) in
+    fun_ext (λ a. fun_ext (λ b. c.in_ok-digraph.ensures.edges a b ∙ ap (λ (vs : List (Vec ℕ Global)). has_node a (neighbours (lists_of vs) b)) c.deref-2.ensures.value ∙ c.in_ok-sources.ensures.edges a b)) in
     let fault = c.in_ok-cycle_fault-in-None.ensures in
     record {
       answer = subst (λ (e : GraphFault). Builds c.args.workflow.now (Err e)) (sym fault.2) (record {

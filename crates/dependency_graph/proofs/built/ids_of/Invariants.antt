@@ -1,5 +1,5 @@
 use Rattle.std.proofs.Common.{◌≡◌, map, take}
-use Rattle.dependency_graph.specs.Built.{id_of}
+use Rattle.dependency_graph.specs.code.Built.{id_of}
 use Rattle.dependency_graph.proofs.built.ids_of.Given as goal
 
 abbrev pub invariant-loop-job : goal.invariant-loop-job

@@ -4,8 +4,8 @@ use Rattle.workflow_core.specs.declared.workflow.Job.{Job}
 use Rattle.dependency_graph.specs.declared.makers.Makers.{Makers}
 use Rattle.dependency_graph.specs.declared.fault.GraphFault.{GraphFault}
 use Rattle.dependency_graph.specs.Edges.{makers_from}
-use Rattle.dependency_graph.specs.Makers.{known, first_two}
-use Rattle.dependency_graph.specs.Built.{FindsProducers}
+use Rattle.dependency_graph.specs.code.Makers.{known, first_two}
+use Rattle.dependency_graph.specs.code.Built.{FindsProducers}
 use Rattle.dependency_graph.proofs.BuiltLemmas.{contested_is, producers_are}
 use Rattle.dependency_graph.proofs.BuiltLemmas.{no_answer}
 use Rattle.dependency_graph.proofs.built.producers_of.Goals as goal

@@ -3,10 +3,11 @@ use Rattle.std.specs.List.{All, list_any}
 use Rattle.std.proofs.lemmas.List.{length-map}
 use Rattle.workflow_core.specs.declared.workflow.Job.{Job}
 use Rattle.workflow_core.specs.WellFormed.{inputs_of}
-use Rattle.digraph.specs.Adjacency.{lists_of, neighbours, has}
+use Rattle.digraph.specs.code.Adjacency.{lists_of}
+use Rattle.digraph.specs.Adjacency.{neighbours, has_node}
 use Rattle.std.specs.Prelude.{Vec}
 use Rattle.std.specs.declared.alloc.Global.{Global}
-use Rattle.dependency_graph.specs.Sources.{found}
+use Rattle.dependency_graph.specs.code.Sources.{found}
 use Rattle.dependency_graph.proofs.EdgesLemmas.{pair_numbers, pairs_in, sources_in, sources_are}
 use Rattle.dependency_graph.proofs.edges.sources_of.Goals as goal
 
@@ -29,4 +30,4 @@ returns-clause-edges c =
     let is : lists_of c.in_ok-lists.lists.items ≡ map (λ (j : Job). found c.args.producers.now (inputs_of j)) c.args.workflow.now.jobs = c.in_ok-lists.ensures ∙ ap (map (λ (j : Job). found c.args.producers.now (inputs_of j))) c.as_slice.ensures in
     sources_are c.args.workflow.now c.args.producers.now (lists_of c.in_ok-lists.lists.items) (lists_of c.add_pairs.new.lists.items) c.requires.well_formed c.requires.producers is
     (λ a b. c.in_ok-add_pairs.ensures.added a b
-    ∙ ap (λ (qs : List (ℕ × ℕ)). has a (neighbours (lists_of c.in_ok-lists.lists.items) b) || list_any (λ (q : ℕ × ℕ). nat_eq q.0 a && nat_eq q.1 b) qs) (c.deref.ensures.value ∙ c.in_ok-pairs.ensures ∙ ap (map pair_numbers) c.as_slice-2.ensures))
+    ∙ ap (λ (qs : List (ℕ × ℕ)). has_node a (neighbours (lists_of c.in_ok-lists.lists.items) b) || list_any (λ (q : ℕ × ℕ). nat_eq q.0 a && nat_eq q.1 b) qs) (c.deref.ensures.value ∙ c.in_ok-pairs.ensures ∙ ap (map pair_numbers) c.as_slice-2.ensures))

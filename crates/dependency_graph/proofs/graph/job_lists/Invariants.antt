@@ -1,6 +1,7 @@
 use Rattle.std.proofs.Common.{◌≡◌, map, take}
-use Rattle.digraph.specs.Adjacency.{lists_of}
-use Rattle.dependency_graph.specs.Graph.{numbers, job_lists}
+use Rattle.digraph.specs.code.Adjacency.{lists_of}
+use Rattle.dependency_graph.specs.Graph.{numbers}
+use Rattle.dependency_graph.specs.code.Graph.{job_lists}
 use Rattle.dependency_graph.proofs.graph.job_lists.Given as goal
 
 abbrev pub invariant-loop-list : goal.invariant-loop-list

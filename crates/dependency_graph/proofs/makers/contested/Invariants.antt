@@ -1,5 +1,5 @@
 use Rattle.std.proofs.Common.{◌≡◌, ℕ, ◌<◌, false}
-use Rattle.dependency_graph.specs.Makers.{known, are_two}
+use Rattle.dependency_graph.specs.code.Makers.{known, are_two}
 use Rattle.dependency_graph.proofs.makers.contested.Given as goal
 
 abbrev pub invariant-loop-i : goal.invariant-loop-i

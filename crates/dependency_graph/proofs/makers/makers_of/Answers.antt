@@ -5,7 +5,7 @@ use Rattle.workflow_core.specs.declared.workflow.Job.{Job}
 use Rattle.workflow_core.specs.declared.workflow.Output.{Output}
 use Rattle.workflow_core.specs.WellFormed.{outputs_of}
 use Rattle.dependency_graph.specs.Edges.{makers_from}
-use Rattle.dependency_graph.specs.Makers.{first_two, AreNoted}
+use Rattle.dependency_graph.specs.code.Makers.{first_two, AreNoted}
 use Rattle.dependency_graph.proofs.MakersLemmas.{table_more, outputs_within}
 use Rattle.dependency_graph.proofs.makers.makers_of.Goals as goal
 

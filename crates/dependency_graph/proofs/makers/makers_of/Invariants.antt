@@ -1,6 +1,6 @@
 use Rattle.std.proofs.Common.{◌≡◌, ℕ, ◌<◌, length, take}
 use Rattle.dependency_graph.specs.Edges.{makers_from}
-use Rattle.dependency_graph.specs.Makers.{known, first_two}
+use Rattle.dependency_graph.specs.code.Makers.{known, first_two}
 use Rattle.dependency_graph.proofs.makers.makers_of.Given as goal
 
 abbrev pub invariant-loop-i : goal.invariant-loop-i

@@ -1,6 +1,6 @@
 use Rattle.std.proofs.Common.{◌≡◌, length, map, take}
 use Rattle.workflow_core.specs.declared.workflow.Output.{Output}
-use Rattle.dependency_graph.specs.Makers.{AreNoted}
+use Rattle.dependency_graph.specs.code.Makers.{AreNoted}
 use Rattle.dependency_graph.proofs.makers.note.Given as goal
 
 abbrev pub invariant-loop-output : goal.invariant-loop-output

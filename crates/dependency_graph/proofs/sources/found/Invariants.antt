@@ -1,6 +1,6 @@
 use Rattle.std.proofs.Common.{◌≡◌, ◌++◌, map, drop}
 use Rattle.values.specs.declared.numbers.FileId.{FileId}
-use Rattle.dependency_graph.specs.Sources.{found}
+use Rattle.dependency_graph.specs.code.Sources.{found}
 use Rattle.dependency_graph.proofs.sources.found.Given as goal
 
 abbrev pub invariant-loop-file : goal.invariant-loop-file

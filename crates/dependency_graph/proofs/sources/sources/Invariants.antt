@@ -1,8 +1,8 @@
 use Rattle.std.proofs.Common.{◌≡◌, map, take}
 use Rattle.workflow_core.specs.declared.workflow.Job.{Job}
 use Rattle.workflow_core.specs.WellFormed.{inputs_of}
-use Rattle.digraph.specs.Adjacency.{lists_of}
-use Rattle.dependency_graph.specs.Sources.{found}
+use Rattle.digraph.specs.code.Adjacency.{lists_of}
+use Rattle.dependency_graph.specs.code.Sources.{found}
 use Rattle.dependency_graph.proofs.sources.sources.Given as goal
 
 abbrev pub invariant-loop-job : goal.invariant-loop-job

@@ -1,7 +1,7 @@
 use Rattle.std.proofs.Common.{ℕ, ◌∙◌, ◌<◌, length, take, get_or, List, sym, subst}
 use Rattle.std.proofs.lemmas.List.{take_more}
 use Rattle.digraph.proofs.AdjacencyLemmas.{Paired, paired_more}
-use Rattle.digraph.specs.Adjacency.{lists_of}
+use Rattle.digraph.specs.code.Adjacency.{lists_of}
 use Rattle.digraph.proofs.adjacency.add_pairs.Goals as goal
 
 pub loop-pair-preserved : goal.loop-pair-preserved

@@ -1,6 +1,6 @@
 use Rattle.std.proofs.Common.{◌≡◌, length, take}
 use Rattle.digraph.proofs.AdjacencyLemmas.{Paired}
-use Rattle.digraph.specs.Adjacency.{lists_of}
+use Rattle.digraph.specs.code.Adjacency.{lists_of}
 use Rattle.digraph.proofs.adjacency.add_pairs.Given as goal
 
 abbrev pub invariant-loop-pair : goal.invariant-loop-pair

@@ -1,5 +1,6 @@
 use Rattle.std.proofs.Common.{◌≡◌, ℕ, [], length}
-use Rattle.digraph.specs.Adjacency.{lists_of, neighbours}
+use Rattle.digraph.specs.code.Adjacency.{lists_of}
+use Rattle.digraph.specs.Adjacency.{neighbours}
 use Rattle.digraph.proofs.adjacency.empty_lists.Given as goal
 
 abbrev pub invariant-loop : goal.invariant-loop

@@ -4,8 +4,9 @@ use Rattle.std.specs.Prelude.{Vec}
 use Rattle.std.specs.declared.alloc.Global.{Global}
 use Rattle.digraph.proofs.AdjacencyLemmas.{neighbours_at, within}
 use Rattle.digraph.proofs.ScatterLemmas.{scatter_add, scatter_skip}
-use Rattle.digraph.specs.Adjacency.{lists_of, neighbours}
-use Rattle.digraph.specs.Scatter.{IsScattered, ends_with}
+use Rattle.digraph.specs.code.Adjacency.{lists_of}
+use Rattle.digraph.specs.Adjacency.{neighbours}
+use Rattle.digraph.specs.code.Scatter.{IsScattered, ends_with}
 use Rattle.digraph.proofs.adjacency.scatter.Goals as goal
 use Rattle.digraph.proofs.adjacency.scatter.Goals.{then-not-ends_with+in_ok-add, else-not-ends_with}
 

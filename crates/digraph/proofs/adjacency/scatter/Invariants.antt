@@ -1,6 +1,6 @@
 use Rattle.std.proofs.Common.{◌≡◌, length, take}
-use Rattle.digraph.specs.Adjacency.{lists_of}
-use Rattle.digraph.specs.Scatter.{IsScattered}
+use Rattle.digraph.specs.code.Adjacency.{lists_of}
+use Rattle.digraph.specs.code.Scatter.{IsScattered}
 use Rattle.digraph.proofs.adjacency.scatter.Given as goal
 
 abbrev pub invariant-loop-place : goal.invariant-loop-place

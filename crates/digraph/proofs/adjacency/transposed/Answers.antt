@@ -2,8 +2,9 @@ use Rattle.std.proofs.Common.{ℕ, ◌≡◌, ◌<◌, ◌∙◌, length, get_or
 use Rattle.std.specs.List.{All}
 use Rattle.digraph.proofs.AdjacencyLemmas.{neighbours_at}
 use Rattle.digraph.proofs.ScatterLemmas.{turned_more}
-use Rattle.digraph.specs.Adjacency.{lists_of, neighbours}
-use Rattle.digraph.specs.Scatter.{IsScattered}
+use Rattle.digraph.specs.code.Adjacency.{lists_of}
+use Rattle.digraph.specs.Adjacency.{neighbours}
+use Rattle.digraph.specs.code.Scatter.{IsScattered}
 use Rattle.digraph.proofs.adjacency.transposed.Goals as goal
 
 pub loop-i-preserved : goal.loop-i-preserved

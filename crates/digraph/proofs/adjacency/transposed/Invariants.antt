@@ -1,6 +1,6 @@
 use Rattle.std.proofs.Common.{◌≡◌, length}
 use Rattle.digraph.proofs.ScatterLemmas.{Turned}
-use Rattle.digraph.specs.Adjacency.{lists_of}
+use Rattle.digraph.specs.code.Adjacency.{lists_of}
 use Rattle.digraph.proofs.adjacency.transposed.Given as goal
 
 abbrev pub invariant-loop-i : goal.invariant-loop-i

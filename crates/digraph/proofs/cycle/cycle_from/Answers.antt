@@ -4,9 +4,10 @@ use Rattle.std.specs.List.{All}
 use Rattle.std.proofs.lemmas.List.Elements.{All-cons}
 use Rattle.digraph.proofs.AdjacencyLemmas.{length_lists_of, neighbours_at, same_edges}
 use Rattle.digraph.proofs.CycleLemmas.{looked, no_cycle, some_cycle}
-use Rattle.digraph.specs.Adjacency.{IsRising, leads, lists_of, neighbours}
-use Rattle.digraph.specs.Nearest.{IsLeastAt, IsNearest}
-use Rattle.digraph.specs.Search.{IsDistanceTable}
+use Rattle.digraph.specs.Adjacency.{IsRising, neighbours}
+use Rattle.digraph.specs.code.Adjacency.{leads, lists_of}
+use Rattle.digraph.specs.code.Nearest.{IsLeastAt, IsNearest}
+use Rattle.digraph.specs.code.Search.{IsDistanceTable}
 use Rattle.digraph.proofs.cycle.cycle_from.Goals as goal
 
 pub returns-in-None-clause-cycle : goal.returns-in-None-clause-cycle

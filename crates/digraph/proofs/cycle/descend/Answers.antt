@@ -4,8 +4,9 @@ use Rattle.std.proofs.lemmas.List.Elements.{All-push}
 use Rattle.digraph.proofs.AdjacencyLemmas.{neighbours_at}
 use Rattle.digraph.proofs.CycleLemmas.{descend_all, descend_more, next_is, not_there, some_next, there}
 use Rattle.digraph.proofs.SearchLemmas.{distance_in}
-use Rattle.digraph.specs.Adjacency.{IsRising, leads, lists_of, neighbours}
-use Rattle.digraph.specs.Nearest.{IsLeastAt}
+use Rattle.digraph.specs.Adjacency.{IsRising, neighbours}
+use Rattle.digraph.specs.code.Adjacency.{leads, lists_of}
+use Rattle.digraph.specs.code.Nearest.{IsLeastAt}
 use Rattle.digraph.proofs.cycle.descend.Goals as goal
 
 pub least_at-requires : goal.least_at-requires

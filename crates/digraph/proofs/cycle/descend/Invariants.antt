@@ -2,8 +2,8 @@ use Rattle.std.proofs.Common.{ℕ, ◌≡◌, ◌<◌, length}
 use Rattle.std.specs.Prelude.{Some}
 use Rattle.std.specs.List.{All}
 use Rattle.digraph.proofs.CycleLemmas.{Continues}
-use Rattle.digraph.specs.Adjacency.{leads, lists_of}
-use Rattle.digraph.specs.Distances.{distance_at}
+use Rattle.digraph.specs.code.Adjacency.{leads, lists_of}
+use Rattle.digraph.specs.code.Distances.{distance_at}
 use Rattle.digraph.proofs.cycle.descend.Given as goal
 
 abbrev pub invariant-loop-node : goal.invariant-loop-node

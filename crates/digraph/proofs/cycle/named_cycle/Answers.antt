@@ -2,9 +2,9 @@ use Rattle.std.proofs.Common.{◌≡◌, ◌<◌, ◌∙◌, ℕ, length, below_
 use Rattle.digraph.proofs.AdjacencyLemmas.{length_lists_of}
 use Rattle.digraph.proofs.CycleLemmas.{named, no_answer}
 use Rattle.digraph.proofs.OrderLemmas.{returns_in}
-use Rattle.digraph.specs.Adjacency.{leads, lists_of}
+use Rattle.digraph.specs.code.Adjacency.{leads, lists_of}
 use Rattle.digraph.specs.Cycle.{Returns}
-use Rattle.digraph.specs.Ranks.{AreRanks}
+use Rattle.digraph.specs.code.Ranks.{AreRanks}
 use Rattle.digraph.proofs.cycle.named_cycle.Goals as goal
 
 pub stays_away-requires-clause-ranks : goal.stays_away-requires-clause-ranks

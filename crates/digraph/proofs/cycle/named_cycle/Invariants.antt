@@ -1,5 +1,5 @@
 use Rattle.std.proofs.Common.{ℕ, ◌<◌}
-use Rattle.digraph.specs.Adjacency.{leads, lists_of}
+use Rattle.digraph.specs.code.Adjacency.{leads, lists_of}
 use Rattle.digraph.specs.Cycle.{Returns}
 use Rattle.digraph.proofs.cycle.named_cycle.Given as goal
 

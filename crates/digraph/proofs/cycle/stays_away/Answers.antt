@@ -4,9 +4,10 @@ use Rattle.std.proofs.lemmas.List.{get_or_default}
 use Rattle.digraph.proofs.AdjacencyLemmas.{neighbours_at}
 use Rattle.digraph.proofs.NearestLemmas.{no_value}
 use Rattle.digraph.proofs.RanksLemmas.{leaves}
-use Rattle.digraph.specs.Adjacency.{IsRising, leads, lists_of, neighbours}
-use Rattle.digraph.specs.Distances.{distance_at}
-use Rattle.digraph.specs.Nearest.{IsLeastAt}
+use Rattle.digraph.specs.Adjacency.{IsRising, neighbours}
+use Rattle.digraph.specs.code.Adjacency.{leads, lists_of}
+use Rattle.digraph.specs.code.Distances.{distance_at}
+use Rattle.digraph.specs.code.Nearest.{IsLeastAt}
 use Rattle.digraph.proofs.cycle.stays_away.Goals as goal
 
 pub least_at-requires : goal.least_at-requires

@@ -1,4 +1,4 @@
-use Rattle.digraph.specs.Adjacency.{lists_of, comes}
+use Rattle.digraph.specs.code.Adjacency.{lists_of, comes}
 use Rattle.digraph.proofs.DistancesLemmas.{are_distances}
 use Rattle.digraph.proofs.distances.distances_to.Goals as goal
 

@@ -2,8 +2,9 @@ use Rattle.std.proofs.Common.{◌≡◌, ◌+◌, ◌<◌, ◌≤◌, ◌∙◌,
 use Rattle.std.specs.List.{All}
 use Rattle.digraph.proofs.AdjacencyLemmas.{length_lists_of, neighbours_at}
 use Rattle.digraph.proofs.KahnLemmas.{enough, placed_all, placed_first, placed_in, placed_more}
-use Rattle.digraph.specs.Adjacency.{lists_of, neighbours, times}
-use Rattle.digraph.specs.Kahn.{IsReleased, free, waiting, waits_for}
+use Rattle.digraph.specs.code.Adjacency.{lists_of}
+use Rattle.digraph.specs.Adjacency.{neighbours, times}
+use Rattle.digraph.specs.code.Kahn.{IsReleased, free, waiting, waits_for}
 use Rattle.digraph.proofs.kahn.place.Goals as goal
 
 pub loop-head-init : goal.loop-head-init

@@ -1,6 +1,6 @@
 use Rattle.std.proofs.Common.{◌-◌, length}
 use Rattle.digraph.proofs.KahnLemmas.{Placed}
-use Rattle.digraph.specs.Adjacency.{lists_of}
+use Rattle.digraph.specs.code.Adjacency.{lists_of}
 use Rattle.digraph.proofs.kahn.place.Given as goal
 
 abbrev pub invariant-loop-head : goal.invariant-loop-head

@@ -3,7 +3,7 @@ use Rattle.std.specs.Prelude.{slice_set}
 use Rattle.std.proofs.lemmas.List.{take_more, length-set, get_or_default}
 use Rattle.std.proofs.lemmas.Bool.{ne_eqb}
 use Rattle.digraph.proofs.KahnLemmas.{release_more, waits_still}
-use Rattle.digraph.specs.Kahn.{IsReleased, waits_for}
+use Rattle.digraph.specs.code.Kahn.{IsReleased, waits_for}
 use Rattle.digraph.proofs.kahn.release.Goals as goal
 use Rattle.digraph.proofs.kahn.release.Goals.{then-left-eq0+in_ok-push, else-left-eq0}
 

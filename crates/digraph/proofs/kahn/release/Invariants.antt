@@ -1,5 +1,5 @@
 use Rattle.std.proofs.Common.{◌≡◌, length, take}
-use Rattle.digraph.specs.Kahn.{IsReleased}
+use Rattle.digraph.specs.code.Kahn.{IsReleased}
 use Rattle.digraph.proofs.kahn.release.Given as goal
 
 abbrev pub invariant-loop-successor : goal.invariant-loop-successor

@@ -1,7 +1,7 @@
 use Rattle.std.proofs.Common.{◌+◌, ◌∙◌, ℕ, true, false, nat_eq, List, refl, sym, ap, subst}
 use Rattle.std.proofs.lemmas.Bool.{ne_eqb}
 use Rattle.digraph.proofs.KahnLemmas.{Rooted, waits_for_at, rooted_more}
-use Rattle.digraph.specs.Kahn.{waits_for}
+use Rattle.digraph.specs.code.Kahn.{waits_for}
 use Rattle.digraph.proofs.kahn.roots.Goals as goal
 use Rattle.digraph.proofs.kahn.roots.Goals.{then-count-eq0+in_ok-push, else-count-eq0}
 

@@ -2,7 +2,7 @@ use Rattle.std.proofs.Common.{ℕ, ◌≡◌, ◌∙◌, get_or, sym, inl, inr}
 use Rattle.std.specs.Prelude.{Some}
 use Rattle.digraph.proofs.NearestLemmas.{first_least, distance_equal}
 use Rattle.digraph.proofs.SearchLemmas.{stands_at}
-use Rattle.digraph.specs.Distances.{distance_at}
+use Rattle.digraph.specs.code.Distances.{distance_at}
 use Rattle.digraph.proofs.nearest.least_at.Goals as goal
 
 pub returns-then-eq : goal.returns-then-eq

@@ -1,5 +1,5 @@
 use Rattle.std.proofs.Common.{take}
-use Rattle.digraph.specs.Nearest.{IsNearest}
+use Rattle.digraph.specs.code.Nearest.{IsNearest}
 use Rattle.digraph.proofs.nearest.nearest.Given as goal
 
 abbrev pub invariant-loop-node : goal.invariant-loop-node

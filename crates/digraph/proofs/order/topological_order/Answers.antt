@@ -1,5 +1,5 @@
 use Rattle.std.proofs.Common.{◌≡◌, ℕ, length, sym, subst, arith}
-use Rattle.digraph.specs.Adjacency.{lists_of, leads}
+use Rattle.digraph.specs.code.Adjacency.{lists_of, leads}
 use Rattle.digraph.specs.Order.{IsTopologicalOrder}
 use Rattle.digraph.proofs.AdjacencyLemmas.{length_lists_of}
 use Rattle.digraph.proofs.OrderLemmas.{placed_order, none_placed, none_returns}

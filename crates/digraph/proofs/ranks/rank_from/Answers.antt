@@ -3,8 +3,8 @@ use Rattle.std.specs.List.{All}
 use Rattle.std.proofs.lemmas.List.{nil_from_length}
 use Rattle.std.proofs.lemmas.Bool.{eqb-false, eqb-true}
 use Rattle.digraph.proofs.RanksLemmas.{all_ranks, first_ranks, last_in, more_ranks}
-use Rattle.digraph.specs.Adjacency.{lists_of}
-use Rattle.digraph.specs.Search.{IsMarked, IsSpread}
+use Rattle.digraph.specs.code.Adjacency.{lists_of}
+use Rattle.digraph.specs.code.Search.{IsMarked, IsSpread}
 use Rattle.digraph.proofs.ranks.rank_from.Goals as goal
 
 pub spread-requires-clause-frontier : goal.spread-requires-clause-frontier

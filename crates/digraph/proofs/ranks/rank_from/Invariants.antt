@@ -1,7 +1,7 @@
 use Rattle.std.proofs.Common.{◌+◌, ◌≡◌, length}
 use Rattle.digraph.proofs.RanksLemmas.{AreRanksBut}
-use Rattle.digraph.specs.Adjacency.{lists_of}
-use Rattle.digraph.specs.Search.{unknown}
+use Rattle.digraph.specs.code.Adjacency.{lists_of}
+use Rattle.digraph.specs.code.Search.{unknown}
 use Rattle.digraph.proofs.ranks.rank_from.Given as goal
 
 abbrev pub invariant-loop-alloc : goal.invariant-loop-alloc

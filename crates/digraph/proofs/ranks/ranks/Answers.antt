@@ -2,9 +2,9 @@ use Rattle.std.proofs.Common.{◌≡◌, ◌<◌, ◌≤◌, ◌∙◌, ℕ, Boo
 use Rattle.std.specs.List.{All}
 use Rattle.std.proofs.lemmas.List.Elements.{All-pop}
 use Rattle.digraph.proofs.AdjacencyLemmas.{same_edges}
-use Rattle.digraph.specs.Adjacency.{comes, lists_of}
-use Rattle.digraph.specs.Distances.{distance_at}
-use Rattle.digraph.specs.Ranks.{AreRanks}
+use Rattle.digraph.specs.code.Adjacency.{comes, lists_of}
+use Rattle.digraph.specs.code.Distances.{distance_at}
+use Rattle.digraph.specs.code.Ranks.{AreRanks}
 use Rattle.digraph.proofs.ranks.ranks.Goals as goal
 use Rattle.digraph.proofs.ranks.ranks.Goals.{in-Some+in_ok-rank_from, in_default}
 

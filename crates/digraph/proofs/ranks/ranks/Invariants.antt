@@ -1,9 +1,9 @@
 use Rattle.std.proofs.Common.{ℕ, ◌<◌, ◌≡◌, length}
 use Rattle.std.specs.List.{All}
 use Rattle.std.specs.Prelude.{Some}
-use Rattle.digraph.specs.Adjacency.{comes, lists_of}
-use Rattle.digraph.specs.Distances.{distance_at}
-use Rattle.digraph.specs.Ranks.{AreRanks}
+use Rattle.digraph.specs.code.Adjacency.{comes, lists_of}
+use Rattle.digraph.specs.code.Distances.{distance_at}
+use Rattle.digraph.specs.code.Ranks.{AreRanks}
 use Rattle.digraph.proofs.ranks.ranks.Given as goal
 
 abbrev pub invariant-loop-rank : goal.invariant-loop-rank

@@ -4,7 +4,7 @@ use Rattle.std.specs.declared.alloc.Global.{Global}
 use Rattle.std.proofs.lemmas.List.{take_more, length-set, get_or_default}
 use Rattle.digraph.proofs.NearestLemmas.{no_value, some_value}
 use Rattle.digraph.proofs.SearchLemmas.{mark_more, mark_skip}
-use Rattle.digraph.specs.Distances.{distance_at}
+use Rattle.digraph.specs.code.Distances.{distance_at}
 use Rattle.digraph.proofs.search.mark.Goals as goal
 use Rattle.digraph.proofs.search.mark.Goals.{then-is_none+in_ok-push, else-is_none}
 

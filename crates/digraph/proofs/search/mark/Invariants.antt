@@ -1,5 +1,5 @@
 use Rattle.std.proofs.Common.{◌≡◌, length, take}
-use Rattle.digraph.specs.Search.{IsMarked}
+use Rattle.digraph.specs.code.Search.{IsMarked}
 use Rattle.digraph.proofs.search.mark.Given as goal
 
 abbrev pub invariant-loop-node : goal.invariant-loop-node

@@ -5,8 +5,8 @@ use Rattle.std.proofs.lemmas.List.{nil_from_length}
 use Rattle.std.proofs.lemmas.Bool.{eqb-false, eqb-true}
 use Rattle.digraph.proofs.AdjacencyLemmas.{length_lists_of}
 use Rattle.digraph.proofs.SearchLemmas.{frontier_in, searched_all, searched_first, searched_more}
-use Rattle.digraph.specs.Adjacency.{lists_of}
-use Rattle.digraph.specs.Search.{IsMarked, IsSpread}
+use Rattle.digraph.specs.code.Adjacency.{lists_of}
+use Rattle.digraph.specs.code.Search.{IsMarked, IsSpread}
 use Rattle.digraph.proofs.search.search.Goals as goal
 
 pub loop-alloc-init : goal.loop-alloc-init

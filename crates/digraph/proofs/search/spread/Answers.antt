@@ -3,8 +3,9 @@ use Rattle.std.specs.List.{All}
 use Rattle.std.proofs.lemmas.List.{take_more}
 use Rattle.digraph.proofs.AdjacencyLemmas.{neighbours_at}
 use Rattle.digraph.proofs.SearchLemmas.{spread_more}
-use Rattle.digraph.specs.Adjacency.{lists_of, neighbours}
-use Rattle.digraph.specs.Search.{IsMarked}
+use Rattle.digraph.specs.code.Adjacency.{lists_of}
+use Rattle.digraph.specs.Adjacency.{neighbours}
+use Rattle.digraph.specs.code.Search.{IsMarked}
 use Rattle.digraph.proofs.search.spread.Goals as goal
 
 pub mark-requires : goal.mark-requires

@@ -1,6 +1,6 @@
 use Rattle.std.proofs.Common.{◌≡◌, length, take}
-use Rattle.digraph.specs.Adjacency.{lists_of}
-use Rattle.digraph.specs.Search.{IsSpread}
+use Rattle.digraph.specs.code.Adjacency.{lists_of}
+use Rattle.digraph.specs.code.Search.{IsSpread}
 use Rattle.digraph.proofs.search.spread.Given as goal
 
 abbrev pub invariant-loop-node : goal.invariant-loop-node

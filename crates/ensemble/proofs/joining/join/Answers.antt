@@ -1,6 +1,6 @@
 use Rattle.std.proofs.Common.{◌∙◌, ap}
 use Rattle.plan_request.specs.declared.request.PlanRequest.{PlanRequest}
-use Rattle.plan_request.specs.Reader.{execute_checked}
+use Rattle.plan_request.specs.Request.{execute_checked}
 use Rattle.ensemble.proofs.joining.join.Goals as goal
 
 pub invariant_of-result : goal.invariant_of-result

@@ -1,6 +1,6 @@
 use Rattle.std.proofs.Common.{◌≡◌, drop}
 use Rattle.std.specs.Str.{bytes_eq}
-use Rattle.peg_json.specs.Duplicates.{first_repeat}
+use Rattle.peg_json.specs.Elements.{first_repeat}
 use Rattle.ensemble.specs.Reader.{names_of}
 use Rattle.ensemble.proofs.member_names.add_names.Given as goal
 

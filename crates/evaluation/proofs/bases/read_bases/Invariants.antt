@@ -1,5 +1,5 @@
 use Rattle.std.proofs.Common.{◌≡◌, drop}
-use Rattle.outside.specs.Counts.{IsLater}
+use Rattle.outside.specs.code.Counts.{IsLater}
 use Rattle.evaluation.proofs.BasesLemmas.{GoesOn}
 use Rattle.evaluation.proofs.bases.read_bases.Given as goal
 

@@ -1,9 +1,10 @@
 use Rattle.std.proofs.Common.{◌≡◌, ◌∙◌, ℕ, List, refl, sym, ap, subst, length}
 use Rattle.std.specs.Prelude.{Option, Ok, Err, Vec}
 use Rattle.std.specs.declared.alloc.Global.{Global}
-use Rattle.outside.specs.Counts.{Rose}
+use Rattle.outside.specs.code.Counts.{Rose}
 use Rattle.values.specs.declared.numbers.JobId.{JobId}
-use Rattle.dependency_graph.specs.Value.{AllBased, Basis, basis}
+use Rattle.dependency_graph.specs.code.Value.{AllBased}
+use Rattle.dependency_graph.specs.Value.{Basis, basis}
 use Rattle.workflow_eval.specs.Evaluating.{Evaluates, IsReached}
 use Rattle.workflow_eval.specs.declared.fault.EvalFault.TheVariants.{ToolFailed}
 use Rattle.evaluation.specs.Moments.{meeting, subject}

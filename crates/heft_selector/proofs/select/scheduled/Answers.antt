@@ -2,12 +2,12 @@ use Rattle.std.proofs.Common.{ℕ, List, length, sym, ap, subst, ◌∙◌}
 use Rattle.std.specs.Prelude.{Option}
 use Rattle.std.specs.List.{AllByRecursion}
 use Rattle.std.proofs.lemmas.List.{length-map}
-use Rattle.workflow_core.specs.WellFormed.{IsSmallSize}
+use Rattle.workflow_core.specs.code.WellFormed.{IsSmallSize}
 use Rattle.plan_request.specs.declared.request.Execution.{Execution}
-use Rattle.digraph.specs.Adjacency.{lists_of}
+use Rattle.digraph.specs.code.Adjacency.{lists_of}
 use Rattle.dependency_graph.specs.Graph.{numbers}
 use Rattle.site_selector.proofs.OfferLemmas.{checked_are}
-use Rattle.list_schedule.specs.Tables.{AreSites}
+use Rattle.list_schedule.specs.code.Tables.{AreSites}
 use Rattle.heft_selector.specs.Selecting.{offering_of, estimates}
 use Rattle.heft_selector.proofs.ListLemmas.{declared_small, lists_are}
 use Rattle.heft_selector.proofs.SelectLemmas.{lists_low, tables_are, costs_are, candidates_are, full_are, sites_are}

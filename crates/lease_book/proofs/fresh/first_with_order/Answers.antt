@@ -1,8 +1,8 @@
 use Rattle.std.proofs.Common.{◌<◌, ◌+◌, ◌++◌, ℕ, List, length, subst, sym, refl, ap, arith}
 use Rattle.std.specs.Prelude.{filter}
 use Rattle.storage_simulation.specs.declared.bench.Bench.{Bench}
-use Rattle.storage_simulation.specs.Bench.{IsFor}
-use Rattle.storage_simulation.specs.Front.{front_of}
+use Rattle.storage_simulation.specs.code.Bench.{IsFor}
+use Rattle.storage_simulation.specs.code.Front.{front_of}
 use Rattle.place_peaks.specs.Peaks.{left_of, line_of}
 use Rattle.lease_book.specs.RunState.{state_of}
 use Rattle.lease_book.proofs.FreshLemmas.{FreshLeft, fresh_at_first, fresh_found, fresh_none, fresh_pass, fresh_skip, fresh_spent}

@@ -1,5 +1,5 @@
 use Rattle.lease_book.specs.RunState.{state_of}
-use Rattle.storage_simulation.specs.Bench.{IsFor}
+use Rattle.storage_simulation.specs.code.Bench.{IsFor}
 use Rattle.place_peaks.specs.Peaks.{left_of, line_of}
 use Rattle.lease_book.specs.Trial.{HasPlace}
 use Rattle.lease_book.proofs.FreshLemmas.{FreshLeft}

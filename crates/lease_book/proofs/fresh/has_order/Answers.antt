@@ -1,8 +1,9 @@
 use Rattle.std.proofs.Common.{ap, ◌∙◌, sym}
 use Rattle.lease_book.specs.RunState.{state_of}
-use Rattle.storage_simulation.specs.Ordering.{Progress, progress}
+use Rattle.storage_simulation.specs.Ordering.{Progress}
+use Rattle.storage_simulation.specs.code.Ordering.{progress}
 use Rattle.storage_simulation.specs.OrderLaw.{stated_order}
-use Rattle.storage_simulation.specs.Front.{front_of}
+use Rattle.storage_simulation.specs.code.Front.{front_of}
 use Rattle.lease_book.proofs.TrialLemmas.{candidate_standing}
 use Rattle.lease_book.proofs.fresh.has_order.Goals as goal
 

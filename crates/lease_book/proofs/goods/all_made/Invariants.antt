@@ -1,6 +1,6 @@
 use Rattle.std.proofs.Common.{◌≡◌, length}
 use Rattle.storage_simulation.specs.Goods.{makes}
-use Rattle.storage_simulation.specs.Usage.{total}
+use Rattle.values.specs.Numbers.{total}
 use Rattle.lease_book.proofs.goods.all_made.Given as goal
 
 abbrev pub invariant-loop-task : goal.invariant-loop-task

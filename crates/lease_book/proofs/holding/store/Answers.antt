@@ -1,7 +1,7 @@
 use Rattle.std.proofs.Common.{◌≡◌, ◌<◌, ℕ, arith, length, refl, ◌∙◌}
 use Rattle.storage_simulation.specs.declared.standing.Held.TheVariants.{Stored}
 use Rattle.storage_simulation.specs.Goods.{makes}
-use Rattle.storage_simulation.specs.Standings.{held_of}
+use Rattle.storage_simulation.specs.code.Standings.{held_of}
 use Rattle.lease_book.proofs.ArrayLemmas.{made_in, write_end, write_step}
 use Rattle.lease_book.proofs.holding.store.Goals as goal
 

@@ -2,7 +2,7 @@ use Rattle.std.proofs.Common.{◌≡◌, ℕ, cond, take}
 use Rattle.plan_core.specs.Numbers.{has}
 use Rattle.storage_simulation.specs.declared.standing.Held.TheVariants.{Stored}
 use Rattle.storage_simulation.specs.Goods.{makes}
-use Rattle.storage_simulation.specs.Standings.{held_of, phase_of}
+use Rattle.storage_simulation.specs.code.Standings.{held_of, phase_of}
 use Rattle.lease_book.specs.RunState.{HasLengths}
 use Rattle.lease_book.proofs.holding.store.Given as goal
 

@@ -1,6 +1,6 @@
 use Rattle.std.proofs.Common.{◌<◌, ◌-◌, arith, length, refl, ◌∙◌}
 use Rattle.storage_simulation.specs.Goods.{makes}
-use Rattle.storage_simulation.specs.Standings.{held_of}
+use Rattle.storage_simulation.specs.code.Standings.{held_of}
 use Rattle.lease_book.proofs.ArrayLemmas.{made_in, stored_more}
 use Rattle.lease_book.proofs.holding.store_each.Goals as goal
 

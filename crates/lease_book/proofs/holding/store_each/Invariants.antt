@@ -1,6 +1,6 @@
 use Rattle.std.proofs.Common.{◌≡◌, ◌≤◌, ℕ, length, drop}
 use Rattle.storage_simulation.specs.Goods.{makes}
-use Rattle.storage_simulation.specs.Standings.{held_of, phase_of}
+use Rattle.storage_simulation.specs.code.Standings.{held_of, phase_of}
 use Rattle.lease_book.specs.RunState.{HasLengths}
 use Rattle.lease_rules.specs.State.{stored_among}
 use Rattle.lease_book.proofs.holding.store_each.Given as goal

@@ -1,4 +1,4 @@
-use Rattle.storage_simulation.specs.Standings.{held_of}
+use Rattle.storage_simulation.specs.code.Standings.{held_of}
 use Rattle.lease_book.proofs.ArrayLemmas.{cleaned_at, cleaned_in}
 use Rattle.lease_book.proofs.holding.sweep.Goals as goal
 

@@ -1,7 +1,7 @@
 use Rattle.std.proofs.Common.{◌≡◌, ◌≤◌, ◌*◌, ◌^◌, cond}
 use Rattle.storage_simulation.specs.Goods.{lies_at}
-use Rattle.storage_simulation.specs.Standings.{held_of}
-use Rattle.storage_simulation.specs.Usage.{total}
+use Rattle.storage_simulation.specs.code.Standings.{held_of}
+use Rattle.values.specs.Numbers.{total}
 use Rattle.lease_rules.specs.State.{reserved_size}
 use Rattle.lease_book.proofs.sums.reserved_at.Given as goal
 

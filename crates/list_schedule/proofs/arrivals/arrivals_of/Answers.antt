@@ -1,6 +1,6 @@
 use Rattle.std.proofs.Common.{ℕ, ◌+◌, ◌^◌, get_or, ap, arith}
 use Rattle.dependency_graph.specs.Levels.{is_kept}
-use Rattle.list_schedule.specs.Arrivals.{counted, site_of}
+use Rattle.list_schedule.specs.code.Arrivals.{counted, site_of}
 use Rattle.list_schedule.proofs.ArrivalLemmas.{elsewhere_more}
 use Rattle.list_schedule.proofs.arrivals.arrivals_of.Goals as goal
 

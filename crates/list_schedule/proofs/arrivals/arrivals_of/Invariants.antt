@@ -1,5 +1,5 @@
 use Rattle.std.proofs.Common.{◌≡◌, ◌+◌, ◌≤◌, ◌^◌, ℕ, take}
-use Rattle.list_schedule.specs.Arrivals.{latest_at, finish_of, elsewhere}
+use Rattle.list_schedule.specs.code.Arrivals.{latest_at, finish_of, elsewhere}
 use Rattle.list_schedule.proofs.arrivals.arrivals_of.Given as goal
 
 abbrev pub invariant-loop-place : goal.invariant-loop-place

@@ -1,6 +1,6 @@
 use Rattle.std.proofs.Common.{◌+◌, ◌^◌, length, sym, subst}
 use Rattle.list_schedule.specs.declared.choice.Slot.{Slot}
-use Rattle.list_schedule.specs.Arrivals.{IsEarliest}
+use Rattle.list_schedule.specs.code.Arrivals.{IsEarliest}
 use Rattle.list_schedule.proofs.ChoiceLemmas.{earliest_first, earliest_more}
 use Rattle.list_schedule.proofs.choice.earliest.Goals as goal
 

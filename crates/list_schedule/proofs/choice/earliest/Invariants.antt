@@ -1,5 +1,5 @@
 use Rattle.std.proofs.Common.{◌+◌, ◌<◌, ◌≤◌, ◌^◌, ℕ, length, slice_index_or}
-use Rattle.list_schedule.specs.Arrivals.{IsEarliest}
+use Rattle.list_schedule.specs.code.Arrivals.{IsEarliest}
 use Rattle.list_schedule.proofs.choice.earliest.Given as goal
 
 abbrev pub invariant-loop-place : goal.invariant-loop-place

@@ -1,10 +1,11 @@
 use Rattle.std.proofs.Common.{◌≡◌, ℕ, ◌+◌, ◌*◌, ◌<◌, ◌^◌, length, get_or, ap, subst, ◌∙◌, arith}
 use Rattle.std.proofs.lemmas.List.{take_all, length-map}
 use Rattle.values.specs.declared.numbers.JobId.{JobId}
-use Rattle.digraph.specs.Adjacency.{has, lists_of}
+use Rattle.digraph.specs.Adjacency.{has_node}
+use Rattle.digraph.specs.code.Adjacency.{lists_of}
 use Rattle.dependency_graph.specs.Graph.{numbers}
 use Rattle.dependency_graph.proofs.LevelsLemmas.{parents_kept}
-use Rattle.list_schedule.specs.Board.{ArePlaced}
+use Rattle.list_schedule.specs.code.Board.{ArePlaced}
 use Rattle.list_schedule.proofs.PlacingLemmas.{none_placed, placed_more}
 use Rattle.list_schedule.proofs.WalkLemmas.{order_short, few_kept, walk_at, walk_kept, walk_within, empty_long, empty_small, empty_untouched, put_long, put_free, put_small, put_untouched}
 use Rattle.list_schedule.proofs.placing.place_all.Goals as goal
@@ -57,4 +58,4 @@ returns-clause-placed c = λ e ranks costs offers are sorted.
 
 pub returns-clause-others : goal.returns-clause-others
 returns-clause-others c = λ a out. c.loop-job.invariant.others a
-    (ap (has a) (take_all c.loop-job.job-index (numbers c.args.order.now) (let l = length-map c.args.order.now (λ (j : JobId). j.0) in omega (arith, l))) ∙ out)
+    (ap (has_node a) (take_all c.loop-job.job-index (numbers c.args.order.now) (let l = length-map c.args.order.now (λ (j : JobId). j.0) in omega (arith, l))) ∙ out)

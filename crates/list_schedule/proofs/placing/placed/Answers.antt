@@ -3,7 +3,7 @@ use Rattle.values.specs.declared.numbers.JobId.{JobId}
 use Rattle.dependency_graph.specs.Graph.{numbers}
 use Rattle.list_schedule.specs.Ranks.{IsRankOrder}
 use Rattle.list_schedule.specs.Schedule.{IsHeft}
-use Rattle.list_schedule.specs.Board.{schedule_at}
+use Rattle.list_schedule.specs.code.Board.{schedule_at}
 use Rattle.list_schedule.proofs.WalkLemmas.{heft_is}
 use Rattle.list_schedule.proofs.placing.placed.Goals as goal
 

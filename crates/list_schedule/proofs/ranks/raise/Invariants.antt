@@ -1,6 +1,6 @@
 use Rattle.std.proofs.Common.{◌≡◌, ◌≤◌, ◌+◌, ◌^◌, ℕ, max, take}
 use Rattle.list_schedule.specs.Ranks.{rank}
-use Rattle.list_schedule.specs.Tables.{reach}
+use Rattle.list_schedule.specs.code.Tables.{reach}
 use Rattle.list_schedule.proofs.ranks.raise.Given as goal
 
 abbrev pub invariant-loop-place : goal.invariant-loop-place

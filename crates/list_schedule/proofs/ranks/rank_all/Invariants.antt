@@ -1,8 +1,8 @@
 use Rattle.std.proofs.Common.{◌≡◌, ◌≤◌, ◌-◌, ◌*◌, ◌^◌, ℕ, length}
-use Rattle.digraph.specs.Adjacency.{lists_of}
+use Rattle.digraph.specs.code.Adjacency.{lists_of}
 use Rattle.list_schedule.specs.Estimates.{Estimates}
 use Rattle.list_schedule.specs.Ranks.{rank}
-use Rattle.list_schedule.specs.Tables.{AreCosts}
+use Rattle.list_schedule.specs.code.Tables.{AreCosts}
 use Rattle.list_schedule.proofs.RankLemmas.{AreRankedFrom}
 use Rattle.list_schedule.proofs.ranks.rank_all.Given as goal
 

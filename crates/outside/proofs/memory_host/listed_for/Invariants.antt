@@ -1,6 +1,6 @@
 use Rattle.std.proofs.Common.{◌≡◌, ◌++◌}
 use Rattle.std.specs.Prelude.{drop}
-use Rattle.outside.specs.MemoryParts.{listed_for}
+use Rattle.outside.specs.code.MemoryParts.{listed_for}
 use Rattle.outside.proofs.memory_host.listed_for.Given as goal
 
 abbrev pub invariant-loop-part : goal.invariant-loop-part

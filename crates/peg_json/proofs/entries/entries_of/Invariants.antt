@@ -1,6 +1,7 @@
 use Rattle.std.proofs.Common.{◌≡◌, map}
-use Rattle.peg_json.specs.Tree.{with_front}
-use Rattle.peg_json.specs.Entries.{seen_members, entries_from}
+use Rattle.peg_json.specs.code.Tree.{with_front}
+use Rattle.peg_json.specs.code.Entries.{seen_members}
+use Rattle.peg_json.specs.Entries.{entries_from}
 use Rattle.peg_json.proofs.entries.entries_of.Given as goal
 
 abbrev pub invariant-loop-member : goal.invariant-loop-member

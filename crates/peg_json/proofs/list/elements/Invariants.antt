@@ -1,7 +1,7 @@
 use Rattle.std.proofs.Common.{drop, ◌≡◌, map}
 use Rattle.serde_json.specs.View.{view as tree_view}
 use Rattle.peg_json.specs.Tree.{each_from}
-use Rattle.peg_json.specs.Tree.{with_front}
+use Rattle.peg_json.specs.code.Tree.{with_front}
 use Rattle.peg_json.proofs.list.elements.Given as goal
 
 abbrev pub invariant-loop-item : goal.invariant-loop-item

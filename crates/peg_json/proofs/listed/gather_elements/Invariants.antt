@@ -1,6 +1,6 @@
 use Rattle.std.proofs.Common.{drop, ◌≡◌, ◌++◌, map}
 use Rattle.serde_json.specs.View.{view as tree_view}
-use Rattle.peg_json.specs.Listed.{unknown_from}
+use Rattle.peg_json.specs.code.Unknown.{unknown_from}
 use Rattle.peg_json.proofs.listed.gather_elements.Given as goal
 
 abbrev pub invariant-loop-item : goal.invariant-loop-item

@@ -1,8 +1,9 @@
 use Rattle.std.proofs.Common.{length, drop, ◌≡◌, map, option_map}
 use Rattle.serde_json.specs.View.{view as tree_view}
 use Rattle.peg_json.specs.Tree.{each}
-use Rattle.peg_json.specs.Table.{row_member, rows_of}
-use Rattle.peg_json.specs.Tree.{with_front}
+use Rattle.peg_json.specs.Table.{row_member}
+use Rattle.peg_json.specs.code.Table.{rows_of}
+use Rattle.peg_json.specs.code.Tree.{with_front}
 use Rattle.peg_json.proofs.member.each_member.Given as goal
 
 abbrev pub invariant-loop-row : goal.invariant-loop-row

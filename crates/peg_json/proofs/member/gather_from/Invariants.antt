@@ -1,6 +1,7 @@
 use Rattle.std.proofs.Common.{◌≡◌, ◌++◌, map, string_bytes}
 use Rattle.std.specs.BTreeMap.{keys}
-use Rattle.peg_json.specs.Table.{unknown_paths, rows_of}
+use Rattle.peg_json.specs.code.Unknown.{unknown_paths}
+use Rattle.peg_json.specs.code.Table.{rows_of}
 use Rattle.peg_json.proofs.member.gather_from.Given as goal
 
 abbrev pub invariant-loop-key : goal.invariant-loop-key

@@ -1,7 +1,7 @@
 use Rattle.std.proofs.Common.{◌≡◌, [], drop}
 use Rattle.std.specs.Prelude.{map}
 use Rattle.std.specs.Str.{bytes_eq}
-use Rattle.peg_json.specs.Duplicates.{first_repeat}
+use Rattle.peg_json.specs.Elements.{first_repeat}
 use Rattle.peg_json.proofs.sites.check_sites.Given as goal
 
 abbrev pub invariant-loop-site : goal.invariant-loop-site

@@ -1,7 +1,7 @@
 use Rattle.std.proofs.Common.{map, refl}
 use Rattle.std.specs.Prelude.{option_map, string_bytes}
-use Rattle.pegasus_cli.specs.Moments.{call_of}
-use Rattle.command_words.specs.Words.{Quickly, quick_command, quick_of}
+use Rattle.pegasus_cli.specs.code.Moments.{call_of}
+use Rattle.command_words.specs.code.Words.{Quickly, quick_command, quick_of}
 use Rattle.pegasus_cli.proofs.CallLemmas.{command_answered, keeps_same, some_mapped, unread_answered, usage_answered}
 use Rattle.command_words.proofs.WordsLemmas.{is_quick, quick_is, quick_is_none}
 use Rattle.pegasus_cli.proofs.call.quick.Goals as goal

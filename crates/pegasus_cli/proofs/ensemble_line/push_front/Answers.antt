@@ -1,6 +1,6 @@
 use Rattle.std.proofs.Common.{◌≡◌, ℕ, ◌-◌, List, ◌++◌, length, take, ap, subst, ◌∙◌}
 use Rattle.std.specs.Prelude.{OnOk, codes}
-use Rattle.pegasus_cli.specs.EnsembleLine.{member_front}
+use Rattle.pegasus_cli.specs.code.EnsembleLine.{member_front}
 use Rattle.pegasus_cli.proofs.EnsembleLineLemmas.{open_line}
 use Rattle.pegasus_cli.proofs.ensemble_line.push_front.Goals as goal
 

@@ -1,6 +1,6 @@
 use Rattle.std.proofs.Common.{◌≡◌, List, ℕ, ◌++◌, subst}
 use Rattle.std.specs.Prelude.{OnOk, codes}
-use Rattle.planner.specs.Refused.{and_number, and_word}
+use Rattle.planner.specs.code.Refused.{and_number, and_word}
 use Rattle.planner.proofs.RefusedLemmas.{three_words}
 use Rattle.pegasus_cli.proofs.ensemble_line.push_many.Goals as goal
 

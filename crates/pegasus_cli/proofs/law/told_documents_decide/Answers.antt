@@ -1,4 +1,4 @@
-use Rattle.pegasus_commands.specs.Course.{documents}
+use Rattle.pegasus_commands.specs.code.Course.{documents}
 use Rattle.pegasus_commands.proofs.CourseLemmas.{told_gives}
 use Rattle.pegasus_cli.proofs.law.told_documents_decide.Goals as goal
 

@@ -1,7 +1,8 @@
 use Rattle.std.proofs.Common.{map, refl}
 use Rattle.std.specs.Prelude.{option_map, string_bytes}
-use Rattle.pegasus_cli.specs.Moments.{call_of}
-use Rattle.command_words.specs.Words.{InThreads, threaded_command, threaded_of}
+use Rattle.pegasus_cli.specs.code.Moments.{call_of}
+use Rattle.command_words.specs.code.Words.{InThreads, threaded_of}
+use Rattle.command_words.specs.Words.{threaded_command}
 use Rattle.pegasus_cli.proofs.CallLemmas.{command_answered, keeps_same, some_mapped, unread_answered, usage_answered}
 use Rattle.command_words.proofs.WordsLemmas.{is_in_threads, threaded_is, threaded_is_none}
 use Rattle.pegasus_cli.proofs.threaded_call.in_threads.Goals as goal

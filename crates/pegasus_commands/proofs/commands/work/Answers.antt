@@ -1,5 +1,5 @@
 use Rattle.craft.specs.declared.crew.Crew.{Crew}
-use Rattle.plan_run.specs.Moments.{member_moment}
+use Rattle.plan_run.specs.code.Moments.{member_moment}
 use Rattle.pegasus_commands.proofs.CrewLemmas.{all_stay, first_alone, first_is, first_set, members_stay, none_left, rest_stays}
 use Rattle.pegasus_commands.proofs.commands.work.Goals as goal
 

@@ -1,5 +1,6 @@
 use Rattle.std.proofs.Common.{[], refl}
-use Rattle.plan_run.specs.Moments.{gateless, work_moment}
+use Rattle.plan_run.specs.Moments.{gateless}
+use Rattle.plan_run.specs.code.Moments.{work_moment}
 use Rattle.pegasus_commands.proofs.commands.work_by_first.Goals as goal
 
 pub returns-in-Check-clause-does : goal.returns-in-Check-clause-does

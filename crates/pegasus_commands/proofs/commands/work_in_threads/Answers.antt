@@ -1,5 +1,6 @@
 use Rattle.std.proofs.Common.{[]}
-use Rattle.plan_run.specs.Moments.{gateless, work_moment}
+use Rattle.plan_run.specs.Moments.{gateless}
+use Rattle.plan_run.specs.code.Moments.{work_moment}
 use Rattle.pegasus_commands.proofs.commands.work_in_threads.Goals as goal
 
 pub returns-in-Rehearse-clause-does : goal.returns-in-Rehearse-clause-does

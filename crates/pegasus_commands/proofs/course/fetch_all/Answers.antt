@@ -1,5 +1,5 @@
 use Rattle.std.specs.Prelude.{Ok}
-use Rattle.pegasus_commands.specs.Course.{document, if_named}
+use Rattle.pegasus_commands.specs.code.Course.{document, if_named}
 use Rattle.pegasus_commands.proofs.CourseLemmas.{step_end, step_stop, step_then}
 use Rattle.pegasus_commands.proofs.course.fetch_all.Goals as goal
 

@@ -1,4 +1,4 @@
-use Rattle.pegasus_commands.specs.Course.{document, named_documents, request_in_bytes}
+use Rattle.pegasus_commands.specs.code.Course.{document, named_documents, request_in_bytes}
 use Rattle.pegasus_commands.proofs.CourseLemmas.{step_then}
 use Rattle.pegasus_commands.proofs.course.fetch_documents.Goals as goal
 

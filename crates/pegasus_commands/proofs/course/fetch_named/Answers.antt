@@ -1,4 +1,4 @@
-use Rattle.pegasus_commands.specs.Course.{all_documents, with_request}
+use Rattle.pegasus_commands.specs.code.Course.{all_documents, with_request}
 use Rattle.pegasus_commands.proofs.CourseLemmas.{step_end, step_stop, step_then}
 use Rattle.pegasus_commands.proofs.course.fetch_named.Goals as goal
 

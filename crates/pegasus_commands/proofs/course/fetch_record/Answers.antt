@@ -1,6 +1,6 @@
 use Rattle.std.proofs.Common.{List, ℕ}
 use Rattle.std.specs.Prelude.{Ok}
-use Rattle.pegasus_commands.specs.Course.{Ends, document}
+use Rattle.pegasus_commands.specs.code.Course.{Ends, document}
 use Rattle.pegasus_commands.proofs.CourseLemmas.{step_stop}
 use Rattle.pegasus_commands.proofs.course.fetch_record.Goals as goal
 

@@ -1,4 +1,4 @@
-use Rattle.pegasus_commands.specs.Course.{documents, with_record}
+use Rattle.pegasus_commands.specs.code.Course.{documents, with_record}
 use Rattle.pegasus_commands.proofs.CourseLemmas.{step_stop, step_then}
 use Rattle.pegasus_commands.proofs.course.fetch_with_record.Goals as goal
 

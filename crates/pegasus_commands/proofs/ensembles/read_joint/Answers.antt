@@ -1,5 +1,5 @@
-use Rattle.pegasus_commands.specs.Ensembles.{HasMembers}
-use Rattle.pegasus_commands.specs.Moments.{docs_moment}
+use Rattle.pegasus_commands.specs.code.Ensembles.{HasMembers}
+use Rattle.pegasus_commands.specs.code.Moments.{docs_moment}
 use Rattle.pegasus_commands.proofs.EnsemblesLemmas.{unjoined}
 use Rattle.pegasus_commands.proofs.ensembles.read_joint.Goals as goal
 

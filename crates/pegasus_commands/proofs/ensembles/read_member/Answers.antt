@@ -1,5 +1,5 @@
 use Rattle.std.proofs.Common.{inl}
-use Rattle.pegasus_commands.specs.Moments.{docs_moment}
+use Rattle.pegasus_commands.specs.code.Moments.{docs_moment}
 use Rattle.pegasus_commands.proofs.EnsemblesLemmas.{member_reads}
 use Rattle.pegasus_commands.proofs.ensembles.read_member.Goals as goal
 

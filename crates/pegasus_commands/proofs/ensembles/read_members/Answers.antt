@@ -2,8 +2,8 @@ use Rattle.std.proofs.Common.{◌+◌, ◌∷◌, List, drop, sym, ap, subst, �
 use Rattle.std.proofs.lemmas.List.{drop_all, drop_more}
 use Rattle.ensemble.specs.declared.document.MemberEntry.{MemberEntry}
 use Rattle.pegasus_commands.specs.declared.fault.CallFault.TheVariants.{Memory}
-use Rattle.pegasus_commands.specs.Ensembles.{AreRead, StopsAt}
-use Rattle.pegasus_commands.specs.Moments.{docs_moment}
+use Rattle.pegasus_commands.specs.code.Ensembles.{AreRead, StopsAt}
+use Rattle.pegasus_commands.specs.code.Moments.{docs_moment}
 use Rattle.pegasus_commands.proofs.EnsemblesLemmas.{AreSoFar, all_read, are_members, member_short, one_more, one_stops, read_is_passage}
 use Rattle.pegasus_commands.proofs.ensembles.read_members.Goals as goal
 

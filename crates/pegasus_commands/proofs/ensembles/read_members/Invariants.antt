@@ -1,5 +1,5 @@
 use Rattle.std.proofs.Common.{drop}
-use Rattle.pegasus_commands.specs.Moments.{docs_moment}
+use Rattle.pegasus_commands.specs.code.Moments.{docs_moment}
 use Rattle.pegasus_commands.proofs.EnsemblesLemmas.{AreSoFar}
 use Rattle.pegasus_commands.proofs.ensembles.read_members.Given as goal
 

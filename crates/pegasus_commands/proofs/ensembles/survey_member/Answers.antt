@@ -1,6 +1,6 @@
 use Rattle.std.proofs.Common.{refl, sym, subst}
 use Rattle.plan_request.specs.declared.request.PlanRequest.{PlanRequest}
-use Rattle.planner.specs.Course.{IsSurvey}
+use Rattle.planner.specs.code.Course.{IsSurvey}
 use Rattle.pegasus_commands.proofs.ensembles.survey_member.Goals as goal
 
 pub returns-in-Ok-clause-member : goal.returns-in-Ok-clause-member

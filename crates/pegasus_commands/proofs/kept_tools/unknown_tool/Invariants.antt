@@ -1,6 +1,6 @@
 use Rattle.std.proofs.Common.{◌≡◌, drop}
 use Rattle.std.specs.Prelude.{find}
-use Rattle.pegasus_commands.specs.KeptTools.{lacks_tool}
+use Rattle.pegasus_commands.specs.code.KeptTools.{lacks_tool}
 use Rattle.pegasus_commands.proofs.kept_tools.unknown_tool.Given as goal
 
 abbrev pub invariant-loop-job : goal.invariant-loop-job

@@ -1,4 +1,4 @@
-use Rattle.pegasus_commands.specs.Commands.Plan.{task_limit}
+use Rattle.pegasus_commands.specs.code.Commands.Plan.{task_limit}
 use Rattle.pegasus_commands.proofs.PlanRunLemmas.{few_retries}
 use Rattle.pegasus_commands.proofs.ready_plan.plan_request.Goals as goal
 

@@ -1,5 +1,5 @@
 use Rattle.std.proofs.Common.{◌≡◌, ◌+◌, ◌<◌, ℕ, suc, length, take, ap, ◌∙◌, arith}
-use Rattle.storage_simulation.specs.Change.{size_part}
+use Rattle.storage_simulation.specs.code.Change.{size_part}
 use Rattle.storage_simulation.specs.Goods.{makes}
 use Rattle.storage_simulation.specs.Usage.{sum_of}
 use Rattle.place_peaks.proofs.SizingLemmas.{sum_take, sum_take_less}

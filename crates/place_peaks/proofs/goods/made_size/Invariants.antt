@@ -1,5 +1,5 @@
 use Rattle.std.proofs.Common.{◌≡◌, take}
-use Rattle.storage_simulation.specs.Change.{size_part}
+use Rattle.storage_simulation.specs.code.Change.{size_part}
 use Rattle.storage_simulation.specs.Goods.{makes}
 use Rattle.storage_simulation.specs.Usage.{sum_of}
 use Rattle.place_peaks.proofs.goods.made_size.Given as goal

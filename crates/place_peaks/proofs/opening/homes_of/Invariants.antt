@@ -1,5 +1,5 @@
 use Rattle.std.proofs.Common.{◌≡◌, ◌<◌, ℕ, length, get_or, None}
-use Rattle.storage_simulation.specs.Goods.{place}
+use Rattle.storage_simulation.specs.code.Goods.{place}
 use Rattle.place_peaks.proofs.opening.homes_of.Given as goal
 
 abbrev pub invariant-loop-task : goal.invariant-loop-task

@@ -1,6 +1,7 @@
 use Rattle.std.proofs.Common.{◌≡◌, ◌<◌, ◌≤◌, ◌^◌, ℕ, length, get_or, Some}
-use Rattle.storage_simulation.specs.Change.{size_part}
-use Rattle.storage_simulation.specs.Goods.{makes, place}
+use Rattle.storage_simulation.specs.code.Change.{size_part}
+use Rattle.storage_simulation.specs.Goods.{makes}
+use Rattle.storage_simulation.specs.code.Goods.{place}
 use Rattle.storage_simulation.specs.Usage.{sum_of}
 use Rattle.place_peaks.proofs.opening.needs_of.Given as goal
 

@@ -1,8 +1,9 @@
 use Rattle.std.proofs.Common.{◌≡◌, false, ◌+◌, ◌<◌, ℕ, length, get_or, take, sym, ap, ◌∙◌, arith}
 use Rattle.place_peaks.proofs.Offered.{count_tasks_in}
 use Rattle.plan_core.specs.Words.{cleans, task_numbers}
-use Rattle.storage_simulation.specs.Change.{cleaned_part}
-use Rattle.storage_simulation.specs.Standings.{held_of, phase_of, sizes}
+use Rattle.storage_simulation.specs.code.Change.{cleaned_part}
+use Rattle.storage_simulation.specs.code.Standings.{held_of, phase_of}
+use Rattle.storage_simulation.specs.Standings.{sizes}
 use Rattle.place_peaks.proofs.RenewingLemmas.{level_cleaned, level_made, no_clean}
 use Rattle.place_peaks.proofs.renewing.level_after.Goals as goal
 

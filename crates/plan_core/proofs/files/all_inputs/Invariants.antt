@@ -1,5 +1,5 @@
 use Rattle.std.proofs.Common.{◌≡◌, ◌++◌, drop}
-use Rattle.plan_core.specs.Files.{all_inputs}
+use Rattle.plan_core.specs.code.Files.{all_inputs}
 use Rattle.plan_core.proofs.files.all_inputs.Given as goal
 
 abbrev pub invariant-loop-job : goal.invariant-loop-job

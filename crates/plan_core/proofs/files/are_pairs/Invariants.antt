@@ -1,5 +1,5 @@
 use Rattle.std.proofs.Common.{◌≡◌, drop}
-use Rattle.plan_core.specs.Files.{are_pairs}
+use Rattle.plan_core.specs.code.Files.{are_pairs}
 use Rattle.plan_core.specs.Words.{pair_numbers}
 use Rattle.plan_core.proofs.files.are_pairs.Given as goal
 

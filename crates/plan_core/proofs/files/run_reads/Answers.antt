@@ -1,6 +1,6 @@
 use Rattle.std.proofs.Common.{◌∙◌, ap, ℕ, List, ◌&&◌, not}
 use Rattle.plan_core.specs.Numbers.{has}
-use Rattle.plan_core.specs.Files.{all_inputs, all_outputs}
+use Rattle.plan_core.specs.code.Files.{all_inputs, all_outputs}
 use Rattle.plan_core.proofs.FilesLemmas.{run_reads_are}
 use Rattle.plan_core.proofs.files.run_reads.Goals as goal
 

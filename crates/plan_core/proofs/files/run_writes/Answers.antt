@@ -1,5 +1,5 @@
 use Rattle.std.proofs.Common.{◌∙◌, ap}
-use Rattle.plan_core.specs.Files.{all_outputs}
+use Rattle.plan_core.specs.code.Files.{all_outputs}
 use Rattle.plan_core.proofs.FilesLemmas.{run_writes_are}
 use Rattle.plan_core.proofs.files.run_writes.Goals as goal
 

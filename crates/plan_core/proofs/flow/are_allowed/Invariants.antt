@@ -1,5 +1,5 @@
 use Rattle.std.proofs.Common.{◌≡◌, drop}
-use Rattle.plan_core.specs.Flow.{are_allowed}
+use Rattle.plan_core.specs.code.Flow.{are_allowed}
 use Rattle.plan_core.proofs.flow.are_allowed.Given as goal
 
 abbrev pub invariant-loop-number : goal.invariant-loop-number

@@ -1,6 +1,7 @@
 use Rattle.std.proofs.Common.{◌≡◌, ◌≤◌, length, ap, arith, refl, sym, subst}
-use Rattle.digraph.specs.Adjacency.{lists_of, neighbours}
-use Rattle.plan_core.specs.Numbers.{RisesFrom}
+use Rattle.digraph.specs.code.Adjacency.{lists_of}
+use Rattle.digraph.specs.Adjacency.{neighbours}
+use Rattle.plan_core.specs.code.Numbers.{RisesFrom}
 use Rattle.plan_core.specs.Words.{count_tasks}
 use Rattle.plan_core.proofs.FlowLemmas.{rising_from, one_more_parents, all_parents}
 use Rattle.plan_core.proofs.flow.are_parents.Goals as goal

@@ -1,8 +1,9 @@
 use Rattle.std.proofs.Common.{◌≡◌, ◌<◌, ℕ, List, length, ap, ◌∙◌}
 use Rattle.std.specs.Prelude.{Vec, slice_get}
 use Rattle.std.specs.declared.alloc.Global.{Global}
-use Rattle.digraph.specs.Adjacency.{lists_of, neighbours}
-use Rattle.plan_core.specs.Listing.{nodes, awaited}
+use Rattle.digraph.specs.code.Adjacency.{lists_of}
+use Rattle.digraph.specs.Adjacency.{neighbours}
+use Rattle.plan_core.specs.code.Listing.{nodes, awaited}
 use Rattle.plan_core.proofs.FlowLemmas.{awaited_edges, awaited_low}
 use Rattle.plan_core.proofs.flow.awaited.Goals as goal
 

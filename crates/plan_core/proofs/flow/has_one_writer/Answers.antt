@@ -2,9 +2,9 @@ use Rattle.std.proofs.Common.{◌≡◌, ◌≤◌, ◌∙◌, ℕ, List, length
 use Rattle.std.specs.Prelude.{Vec}
 use Rattle.std.specs.List.{list_all}
 use Rattle.std.specs.declared.alloc.Global.{Global}
-use Rattle.digraph.specs.Adjacency.{lists_of}
-use Rattle.digraph.specs.Digraph.{count, edge}
-use Rattle.plan_core.specs.Listing.{nodes}
+use Rattle.digraph.specs.code.Adjacency.{lists_of}
+use Rattle.digraph.specs.code.Digraph.{count, edge}
+use Rattle.plan_core.specs.code.Listing.{nodes}
 use Rattle.plan_core.specs.Words.{count_pairs}
 use Rattle.plan_core.specs.declared.plan.Pair.{Pair}
 use Rattle.plan_core.proofs.FlowLemmas.{writers_decided}

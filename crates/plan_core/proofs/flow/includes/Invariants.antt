@@ -1,5 +1,5 @@
 use Rattle.std.proofs.Common.{◌≡◌, drop}
-use Rattle.plan_core.specs.Flow.{includes}
+use Rattle.plan_core.specs.code.Flow.{includes}
 use Rattle.plan_core.proofs.flow.includes.Given as goal
 
 abbrev pub invariant-loop-number : goal.invariant-loop-number

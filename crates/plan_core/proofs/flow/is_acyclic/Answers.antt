@@ -1,6 +1,6 @@
-use Rattle.digraph.specs.Digraph.{count, edge}
+use Rattle.digraph.specs.code.Digraph.{count, edge}
 use Rattle.digraph.specs.Order.{IsTopologicalOrder}
-use Rattle.plan_core.specs.Proper.{is_parent}
+use Rattle.plan_core.specs.code.Proper.{is_parent}
 use Rattle.plan_core.proofs.FlowLemmas.{acyclic_decided}
 use Rattle.plan_core.proofs.flow.is_acyclic.Goals as goal
 

@@ -1,5 +1,5 @@
-use Rattle.digraph.specs.Digraph.{count, edge}
-use Rattle.plan_core.specs.Listing.{listed}
+use Rattle.digraph.specs.code.Digraph.{count, edge}
+use Rattle.plan_core.specs.code.Listing.{listed}
 use Rattle.plan_core.specs.Numbers.{has}
 use Rattle.plan_core.proofs.FlowLemmas.{once_decided}
 use Rattle.plan_core.proofs.flow.lists_once.Goals as goal

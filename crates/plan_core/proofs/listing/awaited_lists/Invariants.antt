@@ -1,7 +1,8 @@
 use Rattle.std.proofs.Common.{◌≡◌, ◌<◌, ℕ, length}
 use Rattle.std.specs.Prelude.{slice_get}
-use Rattle.digraph.specs.Adjacency.{lists_of, neighbours}
-use Rattle.plan_core.specs.Listing.{awaited}
+use Rattle.digraph.specs.code.Adjacency.{lists_of}
+use Rattle.digraph.specs.Adjacency.{neighbours}
+use Rattle.plan_core.specs.code.Listing.{awaited}
 use Rattle.plan_core.proofs.listing.awaited_lists.Given as goal
 
 abbrev pub invariant-loop-t : goal.invariant-loop-t

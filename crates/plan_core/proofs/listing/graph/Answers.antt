@@ -1,8 +1,9 @@
 use Rattle.std.proofs.Common.{◌≡◌, ◌<◌, ℕ, List, length, ap, sym, ◌∙◌, subst}
 use Rattle.std.specs.Prelude.{Vec}
 use Rattle.std.specs.declared.alloc.Global.{Global}
-use Rattle.digraph.specs.Adjacency.{lists_of, neighbours}
-use Rattle.plan_core.specs.Listing.{listed, nodes}
+use Rattle.digraph.specs.code.Adjacency.{lists_of}
+use Rattle.digraph.specs.Adjacency.{neighbours}
+use Rattle.plan_core.specs.code.Listing.{listed, nodes}
 use Rattle.plan_core.specs.Numbers.{has}
 use Rattle.plan_core.proofs.ListingLemmas.{listed_lists, lists_low}
 use Rattle.plan_core.proofs.listing.graph.Goals as goal

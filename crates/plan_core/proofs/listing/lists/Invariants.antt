@@ -1,6 +1,7 @@
 use Rattle.std.proofs.Common.{◌≡◌, ◌<◌, ℕ, length}
-use Rattle.digraph.specs.Adjacency.{lists_of, neighbours}
-use Rattle.plan_core.specs.Listing.{listed}
+use Rattle.digraph.specs.code.Adjacency.{lists_of}
+use Rattle.digraph.specs.Adjacency.{neighbours}
+use Rattle.plan_core.specs.code.Listing.{listed}
 use Rattle.plan_core.proofs.listing.lists.Given as goal
 
 abbrev pub invariant-loop-t : goal.invariant-loop-t

@@ -1,6 +1,7 @@
 use Rattle.std.proofs.Common.{◌≡◌, ◌++◌, drop}
 use Rattle.std.specs.List.{flat_map}
-use Rattle.digraph.specs.Adjacency.{lists_of, neighbours}
+use Rattle.digraph.specs.code.Adjacency.{lists_of}
+use Rattle.digraph.specs.Adjacency.{neighbours}
 use Rattle.plan_core.specs.Words.{pair_numbers}
 use Rattle.plan_core.proofs.listing.writers_of.Given as goal
 

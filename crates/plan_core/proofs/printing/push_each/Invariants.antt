@@ -1,5 +1,5 @@
 use Rattle.std.proofs.Common.{◌≡◌, ◌++◌, drop}
-use Rattle.plan_core.specs.Printing.{numbered}
+use Rattle.plan_core.specs.code.Printing.{numbered}
 use Rattle.plan_core.proofs.printing.push_each.Given as goal
 
 abbrev pub invariant-loop-number : goal.invariant-loop-number

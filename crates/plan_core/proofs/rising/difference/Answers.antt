@@ -1,5 +1,6 @@
 use Rattle.std.proofs.Common.{ℕ, List, ap, ◌∙◌, sym, subst}
-use Rattle.plan_core.specs.Numbers.{has, RisesFrom}
+use Rattle.plan_core.specs.Numbers.{has}
+use Rattle.plan_core.specs.code.Numbers.{RisesFrom}
 use Rattle.plan_core.proofs.SortingLemmas.{without_rises, without_same}
 use Rattle.plan_core.proofs.rising.difference.Goals as goal
 

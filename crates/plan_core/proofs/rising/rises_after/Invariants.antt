@@ -1,5 +1,5 @@
 use Rattle.std.proofs.Common.{◌≡◌, drop}
-use Rattle.plan_core.specs.Rising.{rises_after}
+use Rattle.plan_core.specs.code.Rising.{rises_after}
 use Rattle.plan_core.proofs.rising.rises_after.Given as goal
 
 abbrev pub invariant-loop-number : goal.invariant-loop-number

@@ -1,5 +1,5 @@
 use Rattle.std.proofs.Common.{◌∙◌, ap, sym}
-use Rattle.plan_core.specs.Rising.{is_rising}
+use Rattle.plan_core.specs.code.Rising.{is_rising}
 use Rattle.plan_core.proofs.SortingLemmas.{rising_rises, sorted_rises, sort_same}
 use Rattle.plan_core.proofs.rising.sorted.Goals as goal
 

@@ -1,5 +1,5 @@
 use Rattle.std.proofs.Common.{◌≡◌, ◌++◌, drop}
-use Rattle.plan_core.specs.Rising.{without}
+use Rattle.plan_core.specs.code.Rising.{without}
 use Rattle.plan_core.proofs.rising.taken_out.Given as goal
 
 abbrev pub invariant-loop-number : goal.invariant-loop-number

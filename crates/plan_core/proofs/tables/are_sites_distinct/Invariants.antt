@@ -1,5 +1,5 @@
 use Rattle.std.proofs.Common.{◌≡◌, drop, map, []}
-use Rattle.plan_core.specs.Tables.{are_unknown}
+use Rattle.plan_core.specs.code.Tables.{are_unknown}
 use Rattle.plan_core.specs.declared.plan.PlanSite.{PlanSite}
 use Rattle.plan_core.proofs.tables.are_sites_distinct.Given as goal
 

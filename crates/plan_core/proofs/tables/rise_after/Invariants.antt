@@ -1,5 +1,5 @@
 use Rattle.std.proofs.Common.{◌≡◌, drop}
-use Rattle.plan_core.specs.Proper.{rise_after}
+use Rattle.plan_core.specs.code.Proper.{rise_after}
 use Rattle.plan_core.proofs.tables.rise_after.Given as goal
 
 abbrev pub invariant-loop-pair : goal.invariant-loop-pair

@@ -1,5 +1,5 @@
 use Rattle.std.proofs.Common.{◌≡◌, ◌++◌, drop}
-use Rattle.plan_core.specs.Tasks.{are_fresh}
+use Rattle.plan_core.specs.code.Tasks.{are_fresh}
 use Rattle.plan_core.specs.Words.{file_numbers}
 use Rattle.plan_core.proofs.tasks.adds_new.Given as goal
 

@@ -1,5 +1,5 @@
 use Rattle.std.proofs.Common.{◌≡◌, drop}
-use Rattle.plan_core.specs.Tasks.{have_sizes}
+use Rattle.plan_core.specs.code.Tasks.{have_sizes}
 use Rattle.plan_core.specs.Words.{file_numbers}
 use Rattle.plan_core.proofs.tasks.have_sizes.Given as goal
 

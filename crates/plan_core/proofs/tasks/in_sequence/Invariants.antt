@@ -1,5 +1,5 @@
 use Rattle.std.proofs.Common.{◌≡◌, [], drop}
-use Rattle.plan_core.specs.Tasks.{in_sequence}
+use Rattle.plan_core.specs.code.Tasks.{in_sequence}
 use Rattle.plan_core.proofs.tasks.in_sequence.Given as goal
 
 abbrev pub invariant-loop-job : goal.invariant-loop-job

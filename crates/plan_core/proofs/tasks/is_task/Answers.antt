@@ -1,5 +1,5 @@
 use Rattle.std.proofs.Common.{List, ap, ◌∙◌}
-use Rattle.plan_core.specs.Tasks.{kind_in_sequence}
+use Rattle.plan_core.specs.code.Tasks.{kind_in_sequence}
 use Rattle.plan_core.specs.declared.plan.PlanJob.{PlanJob}
 use Rattle.plan_core.proofs.TasksLemmas.{task_decided}
 use Rattle.plan_core.proofs.tasks.is_task.Goals as goal

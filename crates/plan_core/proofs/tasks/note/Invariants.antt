@@ -1,5 +1,5 @@
 use Rattle.std.proofs.Common.{◌≡◌, drop}
-use Rattle.plan_core.specs.Tasks.{with_all}
+use Rattle.plan_core.specs.code.Tasks.{with_all}
 use Rattle.plan_core.specs.Words.{file_numbers}
 use Rattle.plan_core.proofs.tasks.note.Given as goal
 

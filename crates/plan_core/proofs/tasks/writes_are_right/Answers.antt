@@ -1,6 +1,6 @@
 use Rattle.std.proofs.Common.{List, subst}
 use Rattle.std.specs.Prelude.{Some}
-use Rattle.plan_core.specs.Files.{AreFilesOf}
+use Rattle.plan_core.specs.code.Files.{AreFilesOf}
 use Rattle.plan_core.specs.Kinds.{kind_writes}
 use Rattle.plan_core.specs.declared.plan.PlanJob.{PlanJob}
 use Rattle.plan_core.proofs.TasksLemmas.{writes_decided}

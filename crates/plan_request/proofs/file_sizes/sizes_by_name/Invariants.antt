@@ -1,5 +1,5 @@
 use Rattle.std.proofs.Common.{◌≡◌, [], map, drop}
-use Rattle.plan_request.specs.Index.{with_entries}
+use Rattle.plan_request.specs.code.Index.{with_entries}
 use Rattle.plan_request.specs.FileSizes.{named_size}
 use Rattle.plan_request.proofs.file_sizes.sizes_by_name.Given as goal
 

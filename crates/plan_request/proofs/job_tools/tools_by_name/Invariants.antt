@@ -1,5 +1,5 @@
 use Rattle.std.proofs.Common.{◌≡◌, [], map, drop}
-use Rattle.plan_request.specs.Index.{with_entries}
+use Rattle.plan_request.specs.code.Index.{with_entries}
 use Rattle.plan_request.specs.JobTools.{named_tool}
 use Rattle.plan_request.proofs.job_tools.tools_by_name.Given as goal
 

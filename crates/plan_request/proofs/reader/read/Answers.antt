@@ -1,5 +1,5 @@
 use Rattle.std.proofs.Common.{sym, subst}
-use Rattle.plan_request.specs.Limits.{IsWithinLimits}
+use Rattle.plan_request.specs.code.Limits.{IsWithinLimits}
 use Rattle.plan_request.proofs.LimitsLemmas.{request_small}
 use Rattle.plan_request.proofs.reader.read.Goals as goal
 

@@ -1,5 +1,5 @@
 use Rattle.std.proofs.Common.{◌≡◌, ◌++◌, [], ◌∷◌, length, take, ap, ◌∙◌, arith}
-use Rattle.run_record.specs.Events.{event}
+use Rattle.run_record.specs.code.Events.{event}
 use Rattle.plan_run.proofs.RecordCopyLemmas.{copied_all, copied_more, entry_proper}
 use Rattle.plan_run.proofs.record_copy.copy_of.Goals as goal
 

@@ -2,8 +2,8 @@ use Rattle.std.proofs.Common.{[], ◌∙◌, ap, refl, take}
 use Rattle.std.proofs.Math.Logic.{∥∥₁_elim, ∥∥₁_map, ∥∥₁_prop}
 use Rattle.std.specs.Prelude.{is_some}
 use Rattle.plan_core.specs.Words.{task_numbers}
-use Rattle.plan_run.specs.Moments.{member_moment, work_moment, working}
-use Rattle.plan_run.specs.Running.{reporting}
+use Rattle.plan_run.specs.code.Moments.{member_moment, work_moment, working}
+use Rattle.plan_run.specs.code.Running.{reporting}
 use Rattle.plan_run.proofs.RunningLemmas.{IsAloneEnd, alone_end, alone_was_refused, marked_so, ran_alone}
 use Rattle.plan_run.proofs.running.run_plan.Goals as goal
 

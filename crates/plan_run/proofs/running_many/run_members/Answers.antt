@@ -4,9 +4,9 @@ use Rattle.std.specs.Prelude.{is_some}
 use Rattle.plan_core.specs.Words.{task_numbers}
 use Rattle.storage_simulation.specs.declared.ordered.Ordered.{Ordered}
 use Rattle.lease_rules.specs.State.{now}
-use Rattle.worker_gate.specs.Alone.{IsOver}
-use Rattle.plan_run.specs.Moments.{counting, crew_moment, first_shown, work_moment, working}
-use Rattle.plan_run.specs.Running.{reporting}
+use Rattle.worker_gate.specs.code.Alone.{IsOver}
+use Rattle.plan_run.specs.code.Moments.{counting, crew_moment, first_shown, work_moment, working}
+use Rattle.plan_run.specs.code.Running.{reporting}
 use Rattle.plan_run.proofs.RunningLemmas.{marked_so, over_in, ran, was_refused}
 use Rattle.plan_run.proofs.RunningManyLemmas.{gates_shown, many_end, told_shown, tools_shown}
 use Rattle.plan_run.proofs.running_many.run_members.Goals as goal

@@ -1,8 +1,9 @@
 use Rattle.std.proofs.Common.{[], List, ◌++◌, ◌∙◌, ap, refl}
 use Rattle.craft.specs.declared.crew.Crew.{Crew}
 use Rattle.plan_core.specs.Words.{task_numbers}
-use Rattle.plan_run.specs.Moments.{MemberMoment, counting, crew_moment, first_shown, member_moment, work_moment, working}
-use Rattle.plan_run.specs.Running.{reporting}
+use Rattle.plan_run.specs.Moments.{MemberMoment}
+use Rattle.plan_run.specs.code.Moments.{counting, crew_moment, first_shown, member_moment, work_moment, working}
+use Rattle.plan_run.specs.code.Running.{reporting}
 use Rattle.plan_run.proofs.CrewLemmas.{many_of}
 use Rattle.plan_run.proofs.MembersLemmas.{others_stay, taken_many}
 use Rattle.plan_run.proofs.RunningLemmas.{no_room}

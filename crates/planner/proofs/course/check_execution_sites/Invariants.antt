@@ -1,7 +1,7 @@
 use Rattle.std.proofs.Common.{◌≡◌, drop}
-use Rattle.peg_json.specs.Duplicates.{first_unknown}
-use Rattle.site_catalog.specs.Reader.{names_of}
-use Rattle.planner.specs.Course.{execution_names}
+use Rattle.peg_json.specs.Elements.{first_unknown}
+use Rattle.site_catalog.specs.Catalog.{names_of}
+use Rattle.planner.specs.code.Course.{execution_names}
 use Rattle.planner.proofs.course.check_execution_sites.Given as goal
 
 abbrev pub invariant-loop-execution : goal.invariant-loop-execution

@@ -1,7 +1,7 @@
 use Rattle.std.proofs.Common.{◌≡◌, drop}
 use Rattle.std.specs.List.{list_any}
 use Rattle.std.specs.Str.{bytes_eq}
-use Rattle.site_catalog.specs.Reader.{names_of}
+use Rattle.site_catalog.specs.Catalog.{names_of}
 use Rattle.planner.proofs.course.is_listed.Given as goal
 
 abbrev pub invariant-loop-site : goal.invariant-loop-site

@@ -1,10 +1,10 @@
 use Rattle.std.proofs.Common.{◌+◌, ◌<◌, ◌≤◌, ◌^◌, sym, subst, arith}
-use Rattle.plan_core.specs.Proper.{IsProper}
+use Rattle.plan_core.specs.code.Proper.{IsProper}
 use Rattle.plan_core.specs.Words.{count_pairs, count_tasks}
-use Rattle.storage_simulation.specs.Goods.{IsWithinLimits}
-use Rattle.transfer_refiner.specs.Tasks.{count_cleans}
-use Rattle.cleanup_refiner.specs.Cleans.{cleaned}
-use Rattle.planner.specs.Planning.{draft}
+use Rattle.storage_simulation.specs.code.Goods.{IsWithinLimits}
+use Rattle.transfer_refiner.specs.code.Tasks.{count_cleans}
+use Rattle.cleanup_refiner.specs.Cleans.{with_cleanup}
+use Rattle.planner.specs.code.Planning.{draft}
 use Rattle.planner.proofs.LawLemmas.{IsSmall, cleaned_limits, cleaned_proper}
 use Rattle.planner.proofs.law.plans_can_be_ordered.Goals as goal
 
@@ -36,5 +36,5 @@ returns-clause-limits c r s limit p formed graph checked sizes few planned =
       files = c.refined_plan_is_small.ensures.files d planned.bare is refined;
       sizes = c.refined_plan_is_small.ensures.sizes d planned.bare is sizes refined;
     } in
-    let proper : IsProper (cleaned r.cleanup planned.bare) = subst IsProper planned.cleaned_is (proper_with c r s limit p formed graph checked few planned) in
+    let proper : IsProper (with_cleanup r.cleanup planned.bare) = subst IsProper planned.cleaned_is (proper_with c r s limit p formed graph checked few planned) in
     subst IsWithinLimits (sym planned.cleaned_is) (cleaned_limits r.cleanup planned.bare small proper tasks c.pairs_are_few.ensures)

@@ -1,10 +1,10 @@
 use Rattle.std.proofs.Common.{◌≡◌, ◌+◌, ◌<◌, ◌^◌, ℕ, true, sym, subst, arith}
 use Rattle.plan_core.specs.declared.plan.Plan.{Plan}
 use Rattle.plan_core.specs.Carried.{carried}
-use Rattle.plan_core.specs.Kinds.{carries}
+use Rattle.plan_core.specs.code.Kinds.{carries}
 use Rattle.plan_core.specs.Words.{count_pairs, count_tasks}
 use Rattle.planner.specs.Meaning.{value_of}
-use Rattle.planner.specs.Planning.{draft}
+use Rattle.planner.specs.code.Planning.{draft}
 use Rattle.planner.proofs.MeaningLemmas.{at_hand, replicas_hold, values_are, with_strategy}
 use Rattle.planner.proofs.meaning.plans_mean_the_workflow.Goals as goal
 

@@ -1,6 +1,6 @@
 use Rattle.std.proofs.Common.{sym, subst}
 use Rattle.plan_request.specs.declared.request.Selector.{Selector}
-use Rattle.planner.specs.Sites.{Chooses}
+use Rattle.planner.specs.code.Sites.{Chooses}
 use Rattle.planner.proofs.sites.chosen.Goals as goal
 
 pub returns-in-Heft : goal.returns-in-Heft

@@ -1,5 +1,5 @@
 use Rattle.std.proofs.Common.{◌≡◌, ◌++◌, drop}
-use Rattle.planner.specs.SurveyText.{ignored_lines}
+use Rattle.planner.specs.code.SurveyText.{ignored_lines}
 use Rattle.planner.proofs.survey_text.push_all_ignored.Given as goal
 
 abbrev pub invariant-loop-path : goal.invariant-loop-path

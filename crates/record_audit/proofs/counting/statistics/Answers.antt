@@ -2,8 +2,9 @@ use Rattle.std.proofs.Common.{◌≡◌, ◌+◌, ◌≤◌, ◌*◌, ◌^◌, �
 use Rattle.std.specs.Prelude.{sum_by}
 use Rattle.plan_core.specs.declared.plan.Plan.{Plan}
 use Rattle.plan_core.specs.Words.{task_numbers}
-use Rattle.storage_simulation.specs.Standings.{at_in}
-use Rattle.run_record.specs.Events.{Event, event}
+use Rattle.storage_simulation.specs.code.Standings.{at_in}
+use Rattle.run_record.specs.Events.{Event}
+use Rattle.run_record.specs.code.Events.{event}
 use Rattle.lease_rules.specs.State.{now, opened}
 use Rattle.record_audit.specs.Holdings.{AddsUp, IsSized, Shows}
 use Rattle.record_audit.specs.Sums.{AreCounts, ArePeaks, arrived}

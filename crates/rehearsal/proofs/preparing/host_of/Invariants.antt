@@ -1,7 +1,7 @@
 use Rattle.std.proofs.Common.{◌≡◌, drop}
-use Rattle.outside.specs.Counts.{no_calls}
-use Rattle.outside.specs.MemoryHost.{host_counts, host_store}
-use Rattle.outside.specs.Store.{blank}
+use Rattle.outside.specs.code.Counts.{no_calls}
+use Rattle.outside.specs.code.MemoryHost.{host_counts, host_store}
+use Rattle.outside.specs.code.Store.{blank}
 use Rattle.rehearsal.specs.Preparing.{stored}
 use Rattle.rehearsal.proofs.preparing.host_of.Given as goal
 

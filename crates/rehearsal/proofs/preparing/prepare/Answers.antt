@@ -1,9 +1,9 @@
 use Rattle.std.proofs.Common.{◌∙◌, ℕ, List, ap, subst}
-use Rattle.outside.specs.Store.{blank}
+use Rattle.outside.specs.code.Store.{blank}
 use Rattle.values.specs.declared.documents.Documents.{Documents}
-use Rattle.plan_request.specs.Reader.{read_of}
-use Rattle.planner.specs.Course.{Refuses}
-use Rattle.planner.specs.PlanFault.{FailsPlan, answered}
+use Rattle.plan_request.specs.Request.{request_from_text}
+use Rattle.planner.specs.code.Course.{Refuses}
+use Rattle.planner.specs.code.PlanFault.{FailsPlan, answered}
 use Rattle.planner.specs.declared.document.Document.TheVariants.{Request}
 use Rattle.rehearsal.specs.Preparing.{stored}
 use Rattle.rehearsal.specs.Registered.{RegistersImages}
@@ -13,7 +13,7 @@ use Rattle.rehearsal.proofs.preparing.prepare.Goals as goal
 pub returns-in-Err-clause-fault : goal.returns-in-Err-clause-fault
 returns-in-Err-clause-fault c =
     let fault = c.in-Err.fault in
-    refuses_request c.args.images fault (subst (λ (text : List ℕ). FailsPlan fault (answered Request (read_of text))) c.in_ok-workload.ensures.request c.in-Err.ensures.answer)
+    refuses_request c.args.images fault (subst (λ (text : List ℕ). FailsPlan fault (answered Request (request_from_text text))) c.in_ok-workload.ensures.request c.in-Err.ensures.answer)
 
 pub returns-in-Err-survey_request-clause-fault : goal.returns-in-Err-survey_request-clause-fault
 returns-in-Err-survey_request-clause-fault c =

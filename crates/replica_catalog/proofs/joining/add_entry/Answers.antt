@@ -7,8 +7,8 @@ use Rattle.std.proofs.lemmas.List.Quantifiers.{position-Some}
 use Rattle.std.proofs.lemmas.List.{length-map}
 use Rattle.std.proofs.Math.Seq.{map-set_same}
 use Rattle.replica_catalog.specs.declared.catalog.Replica.{Replica}
-use Rattle.replica_catalog.specs.Joining.{lfns_of}
-use Rattle.replica_catalog.specs.Merged.{absorbed}
+use Rattle.replica_catalog.specs.Lookup.{lfns_of}
+use Rattle.replica_catalog.specs.code.Merged.{absorbed}
 use Rattle.replica_catalog.proofs.JoiningLemmas.{at_place, not_there}
 use Rattle.replica_catalog.proofs.joining.add_entry.Goals as goal
 

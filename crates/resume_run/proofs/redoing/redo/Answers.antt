@@ -2,11 +2,11 @@ use Rattle.std.proofs.Common.{◌∙◌, ◌+◌, ◌<◌, ap, arith, drop, get_
 use Rattle.std.proofs.lemmas.List.{drop_more}
 use Rattle.plan_core.specs.Words.{count_tasks, task_numbers}
 use Rattle.site_yard.proofs.YardLemmas.{same_yard, still_yard}
-use Rattle.worker_gate.specs.Calls.{AddsCalls}
-use Rattle.worker_gate.specs.Inputs.{AddsOfInputs}
+use Rattle.worker_gate.specs.code.Calls.{AddsCalls}
+use Rattle.worker_gate.specs.code.Inputs.{AddsOfInputs}
 use Rattle.worker_gate.proofs.CallsLemmas.{calls_both, calls_none}
 use Rattle.worker_gate.proofs.InputsLemmas.{adds_both, adds_none}
-use Rattle.plan_run.specs.Moments.{crew_moment}
+use Rattle.plan_run.specs.code.Moments.{crew_moment}
 use Rattle.resume_run.specs.Lost.{lost_below}
 use Rattle.resume_run.proofs.RedoingLemmas.{faults_fails, next_open, nobody, redone_all, redone_fails, redone_more, redone_none, state_of, worker_low}
 use Rattle.resume_run.proofs.TellingLemmas.{none_told, told_more}

@@ -1,10 +1,10 @@
 use Rattle.std.proofs.Common.{◌≡◌, length, map}
 use Rattle.craft.specs.declared.crew.Crew.{Crew}
 use Rattle.plan_core.specs.Words.{task_numbers}
-use Rattle.site_yard.specs.Yard.{IsSameYard}
-use Rattle.worker_gate.specs.Calls.{AddsCalls}
-use Rattle.worker_gate.specs.Inputs.{AddsOfInputs}
-use Rattle.plan_run.specs.Moments.{crew_moment}
+use Rattle.site_yard.specs.code.Yard.{IsSameYard}
+use Rattle.worker_gate.specs.code.Calls.{AddsCalls}
+use Rattle.worker_gate.specs.code.Inputs.{AddsOfInputs}
+use Rattle.plan_run.specs.code.Moments.{crew_moment}
 use Rattle.resume_run.specs.Redoing.{AreToldOf}
 use Rattle.resume_run.proofs.RedoingLemmas.{HasRedone}
 use Rattle.resume_run.proofs.redoing.redo.Given as goal

@@ -1,8 +1,8 @@
 use Rattle.std.proofs.Common.{◌∙◌, ◌∷◌, [], ap}
-use Rattle.run_record.specs.Events.{Log}
+use Rattle.run_record.specs.code.Events.{Log}
 use Rattle.lease_book.specs.declared.book.Book.{Book}
 use Rattle.craft.specs.declared.crew.Crew.{Crew}
-use Rattle.plan_run.specs.Moments.{member_moment}
+use Rattle.plan_run.specs.code.Moments.{member_moment}
 use Rattle.resume_run.proofs.FaultsLemmas.{used_counts}
 use Rattle.resume_run.proofs.TellingLemmas.{done_by, part_stays, used_told}
 use Rattle.resume_run.proofs.redoing.redo_one.Goals as goal

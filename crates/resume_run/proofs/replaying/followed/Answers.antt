@@ -1,6 +1,6 @@
 use Rattle.std.proofs.Common.{◌+◌, sym, subst, ◌∙◌, take}
 use Rattle.plan_core.specs.Words.{task_numbers}
-use Rattle.run_record.specs.Events.{event}
+use Rattle.run_record.specs.code.Events.{event}
 use Rattle.lease_book.specs.declared.book.Book.{Book}
 use Rattle.resume_run.specs.Replaying.{HasFollowed, without_fails}
 use Rattle.resume_run.proofs.ReplayingLemmas.{follows_allowed, follows_next, follows_skip}

@@ -2,11 +2,11 @@ use Rattle.std.proofs.Common.{◌∙◌, ap, inr, refl, subst}
 use Rattle.std.specs.Prelude.{is_some}
 use Rattle.std.proofs.Math.Logic.{∥∥₁_elim, ∥∥₁_map, ∥∥₁_prop}
 use Rattle.plan_core.specs.Words.{task_numbers}
-use Rattle.site_yard.specs.Failures.{AreMore}
-use Rattle.site_yard.specs.Reopening.{AreRecorded, RefusesAgain, measures}
-use Rattle.plan_run.specs.Moments.{counting, crew_moment, first_shown, work_moment, working}
+use Rattle.site_yard.specs.code.Failures.{AreMore}
+use Rattle.site_yard.specs.code.Reopening.{AreRecorded, RefusesAgain, measures}
+use Rattle.plan_run.specs.code.Moments.{counting, crew_moment, first_shown, work_moment, working}
 use Rattle.resume_run.specs.Resuming.{continued}
-use Rattle.plan_run.specs.Running.{reporting}
+use Rattle.plan_run.specs.code.Running.{reporting}
 use Rattle.plan_run.proofs.RunningLemmas.{marked_so, takes_calls}
 use Rattle.resume_run.proofs.ResumingLemmas.{asked_same, below_by, held_in, inputs_added, not_reopened, over_since, parts_of, went_on}
 use Rattle.resume_run.proofs.TellingLemmas.{told_since}

@@ -1,7 +1,7 @@
 use Rattle.std.proofs.Common.{inr, subst}
 use Rattle.std.proofs.Math.Logic.{∥∥₁_map}
 use Rattle.plan_core.specs.Words.{task_numbers}
-use Rattle.plan_run.specs.Moments.{counting, crew_moment, first_shown, work_moment, working}
+use Rattle.plan_run.specs.code.Moments.{counting, crew_moment, first_shown, work_moment, working}
 use Rattle.resume_run.specs.Resuming.{HasGoneOn}
 use Rattle.resume_run.proofs.ResumingLemmas.{numbers_one, unfailing_in}
 use Rattle.resume_run.proofs.resuming.resume_plan.Goals as goal

@@ -4,7 +4,7 @@ use Rattle.plan_core.specs.Words.{task_numbers}
 use Rattle.lease_book.specs.Book.{state_at}
 use Rattle.worker_gate.proofs.CallsLemmas.{calls_both}
 use Rattle.worker_gate.proofs.InputsLemmas.{adds_both}
-use Rattle.plan_run.specs.Moments.{member_moment}
+use Rattle.plan_run.specs.code.Moments.{member_moment}
 use Rattle.resume_run.proofs.TellingLemmas.{part_stays, told_more, used_told}
 use Rattle.resume_run.proofs.WorkingLemmas.{failing_in, first_counts, lost_in, none_open_in, unfailing_in, works_stopped, works_then}
 use Rattle.resume_run.proofs.working.work_on.Goals as goal

@@ -1,6 +1,6 @@
 use Rattle.std.proofs.Common.{◌≡◌, List, ℕ, ◌++◌, subst}
 use Rattle.std.specs.Prelude.{OnOk, codes}
-use Rattle.run_record.specs.FailedLine.{spaced_name, spaced_number}
+use Rattle.run_record.specs.code.FailedLine.{spaced_name, spaced_number}
 use Rattle.run_record.proofs.FailedLineLemmas.{four_words}
 use Rattle.run_record.proofs.failed_line.push_oversize.Goals as goal
 

@@ -1,5 +1,5 @@
 use Rattle.std.proofs.Common.{◌≡◌, ◌+◌, drop}
-use Rattle.run_record.specs.Lines.{line_length}
+use Rattle.run_record.specs.code.Lines.{line_length}
 use Rattle.run_record.proofs.lines.line_length.Given as goal
 
 abbrev pub invariant-loop-k : goal.invariant-loop-k

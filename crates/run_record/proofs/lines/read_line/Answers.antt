@@ -1,5 +1,5 @@
 use Rattle.std.proofs.Common.{◌∙◌}
-use Rattle.run_record.specs.Events.{event}
+use Rattle.run_record.specs.code.Events.{event}
 use Rattle.run_record.proofs.ParserLemmas.{none_read, other_read}
 use Rattle.run_record.proofs.lines.read_line.Goals as goal
 

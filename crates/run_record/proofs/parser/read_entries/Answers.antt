@@ -1,7 +1,7 @@
 use Rattle.std.proofs.Common.{◌++◌, ◌<◌, List, ℕ, length, map, ◌∙◌, ap, arith}
 use Rattle.std.specs.List.{concat}
-use Rattle.run_record.specs.Lines.{first_line}
-use Rattle.run_record.specs.Parser.{AddsEntry}
+use Rattle.run_record.specs.code.Lines.{first_line}
+use Rattle.run_record.specs.code.Parser.{AddsEntry}
 use Rattle.run_record.specs.RecordText.{entry_line}
 use Rattle.run_record.proofs.ParserLemmas.{entry_read, version_kept, less_left}
 use Rattle.run_record.proofs.parser.read_entries.Goals as goal

@@ -1,6 +1,6 @@
 use Rattle.std.proofs.Common.{◌≡◌, ◌++◌, map, length, true}
 use Rattle.std.specs.List.{concat, list_all}
-use Rattle.run_record.specs.Parser.{fits_version}
+use Rattle.run_record.specs.code.Parser.{fits_version}
 use Rattle.run_record.specs.RecordText.{entry_line}
 use Rattle.run_record.proofs.parser.read_entries.Given as goal
 

@@ -1,6 +1,7 @@
 use Rattle.std.proofs.Common.{◌||◌, ◌+◌, Bool, drop, sym, ap, ◌∙◌}
 use Rattle.std.specs.List.{list_any}
-use Rattle.run_record.specs.Events.{event, is_second}
+use Rattle.run_record.specs.code.Events.{event}
+use Rattle.run_record.specs.Events.{is_second}
 use Rattle.run_record.proofs.RecordTextLemmas.{any_from}
 use Rattle.run_record.proofs.printer.is_version_two.Goals as goal
 

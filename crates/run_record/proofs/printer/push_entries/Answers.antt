@@ -1,6 +1,6 @@
 use Rattle.std.proofs.Common.{◌++◌, ◌+◌, ℕ, List, map, drop, sym, ap, ◌∙◌, append_assoc}
 use Rattle.std.specs.List.{concat}
-use Rattle.run_record.specs.Events.{event}
+use Rattle.run_record.specs.code.Events.{event}
 use Rattle.run_record.specs.RecordText.{entry_line}
 use Rattle.run_record.proofs.RecordTextLemmas.{lines_from}
 use Rattle.run_record.proofs.printer.push_entries.Goals as goal

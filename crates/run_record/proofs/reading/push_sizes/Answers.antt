@@ -1,6 +1,6 @@
 use Rattle.std.proofs.Common.{◌∙◌}
 use Rattle.std.specs.Option.{option_copied}
-use Rattle.run_record.specs.Words.{words_in}
+use Rattle.run_record.specs.code.Words.{words_in}
 use Rattle.run_record.proofs.WordsLemmas.{size_read, size_skipped}
 use Rattle.run_record.proofs.reading.push_sizes.Goals as goal
 

@@ -1,7 +1,7 @@
 use Rattle.std.proofs.Common.{◌≡◌, ◌++◌, length}
 use Rattle.std.specs.Option.{option_copied}
-use Rattle.run_record.specs.Reading.{sizes_of}
-use Rattle.run_record.specs.Words.{words_in}
+use Rattle.run_record.specs.code.Reading.{sizes_of}
+use Rattle.run_record.specs.code.Words.{words_in}
 use Rattle.run_record.proofs.reading.push_sizes.Given as goal
 
 -- the sizes so far and those of what is left are those of all

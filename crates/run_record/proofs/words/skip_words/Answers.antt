@@ -1,6 +1,6 @@
 use Rattle.std.proofs.Common.{◌∙◌, sym, arith}
 use Rattle.std.specs.Option.{option_copied}
-use Rattle.run_record.specs.Words.{words_of, words_in}
+use Rattle.run_record.specs.code.Words.{words_of, words_in}
 use Rattle.run_record.proofs.WordsLemmas.{one_more, none_more}
 use Rattle.run_record.proofs.words.skip_words.Goals as goal
 

@@ -1,6 +1,6 @@
 use Rattle.std.proofs.Common.{◌∙◌, ap}
 use Rattle.site_selector.specs.Offers.{sites_of}
-use Rattle.site_selector.specs.Candidates.{listed_from}
+use Rattle.site_selector.specs.code.Candidates.{listed_from}
 use Rattle.site_selector.proofs.CandidateLemmas.{listed_are, none_are}
 use Rattle.site_selector.proofs.candidates.candidates.Goals as goal
 

@@ -1,5 +1,5 @@
 use Rattle.std.proofs.Common.{◌≡◌, ◌++◌, drop}
-use Rattle.site_selector.specs.Candidates.{listed_from}
+use Rattle.site_selector.specs.code.Candidates.{listed_from}
 use Rattle.site_selector.proofs.candidates.listed.Given as goal
 
 abbrev pub invariant-loop-site : goal.invariant-loop-site

@@ -1,7 +1,7 @@
 use Rattle.std.proofs.Common.{◌≡◌, ◌∙◌, ◌+◌, ◌++◌, ◌∷◌, [], take, sym, ap}
 use Rattle.std.proofs.lemmas.List.{take_more}
 use Rattle.transformation_catalog.specs.declared.catalog.TransformationSite.{TransformationSite}
-use Rattle.site_selector.specs.Offers.{installed_flags, marked}
+use Rattle.site_selector.specs.code.Offers.{installed_flags, marked}
 use Rattle.site_selector.proofs.OfferLemmas.{marked_more}
 use Rattle.site_selector.proofs.offers.installed_flags.Goals as goal
 

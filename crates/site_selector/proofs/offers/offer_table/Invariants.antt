@@ -1,5 +1,5 @@
 use Rattle.std.proofs.Common.{◌≡◌, take}
-use Rattle.site_selector.specs.Offers.{flags_in, offer_table}
+use Rattle.site_selector.specs.code.Offers.{flags_in, offer_table}
 use Rattle.site_selector.proofs.offers.offer_table.Given as goal
 
 abbrev pub invariant-loop-entry : goal.invariant-loop-entry

@@ -6,8 +6,9 @@ use Rattle.workflow_core.specs.declared.workflow.Job.{Job}
 use Rattle.plan_request.specs.declared.request.Execution.{Execution}
 use Rattle.values.specs.declared.select_fault.SelectFault.{SelectFault}
 use Rattle.dependency_graph.specs.Ranking.{IsRanked}
-use Rattle.site_selector.specs.Offers.{Offered}
-use Rattle.site_selector.specs.Candidates.{site_of, IsAnswer}
+use Rattle.site_selector.specs.code.Offers.{Offered}
+use Rattle.site_selector.specs.Candidates.{selected_site}
+use Rattle.site_selector.specs.code.Candidates.{IsAnswer}
 use Rattle.site_selector.specs.Selecting.{selection}
 use Rattle.site_selector.proofs.OfferLemmas.{checked_are}
 use Rattle.site_selector.proofs.SelectingLemmas.{ArePlaced, number_below, place_more, handed_on, refused_is, selected_is}
@@ -42,9 +43,9 @@ loop-turn-preserved c =
     let below = number_below c.args.kept.now c.args.levels.now order c.loop-turn.turn (length c.args.workflow.now.jobs) sorted c.requires.kept c.loop-turn-test.true in
     let at : slice_get c.args.workflow.now.jobs number ≡ Some job =
     slice_get-get_or c.args.workflow.now.jobs number job below ∙ ap (λ (j : Job). Some j) (ap (λ (js : List Job). get_or js number job) (sym c.as_slice-jobs.ensures) ∙ sym c.index-jobs-number.is) in
-    let answer : site_of c.args.request.now.execute c.args.transformations.now.entries c.loop-turn.turn number job ≡ Ok c.in_ok-site.site =
-    ap (λ (es : List Execution). site_of es c.args.transformations.now.entries c.loop-turn.turn number job) (sym c.as_slice.ensures)
-    ∙ sym (ap (λ (o : Offered). site_of o.execute o.entries c.loop-turn.turn number job) c.in_ok-offers.ensures)
+    let answer : selected_site c.args.request.now.execute c.args.transformations.now.entries c.loop-turn.turn number job ≡ Ok c.in_ok-site.site =
+    ap (λ (es : List Execution). selected_site es c.args.transformations.now.entries c.loop-turn.turn number job) (sym c.as_slice.ensures)
+    ∙ sym (ap (λ (o : Offered). selected_site o.execute o.entries c.loop-turn.turn number job) c.in_ok-offers.ensures)
     ∙ c.in_ok-site.ensures in
     place_more (selection c.args.workflow.now c.args.kept.now c.args.levels.now c.args.request.now c.args.transformations.now) order c.loop-turn.sites.items c.loop-turn.turn job c.in_ok-site.site c.requires.kept sorted c.loop-turn.invariant (record { below = c.loop-turn-test.true; at = at; answer = answer })
 
@@ -59,8 +60,8 @@ returns-in_err-site c =
     let at : slice_get c.args.workflow.now.jobs number ≡ Some job =
     slice_get-get_or c.args.workflow.now.jobs number job below ∙ ap (λ (j : Job). Some j) (ap (λ (js : List Job). get_or js number job) (sym c.as_slice-jobs.ensures) ∙ sym c.index-jobs-number.is) in
     let answer =
-    ap (λ (es : List Execution). site_of es c.args.transformations.now.entries c.loop-turn.turn number job) (sym c.as_slice.ensures)
-    ∙ sym (ap (λ (o : Offered). site_of o.execute o.entries c.loop-turn.turn number job) c.in_ok-offers.ensures) in
+    ap (λ (es : List Execution). selected_site es c.args.transformations.now.entries c.loop-turn.turn number job) (sym c.as_slice.ensures)
+    ∙ sym (ap (λ (o : Offered). selected_site o.execute o.entries c.loop-turn.turn number job) c.in_ok-offers.ensures) in
     handed_on now c.from_residual-in_err-site.result c.in_err-site.field-0.0 c.from_residual-in_err-site.ensures.1
     (refused_is now order c.loop-turn.sites.items c.loop-turn.turn job c.in_err-site.field-0.0 sorted c.loop-turn.invariant c.loop-turn-test.true at
     (subst (λ (r : Result SiteId SelectFault). IsAnswer r (Err c.in_err-site.field-0.0)) (sym answer) c.in_err-site.ensures))

@@ -1,5 +1,5 @@
 use Rattle.std.proofs.Common.{◌≡◌, drop}
-use Rattle.site_yard.specs.Ending.{first_failed}
+use Rattle.site_yard.specs.code.Ending.{first_failed}
 use Rattle.site_yard.proofs.ending.first_failed.Given as goal
 
 abbrev pub invariant-loop-k : goal.invariant-loop-k

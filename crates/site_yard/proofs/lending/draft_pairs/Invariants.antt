@@ -1,8 +1,8 @@
 use Rattle.std.proofs.Common.{◌≡◌, map, take, vec_capacity, vec_len}
-use Rattle.outside.specs.Counts.{IsLater}
+use Rattle.outside.specs.code.Counts.{IsLater}
 use Rattle.plan_core.specs.Words.{pair_numbers}
-use Rattle.site_yard.specs.Failures.{AreMore}
-use Rattle.site_yard.specs.Loan.{fresh_at, pair_target}
+use Rattle.site_yard.specs.code.Failures.{AreMore}
+use Rattle.site_yard.specs.code.Loan.{fresh_at, pair_target}
 use Rattle.site_yard.proofs.lending.draft_pairs.Given as goal
 
 abbrev pub invariant-loop-k : goal.invariant-loop-k

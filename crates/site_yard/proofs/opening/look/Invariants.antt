@@ -1,7 +1,7 @@
 use Rattle.std.proofs.Common.{◌≡◌}
-use Rattle.outside.specs.Counts.{IsLater}
-use Rattle.site_yard.specs.Failures.{AreMore}
-use Rattle.site_yard.specs.Opening.{AreUnusedBelow, looks_below}
+use Rattle.outside.specs.code.Counts.{IsLater}
+use Rattle.site_yard.specs.code.Failures.{AreMore}
+use Rattle.site_yard.specs.code.Opening.{AreUnusedBelow, looks_below}
 use Rattle.site_yard.proofs.opening.look.Given as goal
 
 abbrev pub invariant-loop-k : goal.invariant-loop-k

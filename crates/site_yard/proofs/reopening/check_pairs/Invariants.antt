@@ -1,8 +1,8 @@
 use Rattle.std.proofs.Common.{◌≡◌}
-use Rattle.outside.specs.Counts.{IsLater}
+use Rattle.outside.specs.code.Counts.{IsLater}
 use Rattle.lease_book.specs.Book.{state_at}
-use Rattle.site_yard.specs.Failures.{AreMore}
-use Rattle.site_yard.specs.Reopening.{AreRecordedBelow, measures_below}
+use Rattle.site_yard.specs.code.Failures.{AreMore}
+use Rattle.site_yard.specs.code.Reopening.{AreRecordedBelow, measures_below}
 use Rattle.site_yard.proofs.reopening.check_pairs.Given as goal
 
 abbrev pub invariant-loop-k : goal.invariant-loop-k

@@ -1,6 +1,6 @@
 use Rattle.std.proofs.Common.{◌≡◌, length, map}
-use Rattle.outside.specs.Counts.{IsLater}
-use Rattle.outside.specs.Parts.{draft_faults}
+use Rattle.outside.specs.code.Counts.{IsLater}
+use Rattle.outside.specs.code.Parts.{draft_faults}
 use Rattle.site_yard.proofs.ReturnLemmas.{IsGivingBack}
 use Rattle.site_yard.proofs.returning.discard_left.Given as goal
 

@@ -1,9 +1,9 @@
 use Rattle.std.proofs.Common.{◌≡◌, ◌≤◌, length, map, take, drop}
 use Rattle.std.specs.Prelude.{option_map}
-use Rattle.outside.specs.Counts.{IsLater}
-use Rattle.outside.specs.Store.{changed_by}
-use Rattle.outside.specs.Parts.{draft_faults}
-use Rattle.site_yard.specs.Returning.{placings}
+use Rattle.outside.specs.code.Counts.{IsLater}
+use Rattle.outside.specs.code.Store.{changed_by}
+use Rattle.outside.specs.code.Parts.{draft_faults}
+use Rattle.site_yard.specs.code.Returning.{placings}
 use Rattle.site_yard.proofs.ReturnLemmas.{IsGivingBack}
 use Rattle.site_yard.proofs.returning.publish_all.Given as goal
 

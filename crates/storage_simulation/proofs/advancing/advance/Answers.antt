@@ -1,9 +1,10 @@
 use Rattle.std.proofs.Common.{◌≡◌, ◌<◌, ◌+◌, ℕ, List, true, false, get_or, sym, subst, ◌∙◌}
 use Rattle.tournament_tree.specs.Tree.{entry}
 use Rattle.plan_core.specs.Numbers.{has}
-use Rattle.storage_simulation.specs.Front.{front_of}
-use Rattle.storage_simulation.specs.Index.{IsApart, IsBestAt, last_of, ready_key, told}
-use Rattle.storage_simulation.specs.Ordering.{goes, is_done, progress}
+use Rattle.storage_simulation.specs.code.Front.{front_of}
+use Rattle.storage_simulation.specs.code.Index.{IsApart, IsBestAt, last_of, ready_key, told}
+use Rattle.storage_simulation.specs.Ordering.{goes, is_done}
+use Rattle.storage_simulation.specs.code.Ordering.{progress}
 use Rattle.storage_simulation.specs.Usage.{sum_of}
 use Rattle.storage_simulation.proofs.AdvancingLemmas.{AreChildren, best_kept, goes_go_on, key_kept}
 use Rattle.storage_simulation.proofs.DeterminedLemmas.{step_opens}

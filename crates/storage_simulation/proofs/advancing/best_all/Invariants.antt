@@ -1,8 +1,8 @@
 use Rattle.std.proofs.Common.{◌<◌, ℕ}
 use Rattle.tournament_tree.specs.Tree.{entry}
-use Rattle.storage_simulation.specs.Front.{front_of}
-use Rattle.storage_simulation.specs.Index.{IsBestAt, IsLaid, IsSettled}
-use Rattle.storage_simulation.specs.Ordering.{progress}
+use Rattle.storage_simulation.specs.code.Front.{front_of}
+use Rattle.storage_simulation.specs.code.Index.{IsBestAt, IsLaid, IsSettled}
+use Rattle.storage_simulation.specs.code.Ordering.{progress}
 use Rattle.storage_simulation.proofs.advancing.best_all.Given as goal
 
 abbrev pub invariant-loop-home : goal.invariant-loop-home

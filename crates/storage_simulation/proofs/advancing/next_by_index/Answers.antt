@@ -1,8 +1,8 @@
 use Rattle.std.proofs.Common.{ℕ, ◌+◌, subst}
 use Rattle.std.specs.Prelude.{None, Some}
 use Rattle.tournament_tree.specs.Tree.{IsLeast, entry}
-use Rattle.storage_simulation.specs.Front.{front_of}
-use Rattle.storage_simulation.specs.Ordering.{progress}
+use Rattle.storage_simulation.specs.code.Front.{front_of}
+use Rattle.storage_simulation.specs.code.Ordering.{progress}
 use Rattle.storage_simulation.proofs.AdvancingLemmas.{best_step, no_clean_open, no_fit_open, none_open}
 use Rattle.storage_simulation.proofs.advancing.next_by_index.Goals as goal
 

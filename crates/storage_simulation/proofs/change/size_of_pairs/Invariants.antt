@@ -1,6 +1,6 @@
 use Rattle.std.proofs.Common.{◌≡◌, ◌+◌, drop}
 use Rattle.plan_core.specs.Words.{pair_numbers}
-use Rattle.storage_simulation.specs.Change.{size_part}
+use Rattle.storage_simulation.specs.code.Change.{size_part}
 use Rattle.storage_simulation.specs.Usage.{sum_of}
 use Rattle.storage_simulation.proofs.change.size_of_pairs.Given as goal
 

@@ -1,6 +1,6 @@
 use Rattle.std.proofs.Common.{ℕ, ◌<◌}
-use Rattle.storage_simulation.specs.Front.{front_of}
-use Rattle.storage_simulation.specs.Ordering.{progress, IsOpen}
+use Rattle.storage_simulation.specs.code.Front.{front_of}
+use Rattle.storage_simulation.specs.code.Ordering.{progress, IsOpen}
 use Rattle.storage_simulation.proofs.choosing.lowest_open.Given as goal
 
 abbrev pub invariant-loop-number : goal.invariant-loop-number

@@ -1,7 +1,8 @@
 use Rattle.std.proofs.Common.{◌+◌, take, arith}
 use Rattle.values.specs.declared.numbers.TaskId.{TaskId}
 use Rattle.plan_core.specs.Words.{task_numbers}
-use Rattle.storage_simulation.specs.Standings.{held_of, phase_of, sizes}
+use Rattle.storage_simulation.specs.code.Standings.{held_of, phase_of}
+use Rattle.storage_simulation.specs.Standings.{sizes}
 use Rattle.storage_simulation.proofs.ChangeLemmas.{cleaning_at, making_at, usage_small}
 use Rattle.storage_simulation.proofs.fitting.after_next.Goals as goal
 

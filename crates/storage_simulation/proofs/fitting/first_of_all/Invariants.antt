@@ -1,6 +1,7 @@
 use Rattle.plan_core.specs.Words.{task_numbers}
-use Rattle.storage_simulation.specs.Past.{IsFound}
-use Rattle.storage_simulation.specs.Standings.{held_of, sizes}
+use Rattle.storage_simulation.specs.code.Past.{IsFound}
+use Rattle.storage_simulation.specs.code.Standings.{held_of}
+use Rattle.storage_simulation.specs.Standings.{sizes}
 use Rattle.storage_simulation.proofs.fitting.first_of_all.Given as goal
 
 abbrev pub invariant-loop-place : goal.invariant-loop-place

@@ -1,6 +1,6 @@
 use Rattle.std.proofs.Common.{◌<◌, ◌||◌, ℕ, ap, sym, ◌∙◌, length, nat_eq, arith}
 use Rattle.plan_core.specs.Words.{task_numbers}
-use Rattle.storage_simulation.specs.Following.{is_marked}
+use Rattle.storage_simulation.specs.code.Following.{is_marked}
 use Rattle.storage_simulation.proofs.MarksLemmas.{marked_more}
 use Rattle.storage_simulation.proofs.NumbersLemmas.{count_tasks_in, task_at}
 use Rattle.storage_simulation.proofs.following.comes_next.Goals as goal

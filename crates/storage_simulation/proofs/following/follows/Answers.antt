@@ -1,6 +1,6 @@
 use Rattle.std.proofs.Common.{◌<◌, ◌≤◌, length, refl, sym, ◌∙◌, arith}
 use Rattle.plan_core.specs.Words.{task_numbers}
-use Rattle.storage_simulation.specs.Standings.{phase_of}
+use Rattle.storage_simulation.specs.code.Standings.{phase_of}
 use Rattle.storage_simulation.proofs.NumbersLemmas.{count_tasks_in}
 use Rattle.storage_simulation.proofs.FollowingLemmas.{follows_of, follow_at}
 use Rattle.storage_simulation.proofs.following.follows.Goals as goal

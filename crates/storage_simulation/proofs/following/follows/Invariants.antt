@@ -1,7 +1,7 @@
 use Rattle.std.proofs.Common.{◌≡◌, ◌<◌, ℕ, true, length, take, get_or}
 use Rattle.plan_core.specs.Words.{count_tasks, task_numbers}
-use Rattle.storage_simulation.specs.Standings.{phase_of}
-use Rattle.storage_simulation.specs.Following.{AreMarked, may_follow}
+use Rattle.storage_simulation.specs.code.Standings.{phase_of}
+use Rattle.storage_simulation.specs.code.Following.{AreMarked, may_follow}
 use Rattle.storage_simulation.proofs.following.follows.Given as goal
 
 abbrev pub invariant-loop-k : goal.invariant-loop-k

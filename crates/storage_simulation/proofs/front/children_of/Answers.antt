@@ -1,7 +1,9 @@
 use Rattle.std.proofs.Common.{ℕ, List, ap, sym, subst, ◌∙◌}
-use Rattle.digraph.specs.Adjacency.{lists_of, neighbours}
-use Rattle.digraph.specs.Digraph.{count}
-use Rattle.plan_core.specs.Numbers.{RisesFrom, has}
+use Rattle.digraph.specs.code.Adjacency.{lists_of}
+use Rattle.digraph.specs.Adjacency.{neighbours}
+use Rattle.digraph.specs.code.Digraph.{count}
+use Rattle.plan_core.specs.code.Numbers.{RisesFrom}
+use Rattle.plan_core.specs.Numbers.{has}
 use Rattle.storage_simulation.proofs.GraphLemmas.{low_has, rises_all}
 use Rattle.storage_simulation.proofs.front.children_of.Goals as goal
 

@@ -1,7 +1,7 @@
 use Rattle.std.proofs.Common.{◌≤◌, ◌<◌, ℕ, List, length, ap, sym, subst, arith}
-use Rattle.storage_simulation.specs.Front.{front_of}
-use Rattle.storage_simulation.specs.Index.{IsCut, IsUpTo, Spot, is_before_home, is_up_to, spot_at}
-use Rattle.storage_simulation.specs.Ordering.{progress}
+use Rattle.storage_simulation.specs.code.Front.{front_of}
+use Rattle.storage_simulation.specs.code.Index.{IsCut, IsUpTo, Spot, is_before_home, is_up_to, spot_at}
+use Rattle.storage_simulation.specs.code.Ordering.{progress}
 use Rattle.storage_simulation.proofs.KeyingLemmas.{best_is}
 use Rattle.storage_simulation.proofs.keying.best_of.Goals as goal
 

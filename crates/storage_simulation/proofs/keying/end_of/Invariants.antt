@@ -1,5 +1,5 @@
 use Rattle.std.proofs.Common.{◌≡◌, ◌≤◌, ◌<◌, ◌-◌, ℕ, true, false, length}
-use Rattle.storage_simulation.specs.Index.{is_up_to, spot_at}
+use Rattle.storage_simulation.specs.code.Index.{is_up_to, spot_at}
 use Rattle.storage_simulation.proofs.keying.end_of.Given as goal
 
 abbrev pub invariant-loop-low : goal.invariant-loop-low

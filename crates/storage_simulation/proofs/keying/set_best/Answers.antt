@@ -1,5 +1,5 @@
 use Rattle.std.proofs.Common.{refl}
-use Rattle.storage_simulation.specs.Ordering.{progress}
+use Rattle.storage_simulation.specs.code.Ordering.{progress}
 use Rattle.storage_simulation.proofs.KeyingLemmas.{laid_settled}
 use Rattle.storage_simulation.proofs.keying.set_best.Goals as goal
 

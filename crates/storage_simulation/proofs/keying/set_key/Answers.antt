@@ -2,8 +2,8 @@ use Rattle.std.proofs.Common.{◌==◌, ℕ, List, cond, get_or, refl, ap, ◌�
 use Rattle.std.specs.Prelude.{Option}
 use Rattle.tournament_tree.specs.declared.tree.Key.{Key}
 use Rattle.tournament_tree.specs.Tree.{entry}
-use Rattle.storage_simulation.specs.Index.{told}
-use Rattle.storage_simulation.specs.Ordering.{progress}
+use Rattle.storage_simulation.specs.code.Index.{told}
+use Rattle.storage_simulation.specs.code.Ordering.{progress}
 use Rattle.storage_simulation.proofs.KeyingLemmas.{laid_keyed, told_set}
 use Rattle.storage_simulation.proofs.keying.set_key.Goals as goal
 

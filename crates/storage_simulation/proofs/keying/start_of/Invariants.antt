@@ -1,5 +1,5 @@
 use Rattle.std.proofs.Common.{◌≡◌, ◌≤◌, ◌<◌, ◌-◌, ℕ, true, false, length}
-use Rattle.storage_simulation.specs.Index.{is_before_home, spot_at}
+use Rattle.storage_simulation.specs.code.Index.{is_before_home, spot_at}
 use Rattle.storage_simulation.proofs.keying.start_of.Given as goal
 
 abbrev pub invariant-loop-low : goal.invariant-loop-low

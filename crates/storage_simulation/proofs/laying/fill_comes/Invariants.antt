@@ -1,6 +1,7 @@
 use Rattle.std.proofs.Common.{◌≡◌, ◌<◌, ℕ, length, get_or}
 use Rattle.plan_core.specs.Words.{count_tasks}
-use Rattle.storage_simulation.specs.Ordering.{comes, progress}
+use Rattle.storage_simulation.specs.Ordering.{comes}
+use Rattle.storage_simulation.specs.code.Ordering.{progress}
 use Rattle.storage_simulation.proofs.laying.fill_comes.Given as goal
 
 abbrev pub invariant-loop-task : goal.invariant-loop-task

@@ -1,5 +1,5 @@
 use Rattle.std.proofs.Common.{◌≡◌, ◌<◌, ℕ, length, get_or}
-use Rattle.storage_simulation.specs.Index.{spot_at}
+use Rattle.storage_simulation.specs.code.Index.{spot_at}
 use Rattle.storage_simulation.proofs.laying.fill_slots.Given as goal
 
 abbrev pub invariant-loop-j : goal.invariant-loop-j

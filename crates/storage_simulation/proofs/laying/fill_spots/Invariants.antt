@@ -1,7 +1,7 @@
 use Rattle.std.proofs.Common.{◌≡◌, ◌<◌, ℕ, length}
 use Rattle.plan_core.specs.Words.{count_tasks}
-use Rattle.storage_simulation.specs.Index.{home, need, spot_at}
-use Rattle.storage_simulation.specs.Ordering.{progress}
+use Rattle.storage_simulation.specs.code.Index.{home, need, spot_at}
+use Rattle.storage_simulation.specs.code.Ordering.{progress}
 use Rattle.storage_simulation.proofs.laying.fill_spots.Given as goal
 
 abbrev pub invariant-loop-task : goal.invariant-loop-task

@@ -1,6 +1,6 @@
 use Rattle.std.proofs.Common.{◌≡◌, ◌≢◌, ◌<◌, ℕ, List, length, ap, sym, subst, get_or, arith}
-use Rattle.storage_simulation.specs.Index.{Spot, spot_at}
-use Rattle.storage_simulation.specs.Ordering.{progress}
+use Rattle.storage_simulation.specs.code.Index.{Spot, spot_at}
+use Rattle.storage_simulation.specs.code.Ordering.{progress}
 use Rattle.storage_simulation.proofs.SpotLemmas.{apart, spots_are, spots_long, spots_low}
 use Rattle.storage_simulation.proofs.laying.lay_spots.Goals as goal
 

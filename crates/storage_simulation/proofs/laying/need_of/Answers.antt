@@ -1,5 +1,6 @@
-use Rattle.storage_simulation.specs.Change.{held_part, size_part}
-use Rattle.storage_simulation.specs.Ordering.{progress, size}
+use Rattle.storage_simulation.specs.code.Change.{held_part, size_part}
+use Rattle.storage_simulation.specs.code.Ordering.{progress}
+use Rattle.storage_simulation.specs.Ordering.{size}
 use Rattle.storage_simulation.proofs.SpotLemmas.{held_small, made_small, size_small}
 use Rattle.storage_simulation.proofs.laying.need_of.Goals as goal
 

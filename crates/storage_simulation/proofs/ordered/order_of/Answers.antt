@@ -1,7 +1,8 @@
 use Rattle.std.proofs.Common.{◌<◌, ℕ, [], get_or, sym, subst}
-use Rattle.storage_simulation.specs.Front.{front_of}
+use Rattle.storage_simulation.specs.code.Front.{front_of}
 use Rattle.storage_simulation.specs.Goods.{places}
-use Rattle.storage_simulation.specs.Ordering.{IsExceeds, IsOrder, IsPeak, Progress, size}
+use Rattle.storage_simulation.specs.code.Ordering.{IsExceeds, IsOrder, IsPeak}
+use Rattle.storage_simulation.specs.Ordering.{Progress, size}
 use Rattle.storage_simulation.specs.Usage.{IsWithin}
 use Rattle.storage_simulation.proofs.StartLemmas.{start_is, start_within}
 use Rattle.storage_simulation.proofs.ordered.order_of.Goals as goal

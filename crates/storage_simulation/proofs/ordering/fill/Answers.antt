@@ -1,6 +1,6 @@
 use Rattle.std.proofs.Common.{length, ap, arith}
-use Rattle.storage_simulation.specs.Front.{front_of}
-use Rattle.storage_simulation.specs.Ordering.{progress}
+use Rattle.storage_simulation.specs.code.Front.{front_of}
+use Rattle.storage_simulation.specs.code.Ordering.{progress}
 use Rattle.storage_simulation.proofs.DeterminedLemmas.{step_opens}
 use Rattle.storage_simulation.proofs.CountingLemmas.{left, left_most, left_less, left_none}
 use Rattle.storage_simulation.proofs.ordering.fill.Goals as goal

@@ -1,8 +1,8 @@
 use Rattle.std.proofs.Common.{◌≤◌, ◌+◌}
 use Rattle.plan_core.specs.Words.{count_tasks}
-use Rattle.storage_simulation.specs.Front.{IsSet, front_of}
-use Rattle.storage_simulation.specs.Index.{IsIndex}
-use Rattle.storage_simulation.specs.Ordering.{progress}
+use Rattle.storage_simulation.specs.code.Front.{IsSet, front_of}
+use Rattle.storage_simulation.specs.code.Index.{IsIndex}
+use Rattle.storage_simulation.specs.code.Ordering.{progress}
 use Rattle.storage_simulation.proofs.CountingLemmas.{left}
 use Rattle.storage_simulation.proofs.ordering.fill.Given as goal
 

@@ -1,6 +1,7 @@
 use Rattle.std.proofs.Common.{sym, ◌∙◌}
-use Rattle.storage_simulation.specs.Front.{front_of}
-use Rattle.storage_simulation.specs.Ordering.{progress, size}
+use Rattle.storage_simulation.specs.code.Front.{front_of}
+use Rattle.storage_simulation.specs.code.Ordering.{progress}
+use Rattle.storage_simulation.specs.Ordering.{size}
 use Rattle.storage_simulation.proofs.PlacingLemmas.{change_there, no_change}
 use Rattle.storage_simulation.proofs.placing.change_of.Goals as goal
 

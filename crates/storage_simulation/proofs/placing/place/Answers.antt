@@ -1,7 +1,7 @@
 use Rattle.std.proofs.Common.{◌<◌, ℕ, ◌+◌, arith, cond, get_or, refl, sym, ap, subst, ◌∙◌}
 use Rattle.plan_core.specs.Words.{task_numbers}
-use Rattle.storage_simulation.specs.Front.{front_of}
-use Rattle.storage_simulation.specs.Ordering.{progress}
+use Rattle.storage_simulation.specs.code.Front.{front_of}
+use Rattle.storage_simulation.specs.code.Ordering.{progress}
 use Rattle.storage_simulation.proofs.CountingLemmas.{room_at}
 use Rattle.storage_simulation.proofs.DeterminedLemmas.{step_opens}
 use Rattle.storage_simulation.proofs.NumbersLemmas.{count_tasks_in}

@@ -1,5 +1,5 @@
-use Rattle.storage_simulation.specs.Front.{front_of}
-use Rattle.storage_simulation.specs.Ordering.{progress}
+use Rattle.storage_simulation.specs.code.Front.{front_of}
+use Rattle.storage_simulation.specs.code.Ordering.{progress}
 use Rattle.storage_simulation.proofs.RefreshingLemmas.{bests_all}
 use Rattle.storage_simulation.proofs.refreshing.rebest.Goals as goal
 

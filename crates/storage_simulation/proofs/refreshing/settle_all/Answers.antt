@@ -1,6 +1,6 @@
 use Rattle.std.proofs.Common.{get_or}
-use Rattle.storage_simulation.specs.Front.{front_of}
-use Rattle.storage_simulation.specs.Ordering.{progress}
+use Rattle.storage_simulation.specs.code.Front.{front_of}
+use Rattle.storage_simulation.specs.code.Ordering.{progress}
 use Rattle.storage_simulation.proofs.FollowingLemmas.{at_place}
 use Rattle.storage_simulation.proofs.RefreshingLemmas.{bests_end, bests_next, settled_more}
 use Rattle.storage_simulation.proofs.refreshing.settle_all.Goals as goal

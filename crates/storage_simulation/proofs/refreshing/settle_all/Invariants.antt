@@ -1,8 +1,8 @@
 use Rattle.std.proofs.Common.{take}
 use Rattle.plan_core.specs.Numbers.{has}
-use Rattle.storage_simulation.specs.Front.{front_of}
-use Rattle.storage_simulation.specs.Index.{AreBestsBut, IsLaid, IsSettled}
-use Rattle.storage_simulation.specs.Ordering.{progress}
+use Rattle.storage_simulation.specs.code.Front.{front_of}
+use Rattle.storage_simulation.specs.code.Index.{AreBestsBut, IsLaid, IsSettled}
+use Rattle.storage_simulation.specs.code.Ordering.{progress}
 use Rattle.storage_simulation.proofs.refreshing.settle_all.Given as goal
 
 abbrev pub invariant-loop-task : goal.invariant-loop-task

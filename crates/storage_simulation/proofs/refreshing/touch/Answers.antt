@@ -1,6 +1,6 @@
 use Rattle.std.proofs.Common.{◌≡◌, sym, ◌∙◌, arith}
-use Rattle.storage_simulation.specs.Front.{front_of, missing}
-use Rattle.storage_simulation.specs.Ordering.{progress}
+use Rattle.storage_simulation.specs.code.Front.{front_of, missing}
+use Rattle.storage_simulation.specs.code.Ordering.{progress}
 use Rattle.storage_simulation.proofs.RefreshingLemmas.{touched_last}
 use Rattle.storage_simulation.proofs.refreshing.touch.Goals as goal
 

@@ -1,6 +1,7 @@
 use Rattle.std.proofs.Common.{◌≡◌, ◌+◌, [], cond, drop}
 use Rattle.plan_core.specs.Words.{task_numbers}
-use Rattle.storage_simulation.specs.Ordering.{is_done, progress}
+use Rattle.storage_simulation.specs.Ordering.{is_done}
+use Rattle.storage_simulation.specs.code.Ordering.{progress}
 use Rattle.storage_simulation.specs.Usage.{sum_of}
 use Rattle.storage_simulation.proofs.resetting.count_waiting.Given as goal
 

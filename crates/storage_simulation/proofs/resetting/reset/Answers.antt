@@ -1,5 +1,5 @@
 use Rattle.std.proofs.Common.{[], refl, ◌∙◌}
-use Rattle.storage_simulation.specs.Ordering.{progress}
+use Rattle.storage_simulation.specs.code.Ordering.{progress}
 use Rattle.storage_simulation.proofs.ResettingLemmas.{missing_few, reset_is}
 use Rattle.storage_simulation.proofs.resetting.reset.Goals as goal
 

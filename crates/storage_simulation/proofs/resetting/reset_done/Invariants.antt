@@ -1,6 +1,7 @@
 use Rattle.std.proofs.Common.{◌≡◌, ◌<◌, ℕ, true, [], length, get_or}
 use Rattle.plan_core.specs.Words.{count_tasks}
-use Rattle.storage_simulation.specs.Ordering.{is_done, progress}
+use Rattle.storage_simulation.specs.Ordering.{is_done}
+use Rattle.storage_simulation.specs.code.Ordering.{progress}
 use Rattle.storage_simulation.proofs.resetting.reset_done.Given as goal
 
 abbrev pub invariant-loop-task : goal.invariant-loop-task

@@ -1,6 +1,7 @@
 use Rattle.std.proofs.Common.{◌≡◌, ◌<◌, ℕ, [], length, get_or}
 use Rattle.storage_simulation.specs.Goods.{places}
-use Rattle.storage_simulation.specs.Ordering.{progress, size}
+use Rattle.storage_simulation.specs.code.Ordering.{progress}
+use Rattle.storage_simulation.specs.Ordering.{size}
 use Rattle.storage_simulation.specs.Usage.{usage}
 use Rattle.storage_simulation.proofs.resetting.reset_used.Given as goal
 

@@ -1,6 +1,7 @@
 use Rattle.std.proofs.Common.{◌++◌, ◌∷◌, [], arith}
-use Rattle.storage_simulation.specs.Front.{front_of}
-use Rattle.storage_simulation.specs.Ordering.{progress, size}
+use Rattle.storage_simulation.specs.code.Front.{front_of}
+use Rattle.storage_simulation.specs.code.Ordering.{progress}
+use Rattle.storage_simulation.specs.Ordering.{size}
 use Rattle.storage_simulation.proofs.ChangeLemmas.{usage_small}
 use Rattle.storage_simulation.proofs.RoomLemmas.{cleaning_next, making_next}
 use Rattle.storage_simulation.proofs.room.used_after.Goals as goal

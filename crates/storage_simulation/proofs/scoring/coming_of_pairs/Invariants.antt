@@ -1,6 +1,7 @@
 use Rattle.std.proofs.Common.{◌≡◌, ◌+◌, drop}
 use Rattle.plan_core.specs.Words.{pair_numbers}
-use Rattle.storage_simulation.specs.Ordering.{coming, progress}
+use Rattle.storage_simulation.specs.Ordering.{coming}
+use Rattle.storage_simulation.specs.code.Ordering.{progress}
 use Rattle.storage_simulation.specs.Usage.{sum_of}
 use Rattle.storage_simulation.proofs.scoring.coming_of_pairs.Given as goal
 

@@ -1,6 +1,6 @@
-use Rattle.storage_simulation.specs.Front.{front_of}
-use Rattle.storage_simulation.specs.Index.{last_of}
-use Rattle.storage_simulation.specs.Ordering.{progress}
+use Rattle.storage_simulation.specs.code.Front.{front_of}
+use Rattle.storage_simulation.specs.code.Index.{last_of}
+use Rattle.storage_simulation.specs.code.Ordering.{progress}
 use Rattle.storage_simulation.specs.Usage.{sum_of}
 use Rattle.storage_simulation.proofs.UpkeepLemmas.{goes_kept}
 use Rattle.storage_simulation.proofs.upkeep.keep_goes.Goals as goal

@@ -2,8 +2,9 @@ use Rattle.std.proofs.Common.{◌≡◌, ℕ, ◌<◌, true, List, length, get_o
 use Rattle.values.specs.declared.numbers.TaskId.{TaskId}
 use Rattle.plan_core.specs.Numbers.{has}
 use Rattle.plan_core.specs.Words.{parents, task_numbers}
-use Rattle.storage_simulation.specs.Front.{front_of}
-use Rattle.storage_simulation.specs.Ordering.{is_done, progress}
+use Rattle.storage_simulation.specs.code.Front.{front_of}
+use Rattle.storage_simulation.specs.Ordering.{is_done}
+use Rattle.storage_simulation.specs.code.Ordering.{progress}
 use Rattle.storage_simulation.proofs.FollowingLemmas.{at_place}
 use Rattle.storage_simulation.proofs.NumbersLemmas.{count_tasks_in, task_at}
 use Rattle.storage_simulation.proofs.UpkeepLemmas.{done_one, last_is}

@@ -1,8 +1,9 @@
 use Rattle.std.proofs.Common.{◌≡◌, ◌≤◌, ◌+◌, ◌*◌, ◌^◌, ℕ, true, false, length, drop, get_or}
 use Rattle.plan_core.specs.Words.{count_tasks}
-use Rattle.storage_simulation.specs.Front.{front_of}
-use Rattle.storage_simulation.specs.Index.{last_of}
-use Rattle.storage_simulation.specs.Ordering.{is_done, progress}
+use Rattle.storage_simulation.specs.code.Front.{front_of}
+use Rattle.storage_simulation.specs.code.Index.{last_of}
+use Rattle.storage_simulation.specs.Ordering.{is_done}
+use Rattle.storage_simulation.specs.code.Ordering.{progress}
 use Rattle.storage_simulation.specs.Usage.{sum_of}
 use Rattle.storage_simulation.proofs.upkeep.raise_all.Given as goal
 

@@ -1,6 +1,6 @@
 use Rattle.std.proofs.Common.{◌≡◌, ℕ, ◌+◌, ◌<◌, ◌^◌, length, get_or, ◌∙◌, arith}
 use Rattle.std.proofs.lemmas.List.{get_or_default}
-use Rattle.storage_simulation.specs.Ordering.{progress}
+use Rattle.storage_simulation.specs.code.Ordering.{progress}
 use Rattle.storage_simulation.proofs.ScoringLemmas.{frees_small}
 use Rattle.storage_simulation.proofs.UpkeepLemmas.{set_most}
 use Rattle.storage_simulation.proofs.upkeep.raise_one.Goals as goal

@@ -1,9 +1,9 @@
 use Rattle.std.proofs.Common.{◌≡◌, ℕ, ◌+◌, ◌≤◌, ◌*◌, ◌^◌, length, get_or, sym, ap, ◌∙◌, arith}
 use Rattle.plan_core.specs.Words.{count_tasks}
-use Rattle.storage_simulation.specs.Front.{front_of}
-use Rattle.storage_simulation.specs.Index.{last_of}
-use Rattle.storage_simulation.specs.Ordering.{progress}
-use Rattle.storage_simulation.specs.Usage.{total}
+use Rattle.storage_simulation.specs.code.Front.{front_of}
+use Rattle.storage_simulation.specs.code.Index.{last_of}
+use Rattle.storage_simulation.specs.code.Ordering.{progress}
+use Rattle.values.specs.Numbers.{total}
 use Rattle.storage_simulation.proofs.UpkeepLemmas.{goes_done, goes_start, total_none}
 use Rattle.storage_simulation.proofs.UsageLemmas.{total_more}
 use Rattle.storage_simulation.proofs.upkeep.reset_goes.Goals as goal

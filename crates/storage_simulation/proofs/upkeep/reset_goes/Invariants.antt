@@ -1,9 +1,10 @@
 use Rattle.std.proofs.Common.{◌≡◌, ◌≤◌, ◌*◌, ◌^◌, ℕ, false, length, get_or}
 use Rattle.plan_core.specs.Words.{count_tasks}
-use Rattle.storage_simulation.specs.Front.{front_of}
-use Rattle.storage_simulation.specs.Index.{last_of}
-use Rattle.storage_simulation.specs.Ordering.{is_done, progress}
-use Rattle.storage_simulation.specs.Usage.{total}
+use Rattle.storage_simulation.specs.code.Front.{front_of}
+use Rattle.storage_simulation.specs.code.Index.{last_of}
+use Rattle.storage_simulation.specs.Ordering.{is_done}
+use Rattle.storage_simulation.specs.code.Ordering.{progress}
+use Rattle.values.specs.Numbers.{total}
 use Rattle.storage_simulation.proofs.upkeep.reset_goes.Given as goal
 
 abbrev pub invariant-loop-task : goal.invariant-loop-task

@@ -1,6 +1,7 @@
 use Rattle.std.proofs.Common.{arith}
 use Rattle.plan_core.specs.Words.{task_numbers}
-use Rattle.storage_simulation.specs.Standings.{held_of, sizes}
+use Rattle.storage_simulation.specs.code.Standings.{held_of}
+use Rattle.storage_simulation.specs.Standings.{sizes}
 use Rattle.storage_simulation.proofs.UsageLemmas.{weight_small}
 use Rattle.storage_simulation.proofs.usage.part.Goals as goal
 

@@ -1,5 +1,5 @@
 use Rattle.std.proofs.Common.{◌≡◌, true, sym, subst}
-use Rattle.plan_core.specs.Kinds.{makes}
+use Rattle.plan_core.specs.Kinds.{jobs_make}
 use Rattle.task_work.specs.Table.{at}
 use Rattle.task_work.proofs.ComputingLemmas.{computes_all, computes_stop, outputs_made, outputs_once}
 use Rattle.task_work.proofs.computing.compute.Goals as goal
@@ -12,7 +12,7 @@ pub outputs_of-requires-clause-there : goal.outputs_of-requires-clause-there
 outputs_of-requires-clause-there g c = λ f h.
     let p = c.args.plan.now in
     c.in-Ok-run_jobs.ensures.answer.there f
-    (subst (λ js. makes p.jobs js f ≡ true) (sym c.jobs_of.ensures)
+    (subst (λ js. jobs_make p.jobs js f ≡ true) (sym c.jobs_of.ensures)
     (outputs_made p c.requires.proper (c.files_are_listed_by_pair.ensures.writes p c.requires.proper) (c.files_are_listed_by_pair.ensures.in_range p c.requires.proper) (c.pairs_stand_once.ensures.once p c.requires.proper) c.args.task.0 c.requires.run f h))
 
 pub outputs_of-requires-clause-once : goal.outputs_of-requires-clause-once

@@ -1,9 +1,9 @@
 use Rattle.std.proofs.Common.{◌≡◌, ap, arith, length, map, sym, subst, ◌∙◌}
 use Rattle.std.proofs.lemmas.List.{length-map}
 use Rattle.plan_core.specs.Words.{writes}
-use Rattle.lease_rules.specs.Storing.{pair_limit}
+use Rattle.lease_rules.specs.code.Storing.{pair_limit}
 use Rattle.task_work.specs.Making.{AreWritten, Each, Fits, IsShown, limit_of}
-use Rattle.outside.specs.Parts.{draft_faults, part_faults, reading_faults}
+use Rattle.outside.specs.code.Parts.{draft_faults, part_faults, reading_faults}
 use Rattle.task_work.specs.Pieces.{HasRead, IsSteadyDraft}
 use Rattle.task_work.proofs.MakingLemmas.{all_fit, each_long, each_same, readings_later, same_draft}
 use Rattle.task_work.proofs.RunLemmas.{draft_shown, is_stored, makes_many, reading_shown, run_cause, run_shown}

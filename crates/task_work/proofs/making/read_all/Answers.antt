@@ -1,7 +1,7 @@
 use Rattle.std.proofs.Common.{◌≡◌, ℕ, List, ◌+◌, ◌≤◌, ◌<◌, [], ◌∷◌, arith, drop, length, map, refl, slice_index_or, subst, suc, sym, take}
 use Rattle.std.proofs.lemmas.List.{map-set}
 use Rattle.task_work.specs.Making.{Each, IsFaultOf}
-use Rattle.outside.specs.Parts.{reading_faults}
+use Rattle.outside.specs.code.Parts.{reading_faults}
 use Rattle.std.specs.Prelude.{Err, Vec}
 use Rattle.std.specs.declared.alloc.Global.{Global}
 use Rattle.task_work.specs.Pieces.{HasRead, IsSteadyReading, fails_in}

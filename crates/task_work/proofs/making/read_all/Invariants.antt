@@ -1,6 +1,6 @@
 use Rattle.std.proofs.Common.{◌≡◌, ◌≤◌, map, take, drop}
 use Rattle.task_work.specs.Making.{Each}
-use Rattle.outside.specs.Parts.{reading_faults}
+use Rattle.outside.specs.code.Parts.{reading_faults}
 use Rattle.task_work.specs.Pieces.{HasRead, IsSteadyReading}
 use Rattle.task_work.proofs.making.read_all.Given as goal
 

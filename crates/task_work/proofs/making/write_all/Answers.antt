@@ -2,7 +2,7 @@ use Rattle.std.proofs.Common.{◌≡◌, ◌+◌, ◌<◌, ◌≤◌, ◌∷◌,
 use Rattle.std.specs.Prelude.{Err, Ok}
 use Rattle.std.proofs.lemmas.List.{map-set}
 use Rattle.task_work.specs.Making.{AreWritten, Each, Fits, IsFaultOf}
-use Rattle.outside.specs.Parts.{draft_faults}
+use Rattle.outside.specs.code.Parts.{draft_faults}
 use Rattle.task_work.specs.Pieces.{IsSteadyDraft, fails_in}
 use Rattle.task_work.proofs.MakingLemmas.{draft_fault, drafts_once, each_at, each_long, each_same, each_set, empty_at, here_is, left_more, output_is, same_draft, written_more, written_steady, written_whole}
 use Rattle.task_work.proofs.PieceLemmas.{written_once}

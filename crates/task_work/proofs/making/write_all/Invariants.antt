@@ -1,6 +1,6 @@
 use Rattle.std.proofs.Common.{◌≡◌, ◌≤◌, map, take, drop}
 use Rattle.task_work.specs.Making.{AreWritten, Each}
-use Rattle.outside.specs.Parts.{draft_faults}
+use Rattle.outside.specs.code.Parts.{draft_faults}
 use Rattle.task_work.specs.Pieces.{IsSteadyDraft}
 use Rattle.task_work.proofs.making.write_all.Given as goal
 

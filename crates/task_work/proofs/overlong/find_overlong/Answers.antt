@@ -1,7 +1,7 @@
 use Rattle.std.proofs.Common.{◌≡◌, true, sym, subst}
-use Rattle.plan_core.specs.Kinds.{kind_carries}
+use Rattle.plan_core.specs.code.Kinds.{kind_carries}
 use Rattle.plan_core.specs.Words.{kind}
-use Rattle.lease_rules.specs.Storing.{IsFirstPast}
+use Rattle.lease_rules.specs.code.Storing.{IsFirstPast}
 use Rattle.task_work.proofs.OverlongLemmas.{past_carried}
 use Rattle.task_work.proofs.overlong.find_overlong.Goals as goal
 

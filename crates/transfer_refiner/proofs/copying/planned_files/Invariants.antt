@@ -1,7 +1,7 @@
 use Rattle.std.proofs.Common.{◌≡◌, true, map}
 use Rattle.plan_core.specs.Numbers.{below}
 use Rattle.transfer_refiner.specs.Tasks.{planned_file}
-use Rattle.transfer_refiner.specs.View.{draft_of}
+use Rattle.transfer_refiner.specs.code.View.{draft_of}
 use Rattle.transfer_refiner.proofs.copying.planned_files.Given as goal
 
 abbrev pub invariant-loop-file : goal.invariant-loop-file

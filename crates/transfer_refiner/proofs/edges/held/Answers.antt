@@ -1,5 +1,5 @@
 use Rattle.std.proofs.Common.{ap, ◌∙◌, length}
-use Rattle.transfer_refiner.specs.View.{draft_of}
+use Rattle.transfer_refiner.specs.code.View.{draft_of}
 use Rattle.transfer_refiner.proofs.EdgesLemmas.{held_are, held_within}
 use Rattle.transfer_refiner.proofs.edges.held.Goals as goal
 

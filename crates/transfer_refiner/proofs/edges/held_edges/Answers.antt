@@ -1,8 +1,8 @@
 use Rattle.std.proofs.Common.{◌∙◌, ◌++◌, List, ap, sym}
 use Rattle.values.specs.declared.numbers.JobId.{JobId}
 use Rattle.plan_core.specs.Words.{job_numbers}
-use Rattle.transfer_refiner.specs.Edges.{Edge, fan, held_edges}
-use Rattle.transfer_refiner.specs.View.{draft_of}
+use Rattle.transfer_refiner.specs.code.Edges.{Edge, fan, held_edges}
+use Rattle.transfer_refiner.specs.code.View.{draft_of}
 use Rattle.transfer_refiner.proofs.EdgesLemmas.{held_more}
 use Rattle.transfer_refiner.proofs.edges.held_edges.Goals as goal
 

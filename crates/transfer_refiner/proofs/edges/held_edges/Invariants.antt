@@ -1,6 +1,6 @@
 use Rattle.std.proofs.Common.{◌≡◌}
-use Rattle.transfer_refiner.specs.Edges.{held_edges}
-use Rattle.transfer_refiner.specs.View.{draft_of}
+use Rattle.transfer_refiner.specs.code.Edges.{held_edges}
+use Rattle.transfer_refiner.specs.code.View.{draft_of}
 use Rattle.transfer_refiner.proofs.edges.held_edges.Given as goal
 
 abbrev pub invariant-loop-number : goal.invariant-loop-number

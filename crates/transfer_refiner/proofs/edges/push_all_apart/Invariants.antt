@@ -1,5 +1,5 @@
 use Rattle.std.proofs.Common.{◌≡◌, ◌++◌, drop}
-use Rattle.transfer_refiner.specs.Edges.{all_apart}
+use Rattle.transfer_refiner.specs.code.Edges.{all_apart}
 use Rattle.transfer_refiner.proofs.edges.push_all_apart.Given as goal
 
 abbrev pub invariant-loop-number : goal.invariant-loop-number

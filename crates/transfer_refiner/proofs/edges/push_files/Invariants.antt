@@ -1,6 +1,6 @@
 use Rattle.std.proofs.Common.{◌≡◌, ◌++◌, drop}
 use Rattle.plan_core.specs.Words.{file_numbers}
-use Rattle.transfer_refiner.specs.Edges.{fan}
+use Rattle.transfer_refiner.specs.code.Edges.{fan}
 use Rattle.transfer_refiner.proofs.edges.push_files.Given as goal
 
 abbrev pub invariant-loop-file : goal.invariant-loop-file

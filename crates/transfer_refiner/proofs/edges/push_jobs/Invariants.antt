@@ -1,6 +1,6 @@
 use Rattle.std.proofs.Common.{◌≡◌, ◌++◌, drop}
 use Rattle.plan_core.specs.Words.{job_numbers}
-use Rattle.transfer_refiner.specs.Edges.{fan}
+use Rattle.transfer_refiner.specs.code.Edges.{fan}
 use Rattle.transfer_refiner.proofs.edges.push_jobs.Given as goal
 
 abbrev pub invariant-loop-job : goal.invariant-loop-job

@@ -1,6 +1,6 @@
 use Rattle.std.proofs.Common.{◌≡◌, ◌++◌, drop, map}
 use Rattle.workflow_core.specs.declared.workflow.Output.{Output}
-use Rattle.transfer_refiner.specs.Edges.{fan}
+use Rattle.transfer_refiner.specs.code.Edges.{fan}
 use Rattle.transfer_refiner.proofs.edges.push_outputs.Given as goal
 
 abbrev pub invariant-loop-output : goal.invariant-loop-output

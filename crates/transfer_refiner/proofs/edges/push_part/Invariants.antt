@@ -1,6 +1,6 @@
 use Rattle.std.proofs.Common.{◌≡◌, ◌++◌, drop}
 use Rattle.std.specs.List.{flat_map}
-use Rattle.transfer_refiner.specs.Edges.{job_edges}
+use Rattle.transfer_refiner.specs.code.Edges.{job_edges}
 use Rattle.transfer_refiner.proofs.edges.push_part.Given as goal
 
 abbrev pub invariant-loop-job : goal.invariant-loop-job

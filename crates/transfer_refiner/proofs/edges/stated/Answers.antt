@@ -1,6 +1,6 @@
 use Rattle.std.proofs.Common.{ap, ◌∙◌, refl}
 use Rattle.std.specs.List.{list_any}
-use Rattle.transfer_refiner.specs.View.{draft_of}
+use Rattle.transfer_refiner.specs.code.View.{draft_of}
 use Rattle.transfer_refiner.proofs.EdgesLemmas.{is_edge, stated_within}
 use Rattle.transfer_refiner.proofs.edges.stated.Goals as goal
 

@@ -1,5 +1,5 @@
 use Rattle.std.proofs.Common.{ap, ◌∙◌, length, arith}
-use Rattle.transfer_refiner.specs.View.{draft_of}
+use Rattle.transfer_refiner.specs.code.View.{draft_of}
 use Rattle.transfer_refiner.proofs.EdgesLemmas.{stood_are, stood_within}
 use Rattle.transfer_refiner.proofs.edges.stood.Goals as goal
 

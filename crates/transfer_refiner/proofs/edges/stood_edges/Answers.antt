@@ -1,7 +1,7 @@
 use Rattle.std.proofs.Common.{◌∙◌, ◌++◌, List, ap, arith}
 use Rattle.values.specs.declared.numbers.JobId.{JobId}
-use Rattle.transfer_refiner.specs.Edges.{part_edges}
-use Rattle.transfer_refiner.specs.View.{draft_of}
+use Rattle.transfer_refiner.specs.code.Edges.{part_edges}
+use Rattle.transfer_refiner.specs.code.View.{draft_of}
 use Rattle.transfer_refiner.proofs.PushLemmas.{flat_pushed}
 use Rattle.transfer_refiner.proofs.edges.stood_edges.Goals as goal
 

@@ -1,7 +1,7 @@
 use Rattle.std.proofs.Common.{◌≡◌, ◌++◌, drop}
 use Rattle.std.specs.List.{flat_map}
-use Rattle.transfer_refiner.specs.Edges.{part_edges, stood_edges}
-use Rattle.transfer_refiner.specs.View.{draft_of}
+use Rattle.transfer_refiner.specs.code.Edges.{part_edges, stood_edges}
+use Rattle.transfer_refiner.specs.code.View.{draft_of}
 use Rattle.transfer_refiner.proofs.edges.stood_edges.Given as goal
 
 abbrev pub invariant-loop-jobs : goal.invariant-loop-jobs

@@ -1,5 +1,5 @@
 use Rattle.std.proofs.Common.{◌∙◌}
-use Rattle.transfer_refiner.specs.View.{draft_of}
+use Rattle.transfer_refiner.specs.code.View.{draft_of}
 use Rattle.transfer_refiner.proofs.LackingLemmas.{asked_is}
 use Rattle.transfer_refiner.proofs.MovingLemmas.{requested_rises}
 use Rattle.transfer_refiner.proofs.lacking.is_asked.Goals as goal

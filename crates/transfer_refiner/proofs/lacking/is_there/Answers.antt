@@ -1,5 +1,5 @@
 use Rattle.std.proofs.Common.{◌∙◌, ap, not}
-use Rattle.transfer_refiner.specs.View.{draft_of}
+use Rattle.transfer_refiner.specs.code.View.{draft_of}
 use Rattle.transfer_refiner.proofs.LackingLemmas.{there_is}
 use Rattle.transfer_refiner.proofs.lacking.is_there.Goals as goal
 

@@ -1,5 +1,5 @@
 use Rattle.std.proofs.Common.{◌∙◌}
-use Rattle.transfer_refiner.specs.View.{draft_of}
+use Rattle.transfer_refiner.specs.code.View.{draft_of}
 use Rattle.transfer_refiner.proofs.LackingLemmas.{replica_lacks, is_some_map}
 use Rattle.transfer_refiner.proofs.lacking.lacks_replica.Goals as goal
 

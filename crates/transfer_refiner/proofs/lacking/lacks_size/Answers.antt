@@ -1,6 +1,6 @@
 use Rattle.std.proofs.Common.{◌∙◌, ap}
 use Rattle.std.specs.Prelude.{is_some, None, slice_index_or}
-use Rattle.transfer_refiner.specs.View.{draft_of}
+use Rattle.transfer_refiner.specs.code.View.{draft_of}
 use Rattle.transfer_refiner.proofs.LackingLemmas.{size_lacks}
 use Rattle.transfer_refiner.proofs.lacking.lacks_size.Goals as goal
 

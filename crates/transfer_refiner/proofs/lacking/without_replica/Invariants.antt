@@ -1,8 +1,8 @@
 use Rattle.std.proofs.Common.{◌≡◌}
 use Rattle.std.specs.Prelude.{None}
 use Rattle.plan_core.specs.Numbers.{least}
-use Rattle.transfer_refiner.specs.Tasks.{lacks_replica}
-use Rattle.transfer_refiner.specs.View.{draft_of}
+use Rattle.transfer_refiner.specs.code.Tasks.{lacks_replica}
+use Rattle.transfer_refiner.specs.code.View.{draft_of}
 use Rattle.transfer_refiner.proofs.lacking.without_replica.Given as goal
 
 abbrev pub invariant-loop-f : goal.invariant-loop-f

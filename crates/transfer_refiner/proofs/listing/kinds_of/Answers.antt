@@ -1,4 +1,4 @@
-use Rattle.transfer_refiner.specs.View.{draft_of}
+use Rattle.transfer_refiner.specs.code.View.{draft_of}
 use Rattle.transfer_refiner.proofs.MovingLemmas.{moved_low, requested_low}
 use Rattle.transfer_refiner.proofs.listing.kinds_of.Goals as goal
 

@@ -1,6 +1,6 @@
 use Rattle.std.proofs.Common.{◌≡◌, ◌++◌, map, drop}
 use Rattle.transfer_refiner.specs.Tasks.{delivery}
-use Rattle.transfer_refiner.specs.View.{draft_of}
+use Rattle.transfer_refiner.specs.code.View.{draft_of}
 use Rattle.transfer_refiner.proofs.listing.push_deliveries.Given as goal
 
 abbrev pub invariant-loop-file : goal.invariant-loop-file

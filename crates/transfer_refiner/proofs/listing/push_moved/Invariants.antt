@@ -1,7 +1,7 @@
 use Rattle.std.proofs.Common.{◌≡◌, ◌++◌, drop}
 use Rattle.std.specs.Prelude.{option_map}
 use Rattle.values.specs.declared.numbers.SiteId.{SiteId}
-use Rattle.transfer_refiner.specs.Listing.{moved_from}
+use Rattle.transfer_refiner.specs.code.Listing.{moved_from}
 use Rattle.transfer_refiner.proofs.listing.push_moved.Given as goal
 
 abbrev pub invariant-loop-site : goal.invariant-loop-site

@@ -1,6 +1,6 @@
 use Rattle.std.proofs.Common.{◌≡◌, ◌++◌, map, drop}
 use Rattle.transfer_refiner.specs.Tasks.{run}
-use Rattle.transfer_refiner.specs.View.{draft_of}
+use Rattle.transfer_refiner.specs.code.View.{draft_of}
 use Rattle.transfer_refiner.proofs.listing.push_runs.Given as goal
 
 abbrev pub invariant-loop-part : goal.invariant-loop-part

@@ -1,6 +1,6 @@
 use Rattle.std.proofs.Common.{◌≡◌, ◌++◌, map, drop}
 use Rattle.transfer_refiner.specs.Tasks.{transfer}
-use Rattle.transfer_refiner.specs.View.{draft_of}
+use Rattle.transfer_refiner.specs.code.View.{draft_of}
 use Rattle.transfer_refiner.proofs.listing.push_transfers.Given as goal
 
 abbrev pub invariant-loop-place : goal.invariant-loop-place

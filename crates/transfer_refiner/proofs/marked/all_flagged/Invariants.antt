@@ -1,5 +1,5 @@
 use Rattle.std.proofs.Common.{◌≡◌, ◌++◌, drop}
-use Rattle.transfer_refiner.specs.Marked.{all_flagged}
+use Rattle.transfer_refiner.specs.code.Marked.{all_flagged}
 use Rattle.transfer_refiner.proofs.marked.all_flagged.Given as goal
 
 abbrev pub invariant-loop-job : goal.invariant-loop-job

@@ -1,5 +1,5 @@
 use Rattle.std.proofs.Common.{◌≡◌, ◌++◌, drop}
-use Rattle.transfer_refiner.specs.Marked.{flagged_by}
+use Rattle.transfer_refiner.specs.code.Marked.{flagged_by}
 use Rattle.transfer_refiner.proofs.marked.push_flagged.Given as goal
 
 abbrev pub invariant-loop-output : goal.invariant-loop-output

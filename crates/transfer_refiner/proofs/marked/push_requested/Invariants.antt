@@ -1,5 +1,5 @@
 use Rattle.std.proofs.Common.{◌≡◌, ◌++◌, drop}
-use Rattle.transfer_refiner.specs.Marked.{requested_by}
+use Rattle.transfer_refiner.specs.code.Marked.{requested_by}
 use Rattle.transfer_refiner.proofs.marked.push_requested.Given as goal
 
 abbrev pub invariant-loop-output : goal.invariant-loop-output

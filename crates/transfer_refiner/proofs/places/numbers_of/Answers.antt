@@ -4,7 +4,7 @@ use Rattle.std.specs.Map.{lookup}
 use Rattle.std.proofs.lemmas.List.{drop_more}
 use Rattle.indexmap.proofs.CallerLemmas.{insert_entry-new}
 use Rattle.plan_core.specs.declared.plan.Pair.{Pair}
-use Rattle.transfer_refiner.specs.Places.{is_pair_of}
+use Rattle.transfer_refiner.specs.code.Places.{is_pair_of}
 use Rattle.transfer_refiner.proofs.PlacesLemmas.{Known, pair_eq, place_in, at_first, step_known, step_new, none_of}
 use Rattle.transfer_refiner.proofs.places.numbers_of.Goals as goal
 use Rattle.transfer_refiner.proofs.places.numbers_of.Goals.{then-not-contains_key+in_ok-insert, else-not-contains_key}

@@ -1,6 +1,6 @@
 use Rattle.std.proofs.Common.{◌≡◌, ℕ, drop}
 use Rattle.std.specs.Prelude.{position}
-use Rattle.transfer_refiner.specs.Places.{is_pair_of}
+use Rattle.transfer_refiner.specs.code.Places.{is_pair_of}
 use Rattle.transfer_refiner.proofs.PlacesLemmas.{place_in}
 use Rattle.transfer_refiner.proofs.places.numbers_of.Given as goal
 

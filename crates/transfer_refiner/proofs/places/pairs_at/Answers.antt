@@ -1,6 +1,6 @@
 use Rattle.std.proofs.Common.{◌∙◌, ap}
 use Rattle.transfer_refiner.proofs.PlacesLemmas.{listed_are}
-use Rattle.transfer_refiner.specs.Places.{places_at}
+use Rattle.transfer_refiner.specs.code.Places.{places_at}
 use Rattle.transfer_refiner.proofs.places.pairs_at.Goals as goal
 
 pub returns : goal.returns

@@ -1,4 +1,4 @@
-use Rattle.transfer_refiner.specs.Places.{place_of}
+use Rattle.transfer_refiner.specs.code.Places.{place_of}
 use Rattle.transfer_refiner.proofs.PlacesLemmas.{flat_more}
 use Rattle.transfer_refiner.proofs.places.places_at.Goals as goal
 

@@ -1,5 +1,5 @@
 use Rattle.std.proofs.Common.{◌≡◌, ◌++◌, drop}
-use Rattle.transfer_refiner.specs.Places.{places_at}
+use Rattle.transfer_refiner.specs.code.Places.{places_at}
 use Rattle.transfer_refiner.proofs.places.places_at.Given as goal
 
 abbrev pub invariant-loop-i : goal.invariant-loop-i

@@ -1,9 +1,9 @@
 use Rattle.std.proofs.Common.{◌≤◌, ◌∙◌, sym, ap, length, map, arith, refl, subst, All}
 use Rattle.std.proofs.lemmas.Result.{IfOk-weaker}
 use Rattle.plan_core.specs.declared.plan.Task.{Task}
-use Rattle.transfer_refiner.specs.View.{draft_of}
+use Rattle.transfer_refiner.specs.code.View.{draft_of}
 use Rattle.transfer_refiner.specs.Tasks.{comes_after}
-use Rattle.transfer_refiner.specs.Steps.{IsListed}
+use Rattle.transfer_refiner.specs.code.Steps.{IsListed}
 use Rattle.transfer_refiner.proofs.TogetherLemmas.{few_pairs, pairs_once, range_of, tasks_are}
 use Rattle.transfer_refiner.proofs.refining.all_tasks.Goals as goal
 

@@ -1,5 +1,5 @@
 use Rattle.std.proofs.Common.{◌≤◌, ◌∙◌, length, arith}
-use Rattle.transfer_refiner.specs.View.{draft_of}
+use Rattle.transfer_refiner.specs.code.View.{draft_of}
 use Rattle.transfer_refiner.proofs.TogetherLemmas.{count_is, few_moved, few_requested, kinds_long}
 use Rattle.transfer_refiner.proofs.refining.count_all.Goals as goal
 

@@ -1,7 +1,7 @@
 use Rattle.std.proofs.Common.{◌∙◌, ap, map, List, subst}
 use Rattle.plan_core.specs.declared.plan.PlanJob.{PlanJob}
-use Rattle.transfer_refiner.specs.View.{draft_of}
-use Rattle.transfer_refiner.specs.Steps.{AreTasks}
+use Rattle.transfer_refiner.specs.code.View.{draft_of}
+use Rattle.transfer_refiner.specs.code.Steps.{AreTasks}
 use Rattle.transfer_refiner.specs.Tasks.{planned_site}
 use Rattle.transfer_refiner.proofs.TogetherLemmas.{refined_of}
 use Rattle.transfer_refiner.proofs.refining.plan_of.Goals as goal

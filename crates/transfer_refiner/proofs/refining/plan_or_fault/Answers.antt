@@ -1,5 +1,5 @@
 use Rattle.std.proofs.Common.{◌≤◌, ◌∙◌, sym, length, arith}
-use Rattle.transfer_refiner.specs.View.{draft_of}
+use Rattle.transfer_refiner.specs.code.View.{draft_of}
 use Rattle.transfer_refiner.specs.Tasks.{kinds_of}
 use Rattle.transfer_refiner.proofs.TogetherLemmas.{count_small}
 use Rattle.transfer_refiner.proofs.refining.plan_or_fault.Goals as goal

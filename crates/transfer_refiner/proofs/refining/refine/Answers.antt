@@ -1,6 +1,6 @@
 use Rattle.std.proofs.Common.{subst}
 use Rattle.transfer_refiner.specs.Draft.{Draft, planned}
-use Rattle.transfer_refiner.specs.Refined.{Refines}
+use Rattle.transfer_refiner.specs.code.Refined.{Refines}
 use Rattle.transfer_refiner.proofs.ProperLemmas.{proper_of}
 use Rattle.transfer_refiner.proofs.refining.refine.Goals as goal
 

@@ -1,8 +1,8 @@
 use Rattle.std.proofs.Common.{ℕ, Bool, length, subst}
 use Rattle.std.specs.Prelude.{IfOk}
-use Rattle.digraph.specs.Digraph.{edge}
-use Rattle.transfer_refiner.specs.View.{draft_of}
-use Rattle.transfer_refiner.specs.Steps.{AreParented}
+use Rattle.digraph.specs.code.Digraph.{edge}
+use Rattle.transfer_refiner.specs.code.View.{draft_of}
+use Rattle.transfer_refiner.specs.code.Steps.{AreParented}
 use Rattle.transfer_refiner.proofs.TogetherLemmas.{no_cleans, stated_low}
 use Rattle.transfer_refiner.proofs.refining.with_all_parents.Goals as goal
 

@@ -1,5 +1,5 @@
-use Rattle.digraph.specs.Adjacency.{lists_of}
-use Rattle.digraph.specs.Digraph.{count, edge}
+use Rattle.digraph.specs.code.Adjacency.{lists_of}
+use Rattle.digraph.specs.code.Digraph.{count, edge}
 use Rattle.transfer_refiner.proofs.RowsLemmas.{row_rises}
 use Rattle.transfer_refiner.proofs.rows.after.Goals as goal
 

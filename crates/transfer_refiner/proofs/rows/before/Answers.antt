@@ -1,6 +1,6 @@
 use Rattle.std.proofs.Common.{ℕ}
-use Rattle.digraph.specs.Adjacency.{lists_of}
-use Rattle.digraph.specs.Digraph.{count, edge}
+use Rattle.digraph.specs.code.Adjacency.{lists_of}
+use Rattle.digraph.specs.code.Digraph.{count, edge}
 use Rattle.transfer_refiner.proofs.RowsLemmas.{row_rises}
 use Rattle.transfer_refiner.proofs.rows.before.Goals as goal
 

@@ -1,5 +1,5 @@
 use Rattle.std.proofs.Common.{◌∙◌}
-use Rattle.transfer_refiner.specs.View.{draft_of}
+use Rattle.transfer_refiner.specs.code.View.{draft_of}
 use Rattle.transfer_refiner.proofs.MovingLemmas.{home_found, home_missing}
 use Rattle.transfer_refiner.proofs.tables.home.Goals as goal
 

@@ -1,6 +1,6 @@
 use Rattle.std.proofs.Common.{All, arith, subst, sym}
 use Rattle.std.proofs.lemmas.List.Elements.{All-push}
-use Rattle.transfer_refiner.specs.Steps.{IsListed}
+use Rattle.transfer_refiner.specs.code.Steps.{IsListed}
 use Rattle.transfer_refiner.proofs.ListedLemmas.{kinds_more}
 use Rattle.transfer_refiner.proofs.tasks.tasks_at.Goals as goal
 

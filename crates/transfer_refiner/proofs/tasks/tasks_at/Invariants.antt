@@ -1,6 +1,6 @@
 use Rattle.std.proofs.Common.{◌≡◌, map, take, All}
 use Rattle.plan_core.specs.declared.plan.Task.{Task}
-use Rattle.transfer_refiner.specs.Steps.{IsListed}
+use Rattle.transfer_refiner.specs.code.Steps.{IsListed}
 use Rattle.transfer_refiner.proofs.tasks.tasks_at.Given as goal
 
 abbrev pub invariant-loop-kind : goal.invariant-loop-kind

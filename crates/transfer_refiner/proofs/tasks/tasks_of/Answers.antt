@@ -1,8 +1,8 @@
 use Rattle.std.proofs.Common.{List, All, subst, sym}
 use Rattle.std.specs.Prelude.{IfOk}
 use Rattle.plan_core.specs.declared.plan.Pair.{Pair}
-use Rattle.transfer_refiner.specs.Places.{AreOnce}
-use Rattle.transfer_refiner.specs.Steps.{IsListed}
+use Rattle.transfer_refiner.specs.code.Places.{AreOnce}
+use Rattle.transfer_refiner.specs.code.Steps.{IsListed}
 use Rattle.transfer_refiner.proofs.tasks.tasks_of.Goals as goal
 
 pub tasks_at-tasks-requires : goal.tasks_at-tasks-requires

@@ -1,6 +1,6 @@
 use Rattle.std.proofs.Common.{◌∙◌, ◌||◌, ap, ℕ, List, Bool}
 use Rattle.std.specs.List.{list_any}
-use Rattle.digraph.specs.Digraph.{edge}
+use Rattle.digraph.specs.code.Digraph.{edge}
 use Rattle.plan_core.specs.Numbers.{has}
 use Rattle.plan_core.specs.Words.{pair_numbers}
 use Rattle.transfer_refiner.proofs.waiting.awaited.Goals as goal

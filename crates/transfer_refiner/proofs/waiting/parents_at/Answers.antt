@@ -1,4 +1,4 @@
-use Rattle.digraph.specs.Digraph.{edge}
+use Rattle.digraph.specs.code.Digraph.{edge}
 use Rattle.plan_core.specs.Words.{pair_numbers, task_numbers}
 use Rattle.transfer_refiner.proofs.ParentsLemmas.{awaited_are}
 use Rattle.transfer_refiner.proofs.waiting.parents_at.Goals as goal

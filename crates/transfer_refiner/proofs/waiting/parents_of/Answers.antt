@@ -1,6 +1,6 @@
 use Rattle.std.proofs.Common.{◌∙◌, ◌||◌, ℕ}
 use Rattle.std.specs.List.{list_any}
-use Rattle.digraph.specs.Digraph.{edge}
+use Rattle.digraph.specs.code.Digraph.{edge}
 use Rattle.plan_core.specs.Words.{pair_numbers}
 use Rattle.transfer_refiner.proofs.ParentsLemmas.{numbers_are}
 use Rattle.transfer_refiner.proofs.waiting.parents_of.Goals as goal

@@ -1,5 +1,5 @@
 use Rattle.std.proofs.Common.{ℕ}
-use Rattle.digraph.specs.Digraph.{edge}
+use Rattle.digraph.specs.code.Digraph.{edge}
 use Rattle.transfer_refiner.proofs.ParentsLemmas.{parented_more}
 use Rattle.transfer_refiner.proofs.waiting.with_parents.Goals as goal
 

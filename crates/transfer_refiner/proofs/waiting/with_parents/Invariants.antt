@@ -1,6 +1,6 @@
 use Rattle.std.proofs.Common.{ℕ}
-use Rattle.digraph.specs.Digraph.{edge}
-use Rattle.transfer_refiner.specs.Steps.{AreParented}
+use Rattle.digraph.specs.code.Digraph.{edge}
+use Rattle.transfer_refiner.specs.code.Steps.{AreParented}
 use Rattle.transfer_refiner.proofs.waiting.with_parents.Given as goal
 
 abbrev pub invariant-loop-t : goal.invariant-loop-t

@@ -1,7 +1,7 @@
 use Rattle.std.proofs.Common.{◌∙◌, ◌++◌, ℕ, List, ap, sym}
 use Rattle.plan_core.specs.Words.{pair_numbers}
-use Rattle.transfer_refiner.specs.Edges.{Edge, fan}
-use Rattle.transfer_refiner.specs.Steps.{writer_edges}
+use Rattle.transfer_refiner.specs.code.Edges.{Edge, fan}
+use Rattle.transfer_refiner.specs.code.Steps.{writer_edges}
 use Rattle.transfer_refiner.proofs.WritersLemmas.{writer_more}
 use Rattle.transfer_refiner.proofs.waiting.writer_edges.Goals as goal
 

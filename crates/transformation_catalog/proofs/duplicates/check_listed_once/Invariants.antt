@@ -1,7 +1,7 @@
 use Rattle.std.proofs.Common.{◌≡◌, drop}
-use Rattle.peg_json.specs.Duplicates.{first_repeat}
-use Rattle.transformation_catalog.specs.Key.{same_transformation}
-use Rattle.transformation_catalog.specs.Duplicates.{transformations_of, repeat_in}
+use Rattle.peg_json.specs.Elements.{first_repeat}
+use Rattle.transformation_catalog.specs.Catalog.{same_transformation}
+use Rattle.transformation_catalog.specs.Catalog.{transformations_of, repeat_in}
 use Rattle.transformation_catalog.proofs.duplicates.check_listed_once.Given as goal
 
 abbrev pub invariant-loop-entry : goal.invariant-loop-entry

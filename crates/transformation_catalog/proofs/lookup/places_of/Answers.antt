@@ -5,7 +5,7 @@ use Rattle.std.proofs.lemmas.List.{drop_more}
 use Rattle.indexmap.proofs.CallerLemmas.{insert_entry-new}
 use Rattle.workflow_core.specs.declared.workflow.Transformation.{Transformation}
 use Rattle.transformation_catalog.specs.declared.catalog.TransformationEntry.{TransformationEntry}
-use Rattle.transformation_catalog.specs.Key.{same_transformation}
+use Rattle.transformation_catalog.specs.Catalog.{same_transformation}
 use Rattle.transformation_catalog.specs.Lookup.{place_of}
 use Rattle.transformation_catalog.proofs.LookupLemmas.{Places, place_in, at_first, step_known, step_new, none_of}
 use Rattle.transformation_catalog.proofs.lookup.places_of.Goals as goal

@@ -1,5 +1,5 @@
 use Rattle.std.proofs.Common.{◌≡◌, ◌++◌, drop}
-use Rattle.values.specs.Line.{spaced_names}
+use Rattle.values.specs.code.Line.{spaced_names}
 use Rattle.values.proofs.line.push_spaced.Given as goal
 
 abbrev pub invariant-loop-name : goal.invariant-loop-name

@@ -1,5 +1,5 @@
 use Rattle.std.proofs.Common.{◌≡◌, ◌++◌, drop}
-use Rattle.values.specs.Line.{words_text}
+use Rattle.values.specs.code.Line.{words_text}
 use Rattle.values.proofs.line.push_words.Given as goal
 
 abbrev pub invariant-loop-word : goal.invariant-loop-word

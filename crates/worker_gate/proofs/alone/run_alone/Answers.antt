@@ -2,10 +2,10 @@ use Rattle.std.proofs.Common.{◌∙◌, refl, sym, ap, subst}
 use Rattle.plan_core.specs.Words.{task_numbers}
 use Rattle.lease_book.specs.Book.{state_at}
 use Rattle.site_yard.proofs.YardLemmas.{same_yard, still_yard}
-use Rattle.worker_gate.specs.Alone.{IsOver}
-use Rattle.worker_gate.specs.Calls.{AddsCalls}
-use Rattle.worker_gate.specs.Inputs.{AddsOfInputs}
-use Rattle.worker_gate.specs.Stepping.{WorksOn}
+use Rattle.worker_gate.specs.code.Alone.{IsOver}
+use Rattle.worker_gate.specs.code.Calls.{AddsCalls}
+use Rattle.worker_gate.specs.code.Inputs.{AddsOfInputs}
+use Rattle.worker_gate.specs.code.Stepping.{WorksOn}
 use Rattle.worker_gate.proofs.CallsLemmas.{calls_both, calls_none}
 use Rattle.worker_gate.proofs.InputsLemmas.{adds_none, adds_both}
 use Rattle.worker_gate.proofs.RunLemmas.{both_counts, room_falls_on, same_count, works_alone, works_first, works_then}

@@ -1,11 +1,11 @@
 use Rattle.std.proofs.Common.{◌≡◌, ◌≤◌}
 use Rattle.lease_book.specs.Book.{state_at}
-use Rattle.lease_rules.specs.Room.{entries_room}
-use Rattle.site_yard.specs.Yard.{IsSameYard}
-use Rattle.worker_gate.specs.Calls.{AddsCalls}
-use Rattle.worker_gate.specs.Inputs.{AddsOfInputs}
-use Rattle.worker_gate.specs.Stepping.{WorksOn}
-use Rattle.worker_gate.specs.Telling.{IsToldOf}
+use Rattle.lease_rules.specs.code.Room.{entries_room}
+use Rattle.site_yard.specs.code.Yard.{IsSameYard}
+use Rattle.worker_gate.specs.code.Calls.{AddsCalls}
+use Rattle.worker_gate.specs.code.Inputs.{AddsOfInputs}
+use Rattle.worker_gate.specs.code.Stepping.{WorksOn}
+use Rattle.worker_gate.specs.code.Telling.{IsToldOf}
 use Rattle.worker_gate.proofs.alone.run_alone.Given as goal
 
 abbrev pub invariant-loop-alloc : goal.invariant-loop-alloc

@@ -1,6 +1,6 @@
 use Rattle.std.proofs.Common.{◌≡◌, ◌+◌, ◌++◌, length, map, vec_capacity}
 use Rattle.ruled_lock.specs.Pass.{charter_of, seen_of}
-use Rattle.worker_gate.specs.Hands.{AreOthers, IsDealt, member_of}
+use Rattle.worker_gate.specs.code.Hands.{AreOthers, IsDealt, member_of}
 use Rattle.worker_gate.proofs.hands.deal_others.Given as goal
 
 abbrev pub invariant-loop-alloc : goal.invariant-loop-alloc

@@ -2,7 +2,7 @@ use Rattle.std.proofs.Common.{◌≡◌, ◌∙◌, arith, map, ◌++◌, refl, 
 use Rattle.std.proofs.lemmas.Bool.{eqb-true}
 use Rattle.ruled_lock.specs.Pass.{joined_of, seen_of}
 use Rattle.ruled_lock.proofs.ListLemmas.{prefix_self, prefix_trans}
-use Rattle.worker_gate.specs.Hands.{member_of, own_list}
+use Rattle.worker_gate.specs.code.Hands.{member_of, own_list}
 use Rattle.worker_gate.proofs.HandsLemmas.{first_and_rest, lists_more, members_back, none_left, others_left, some_all, some_first, some_more}
 use Rattle.worker_gate.proofs.hands.gather_others.Goals as goal
 

@@ -2,7 +2,7 @@ use Rattle.std.proofs.Common.{◌≡◌, ◌+◌, ◌++◌, ◌≤◌, length, m
 use mathlib.Core.List.{IsPrefix}
 use Rattle.ruled_lock.specs.Lock.{IsOf}
 use Rattle.ruled_lock.specs.Pass.{IsIdle, charter_of, count_of, joined_of, mine_of, seen_of, worker_of}
-use Rattle.worker_gate.specs.Hands.{AreReadyToJoin, member_of, own_list}
+use Rattle.worker_gate.specs.code.Hands.{AreReadyToJoin, member_of, own_list}
 use Rattle.worker_gate.proofs.HandsLemmas.{HaveSome}
 use Rattle.worker_gate.proofs.hands.gather_others.Given as goal
 

@@ -1,8 +1,8 @@
 use Rattle.std.proofs.Common.{◌≡◌, ◌++◌, ◌∙◌, length, map, get_or, take, drop, refl, sym, ap, subst, arith}
 use Rattle.std.specs.Prelude.{Some, is_some}
-use Rattle.worker_gate.specs.Hands.{AreReady, member_of}
-use Rattle.worker_gate.specs.Many.{CanAllWork, HaveAllAsked, HaveAllWorked}
-use Rattle.worker_gate.specs.Telling.{HaveAllTold}
+use Rattle.worker_gate.specs.code.Hands.{AreReady, member_of}
+use Rattle.worker_gate.specs.code.Many.{CanAllWork, HaveAllAsked, HaveAllWorked}
+use Rattle.worker_gate.specs.code.Telling.{HaveAllTold}
 use Rattle.worker_gate.proofs.ManyLemmas.{all_ready, can_all, charter_back, charter_with, dealt_as, dealt_many, many_asked, many_counted, many_done, many_inputs, many_told, no_inputs, none_asked, none_counted, none_told}
 use Rattle.worker_gate.proofs.SmallLemmas.{lent}
 use Rattle.worker_gate.proofs.TurningLemmas.{plan_copied}

@@ -1,12 +1,12 @@
 use Rattle.std.proofs.Common.{◌∙◌, ap, map, subst, sym, take}
 use Rattle.plan_core.specs.declared.plan.Plan.{Plan}
-use Rattle.plan_core.specs.Proper.{IsProper}
+use Rattle.plan_core.specs.code.Proper.{IsProper}
 use Rattle.plan_core.specs.Words.{kind}
 use Rattle.lease_book.specs.Book.{state_at}
 use Rattle.task_work.specs.Filling.{AreParts}
-use Rattle.worker_gate.specs.Inputs.{IsFilledOf}
-use Rattle.worker_gate.specs.Tending.{Fills}
-use Rattle.worker_gate.specs.Calls.{EndsCalls}
+use Rattle.worker_gate.specs.code.Inputs.{IsFilledOf}
+use Rattle.worker_gate.specs.code.Tending.{Fills}
+use Rattle.worker_gate.specs.code.Calls.{EndsCalls}
 use Rattle.worker_gate.proofs.CallsLemmas.{lent_then}
 use Rattle.worker_gate.proofs.FillingLemmas.{fills_finish, fills_of, finish_then}
 use Rattle.worker_gate.proofs.LoanLemmas.{held_begun, held_empty, lent_held, parts_are}

@@ -1,10 +1,10 @@
 use Rattle.std.proofs.Common.{◌<◌, ◌∙◌, ap, sym, subst, length}
 use Rattle.lease_book.specs.declared.book.Book.{Book}
 use Rattle.lease_book.specs.Book.{state_at}
-use Rattle.lease_rules.specs.Law.{IsSafeState}
-use Rattle.site_yard.specs.Yard.{Leases}
+use Rattle.lease_rules.specs.code.Law.{IsSafeState}
+use Rattle.site_yard.specs.code.Yard.{Leases}
 use Rattle.site_yard.specs.declared.leased.Leased.TheVariants as leased
-use Rattle.worker_gate.specs.Stepping.{WorksOn}
+use Rattle.worker_gate.specs.code.Stepping.{WorksOn}
 use Rattle.worker_gate.proofs.TellingLemmas.{told_both}
 use Rattle.worker_gate.proofs.WorkLemmas.{again_works, failed_works, granted_is_open, granted_works, one_run_of, swept_works}
 use Rattle.worker_gate.proofs.CallsLemmas.{calls_no_entry, fails_calls, grants_calls, sweeps_calls, tries_again_calls}

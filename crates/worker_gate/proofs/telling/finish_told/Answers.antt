@@ -1,7 +1,7 @@
 use Rattle.std.proofs.Common.{◌∙◌, ap, length}
-use Rattle.run_record.specs.Events.{Log}
+use Rattle.run_record.specs.code.Events.{Log}
 use Rattle.lease_book.specs.declared.book.Book.{Book}
-use Rattle.worker_gate.specs.Tending.{failures_in}
+use Rattle.worker_gate.specs.code.Tending.{failures_in}
 use Rattle.worker_gate.proofs.TellingLemmas.{told_as_seen}
 use Rattle.worker_gate.proofs.TendingLemmas.{ends_finishes}
 use Rattle.worker_gate.proofs.TurningLemmas.{finishes_adds}

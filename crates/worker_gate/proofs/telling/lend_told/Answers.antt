@@ -1,5 +1,5 @@
 use Rattle.std.proofs.Common.{◌∙◌, ap, length}
-use Rattle.run_record.specs.Events.{Log}
+use Rattle.run_record.specs.code.Events.{Log}
 use Rattle.lease_book.specs.declared.book.Book.{Book}
 use Rattle.worker_gate.proofs.TellingLemmas.{told_as_seen}
 use Rattle.worker_gate.proofs.TurningLemmas.{lend_adds}

@@ -2,7 +2,7 @@ use Rattle.std.proofs.Common.{◌∙◌, map, refl, subst, sym, take}
 use Rattle.std.specs.Prelude.{is_some}
 use Rattle.lease_book.specs.Book.{state_at}
 use Rattle.ruled_lock.specs.Pass.{charter_of, mine_of, seen_of, taken_of, worker_of}
-use Rattle.worker_gate.specs.Asking.{AsksOwn}
+use Rattle.worker_gate.specs.code.Asking.{AsksOwn}
 use Rattle.worker_gate.proofs.AskingLemmas.{asks_no_turn, lend_asks}
 use Rattle.worker_gate.proofs.InputsLemmas.{inputs_turn, lends_so}
 use Rattle.worker_gate.proofs.StateLemmas.{open_loan}

@@ -2,7 +2,7 @@ use Rattle.std.proofs.Common.{subst, take}
 use Rattle.std.specs.Prelude.{IfSome, Option, is_some}
 use Rattle.ruled_lock.specs.Pass.{charter_of, mine_of, seen_of, worker_of}
 use Rattle.site_yard.specs.declared.chronicle.Charter.{Charter}
-use Rattle.worker_gate.specs.Turning.{NoneOpenFor}
+use Rattle.worker_gate.specs.code.Turning.{NoneOpenFor}
 use Rattle.worker_gate.proofs.TellingLemmas.{told_still}
 use Rattle.worker_gate.proofs.TurningLemmas.{none_by_seen, plan_copied}
 use Rattle.worker_gate.proofs.turning.copy_plan.Goals as goal

@@ -1,8 +1,8 @@
 use Rattle.std.proofs.Common.{◌∙◌, ◌∷◌, [], map, refl, subst, sym, take}
 use Rattle.std.specs.Prelude.{is_some}
 use Rattle.ruled_lock.specs.Pass.{charter_of, mine_of, seen_of, taken_of, worker_of}
-use Rattle.worker_gate.specs.Tending.{failures_in}
-use Rattle.worker_gate.specs.Asking.{AsksOwn}
+use Rattle.worker_gate.specs.code.Tending.{failures_in}
+use Rattle.worker_gate.specs.code.Asking.{AsksOwn}
 use Rattle.worker_gate.proofs.AskingLemmas.{asks_turn, end_asks}
 use Rattle.worker_gate.proofs.InputsLemmas.{inputs_turn}
 use Rattle.worker_gate.proofs.TendingLemmas.{ends_finishes}

@@ -1,10 +1,10 @@
 use Rattle.std.proofs.Common.{◌∙◌, ℕ, List, [], ◌∷◌, ◌++◌, ap, map, subst}
 use Rattle.ruled_lock.specs.Pass.{charter_of, mine_of, seen_of, worker_of}
 use Rattle.run_record.specs.Events.{Event}
-use Rattle.worker_gate.specs.Asking.{AsksOwn}
-use Rattle.worker_gate.specs.Telling.{IsToldOf}
+use Rattle.worker_gate.specs.code.Asking.{AsksOwn}
+use Rattle.worker_gate.specs.code.Telling.{IsToldOf}
 use Rattle.worker_gate.proofs.TellingLemmas.{told_then}
-use Rattle.worker_gate.specs.Tending.{failures_in}
+use Rattle.worker_gate.specs.code.Tending.{failures_in}
 use Rattle.worker_gate.proofs.WorkingLemmas.{begun_for, does_made_by, empty_for, filled_rose, finish_of, inputs_of, plan_parts}
 use Rattle.worker_gate.proofs.working.do_task.Goals as goal
 

@@ -2,7 +2,7 @@ use Rattle.std.proofs.Common.{ℕ, ◌<◌, subst, sym}
 use Rattle.std.specs.Prelude.{Option}
 use Rattle.ruled_lock.specs.Pass.{charter_of, mine_of, seen_of, worker_of}
 use Rattle.site_yard.specs.declared.chronicle.Charter.{Charter}
-use Rattle.worker_gate.specs.Turning.{IsPlanOf, NoneOpenBy}
+use Rattle.worker_gate.specs.code.Turning.{IsPlanOf, NoneOpenBy}
 use Rattle.worker_gate.proofs.AskingLemmas.{asks_nothing, asks_then}
 use Rattle.worker_gate.proofs.InputsLemmas.{own_both, own_none}
 use Rattle.worker_gate.proofs.TellingLemmas.{told_then}

@@ -2,10 +2,10 @@ use Rattle.std.proofs.Common.{◌∙◌, ℕ, List, refl, subst, sym}
 use Rattle.std.specs.Prelude.{IfSome}
 use Rattle.run_record.specs.Events.{Event}
 use Rattle.ruled_lock.specs.Pass.{charter_of, mine_of, seen_of, worker_of}
-use Rattle.worker_gate.specs.Asking.{AsksOwn}
-use Rattle.worker_gate.specs.Inputs.{AddsOfInputs}
-use Rattle.worker_gate.specs.Telling.{IsToldOf}
-use Rattle.worker_gate.specs.Turning.{KeepsTurn, plan_of}
+use Rattle.worker_gate.specs.code.Asking.{AsksOwn}
+use Rattle.worker_gate.specs.code.Inputs.{AddsOfInputs}
+use Rattle.worker_gate.specs.code.Telling.{IsToldOf}
+use Rattle.worker_gate.specs.code.Turning.{KeepsTurn, plan_of}
 use Rattle.worker_gate.proofs.AskingLemmas.{asks_nothing, asks_then}
 use Rattle.worker_gate.proofs.InputsLemmas.{own_both, own_none}
 use Rattle.worker_gate.proofs.TellingLemmas.{told_nothing, told_then}

@@ -1,11 +1,11 @@
 use Rattle.std.proofs.Common.{◌≤◌}
 use Rattle.std.specs.Prelude.{IfSome}
 use Rattle.ruled_lock.specs.Pass.{charter_of, mine_of, seen_of, worker_of}
-use Rattle.worker_gate.specs.Asking.{AsksOwn}
-use Rattle.worker_gate.specs.Inputs.{AddsOfInputs}
-use Rattle.worker_gate.specs.Telling.{IsToldOf}
-use Rattle.worker_gate.specs.Turning.{IsPlanOf, KeepsTurn, plan_of}
-use Rattle.worker_gate.specs.Working.{WorksOwn}
+use Rattle.worker_gate.specs.code.Asking.{AsksOwn}
+use Rattle.worker_gate.specs.code.Inputs.{AddsOfInputs}
+use Rattle.worker_gate.specs.code.Telling.{IsToldOf}
+use Rattle.worker_gate.specs.code.Turning.{IsPlanOf, KeepsTurn, plan_of}
+use Rattle.worker_gate.specs.code.Working.{WorksOwn}
 use Rattle.worker_gate.proofs.working.work_by.Given as goal
 
 abbrev pub invariant-loop : goal.invariant-loop

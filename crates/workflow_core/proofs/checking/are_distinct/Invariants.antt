@@ -1,5 +1,5 @@
 use Rattle.std.proofs.Common.{◌≡◌, drop, nat_eq}
-use Rattle.workflow_core.specs.WellFormed.{are_new, are_distinct}
+use Rattle.workflow_core.specs.code.WellFormed.{are_new, are_distinct}
 use Rattle.workflow_core.proofs.checking.are_distinct.Given as goal
 
 abbrev pub invariant-loop-number : goal.invariant-loop-number

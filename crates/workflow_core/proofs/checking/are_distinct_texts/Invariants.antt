@@ -1,6 +1,6 @@
 use Rattle.std.proofs.Common.{◌≡◌, drop}
 use Rattle.std.specs.Str.{bytes_eq}
-use Rattle.workflow_core.specs.WellFormed.{are_new, are_distinct}
+use Rattle.workflow_core.specs.code.WellFormed.{are_new, are_distinct}
 use Rattle.workflow_core.proofs.checking.are_distinct_texts.Given as goal
 
 abbrev pub invariant-loop-text : goal.invariant-loop-text

@@ -1,6 +1,6 @@
 use Rattle.std.proofs.Common.{◌≡◌, ◌++◌, drop}
 use Rattle.std.specs.Str.{bytes_eq}
-use Rattle.peg_json.specs.Duplicates.{first_repeat}
+use Rattle.peg_json.specs.Elements.{first_repeat}
 use Rattle.workflow_reader.specs.Linking.{ids_of}
 use Rattle.workflow_reader.proofs.duplicates.add_ids.Given as goal
 

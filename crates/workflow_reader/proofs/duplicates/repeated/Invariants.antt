@@ -1,5 +1,5 @@
 use Rattle.std.proofs.Common.{◌≡◌, drop}
-use Rattle.workflow_reader.specs.Known.{repeat_after}
+use Rattle.workflow_reader.specs.code.Known.{repeat_after}
 use Rattle.workflow_reader.proofs.duplicates.repeated.Given as goal
 
 abbrev pub invariant-loop-used : goal.invariant-loop-used

@@ -1,5 +1,5 @@
 use Rattle.std.proofs.Common.{◌≡◌, drop}
-use Rattle.workflow_reader.specs.Known.{with_sizes}
+use Rattle.workflow_reader.specs.code.Known.{with_sizes}
 use Rattle.workflow_reader.proofs.files.add_sizes.Given as goal
 
 abbrev pub invariant-loop-used : goal.invariant-loop-used

@@ -1,7 +1,7 @@
 use Rattle.std.proofs.Common.{◌≡◌, [], drop}
 use Rattle.std.specs.List.{flat_map}
-use Rattle.workflow_core.specs.Names.{with_names}
-use Rattle.workflow_reader.specs.Files.{lfns_in}
+use Rattle.workflow_core.specs.code.Names.{with_names}
+use Rattle.workflow_reader.specs.Linking.{lfns_in}
 use Rattle.workflow_reader.proofs.files.files_of.Given as goal
 
 abbrev pub invariant-loop-job : goal.invariant-loop-job

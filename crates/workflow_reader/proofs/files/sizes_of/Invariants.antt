@@ -1,7 +1,7 @@
 use Rattle.std.proofs.Common.{◌≡◌, drop, length}
 use Rattle.std.specs.Prelude.{replicate, None}
-use Rattle.workflow_reader.specs.Known.{with_sizes}
-use Rattle.workflow_reader.specs.Files.{uses_of}
+use Rattle.workflow_reader.specs.code.Known.{with_sizes}
+use Rattle.workflow_reader.specs.Linking.{uses_of}
 use Rattle.workflow_reader.proofs.files.sizes_of.Given as goal
 
 abbrev pub invariant-loop-job : goal.invariant-loop-job

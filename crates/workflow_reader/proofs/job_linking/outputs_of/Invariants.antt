@@ -1,6 +1,6 @@
 use Rattle.std.proofs.Common.{◌≡◌, ◌++◌, drop, map}
 use Rattle.workflow_reader.specs.declared.document.Direction.TheVariants.{Output}
-use Rattle.workflow_reader.specs.Files.{uses_as, output_of}
+use Rattle.workflow_reader.specs.Linking.{uses_as, output_of}
 use Rattle.workflow_reader.proofs.job_linking.outputs_of.Given as goal
 
 abbrev pub invariant-loop-used : goal.invariant-loop-used

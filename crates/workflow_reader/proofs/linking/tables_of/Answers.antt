@@ -2,12 +2,12 @@ use Rattle.std.proofs.Common.{◌≡◌, [], length, arith}
 use Rattle.std.specs.Prelude.{Ok}
 use Rattle.std.specs.Str.{bytes_eq}
 use Rattle.std.proofs.lemmas.Grind.{common_steps}
-use Rattle.peg_json.specs.Count.{few}
+use Rattle.peg_json.specs.Elements.{few}
 use Rattle.peg_json.specs.declared.read_fault.Counted.TheVariants.{Jobs, Files}
 use Rattle.peg_json.specs.declared.read_fault.ReadFault.TheVariants.{DuplicateJob, UnknownJob}
-use Rattle.workflow_reader.specs.Document.{entry}
-use Rattle.peg_json.specs.Duplicates.{first_repeat, refused, first_unknown}
-use Rattle.workflow_reader.specs.Files.{files_of}
+use Rattle.workflow_reader.specs.code.Document.{entry}
+use Rattle.peg_json.specs.Elements.{first_repeat, refused, first_unknown}
+use Rattle.workflow_reader.specs.Linking.{files_of}
 use Rattle.workflow_reader.specs.Linking.{ids_of, all_used_once, ids_in}
 use Rattle.workflow_reader.proofs.LinkingLemmas.{passes}
 use Rattle.workflow_reader.proofs.linking.tables_of.Goals as goal

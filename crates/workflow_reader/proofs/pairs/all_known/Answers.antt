@@ -3,7 +3,7 @@ use Rattle.std.specs.Prelude.{Some, None}
 use Rattle.std.proofs.lemmas.Grind.{common_steps}
 use Rattle.std.proofs.lemmas.List.{drop_more}
 use Rattle.workflow_reader.specs.declared.document.Dependency.{Dependency}
-use Rattle.peg_json.specs.Duplicates.{first_unknown}
+use Rattle.peg_json.specs.Elements.{first_unknown}
 use Rattle.workflow_reader.specs.Linking.{ids_in}
 use Rattle.workflow_reader.proofs.DuplicatesLemmas.{none_unknown, one_unknown}
 use Rattle.workflow_reader.proofs.pairs.all_known.Goals as goal

@@ -1,5 +1,5 @@
 use Rattle.std.proofs.Common.{◌≡◌, drop}
-use Rattle.peg_json.specs.Duplicates.{first_unknown}
+use Rattle.peg_json.specs.Elements.{first_unknown}
 use Rattle.workflow_reader.specs.Linking.{ids_in}
 use Rattle.workflow_reader.proofs.pairs.all_known.Given as goal
 

@@ -1,6 +1,6 @@
 use Rattle.std.proofs.Common.{◌≡◌, ◌++◌, drop}
-use Rattle.workflow_reader.specs.Linking.{pairs_of}
+use Rattle.workflow_reader.specs.Linking.{dependency_pairs}
 use Rattle.workflow_reader.proofs.pairs.pairs_of.Given as goal
 
 abbrev pub invariant-loop-dependency : goal.invariant-loop-dependency
-invariant-loop-dependency l = l.pairs.items ++ pairs_of l.ids (drop l.dependency-index l.dependencies) ≡ pairs_of l.ids l.dependencies
+invariant-loop-dependency l = l.pairs.items ++ dependency_pairs l.ids (drop l.dependency-index l.dependencies) ≡ dependency_pairs l.ids l.dependencies

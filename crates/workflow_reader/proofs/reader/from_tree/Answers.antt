@@ -1,5 +1,5 @@
 use Rattle.serde_json.specs.View.{view as tree_view}
-use Rattle.workflow_reader.specs.Document.{entry}
+use Rattle.workflow_reader.specs.code.Document.{entry}
 use Rattle.workflow_reader.proofs.SmallLemmas.{document_small}
 use Rattle.workflow_reader.proofs.reader.from_tree.Goals as goal
 

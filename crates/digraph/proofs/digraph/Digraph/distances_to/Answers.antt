@@ -1,6 +1,6 @@
 use Rattle.std.proofs.Common.{ℕ, Bool, subst}
-use Rattle.digraph.specs.Adjacency.{lists_of}
-use Rattle.digraph.specs.Distances.{AreDistances}
+use Rattle.digraph.specs.code.Adjacency.{lists_of}
+use Rattle.digraph.specs.code.Distances.{AreDistances}
 use Rattle.digraph.proofs.AdjacencyLemmas.{same_edges}
 use Rattle.digraph.proofs.digraph.Digraph.distances_to.Goals as goal
 

@@ -1,8 +1,9 @@
 use Rattle.std.proofs.Common.{ℕ, List, subst}
 use Rattle.std.specs.Prelude.{MatchOption, Vec}
 use Rattle.std.specs.declared.alloc.Global.{Global}
-use Rattle.digraph.specs.Adjacency.{lists_of, leads}
-use Rattle.digraph.specs.Cycle.{Returns, IsNamedCycle}
+use Rattle.digraph.specs.code.Adjacency.{lists_of, leads}
+use Rattle.digraph.specs.Cycle.{Returns}
+use Rattle.digraph.specs.code.Cycle.{IsNamedCycle}
 use Rattle.digraph.proofs.digraph.Digraph.named_cycle.Goals as goal
 
 pub returns-clause-cycle : goal.returns-clause-cycle

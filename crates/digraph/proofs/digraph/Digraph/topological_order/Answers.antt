@@ -1,7 +1,7 @@
 use Rattle.std.proofs.Common.{ℕ, List, subst}
 use Rattle.std.specs.Prelude.{MatchOption, Vec}
 use Rattle.std.specs.declared.alloc.Global.{Global}
-use Rattle.digraph.specs.Adjacency.{lists_of, leads}
+use Rattle.digraph.specs.code.Adjacency.{lists_of, leads}
 use Rattle.digraph.specs.Cycle.{Returns}
 use Rattle.digraph.proofs.digraph.Digraph.topological_order.Goals as goal
 

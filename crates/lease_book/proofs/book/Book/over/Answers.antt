@@ -1,6 +1,6 @@
 use Rattle.std.proofs.Common.{◌≡◌, ◌≤◌, ◌+◌, ◌*◌, List, length, sym, ap, subst, ℕ}
 use Rattle.plan_core.specs.Words.{count_tasks, retries, task_numbers}
-use Rattle.lease_rules.specs.Law.{FitsFromStart}
+use Rattle.lease_rules.specs.code.Law.{FitsFromStart}
 use Rattle.values.specs.declared.numbers.TaskId.{TaskId}
 use Rattle.lease_book.proofs.BookLemmas.{kept_open}
 use Rattle.lease_book.proofs.book.Book.over.Goals as goal

@@ -1,7 +1,7 @@
 use Rattle.std.proofs.Common.{inl, refl, arith}
 use Rattle.plan_core.specs.Words.{task_numbers}
-use Rattle.plan_run.specs.Moments.{first_tool, member_moment, work_moment, working}
-use Rattle.pegasus_commands.specs.Commands.Plan.{task_limit}
+use Rattle.plan_run.specs.code.Moments.{first_tool, member_moment, work_moment, working}
+use Rattle.pegasus_commands.specs.code.Commands.Plan.{task_limit}
 use Rattle.pegasus_commands.proofs.AloneLemmas.{alone_is}
 use Rattle.pegasus_commands.proofs.PlanRunLemmas.{unrun_is}
 use Rattle.pegasus_commands.proofs.commands.alone.run_survey.Goals as goal

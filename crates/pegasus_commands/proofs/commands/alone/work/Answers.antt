@@ -1,6 +1,6 @@
 use Rattle.std.proofs.Common.{refl}
-use Rattle.pegasus_commands.specs.Commands.Alone.{RunsAlone}
-use Rattle.pegasus_commands.specs.PlanRun.{CanRun}
+use Rattle.pegasus_commands.specs.code.Commands.Alone.{RunsAlone}
+use Rattle.pegasus_commands.specs.code.PlanRun.{CanRun}
 use Rattle.pegasus_commands.proofs.SurveyLemmas.{survey_stops, survey_works}
 use Rattle.pegasus_commands.proofs.commands.alone.work.Goals as goal
 

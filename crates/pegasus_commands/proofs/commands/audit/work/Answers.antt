@@ -1,4 +1,4 @@
-use Rattle.pegasus_commands.specs.Commands.Audit.{CanJudge, Judges, PrintsVerdict}
+use Rattle.pegasus_commands.specs.code.Commands.Audit.{CanJudge, Judges, PrintsVerdict}
 use Rattle.pegasus_commands.proofs.RecordedLemmas.{record_stops, record_works}
 use Rattle.pegasus_commands.proofs.commands.audit.work.Goals as goal
 

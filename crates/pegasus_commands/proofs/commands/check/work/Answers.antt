@@ -1,4 +1,4 @@
-use Rattle.pegasus_commands.specs.Commands.Check.{Checks}
+use Rattle.pegasus_commands.specs.code.Commands.Check.{Checks}
 use Rattle.pegasus_commands.proofs.SurveyLemmas.{survey_stops, survey_works}
 use Rattle.pegasus_commands.proofs.commands.check.work.Goals as goal
 

@@ -1,5 +1,5 @@
 use Rattle.std.proofs.Common.{refl}
-use Rattle.pegasus_commands.specs.Commands.Alone.{RunsAlone}
+use Rattle.pegasus_commands.specs.code.Commands.Alone.{RunsAlone}
 use Rattle.pegasus_commands.proofs.EnsembleRunLemmas.{ensemble_stops, ensemble_works}
 use Rattle.pegasus_commands.proofs.commands.ensemble_run.work.Goals as goal
 

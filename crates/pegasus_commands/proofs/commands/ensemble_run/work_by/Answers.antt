@@ -1,5 +1,5 @@
 use Rattle.std.proofs.Common.{refl}
-use Rattle.pegasus_commands.specs.Commands.Run.{RunsMany}
+use Rattle.pegasus_commands.specs.code.Commands.Run.{RunsMany}
 use Rattle.pegasus_commands.proofs.EnsembleRunLemmas.{ensemble_by_works, ensemble_stops}
 use Rattle.pegasus_commands.proofs.commands.ensemble_run.work_by.Goals as goal
 

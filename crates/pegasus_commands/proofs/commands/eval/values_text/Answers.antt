@@ -1,4 +1,5 @@
-use Rattle.plan_run.specs.Moments.{gateless, work_moment, working}
+use Rattle.plan_run.specs.Moments.{gateless}
+use Rattle.plan_run.specs.code.Moments.{work_moment, working}
 use Rattle.pegasus_commands.proofs.EvalLemmas.{says_unvalued}
 use Rattle.pegasus_commands.proofs.commands.eval.values_text.Goals as goal
 

@@ -1,4 +1,4 @@
-use Rattle.pegasus_commands.specs.Commands.Eval.{CanEvaluate, Evaluates}
+use Rattle.pegasus_commands.specs.code.Commands.Eval.{CanEvaluate, Evaluates}
 use Rattle.std.proofs.Common.{refl}
 use Rattle.pegasus_commands.proofs.SurveyLemmas.{survey_stops, survey_works}
 use Rattle.pegasus_commands.proofs.commands.eval.work.Goals as goal

@@ -1,4 +1,4 @@
-use Rattle.pegasus_commands.specs.Commands.Plan.{ArePeaksOf}
+use Rattle.pegasus_commands.specs.code.Commands.Plan.{ArePeaksOf}
 use Rattle.pegasus_commands.proofs.commands.plan.peaks_of.Given as goal
 
 abbrev pub invariant-loop-site : goal.invariant-loop-site

@@ -1,4 +1,4 @@
-use Rattle.pegasus_commands.specs.Commands.Plan.{HasNoFault, Plans}
+use Rattle.pegasus_commands.specs.code.Commands.Plan.{HasNoFault, Plans}
 use Rattle.pegasus_commands.proofs.SurveyLemmas.{survey_stops, survey_works}
 use Rattle.pegasus_commands.proofs.commands.plan.work.Goals as goal
 

@@ -1,9 +1,9 @@
 use Rattle.std.proofs.Common.{inl, refl, arith}
 use Rattle.plan_core.specs.Words.{task_numbers}
-use Rattle.plan_run.specs.Moments.{first_tool, member_moment, work_moment, working}
-use Rattle.plan_run.specs.Running.{reporting}
+use Rattle.plan_run.specs.code.Moments.{first_tool, member_moment, work_moment, working}
+use Rattle.plan_run.specs.code.Running.{reporting}
 use Rattle.pegasus_commands.specs.declared.fault.CallFault.TheVariants.{Memory}
-use Rattle.pegasus_commands.specs.Commands.Plan.{task_limit}
+use Rattle.pegasus_commands.specs.code.Commands.Plan.{task_limit}
 use Rattle.pegasus_commands.proofs.PlanRunLemmas.{HasDeliveryLaws, unrun_is}
 use Rattle.pegasus_commands.proofs.ProduceLemmas.{HasWriterLaws, can_write, produce_is}
 use Rattle.pegasus_commands.proofs.commands.produce.run_survey.Goals as goal

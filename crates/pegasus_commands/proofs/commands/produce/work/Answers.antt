@@ -1,6 +1,6 @@
 use Rattle.std.proofs.Common.{refl}
-use Rattle.pegasus_commands.specs.Commands.Produce.{Produces}
-use Rattle.pegasus_commands.specs.PlanRun.{CanRun}
+use Rattle.pegasus_commands.specs.code.Commands.Produce.{Produces}
+use Rattle.pegasus_commands.specs.code.PlanRun.{CanRun}
 use Rattle.pegasus_commands.proofs.NamesLemmas.{surveyed_names}
 use Rattle.pegasus_commands.proofs.SurveyLemmas.{survey_stops, survey_works}
 use Rattle.pegasus_commands.proofs.commands.produce.work.Goals as goal

@@ -1,7 +1,7 @@
 use Rattle.std.proofs.Common.{arith}
 use Rattle.plan_core.specs.Words.{task_numbers}
-use Rattle.plan_run.specs.Moments.{member_moment}
-use Rattle.pegasus_commands.specs.Commands.Plan.{task_limit}
+use Rattle.plan_run.specs.code.Moments.{member_moment}
+use Rattle.pegasus_commands.specs.code.Commands.Plan.{task_limit}
 use Rattle.pegasus_commands.proofs.PlanRunLemmas.{HasDeliveryLaws}
 use Rattle.pegasus_commands.proofs.RehearseLemmas.{alone_is}
 use Rattle.pegasus_commands.proofs.commands.rehearse.run_workload.Goals as goal

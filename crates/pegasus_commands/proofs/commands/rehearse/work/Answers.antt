@@ -1,5 +1,5 @@
-use Rattle.plan_run.specs.Moments.{member_moment, working}
-use Rattle.pegasus_commands.specs.Moments.{with_first}
+use Rattle.plan_run.specs.code.Moments.{member_moment, working}
+use Rattle.pegasus_commands.specs.code.Moments.{with_first}
 use Rattle.pegasus_commands.proofs.RehearseLemmas.{rehearse_works}
 use Rattle.pegasus_commands.proofs.commands.rehearse.work.Goals as goal
 

@@ -1,5 +1,5 @@
-use Rattle.plan_run.specs.Moments.{counting, crew_moment, first_shown, working}
-use Rattle.pegasus_commands.specs.Moments.{with_first}
+use Rattle.plan_run.specs.code.Moments.{counting, crew_moment, first_shown, working}
+use Rattle.pegasus_commands.specs.code.Moments.{with_first}
 use Rattle.pegasus_commands.proofs.RehearseLemmas.{rehearse_by_works}
 use Rattle.pegasus_commands.proofs.commands.rehearse.work_by.Goals as goal
 

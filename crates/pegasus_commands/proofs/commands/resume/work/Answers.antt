@@ -1,5 +1,5 @@
 use Rattle.std.proofs.Common.{refl}
-use Rattle.pegasus_commands.specs.Commands.Resume.{CanResume, ResumesPlan}
+use Rattle.pegasus_commands.specs.code.Commands.Resume.{CanResume, ResumesPlan}
 use Rattle.pegasus_commands.proofs.RecordedLemmas.{record_stops, record_works}
 use Rattle.pegasus_commands.proofs.commands.resume.work.Goals as goal
 

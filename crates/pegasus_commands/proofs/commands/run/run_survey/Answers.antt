@@ -1,7 +1,7 @@
 use Rattle.std.proofs.Common.{inl, refl, arith}
 use Rattle.plan_core.specs.Words.{task_numbers}
-use Rattle.plan_run.specs.Moments.{counting, crew_moment, first_shown, work_moment, working}
-use Rattle.pegasus_commands.specs.Commands.Plan.{task_limit}
+use Rattle.plan_run.specs.code.Moments.{counting, crew_moment, first_shown, work_moment, working}
+use Rattle.pegasus_commands.specs.code.Commands.Plan.{task_limit}
 use Rattle.pegasus_commands.proofs.PlanRunLemmas.{unrun_is}
 use Rattle.pegasus_commands.proofs.RunLemmas.{many_is}
 use Rattle.pegasus_commands.proofs.commands.run.run_survey.Goals as goal

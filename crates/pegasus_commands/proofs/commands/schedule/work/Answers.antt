@@ -1,4 +1,4 @@
-use Rattle.pegasus_commands.specs.Commands.Schedule.{HasSites, Schedules}
+use Rattle.pegasus_commands.specs.code.Commands.Schedule.{HasSites, Schedules}
 use Rattle.pegasus_commands.proofs.SurveyLemmas.{survey_stops, survey_works}
 use Rattle.pegasus_commands.proofs.commands.schedule.work.Goals as goal
 

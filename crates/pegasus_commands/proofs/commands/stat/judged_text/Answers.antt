@@ -1,5 +1,5 @@
 use Rattle.plan_core.specs.Words.{task_numbers}
-use Rattle.pegasus_commands.specs.Commands.Stat.{PrintsSums}
+use Rattle.pegasus_commands.specs.code.Commands.Stat.{PrintsSums}
 use Rattle.pegasus_commands.proofs.AuditLemmas.{says_none}
 use Rattle.pegasus_commands.proofs.commands.stat.judged_text.Goals as goal
 

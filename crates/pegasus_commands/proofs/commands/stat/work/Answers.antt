@@ -1,5 +1,5 @@
-use Rattle.pegasus_commands.specs.Commands.Audit.{CanJudge, Judges}
-use Rattle.pegasus_commands.specs.Commands.Stat.{PrintsSums}
+use Rattle.pegasus_commands.specs.code.Commands.Audit.{CanJudge, Judges}
+use Rattle.pegasus_commands.specs.code.Commands.Stat.{PrintsSums}
 use Rattle.pegasus_commands.proofs.RecordedLemmas.{record_stops, record_works}
 use Rattle.pegasus_commands.proofs.commands.stat.work.Goals as goal
 

@@ -10,7 +10,8 @@ use Rattle.place_peaks.specs.declared.seating.Seating.{Seating}
 use Rattle.place_peaks.specs.Peaks.{IsSeating, left_of, stack_of}
 use Rattle.place_peaks.specs.Ready.{AreSmall, WasGrouped}
 use Rattle.place_peaks.specs.Renewing.{CanWalk, IsLaid, renewed_values}
-use Rattle.storage_simulation.specs.Standings.{held_of, sizes}
+use Rattle.storage_simulation.specs.code.Standings.{held_of}
+use Rattle.storage_simulation.specs.Standings.{sizes}
 use Rattle.place_peaks.proofs.ReadyLemmas.{indexed_with, rising_of, tied_with}
 use Rattle.place_peaks.proofs.RenewingLemmas.{begun_room, order_once, renewed_tied, walk_of, wide_of}
 use Rattle.place_peaks.proofs.peaks.Peaks.enter_regrant.Goals as goal

@@ -3,7 +3,8 @@ use Rattle.std.specs.Prelude.{replicate}
 use Rattle.plan_core.specs.Numbers.{has}
 use Rattle.plan_core.specs.Words.{task_numbers}
 use Rattle.storage_simulation.specs.Following.{AreOnce}
-use Rattle.storage_simulation.specs.Standings.{held_of, held_size, sizes}
+use Rattle.storage_simulation.specs.code.Standings.{held_of}
+use Rattle.storage_simulation.specs.Standings.{held_size, sizes}
 use Rattle.place_peaks.specs.declared.seating.Seating.{Seating}
 use Rattle.place_peaks.specs.Renewing.{CanWalk}
 use Rattle.place_peaks.proofs.OpeningLemmas.{made_small, opened_by, opened_seating, parents_few, walk_first}

@@ -1,7 +1,8 @@
 use Rattle.std.proofs.Common.{◌<◌, ◌+◌, ◌∙◌, length, sym, subst, arith, ℕ, List}
 use Rattle.place_peaks.proofs.Offered.{count_tasks_in}
 use Rattle.plan_core.specs.Words.{task_numbers}
-use Rattle.storage_simulation.specs.Standings.{held_of, sizes}
+use Rattle.storage_simulation.specs.code.Standings.{held_of}
+use Rattle.storage_simulation.specs.Standings.{sizes}
 use Rattle.place_peaks.specs.Renewing.{IsLevel}
 use Rattle.place_peaks.proofs.RenewingLemmas.{level_added, level_passed, level_short, there_same, walk_need}
 use Rattle.place_peaks.proofs.peaks.Peaks.pass_task.Goals as goal

@@ -1,6 +1,7 @@
 use Rattle.std.proofs.Common.{[], Some, map, length, get_or, refl, ap, ◌∙◌, arith, sym, subst}
 use Rattle.plan_core.specs.Words.{task_numbers}
-use Rattle.storage_simulation.specs.Standings.{held_of, sizes}
+use Rattle.storage_simulation.specs.code.Standings.{held_of}
+use Rattle.storage_simulation.specs.Standings.{sizes}
 use Rattle.place_peaks.proofs.RenewingLemmas.{levels_few, refill_more, refill_rest}
 use Rattle.place_peaks.specs.declared.peaks.Peaks.{Peaks}
 use Rattle.place_peaks.specs.Renewing.{CanWalk}

@@ -1,7 +1,8 @@
 use Rattle.std.proofs.Common.{◌≡◌, ◌<◌, ◌≤◌, ℕ, [], get_or, length}
 use Rattle.std.specs.Prelude.{vec_capacity}
 use Rattle.plan_core.specs.Words.{task_numbers}
-use Rattle.storage_simulation.specs.Standings.{held_of, sizes}
+use Rattle.storage_simulation.specs.code.Standings.{held_of}
+use Rattle.storage_simulation.specs.Standings.{sizes}
 use Rattle.place_peaks.specs.Renewing.{renewed_values}
 use Rattle.place_peaks.proofs.peaks.Peaks.refill_all.Given as goal
 

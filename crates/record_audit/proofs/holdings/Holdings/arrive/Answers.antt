@@ -1,6 +1,6 @@
 use Rattle.std.proofs.Common.{ℕ, refl, sym}
 use Rattle.storage_simulation.specs.declared.standing.Held.TheVariants.{Stored}
-use Rattle.storage_simulation.specs.Standings.{at_in}
+use Rattle.storage_simulation.specs.code.Standings.{at_in}
 use Rattle.record_audit.proofs.HoldingsLemmas.{shows_delivered, shows_made}
 use Rattle.record_audit.proofs.holdings.Holdings.arrive.Goals as goal
 

@@ -1,7 +1,7 @@
 use Rattle.std.proofs.Common.{ℕ, refl, sym}
 use Rattle.storage_simulation.specs.declared.standing.Held.TheVariants.{Reserved}
 use Rattle.storage_simulation.specs.Goods.{good_size}
-use Rattle.storage_simulation.specs.Standings.{at_in}
+use Rattle.storage_simulation.specs.code.Standings.{at_in}
 use Rattle.record_audit.proofs.HoldingsLemmas.{shows_delivered, shows_made}
 use Rattle.record_audit.proofs.holdings.Holdings.begin.Goals as goal
 

@@ -1,4 +1,4 @@
-use Rattle.storage_simulation.specs.Standings.{at_in}
+use Rattle.storage_simulation.specs.code.Standings.{at_in}
 use Rattle.record_audit.proofs.HoldingsLemmas.{shows_ended}
 use Rattle.record_audit.proofs.holdings.Holdings.end.Goals as goal
 

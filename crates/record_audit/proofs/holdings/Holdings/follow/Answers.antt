@@ -1,7 +1,7 @@
 use Rattle.std.proofs.Common.{subst, sym}
 use Rattle.run_record.specs.declared.entry.Entry.{Entry}
-use Rattle.run_record.specs.Events.{event}
-use Rattle.storage_simulation.specs.Standings.{at_in}
+use Rattle.run_record.specs.code.Events.{event}
+use Rattle.storage_simulation.specs.code.Standings.{at_in}
 use Rattle.lease_rules.specs.State.{held_after}
 use Rattle.record_audit.specs.Holdings.{AreSizes}
 use Rattle.record_audit.proofs.holdings.Holdings.follow.Goals as goal

@@ -1,5 +1,5 @@
 use Rattle.std.proofs.Common.{◌≡◌, ℕ, List, ap, arith, ◌∙◌}
-use Rattle.storage_simulation.specs.Standings.{at_in}
+use Rattle.storage_simulation.specs.code.Standings.{at_in}
 use Rattle.record_audit.proofs.HoldingsLemmas.{changed_by, set_fits, set_somewhere}
 use Rattle.record_audit.proofs.holdings.Holdings.set.Goals as goal
 

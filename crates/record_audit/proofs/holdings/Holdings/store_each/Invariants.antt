@@ -1,6 +1,6 @@
 use Rattle.std.proofs.Common.{◌≡◌, ◌≤◌, ℕ, drop, length}
 use Rattle.plan_core.specs.Words.{writes}
-use Rattle.storage_simulation.specs.Standings.{at_in}
+use Rattle.storage_simulation.specs.code.Standings.{at_in}
 use Rattle.record_audit.specs.Holdings.{AddsUp, size_among}
 use Rattle.record_audit.proofs.holdings.Holdings.store_each.Given as goal
 

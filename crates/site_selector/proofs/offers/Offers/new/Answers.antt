@@ -1,5 +1,5 @@
 use Rattle.std.proofs.Common.{◌∙◌, List, ℕ, sym, ap, subst}
-use Rattle.site_selector.specs.Offers.{AreDistinct, offer_table}
+use Rattle.site_selector.specs.code.Offers.{AreDistinct, offer_table}
 use Rattle.site_selector.proofs.OfferLemmas.{distinct_names, names_are}
 use Rattle.site_selector.proofs.offers.Offers.new.Goals as goal
 

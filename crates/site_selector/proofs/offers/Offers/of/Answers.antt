@@ -1,7 +1,7 @@
 use Rattle.std.proofs.Common.{◌≡◌, ◌∙◌, ◌<◌, Vec, Bool, Global, length, sym, ap, subst, arith}
 use Rattle.std.specs.Prelude.{Some, slice_get}
 use Rattle.std.proofs.lemmas.Option.{slice_get-get_or}
-use Rattle.site_selector.specs.Offers.{Offered, IsFound}
+use Rattle.site_selector.specs.code.Offers.{Offered, IsFound}
 use Rattle.site_selector.proofs.OfferLemmas.{found_is}
 use Rattle.site_selector.proofs.offers.Offers.of.Goals as goal
 

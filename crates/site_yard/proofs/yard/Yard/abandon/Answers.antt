@@ -1,8 +1,8 @@
 use Rattle.std.proofs.Common.{[], ap, map, subst, sym, take, ◌∙◌}
 use Rattle.std.specs.Prelude.{is_some}
 use Rattle.lease_book.specs.Book.{failure, is_tried_again, state_at}
-use Rattle.site_yard.specs.Kept.{IsOpening}
-use Rattle.site_yard.specs.Yard.{IsTold}
+use Rattle.site_yard.specs.code.Kept.{IsOpening}
+use Rattle.site_yard.specs.code.Yard.{IsTold}
 use Rattle.site_yard.proofs.ListLemmas.{list_still, none_fails}
 use Rattle.site_yard.proofs.LoanLemmas.{abandon_counted, abandoned, plain_keeps, worker_low}
 use Rattle.site_yard.proofs.NextLemmas.{grown}

@@ -1,8 +1,8 @@
 use Rattle.std.proofs.Common.{ap, ◌∙◌}
-use Rattle.run_record.specs.Events.{Log}
+use Rattle.run_record.specs.code.Events.{Log}
 use Rattle.lease_book.specs.Book.{state_at}
 use Rattle.lease_rules.specs.Legal.{IsComplete}
-use Rattle.site_yard.specs.Ending.{fault_of, first_failed}
+use Rattle.site_yard.specs.code.Ending.{fault_of, first_failed}
 use Rattle.site_yard.proofs.LoanLemmas.{book_laws}
 use Rattle.site_yard.proofs.EndingLemmas.{ends_complete, none_ends, some_ends}
 use Rattle.site_yard.proofs.yard.Yard.ending.Goals as goal

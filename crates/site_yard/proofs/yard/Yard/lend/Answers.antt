@@ -2,8 +2,8 @@ use Rattle.std.proofs.Common.{[], ap, drop, subst, sym, take, ◌∙◌}
 use Rattle.std.specs.Prelude.{IfErr, IfOk, is_some}
 use Rattle.plan_core.specs.Words.{task_numbers}
 use Rattle.lease_book.specs.Book.{failure, is_tried_again, state_at}
-use Rattle.site_yard.specs.Failures.{AreMore}
-use Rattle.site_yard.specs.Lending.{RefusesLoan, count_parts}
+use Rattle.site_yard.specs.code.Failures.{AreMore}
+use Rattle.site_yard.specs.code.Lending.{RefusesLoan, count_parts}
 use Rattle.site_yard.proofs.KeptLemmas.{still_keeps}
 use Rattle.site_yard.proofs.LendLemmas.{lend_adds, lend_keeps}
 use Rattle.site_yard.proofs.LentLemmas.{lend_lends}

@@ -1,6 +1,6 @@
 use Rattle.std.proofs.Common.{subst, ◌∙◌}
-use Rattle.site_yard.specs.Failures.{AreMore}
-use Rattle.site_yard.specs.Opening.{looks}
+use Rattle.site_yard.specs.code.Failures.{AreMore}
+use Rattle.site_yard.specs.code.Opening.{looks}
 use Rattle.site_yard.proofs.OpenLemmas.{opens, refuses_as, wants_first, wants_last}
 use Rattle.site_yard.proofs.ListLemmas.{list_empty}
 use Rattle.site_yard.specs.declared.opening.OpenFault.TheVariants.{Memory}

@@ -1,9 +1,9 @@
 use Rattle.std.proofs.Common.{length, subst, sym, ap, ◌∙◌}
 use Rattle.plan_core.specs.Words.{task_numbers}
-use Rattle.run_record.specs.Events.{Log}
+use Rattle.run_record.specs.code.Events.{Log}
 use Rattle.lease_book.specs.Book.{state_at}
-use Rattle.site_yard.specs.Failures.{AreMore}
-use Rattle.site_yard.specs.Reopening.{AreRecorded, measures}
+use Rattle.site_yard.specs.code.Failures.{AreMore}
+use Rattle.site_yard.specs.code.Reopening.{AreRecorded, measures}
 use Rattle.site_yard.proofs.ReopenLemmas.{lists_none, refuses_as, reopens, wants_first}
 use Rattle.site_yard.proofs.yard.Yard.reopen.Goals as goal
 use Rattle.site_yard.proofs.yard.Yard.reopen.Goals.{in-Err, in-Ok, in-Err-mark, in-Ok-mark+in-Err-check_pairs}

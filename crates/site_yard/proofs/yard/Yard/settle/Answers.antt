@@ -1,19 +1,19 @@
 use Rattle.std.proofs.Common.{◌+◌, map, sym, ap, refl, take, true, ◌≡◌, ◌∙◌, length, subst}
 use Rattle.std.specs.Prelude.{None, Some, is_some}
 use Rattle.plan_core.specs.Words.{is_transfer}
-use Rattle.site_yard.specs.Failures.{AreMore}
-use Rattle.outside.specs.Parts.{draft_faults}
-use Rattle.site_yard.specs.Returning.{IsRefused, refusal_faults}
+use Rattle.site_yard.specs.code.Failures.{AreMore}
+use Rattle.outside.specs.code.Parts.{draft_faults}
+use Rattle.site_yard.specs.code.Returning.{IsRefused, refusal_faults}
 use Rattle.site_yard.proofs.LoanLemmas.{book_laws, worker_low}
 use Rattle.lease_book.specs.Book.{failure, is_tried_again, state_at}
 use Rattle.run_record.specs.Events.{Arrive, End}
-use Rattle.site_yard.specs.Loan.{CanSettle, targets}
+use Rattle.site_yard.specs.code.Loan.{CanSettle, targets}
 use Rattle.site_yard.proofs.ListLemmas.{list_still, none_fails}
 use Rattle.site_yard.proofs.NextLemmas.{grown}
 use Rattle.site_yard.proofs.RoomLemmas.{arrive_lists, settle_room}
 use Rattle.site_yard.proofs.SettledLemmas.{arrive_keeps, end_keeps, refused_keeps, tells_by}
 use Rattle.site_yard.proofs.PartLemmas.{later_both}
-use Rattle.site_yard.specs.Yard.{Adds, IsSettled, TakesPublished}
+use Rattle.site_yard.specs.code.Yard.{Adds, IsSettled, TakesPublished}
 use Rattle.site_yard.proofs.SettleLemmas.{arrive_adds, arrive_is_allowed, drafts_are, end_adds, end_is_allowed, one_is, open_run, refused_adds, refused_fits, settled_counts}
 use Rattle.site_yard.proofs.yard.Yard.settle.Goals as goal
 

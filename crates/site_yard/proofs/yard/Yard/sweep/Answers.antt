@@ -1,8 +1,9 @@
 use Rattle.std.proofs.Common.{sym, ap, refl, ◌∙◌, ◌-◌, length, []}
 use Rattle.std.specs.Prelude.{slice_get}
-use Rattle.run_record.specs.Events.{Clean, Log}
+use Rattle.run_record.specs.Events.{Clean}
+use Rattle.run_record.specs.code.Events.{Log}
 use Rattle.lease_book.specs.Book.{failure, is_tried_again, state_at}
-use Rattle.site_yard.specs.Leased.{failed_as}
+use Rattle.site_yard.specs.code.Leased.{failed_as}
 use Rattle.site_yard.proofs.ListLemmas.{list_still, none_fails}
 use Rattle.site_yard.proofs.LoanLemmas.{book_laws}
 use Rattle.site_yard.proofs.NextLemmas.{grown}

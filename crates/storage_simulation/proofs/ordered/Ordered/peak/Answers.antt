@@ -1,7 +1,8 @@
 use Rattle.std.proofs.Common.{ℕ, List, get_or, sym, ap, subst, ◌∙◌}
 use Rattle.std.proofs.Math.Logic.{∥∥₁_map}
 use Rattle.plan_core.specs.Words.{task_numbers}
-use Rattle.storage_simulation.specs.Ordering.{at_start, IsPeak}
+use Rattle.storage_simulation.specs.Ordering.{at_start}
+use Rattle.storage_simulation.specs.code.Ordering.{IsPeak}
 use Rattle.storage_simulation.proofs.ordered.Ordered.peak.Goals as goal
 
 pub returns : goal.returns

@@ -1,6 +1,6 @@
 use Rattle.std.proofs.Common.{ap, ◌∙◌}
-use Rattle.values.specs.SiteMap.{sites_of}
-use Rattle.values.specs.SiteMap.{at_site, put_pair}
+use Rattle.values.specs.code.SiteMap.{sites_of}
+use Rattle.values.specs.code.SiteMap.{at_site, put_pair}
 use Rattle.values.proofs.SiteMapLemmas.{put_through, same_through, at_none, on_ok, on_err, is_there}
 use Rattle.values.proofs.site_map.SiteMap.insert.Goals as goal
 

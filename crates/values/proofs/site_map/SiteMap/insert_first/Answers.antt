@@ -1,6 +1,6 @@
 use Rattle.std.proofs.Common.{◌∙◌, ap}
 use Rattle.std.specs.FinMap as map
-use Rattle.values.specs.SiteMap.{at_site, put_pair}
+use Rattle.values.specs.code.SiteMap.{at_site, put_pair}
 use Rattle.values.proofs.SiteMapLemmas.{put_new}
 use Rattle.values.proofs.site_map.SiteMap.insert_first.Goals as goal
 

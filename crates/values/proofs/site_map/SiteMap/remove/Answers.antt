@@ -1,6 +1,6 @@
 use Rattle.std.proofs.Common.{ap, sym, ◌∙◌, refl}
-use Rattle.values.specs.SiteMap.{sites_of}
-use Rattle.values.specs.SiteMap.{pair_at, take_pair}
+use Rattle.values.specs.code.SiteMap.{sites_of}
+use Rattle.values.specs.code.SiteMap.{pair_at, take_pair}
 use Rattle.values.proofs.SiteMapLemmas.{take_through, same_through, none_at, pair_there, is_there, none_is, some_is}
 use Rattle.values.proofs.site_map.SiteMap.remove.Goals as goal
 

@@ -1,0 +1,2 @@
+-- What the contracts of this crate's code say beside what the headline reaches.
+pub mod Cleans

@@ -1,0 +1,15 @@
+pub mod ListsLemmas
+pub mod KeptLemmas
+pub mod SelectionLemmas
+pub mod RanksLemmas
+pub mod SchedulesLemmas
+pub mod ClustersLemmas
+pub mod RefinedLemmas
+pub mod GraphsLemmas
+pub mod DraftsLemmas
+pub mod PlansLemmas
+pub mod DocumentsLemmas
+pub mod RunsLemmas
+pub mod OrdersLemmas
+pub mod SizesLemmas
+pub mod FinishingLemmas

@@ -1,0 +1,6 @@
+-- Beside `specs/Draft.antt`: what the code's own contracts say.
+use Rattle.std.specs.Prelude.{Bool, true, false, List, [], ◌∷◌}
+
+abbrev pub is_empty : {A : Type 0} → List A → Bool
+is_empty [] = true
+is_empty (x ∷ xs) = false

@@ -1,0 +1,3 @@
+-- What the contracts of this crate's code say beside what the headline reaches.
+pub mod Unknown
+pub mod Key

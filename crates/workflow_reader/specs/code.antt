@@ -1,0 +1,5 @@
+-- What the contracts of this crate's code say beside what the headline reaches.
+pub mod Document
+pub mod Unknown
+pub mod Known
+pub mod Small
