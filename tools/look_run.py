@@ -303,6 +303,11 @@ def of_host(failure):
         is_there = is_there or bool(fault)
         if what == "writes":
             said.append(f"{what} {plain(plan.files[file])}: {fault or f'{path}: nothing is wrong with it now'}")
+    # A replica that couldn't be read may be there now, and too long or with other bytes.
+    for found in look_places.of_replicas(plan, {failure.number}):
+        is_there = True
+        if not found.facts["line"].startswith("failed host "):
+            said.append(found.line)
     free, wanted = os.statvfs("."), sum(plan.sizes[file] for file in task.moved)
     if free.f_bavail * free.f_frsize < wanted:
         said.append(f"the disk of this folder has {free.f_bavail * free.f_frsize} bytes free, and this task may write {wanted}")

@@ -285,7 +285,7 @@ def sizes(place):
 
 def others(place):
     """A replica that is there again, a disk's failure, texts that are no record, and records of another request."""
-    write(place, [job("join", [], ["b", "c"], ["x"])], [replica("b", "b"), replica("c", "c")])
+    write(place, [job("join", [], ["b", "c"], ["x"])], [replica("b", "b"), replica("c", "c")], size=1000)
     assert run(place) == "failed absent b b"
     lines = why(place, "request.json", "run.txt")
     has(lines, "in the way: failed absent b b", "replica b: b: No such file or directory", "in the way: replica c: c: No such file or directory")
@@ -296,6 +296,13 @@ def others(place):
     (place / "b").mkdir()
     assert run(place) == "failed host 1"
     has(why(place, "request.json", "run.txt"), "in the way: failed host 1", "reads b: b: Is a directory", "writes b: sites/pool/b: nothing is wrong with it now")
+    # What couldn't be read is a file now, but a longer one; and then as it should be.
+    (place / "b").rmdir()
+    (place / "b").write_bytes(bytes(1001))
+    has(why(place, "request.json", "run.txt"), "in the way: failed host 1", "replica b: b has 1001 bytes, and 1000 are declared",
+        "to go on once that is mended: ./pegasus resume request.json run.txt")
+    (place / "b").write_text("1\n")
+    has(why(place, "request.json", "run.txt"), "failed host 1", "to go on: ./pegasus resume request.json run.txt", "nothing in the way")
     for text, told in (("refused size x\n", "the call ended before a run: refused size x"),
                        ("record 1\ngrant 0 1\n", "in the way: bad record 3"), ("no text\n", "in the way: bad record 1"),
                        ("record 1\nclosed\nfailed scratch pool\n", "the call ended with failed scratch pool, and nothing was done"),
