@@ -36,7 +36,7 @@ impl Book {
         ensures plan { self.new.plan ≡ self.old.plan }
         ensures order { self.new.order ≡ self.old.order }
     {
-        self.state.arrive(&self.plan, worker, task.0, size);
+        self.state.enter_arrive(&self.plan, worker, task.0, size);
         self.history.push(&Entry::Arrive { worker, task, size });
     }
 
@@ -48,7 +48,7 @@ impl Book {
         ensures plan { self.new.plan ≡ self.old.plan }
         ensures order { self.new.order ≡ self.old.order }
     {
-        self.state.end(&self.plan, worker, task.0, sizes);
+        self.state.enter_end(&self.plan, worker, task.0, sizes);
         self.history.push(&Entry::End {
             worker,
             task,
@@ -63,7 +63,7 @@ impl Book {
         ensures plan { self.new.plan ≡ self.old.plan }
         ensures order { self.new.order ≡ self.old.order }
     {
-        self.state.clean(&self.plan, worker, task.0);
+        self.state.enter_clean(&self.plan, worker, task.0);
         self.history.push(&Entry::Clean { worker, task });
     }
 
@@ -75,7 +75,8 @@ impl Book {
         ensures plan { self.new.plan ≡ self.old.plan }
         ensures order { self.new.order ≡ self.old.order }
     {
-        self.state.again(&self.plan, worker, task, cause, published);
+        self.state
+            .enter_again(&self.plan, worker, task, cause, published);
         self.history.push(&Entry::Again {
             worker,
             task: TaskId(task),
@@ -92,7 +93,8 @@ impl Book {
         ensures plan { self.new.plan ≡ self.old.plan }
         ensures order { self.new.order ≡ self.old.order }
     {
-        self.state.fail(&self.plan, worker, task, cause, published);
+        self.state
+            .enter_fail(&self.plan, worker, task, cause, published);
         self.history.push(&Entry::Fail {
             worker,
             task: TaskId(task),

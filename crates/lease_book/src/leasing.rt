@@ -35,7 +35,7 @@ impl Book {
         ensures plan { self.new.plan ≡ self.old.plan }
         ensures order { self.new.order ≡ self.old.order }
     {
-        self.state.grant(&self.plan, worker, task);
+        self.state.enter_grant(&self.plan, worker, task);
         self.history.push(&Entry::Grant {
             worker,
             task: TaskId(task),
@@ -51,7 +51,7 @@ impl Book {
         ensures order { self.new.order ≡ self.old.order }
     {
         self.state
-            .regrant(&self.plan, worker, task, self.bench.tasks());
+            .enter_regrant(&self.plan, worker, task, self.bench.tasks());
         self.history.push(&Entry::Regrant {
             worker,
             task: TaskId(task),

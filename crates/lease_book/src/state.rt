@@ -178,7 +178,7 @@ impl RunState {
     }
 
     /// A task begins.
-    pub(crate) fn grant(&mut self, plan: &Plan, worker: u32, task: u32)
+    pub(crate) fn enter_grant(&mut self, plan: &Plan, worker: u32, task: u32)
         requires limits { IsWithinLimits plan.now }
         requires laws { HasStorageLaws plan.now }
         requires room { HasRoom plan.now self.old }
@@ -195,7 +195,7 @@ impl RunState {
     }
 
     /// A task begins under a fresh order.
-    pub(crate) fn regrant(&mut self, plan: &Plan, worker: u32, task: u32, tasks: &[TaskId])
+    pub(crate) fn enter_regrant(&mut self, plan: &Plan, worker: u32, task: u32, tasks: &[TaskId])
         requires limits { IsWithinLimits plan.now }
         requires laws { HasStorageLaws plan.now }
         requires room { HasRoom plan.now self.old }
@@ -215,7 +215,7 @@ impl RunState {
     }
 
     /// A Transfer ends.
-    pub(crate) fn arrive(&mut self, plan: &Plan, worker: u32, task: u32, size: u64)
+    pub(crate) fn enter_arrive(&mut self, plan: &Plan, worker: u32, task: u32, size: u64)
         requires limits { IsWithinLimits plan.now }
         requires laws { HasStorageLaws plan.now }
         requires room { HasRoom plan.now self.old }
@@ -233,7 +233,7 @@ impl RunState {
     }
 
     /// A Run ends.
-    pub(crate) fn end(&mut self, plan: &Plan, worker: u32, task: u32, sizes: &[u64])
+    pub(crate) fn enter_end(&mut self, plan: &Plan, worker: u32, task: u32, sizes: &[u64])
         requires limits { IsWithinLimits plan.now }
         requires laws { HasStorageLaws plan.now }
         requires room { HasRoom plan.now self.old }
@@ -252,7 +252,7 @@ impl RunState {
     }
 
     /// A Clean is done.
-    pub(crate) fn clean(&mut self, plan: &Plan, worker: u32, task: u32)
+    pub(crate) fn enter_clean(&mut self, plan: &Plan, worker: u32, task: u32)
         requires laws { HasStorageLaws plan.now }
         requires room { HasRoom plan.now self.old }
         requires peaks { HasPeaks plan.now self.old }
@@ -271,7 +271,7 @@ impl RunState {
     }
 
     /// A task is tried again.
-    pub(crate) fn again(
+    pub(crate) fn enter_again(
         &mut self,
         plan: &Plan,
         worker: u32,
@@ -301,7 +301,7 @@ impl RunState {
     }
 
     /// A task has failed.
-    pub(crate) fn fail(
+    pub(crate) fn enter_fail(
         &mut self,
         plan: &Plan,
         worker: u32,

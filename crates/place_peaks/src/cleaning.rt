@@ -75,7 +75,7 @@ fn take_base(base: &mut Vec<u64>, seating: &Seating, task: u32, frees: u64)
 
 impl Peaks {
     /// A Clean of the line, which frees so much, is done.
-    pub(crate) fn clean(&mut self, plan: &Plan, links: &Links, task: u32, frees: u64)
+    pub(crate) fn clean_in_line(&mut self, plan: &Plan, links: &Links, task: u32, frees: u64)
         requires links { AreLinks plan.now links.now }
         requires ends { CanEnd plan.now self.old.missing.items task }
         requires task { task < length self.old.left.items }
@@ -91,7 +91,7 @@ impl Peaks {
     }
 
     /// A Clean that is the first task of the stack, and frees so much, is done.
-    pub(crate) fn clean_again(&mut self, plan: &Plan, links: &Links, task: u32, frees: u64)
+    pub(crate) fn clean_on_stack(&mut self, plan: &Plan, links: &Links, task: u32, frees: u64)
         requires links { AreLinks plan.now links.now }
         requires ends { CanEnd plan.now self.old.missing.items task }
         requires first { IsFirstOf (stack_of self.old) task }

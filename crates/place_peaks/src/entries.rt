@@ -39,10 +39,10 @@ impl Peaks {
         sums_are_small();
         match self.first_again() {
             None => {
-                self.grant(task);
+                self.grant_in_line(task);
                 self.refresh(plan, task);
             }
-            Some(_) => self.grant_again(task),
+            Some(_) => self.grant_on_stack(task),
         }
     }
 
@@ -59,12 +59,12 @@ impl Peaks {
         parents_stand_once();
         match self.first_again() {
             None => {
-                self.clean(plan, links, task, frees);
+                self.clean_in_line(plan, links, task, frees);
                 self.refresh(plan, task);
                 self.refresh_children(plan, links, task);
             }
             Some(_) => {
-                self.clean_again(plan, links, task, frees);
+                self.clean_on_stack(plan, links, task, frees);
                 self.refresh_children(plan, links, task);
             }
         }
@@ -80,7 +80,7 @@ impl Peaks {
             → AreTied plan.now (after plan.now s (Arrive w task size)) self.new }
     {
         parents_stand_once();
-        self.arrive(plan, links, task, size);
+        self.settle_transfer(plan, links, task, size);
         self.refresh_children(plan, links, task);
     }
 
@@ -95,7 +95,7 @@ impl Peaks {
             → AreTied plan.now (after plan.now s (End w task sizes.now)) self.new }
     {
         parents_stand_once();
-        self.end(plan, links, task, sizes);
+        self.settle_run(plan, links, task, sizes);
         self.refresh_children(plan, links, task);
     }
 
@@ -111,7 +111,7 @@ impl Peaks {
         sums_are_small();
         match self.first_again() {
             None => {
-                self.move_again(task, frees);
+                self.move_to_stack(task, frees);
                 self.refresh(plan, task);
             }
             Some(_) => {}
@@ -129,7 +129,7 @@ impl Peaks {
         if plan.is_clean(TaskId(task)) {
             self.put_back(plan, task, frees);
         } else {
-            self.wait_again(task);
+            self.wait_on_stack(task);
             self.refresh(plan, task);
         }
     }

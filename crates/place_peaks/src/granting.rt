@@ -53,7 +53,7 @@ fn start_at(trees: &mut Vec<PeakTree>, seating: &Seating, task: u32, need: u64)
 
 impl Peaks {
     /// A task of the line has started.
-    pub(crate) fn grant(&mut self, task: u32)
+    pub(crate) fn grant_in_line(&mut self, task: u32)
         requires task { task < length self.old.left.items }
         requires room { (q : ℕ) → get_or self.old.seating.homes.items task None ≡ Some q
             → CanGrant self.old task q }
@@ -67,7 +67,7 @@ impl Peaks {
     }
 
     /// The first task of the stack has started.
-    pub(crate) fn grant_again(&mut self, task: u32)
+    pub(crate) fn grant_on_stack(&mut self, task: u32)
         requires first { IsFirstOf (stack_of self.old) task }
         requires room { (q : ℕ) → get_or self.old.seating.homes.items task None ≡ Some q
             → CanHold self.old.base.items q (get_or self.old.needs.items task 0) }

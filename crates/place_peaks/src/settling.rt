@@ -141,7 +141,7 @@ impl Peaks {
     }
 
     /// A Transfer has moved its file, of this size.
-    pub(crate) fn arrive(&mut self, plan: &Plan, links: &Links, task: u32, size: u64)
+    pub(crate) fn settle_transfer(&mut self, plan: &Plan, links: &Links, task: u32, size: u64)
         requires limits { IsWithinLimits plan.now }
         requires links { AreLinks plan.now links.now }
         requires settles { CanSettle plan.now links.now self.old task
@@ -154,7 +154,7 @@ impl Peaks {
     }
 
     /// A Run has made its files, of these sizes.
-    pub(crate) fn end(&mut self, plan: &Plan, links: &Links, task: u32, sizes: &[u64])
+    pub(crate) fn settle_run(&mut self, plan: &Plan, links: &Links, task: u32, sizes: &[u64])
         requires limits { IsWithinLimits plan.now }
         requires links { AreLinks plan.now links.now }
         requires settles { CanSettle plan.now links.now self.old task sizes.now }

@@ -21,7 +21,7 @@ fn clear_need(needs: &mut Vec<u64>, task: u32)
 
 impl Peaks {
     /// A task that runs waits again.
-    pub(crate) fn wait_again(&mut self, task: u32)
+    pub(crate) fn wait_on_stack(&mut self, task: u32)
         requires room { length self.old.again.items < vec_capacity self.old.again }
         ensures waits { IsAgain self.old self.new task }
         ensures stack { stack_of self.new ≡ task ∷ stack_of self.old }
@@ -32,7 +32,7 @@ impl Peaks {
     }
 
     /// A Clean of the line, which frees so much, waits again.
-    pub(crate) fn move_again(&mut self, task: u32, frees: u64)
+    pub(crate) fn move_to_stack(&mut self, task: u32, frees: u64)
         requires task { task < length self.old.left.items }
         requires frees { (q : ℕ) → get_or self.old.seating.homes.items task None ≡ Some q
             → CanSweepAt self.old.trees.items q (get_or self.old.seating.seats.items task 0) frees }

@@ -11,7 +11,7 @@ push-requires-clause-sizes c = has_sizes c.args.self.now (Again c.args.worker c.
 pub invariant_of-self : goal.invariant_of-self
 invariant_of-self c = record {
   proper = c.args.self.now.proper;
-  kept = kept_more c.args.self.now (Again c.args.worker c.args.task c.args.cause.now c.args.published.now) c.push.new.self c.again.new.self c.requires c.push.ensures.events c.push.ensures.room c.push.ensures.sizes_room c.again.ensures.state c.again.ensures.room c.again.ensures.peaks;
+  kept = kept_more c.args.self.now (Again c.args.worker c.args.task c.args.cause.now c.args.published.now) c.push.new.self c.enter_again.new.self c.requires c.push.ensures.events c.push.ensures.room c.push.ensures.sizes_room c.enter_again.ensures.state c.enter_again.ensures.room c.enter_again.ensures.peaks;
   place = c.args.self.now.place;
   fresh = c.args.self.now.fresh;
 }

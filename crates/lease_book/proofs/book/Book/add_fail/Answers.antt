@@ -11,7 +11,7 @@ push-requires-clause-sizes c = has_sizes c.args.self.now (Fail c.args.worker c.a
 pub invariant_of-self : goal.invariant_of-self
 invariant_of-self c = record {
   proper = c.args.self.now.proper;
-  kept = kept_more c.args.self.now (Fail c.args.worker c.args.task c.args.cause.now c.args.published.now) c.push.new.self c.fail.new.self c.requires c.push.ensures.events c.push.ensures.room c.push.ensures.sizes_room c.fail.ensures.state c.fail.ensures.room c.fail.ensures.peaks;
+  kept = kept_more c.args.self.now (Fail c.args.worker c.args.task c.args.cause.now c.args.published.now) c.push.new.self c.enter_fail.new.self c.requires c.push.ensures.events c.push.ensures.room c.push.ensures.sizes_room c.enter_fail.ensures.state c.enter_fail.ensures.room c.enter_fail.ensures.peaks;
   place = c.args.self.now.place;
   fresh = c.args.self.now.fresh;
 }

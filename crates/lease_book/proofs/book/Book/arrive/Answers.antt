@@ -11,7 +11,7 @@ push-requires-clause-sizes c = has_sizes c.args.self.now (Arrive c.args.worker c
 pub invariant_of-self : goal.invariant_of-self
 invariant_of-self c = record {
   proper = c.args.self.now.proper;
-  kept = kept_more c.args.self.now (Arrive c.args.worker c.args.task.0 c.args.size) c.push.new.self c.arrive.new.self (allowed_in c.args.self.now (Arrive c.args.worker c.args.task.0 c.args.size) c.requires) c.push.ensures.events c.push.ensures.room c.push.ensures.sizes_room c.arrive.ensures.state c.arrive.ensures.room c.arrive.ensures.peaks;
+  kept = kept_more c.args.self.now (Arrive c.args.worker c.args.task.0 c.args.size) c.push.new.self c.enter_arrive.new.self (allowed_in c.args.self.now (Arrive c.args.worker c.args.task.0 c.args.size) c.requires) c.push.ensures.events c.push.ensures.room c.push.ensures.sizes_room c.enter_arrive.ensures.state c.enter_arrive.ensures.room c.enter_arrive.ensures.peaks;
   place = c.args.self.now.place;
   fresh = c.args.self.now.fresh;
 }

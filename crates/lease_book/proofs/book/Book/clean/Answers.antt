@@ -11,10 +11,10 @@ push-requires-clause-sizes c = has_sizes c.args.self.now (Clean c.args.worker c.
 pub invariant_of-self : goal.invariant_of-self
 invariant_of-self c = record {
   proper = c.args.self.now.proper;
-  kept = kept_more c.args.self.now (Clean c.args.worker c.args.task.0) c.push.new.self c.clean.new.self (allowed_in c.args.self.now (Clean c.args.worker c.args.task.0) c.requires) c.push.ensures.events c.push.ensures.room c.push.ensures.sizes_room c.clean.ensures.state c.clean.ensures.room c.clean.ensures.peaks;
+  kept = kept_more c.args.self.now (Clean c.args.worker c.args.task.0) c.push.new.self c.enter_clean.new.self (allowed_in c.args.self.now (Clean c.args.worker c.args.task.0) c.requires) c.push.ensures.events c.push.ensures.room c.push.ensures.sizes_room c.enter_clean.ensures.state c.enter_clean.ensures.room c.enter_clean.ensures.peaks;
   place = c.args.self.now.place;
   fresh = c.args.self.now.fresh;
 }
 
-pub clean-requires-clause-allowed : goal.clean-requires-clause-allowed
-clean-requires-clause-allowed c = allowed_in c.args.self.now (Clean c.args.worker c.args.task.0) c.requires
+pub enter_clean-requires-clause-allowed : goal.enter_clean-requires-clause-allowed
+enter_clean-requires-clause-allowed c = allowed_in c.args.self.now (Clean c.args.worker c.args.task.0) c.requires

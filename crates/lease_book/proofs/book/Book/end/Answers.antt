@@ -13,10 +13,10 @@ push-requires-clause-sizes c = has_sizes c.args.self.now (End c.args.worker c.ar
 pub invariant_of-self : goal.invariant_of-self
 invariant_of-self c = record {
   proper = c.args.self.now.proper;
-  kept = kept_more c.args.self.now (End c.args.worker c.args.task.0 c.args.sizes.now) c.push.new.self c.end.new.self (allowed_in c.args.self.now (End c.args.worker c.args.task.0 c.args.sizes.now) c.requires) c.push.ensures.events c.push.ensures.room c.push.ensures.sizes_room c.end.ensures.state c.end.ensures.room c.end.ensures.peaks;
+  kept = kept_more c.args.self.now (End c.args.worker c.args.task.0 c.args.sizes.now) c.push.new.self c.enter_end.new.self (allowed_in c.args.self.now (End c.args.worker c.args.task.0 c.args.sizes.now) c.requires) c.push.ensures.events c.push.ensures.room c.push.ensures.sizes_room c.enter_end.ensures.state c.enter_end.ensures.room c.enter_end.ensures.peaks;
   place = c.args.self.now.place;
   fresh = c.args.self.now.fresh;
 }
 
-pub end-requires-clause-sizes : goal.end-requires-clause-sizes
-end-requires-clause-sizes c = declared_long c.args.self.now.plan (makes c.args.self.now.plan c.args.task.0) c.args.sizes.now c.requires.3
+pub enter_end-requires-clause-sizes : goal.enter_end-requires-clause-sizes
+enter_end-requires-clause-sizes c = declared_long c.args.self.now.plan (makes c.args.self.now.plan c.args.task.0) c.args.sizes.now c.requires.3

@@ -11,7 +11,7 @@ push-requires-clause-sizes c = has_sizes c.args.self.now (Grant c.args.worker c.
 pub invariant_of-self : goal.invariant_of-self
 invariant_of-self c = record {
   proper = c.args.self.now.proper;
-  kept = kept_more c.args.self.now (Grant c.args.worker c.args.task) c.push.new.self c.grant.new.self c.requires c.push.ensures.events c.push.ensures.room c.push.ensures.sizes_room c.grant.ensures.state c.grant.ensures.room c.grant.ensures.peaks;
+  kept = kept_more c.args.self.now (Grant c.args.worker c.args.task) c.push.new.self c.enter_grant.new.self c.requires c.push.ensures.events c.push.ensures.room c.push.ensures.sizes_room c.enter_grant.ensures.state c.enter_grant.ensures.room c.enter_grant.ensures.peaks;
   place = c.args.self.now.place;
   fresh = c.args.self.now.fresh;
 }

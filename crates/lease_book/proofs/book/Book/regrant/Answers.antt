@@ -12,10 +12,10 @@ push-requires-clause-sizes c = has_sizes c.args.self.now (Regrant c.args.worker 
 pub invariant_of-self : goal.invariant_of-self
 invariant_of-self c = record {
   proper = c.args.self.now.proper;
-  kept = kept_more c.args.self.now (Regrant c.args.worker c.args.task) c.push.new.self c.regrant.new.self c.requires.allowed c.push.ensures.events c.push.ensures.room c.push.ensures.sizes_room c.regrant.ensures.state c.regrant.ensures.room c.regrant.ensures.peaks;
+  kept = kept_more c.args.self.now (Regrant c.args.worker c.args.task) c.push.new.self c.enter_regrant.new.self c.requires.allowed c.push.ensures.events c.push.ensures.room c.push.ensures.sizes_room c.enter_regrant.ensures.state c.enter_regrant.ensures.room c.enter_regrant.ensures.peaks;
   place = c.args.self.now.place;
   fresh = c.args.self.now.fresh;
 }
 
-pub regrant-requires-clause-task : goal.regrant-requires-clause-task
-regrant-requires-clause-task c = regrant_task c.args.self.now.plan (state_of c.args.self.now.state) c.args.worker c.args.task c.args.self.now.kept.consistent.sound c.requires.allowed
+pub enter_regrant-requires-clause-task : goal.enter_regrant-requires-clause-task
+enter_regrant-requires-clause-task c = regrant_task c.args.self.now.plan (state_of c.args.self.now.state) c.args.worker c.args.task c.args.self.now.kept.consistent.sound c.requires.allowed

@@ -11,20 +11,20 @@ use Rattle.place_peaks.specs.declared.peaks.Peaks.{Peaks}
 use Rattle.place_peaks.specs.Ready.{AreSmall, HasGroups}
 use Rattle.place_peaks.proofs.peaks.Peaks.enter_arrive.Goals as goal
 
-pub arrive-requires-clause-settles : goal.arrive-requires-clause-settles
-arrive-requires-clause-settles c = arrive_settles c.args.plan.now c.args.links.now c.args.self.now c.args.task c.args.size c.requires.can
+pub settle_transfer-requires-clause-settles : goal.settle_transfer-requires-clause-settles
+settle_transfer-requires-clause-settles c = arrive_settles c.args.plan.now c.args.links.now c.args.self.now c.args.task c.args.size c.requires.can
 
 pub refresh_children-requires-clause-groups : goal.refresh_children-requires-clause-groups
-refresh_children-requires-clause-groups c = subst (HasGroups c.args.plan.now) (sym c.arrive.ensures.same) c.requires.can.tied.indexed.grouped
+refresh_children-requires-clause-groups c = subst (HasGroups c.args.plan.now) (sym c.settle_transfer.ensures.same) c.requires.can.tied.indexed.grouped
 
 pub refresh_children-requires-clause-small : goal.refresh_children-requires-clause-small
-refresh_children-requires-clause-small c = subst AreSmall (sym c.arrive.ensures.same) (λ u. c.requires.can.tied.indexed.small u)
+refresh_children-requires-clause-small c = subst AreSmall (sym c.settle_transfer.ensures.same) (λ u. c.requires.can.tied.indexed.small u)
 
 pub returns : goal.returns
 returns c = λ s w tied allowed.
-    let is = c.arrive.ensures in
-    tied_with c.args.plan.now (after c.args.plan.now s (Arrive w c.args.task c.args.size)) c.arrive.new.self c.refresh_children.new.self
-    (arrive_tied c.args.plan.now s c.args.links.now c.args.self.now c.arrive.new.self w c.args.task c.args.size tied c.requires.links (c.parents_stand_once.ensures c.args.plan.now c.requires.proper) allowed c.arrive.ensures) c.refresh_children.ensures.same
-    (children_indexed c.args.plan.now c.arrive.new.self c.refresh_children.new.self c.args.task (subst AreSmall (sym is.same) (λ u. tied.indexed.small u)) (rising_after c.args.self.now c.arrive.new.self (ap (λ (b : Peaks). b.seating) is.same) tied.indexed.rising)
+    let is = c.settle_transfer.ensures in
+    tied_with c.args.plan.now (after c.args.plan.now s (Arrive w c.args.task c.args.size)) c.settle_transfer.new.self c.refresh_children.new.self
+    (arrive_tied c.args.plan.now s c.args.links.now c.args.self.now c.settle_transfer.new.self w c.args.task c.args.size tied c.requires.links (c.parents_stand_once.ensures c.args.plan.now c.requires.proper) allowed c.settle_transfer.ensures) c.refresh_children.ensures.same
+    (children_indexed c.args.plan.now c.settle_transfer.new.self c.refresh_children.new.self c.args.task (subst AreSmall (sym is.same) (λ u. tied.indexed.small u)) (rising_after c.args.self.now c.settle_transfer.new.self (ap (λ (b : Peaks). b.seating) is.same) tied.indexed.rising)
     c.refresh_children.ensures.same c.refresh_children.ensures.groups
-    (c.refresh_children.ensures.indexed (λ u. has (parents c.args.plan.now u) c.args.task) (settled_but c.args.plan.now c.args.links.now c.args.self.now c.arrive.new.self c.args.task (replicate (length (makes c.args.plan.now c.args.task)) c.args.size) tied.indexed is)))
+    (c.refresh_children.ensures.indexed (λ u. has (parents c.args.plan.now u) c.args.task) (settled_but c.args.plan.now c.args.links.now c.args.self.now c.settle_transfer.new.self c.args.task (replicate (length (makes c.args.plan.now c.args.task)) c.args.size) tied.indexed is)))

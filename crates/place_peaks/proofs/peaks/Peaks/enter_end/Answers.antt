@@ -9,20 +9,20 @@ use Rattle.place_peaks.specs.declared.peaks.Peaks.{Peaks}
 use Rattle.place_peaks.specs.Ready.{AreSmall, HasGroups}
 use Rattle.place_peaks.proofs.peaks.Peaks.enter_end.Goals as goal
 
-pub end-requires-clause-settles : goal.end-requires-clause-settles
-end-requires-clause-settles c = end_settles c.args.plan.now c.args.links.now c.args.self.now c.args.task c.args.sizes.now c.requires.can
+pub settle_run-requires-clause-settles : goal.settle_run-requires-clause-settles
+settle_run-requires-clause-settles c = end_settles c.args.plan.now c.args.links.now c.args.self.now c.args.task c.args.sizes.now c.requires.can
 
 pub refresh_children-requires-clause-groups : goal.refresh_children-requires-clause-groups
-refresh_children-requires-clause-groups c = subst (HasGroups c.args.plan.now) (sym c.end.ensures.same) c.requires.can.tied.indexed.grouped
+refresh_children-requires-clause-groups c = subst (HasGroups c.args.plan.now) (sym c.settle_run.ensures.same) c.requires.can.tied.indexed.grouped
 
 pub refresh_children-requires-clause-small : goal.refresh_children-requires-clause-small
-refresh_children-requires-clause-small c = subst AreSmall (sym c.end.ensures.same) (λ u. c.requires.can.tied.indexed.small u)
+refresh_children-requires-clause-small c = subst AreSmall (sym c.settle_run.ensures.same) (λ u. c.requires.can.tied.indexed.small u)
 
 pub returns : goal.returns
 returns c = λ s w tied allowed.
-    let is = c.end.ensures in
-    tied_with c.args.plan.now (after c.args.plan.now s (End w c.args.task c.args.sizes.now)) c.end.new.self c.refresh_children.new.self
-    (end_tied c.args.plan.now s c.args.links.now c.args.self.now c.end.new.self w c.args.task c.args.sizes.now tied c.requires.links (c.parents_stand_once.ensures c.args.plan.now c.requires.proper) allowed c.end.ensures) c.refresh_children.ensures.same
-    (children_indexed c.args.plan.now c.end.new.self c.refresh_children.new.self c.args.task (subst AreSmall (sym is.same) (λ u. tied.indexed.small u)) (rising_after c.args.self.now c.end.new.self (ap (λ (b : Peaks). b.seating) is.same) tied.indexed.rising)
+    let is = c.settle_run.ensures in
+    tied_with c.args.plan.now (after c.args.plan.now s (End w c.args.task c.args.sizes.now)) c.settle_run.new.self c.refresh_children.new.self
+    (end_tied c.args.plan.now s c.args.links.now c.args.self.now c.settle_run.new.self w c.args.task c.args.sizes.now tied c.requires.links (c.parents_stand_once.ensures c.args.plan.now c.requires.proper) allowed c.settle_run.ensures) c.refresh_children.ensures.same
+    (children_indexed c.args.plan.now c.settle_run.new.self c.refresh_children.new.self c.args.task (subst AreSmall (sym is.same) (λ u. tied.indexed.small u)) (rising_after c.args.self.now c.settle_run.new.self (ap (λ (b : Peaks). b.seating) is.same) tied.indexed.rising)
     c.refresh_children.ensures.same c.refresh_children.ensures.groups
-    (c.refresh_children.ensures.indexed (λ u. has (parents c.args.plan.now u) c.args.task) (settled_but c.args.plan.now c.args.links.now c.args.self.now c.end.new.self c.args.task c.args.sizes.now tied.indexed is)))
+    (c.refresh_children.ensures.indexed (λ u. has (parents c.args.plan.now u) c.args.task) (settled_but c.args.plan.now c.args.links.now c.args.self.now c.settle_run.new.self c.args.task c.args.sizes.now tied.indexed is)))

@@ -2,7 +2,7 @@ use Rattle.std.proofs.Common.{nat_eq, refl, ◌∙◌}
 use Rattle.place_peaks.specs.Peaks.{left_of}
 use Rattle.place_peaks.proofs.FrontLemmas.{marked_off}
 use Rattle.place_peaks.proofs.SetLemmas.{unmarked}
-use Rattle.place_peaks.proofs.peaks.Peaks.clean.Goals as goal
+use Rattle.place_peaks.proofs.peaks.Peaks.clean_in_line.Goals as goal
 
 pub take_base-requires : goal.take_base-requires
 take_base-requires c = λ q home. (c.requires.frees q home).gives

@@ -1,7 +1,7 @@
 use Rattle.std.proofs.Common.{length, get_or, ap, ◌∙◌}
 use Rattle.place_peaks.specs.declared.peaks.Peaks.{Peaks}
 use Rattle.place_peaks.proofs.EndingLemmas.{can_end_then}
-use Rattle.place_peaks.proofs.peaks.Peaks.end.Goals as goal
+use Rattle.place_peaks.proofs.peaks.Peaks.settle_run.Goals as goal
 
 pub end_for_children-requires-clause-ends : goal.end_for_children-requires-clause-ends
 end_for_children-requires-clause-ends c = can_end_then c.args.plan.now c.args.links.now c.args.self.now c.settle_sizes.new.self c.args.task c.args.sizes.now c.requires.settles c.settle_sizes.ensures.kept

@@ -7,7 +7,7 @@ use Rattle.place_peaks.specs.Places.{is_place}
 use Rattle.place_peaks.specs.Tree.{front_changed}
 use Rattle.place_peaks.proofs.FrontLemmas.{marked_off}
 use Rattle.place_peaks.proofs.SetLemmas.{unmarked}
-use Rattle.place_peaks.proofs.peaks.Peaks.grant.Goals as goal
+use Rattle.place_peaks.proofs.peaks.Peaks.grant_in_line.Goals as goal
 
 pub add_base-requires : goal.add_base-requires
 add_base-requires c = λ q home. subst (CanHold c.args.self.now.base.items q) (sym c.need-need.ensures) (c.requires.room q home).holds

@@ -3,7 +3,7 @@ use Rattle.lease_rules.specs.State.{after}
 use Rattle.run_record.specs.Events.{Grant}
 use Rattle.lease_book.specs.RunState.{state_of}
 use Rattle.lease_book.proofs.StateLemmas.{peaks_after, state_after}
-use Rattle.lease_book.proofs.state.RunState.grant.Goals as goal
+use Rattle.lease_book.proofs.state.RunState.enter_grant.Goals as goal
 
 pub enter_grant-requires-clause-can : goal.enter_grant-requires-clause-can
 enter_grant-requires-clause-can c = record { state = state_of c.args.self.now; worker = c.args.worker; tied = c.requires.peaks.tied; allowed = c.requires.allowed }

@@ -3,7 +3,7 @@ use Rattle.lease_rules.specs.State.{after}
 use Rattle.run_record.specs.Events.{Regrant}
 use Rattle.lease_book.specs.RunState.{state_of}
 use Rattle.lease_book.proofs.StateLemmas.{peaks_after, shown_after, state_after}
-use Rattle.lease_book.proofs.state.RunState.regrant.Goals as goal
+use Rattle.lease_book.proofs.state.RunState.enter_regrant.Goals as goal
 
 pub enter_regrant-requires-clause-can : goal.enter_regrant-requires-clause-can
 enter_regrant-requires-clause-can c = record {

@@ -2,7 +2,7 @@ use Rattle.std.proofs.Common.{◌+◌, ℕ, cond, get_or, None, refl, sym, ap, s
 use Rattle.place_peaks.specs.declared.peaks.Peaks.{Peaks}
 use Rattle.place_peaks.specs.Granting.{CanHold}
 use Rattle.place_peaks.specs.Places.{is_place}
-use Rattle.place_peaks.proofs.peaks.Peaks.grant_again.Goals as goal
+use Rattle.place_peaks.proofs.peaks.Peaks.grant_on_stack.Goals as goal
 
 pub add_base-requires : goal.add_base-requires
 add_base-requires c = λ q home. subst (CanHold c.args.self.now.base.items q) (sym c.need-need.ensures) (c.requires.room q home)

@@ -3,7 +3,7 @@ use Rattle.lease_rules.specs.State.{after}
 use Rattle.run_record.specs.Events.{Clean}
 use Rattle.lease_book.specs.RunState.{state_of}
 use Rattle.lease_book.proofs.StateLemmas.{peaks_after, state_after}
-use Rattle.lease_book.proofs.state.RunState.clean.Goals as goal
+use Rattle.lease_book.proofs.state.RunState.enter_clean.Goals as goal
 
 pub enter_clean-requires-clause-can : goal.enter_clean-requires-clause-can
 enter_clean-requires-clause-can c = record {

@@ -1,5 +1,5 @@
 use Rattle.std.proofs.Common.{refl}
-use Rattle.place_peaks.proofs.peaks.Peaks.clean_again.Goals as goal
+use Rattle.place_peaks.proofs.peaks.Peaks.clean_on_stack.Goals as goal
 
 pub returns-clause-swept : goal.returns-clause-swept
 returns-clause-swept c = record {

@@ -3,7 +3,7 @@ use Rattle.place_peaks.specs.declared.peaks.Peaks.{Peaks}
 use Rattle.std.specs.Prelude.{replicate}
 use Rattle.storage_simulation.specs.Goods.{makes}
 use Rattle.place_peaks.proofs.EndingLemmas.{can_end_then}
-use Rattle.place_peaks.proofs.peaks.Peaks.arrive.Goals as goal
+use Rattle.place_peaks.proofs.peaks.Peaks.settle_transfer.Goals as goal
 
 pub end_for_children-requires-clause-ends : goal.end_for_children-requires-clause-ends
 end_for_children-requires-clause-ends c = can_end_then c.args.plan.now c.args.links.now c.args.self.now c.settle_one_size.new.self c.args.task (replicate (length (makes c.args.plan.now c.args.task)) c.args.size) c.requires.settles c.settle_one_size.ensures.kept

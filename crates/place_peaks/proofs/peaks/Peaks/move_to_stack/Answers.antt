@@ -2,7 +2,7 @@ use Rattle.std.proofs.Common.{nat_eq, refl, ◌∙◌}
 use Rattle.place_peaks.specs.Peaks.{left_of}
 use Rattle.place_peaks.proofs.FrontLemmas.{marked_off}
 use Rattle.place_peaks.proofs.SetLemmas.{unmarked}
-use Rattle.place_peaks.proofs.peaks.Peaks.move_again.Goals as goal
+use Rattle.place_peaks.proofs.peaks.Peaks.move_to_stack.Goals as goal
 
 pub returns-clause-moved : goal.returns-clause-moved
 returns-clause-moved c = record {

@@ -3,7 +3,7 @@ use Rattle.lease_rules.specs.State.{after}
 use Rattle.run_record.specs.Events.{Again}
 use Rattle.lease_book.specs.RunState.{state_of}
 use Rattle.lease_book.proofs.StateLemmas.{peaks_after, state_after}
-use Rattle.lease_book.proofs.state.RunState.again.Goals as goal
+use Rattle.lease_book.proofs.state.RunState.enter_again.Goals as goal
 
 pub enter_again-requires-clause-can : goal.enter_again-requires-clause-can
 enter_again-requires-clause-can c = record {

@@ -3,7 +3,7 @@ use Rattle.lease_rules.specs.State.{after}
 use Rattle.run_record.specs.Events.{Arrive}
 use Rattle.lease_book.specs.RunState.{state_of}
 use Rattle.lease_book.proofs.StateLemmas.{peaks_after, state_after}
-use Rattle.lease_book.proofs.state.RunState.arrive.Goals as goal
+use Rattle.lease_book.proofs.state.RunState.enter_arrive.Goals as goal
 
 pub enter_arrive-requires-clause-can : goal.enter_arrive-requires-clause-can
 enter_arrive-requires-clause-can c = record { state = state_of c.args.self.now; worker = c.args.worker; tied = c.requires.peaks.tied; allowed = c.requires.allowed }
