@@ -22,7 +22,6 @@ use plan_core::Plan;
 use values::TaskId;
 
 /// Makes anew what a task's placed parent changes: its own key where it is ready, or that of its last parent.
-#[tactic(auto, using(crate::proofs::RefreshingLemmas::touched_ready, crate::proofs::RefreshingLemmas::touched_none))]
 fn touch(plan: &Plan, standing: &Standing, front: &Front, index: &mut Index, task: u32)
     requires set { IsSet plan.now standing.now front.now }
     requires in_range { task < count_tasks plan.now }

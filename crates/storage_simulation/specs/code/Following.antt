@@ -6,7 +6,7 @@ use Rattle.plan_core.specs.Numbers.{has}
 use Rattle.plan_core.specs.Words.{count_tasks, parents}
 use Rattle.storage_simulation.specs.declared.standing.Phase.{Phase}
 use Rattle.storage_simulation.specs.Standings.{waits}
-use Rattle.storage_simulation.specs.Following.{once, AreOnce, IsReady, is_ready}
+use Rattle.storage_simulation.specs.Following.{AreOnce, IsReady, is_ready}
 
 -- An order is a list of waiting tasks of the plan, none twice; here each is ready after those before it.
 pub record Follows (p : Plan) (phase : ℕ → Phase) (order : List ℕ) : Type 0 where

@@ -7,7 +7,6 @@ use Rattle.storage_simulation.specs.declared.fitting.Exceeds.{Exceeds}
 use Rattle.storage_simulation.specs.code.Goods.{place}
 use Rattle.storage_simulation.specs.Goods.{place_bound}
 use Rattle.storage_simulation.specs.code.Standings.{held_of, phase_of}
-use Rattle.storage_simulation.specs.Standings.{waits}
 use Rattle.storage_simulation.specs.Usage.{usage, IsWithin}
 use Rattle.storage_simulation.specs.Following.{is_ready}
 use Rattle.storage_simulation.specs.Ordering.{Progress, size, is_done, comes, goes}
