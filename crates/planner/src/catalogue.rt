@@ -60,17 +60,12 @@ pub(crate) fn held<C: Catalogue>(
         (held_unknown C.unknown_in_text C.unknown_of key.now named.now (option_map tree_view inlined.now))
         (C.ignored c))) }
 {
-    if let Some(bytes) = named {
-        return match C::read(alloc, bytes.as_slice()) {
-            Ok(catalogue) => Ok(Some(catalogue)),
-            Err(fault) => Err(of_read_fault(which, fault)),
-        };
-    }
-    let Some(tree) = inlined else {
-        return Ok(None);
+    let read = match (named, inlined) {
+        (Some(bytes), _) => C::read(alloc, bytes.as_slice()),
+        (None, Some(tree)) => C::from_tree(alloc, tree, &at_key(alloc, &root(alloc)?, key)?),
+        (None, None) => return Ok(None),
     };
-    let path = at_key(alloc, &root(alloc)?, key)?;
-    match C::from_tree(alloc, tree, &path) {
+    match read {
         Ok(catalogue) => Ok(Some(catalogue)),
         Err(fault) => Err(of_read_fault(which, fault)),
     }

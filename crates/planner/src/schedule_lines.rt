@@ -11,7 +11,7 @@ ghost use Rattle.planner.specs.code.Scheduling.{job_row, schedule_line, schedule
 use crate::sites::id_of;
 use heft_selector::Heft;
 use std::alloc::Global;
-use values::{JobId, Memory, Text, Word, push_line};
+use values::{JobId, Memory, Word, push_line};
 use workflow_core::Workflow;
 
 /// The number of a job's site.
@@ -46,7 +46,7 @@ fn push_row<'a>(
     alloc: Global,
     text: &mut Vec<u8>,
     job: JobId,
-    id: &'a Text,
+    id: &'a str,
     site: u32,
     begins: &'a str,
     ends: &'a str,
@@ -77,10 +77,10 @@ fn push_job(
     ensures { OnOk result (text.new.items
         ≡ text.old.items ++ schedule_line workflow.now (schedule_of heft.now) job.0) }
 {
-    let id = id_of(alloc, workflow, job)?;
     let begins = digits_of(alloc, second_at(&heft.starts, job))?;
     let ends = digits_of(alloc, second_at(&heft.finishes, job))?;
-    push_row(alloc, text, job, &id, site_of(heft, job), &begins, &ends)
+    let id = id_of(workflow, job);
+    push_row(alloc, text, job, id, site_of(heft, job), &begins, &ends)
 }
 
 fn push_jobs(

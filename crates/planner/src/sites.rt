@@ -21,12 +21,12 @@ use values::{JobId, Memory, SelectFault, SiteId, Text};
 use workflow_core::Workflow;
 
 /// The id of a job, empty where there is no such job.
-pub fn id_of(alloc: Global, workflow: &Workflow, job: JobId) -> Result<Text, Memory>
-    ensures { IfOk result (λ id. id ≡ id_of workflow.now job.0) }
+pub fn id_of(workflow: &Workflow, job: JobId) -> &str
+    ensures { result.now ≡ id_of workflow.now job.0 }
 {
     match workflow.jobs.as_slice().get(job.0 as usize) {
-        Some(found) => found.id.copied(alloc),
-        None => Text::copy_of(alloc, ""),
+        Some(found) => found.id.as_str(),
+        None => "",
     }
 }
 
@@ -40,11 +40,11 @@ pub fn of_select_fault(
 {
     match fault {
         SelectFault::NoSite(job, name) => {
-            let id = id_of(alloc, workflow, job)?;
+            let id = Text::copy_of(alloc, id_of(workflow, job))?;
             Ok(PlanFault::NoSite(id, name))
         }
         SelectFault::NoTransformation(job) => {
-            let id = id_of(alloc, workflow, job)?;
+            let id = Text::copy_of(alloc, id_of(workflow, job))?;
             Ok(PlanFault::NoTransformation(id))
         }
         SelectFault::Memory => Ok(PlanFault::Memory),

@@ -54,15 +54,16 @@ fn push_directory(alloc: Global, text: &mut Vec<u8>, directory: &Directory) -> R
     ensures { OnOk result (text.new.items ≡ text.old.items ++ directory_line directory.now) }
 {
     let kind = Word::Name(directory.kind.as_bytes());
-    match &directory.path {
-        Some(path) => push_line(
-            alloc,
-            text,
-            "directory",
-            &[kind, Word::Name(path.as_bytes())],
-        ),
-        None => push_line(alloc, text, "directory", &[kind, Word::Name(b"")]),
-    }
+    let path = match &directory.path {
+        Some(path) => path.as_str(),
+        None => "",
+    };
+    push_line(
+        alloc,
+        text,
+        "directory",
+        &[kind, Word::Name(path.as_bytes())],
+    )
 }
 
 impl Lines for Directory {
