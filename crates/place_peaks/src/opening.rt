@@ -12,8 +12,8 @@ ghost use Rattle.storage_simulation.specs.Usage.{sum_of};
 ghost use Rattle.lease_rules.specs.code.Law.{FitsFromStart};
 ghost use Rattle.lease_rules.specs.State.{opened};
 ghost use Rattle.place_peaks.specs.Entries.{AreTied, IsWhole};
-ghost use Rattle.place_peaks.specs.Peaks.{ArePeaks};
-ghost use Rattle.place_peaks.specs.Places.{held_by, there};
+ghost use Rattle.place_peaks.specs.Peaks.{ArePeaks, IsSeating};
+ghost use Rattle.place_peaks.specs.Places.{ChangesOnePlace, held_by, there};
 ghost use Rattle.place_peaks.specs.Ready.{AreSmall, HasGroups};
 ghost use Rattle.place_peaks.specs.Renewing.{CanWalk};
 ghost use Rattle.place_peaks.specs.Values.{all_left, values};
@@ -100,6 +100,24 @@ fn copied(alloc: Global, tasks: &[TaskId]) -> Result<Vec<TaskId>, Memory>
     Ok(tasks.iter().copied().collect(alloc)?)
 }
 
+/// The line of an order.
+fn seating_of(alloc: Global, plan: &Plan, order: &[TaskId]) -> Result<Seating, Memory>
+    requires limits { IsWithinLimits plan.now }
+    requires one { ChangesOnePlace plan.now }
+    requires fits { FitsFromStart plan.now (task_numbers order.now) }
+    ensures line { IfOk result (λ x. x.line.items ≡ order.now) }
+    ensures seated { IfOk result (λ x. IsSeating plan.now x) }
+{
+    let mut seating = Seating {
+        line: copied(alloc, order)?,
+        homes: homes_of(alloc, plan)?,
+        seats: vec![in alloc; 0; plan.tasks.as_slice().len()]?,
+        widths: vec![in alloc; 0; places(plan)]?,
+    };
+    seating.seat_all(plan);
+    Ok(seating)
+}
+
 impl Peaks {
     /// The trees of an order that fits from the start, before the first entry.
     pub fn open(alloc: Global, plan: &Plan, order: &[TaskId]) -> Result<Peaks, Memory>
@@ -129,21 +147,20 @@ impl Peaks {
         parents_come_before();
         plans_have_rules();
         let tasks = plan.tasks.as_slice().len();
-        let mut seating = Seating {
-            line: copied(alloc, order)?,
-            homes: homes_of(alloc, plan)?,
-            seats: vec![in alloc; 0; tasks]?,
-            widths: vec![in alloc; 0; places(plan)]?,
-        };
-        seating.seat_all(plan);
+        let left = vec![in alloc; true; tasks]?;
+        let needs = needs_of(alloc, plan)?;
+        let missing = missing_of(alloc, plan)?;
+        let again = Vec::with_capacity(alloc, tasks)?;
+        let base = vec![in alloc; 0; places(plan)]?;
+        let seating = seating_of(alloc, plan, order)?;
         let ready = Ready::new(alloc, plan, &seating)?;
         let mut peaks = Peaks {
             seating,
-            left: vec![in alloc; true; tasks]?,
-            needs: needs_of(alloc, plan)?,
-            missing: missing_of(alloc, plan)?,
-            again: Vec::with_capacity(alloc, tasks)?,
-            base: vec![in alloc; 0; places(plan)]?,
+            left,
+            needs,
+            missing,
+            again,
+            base,
             trees: Vec::new(alloc),
             first: 0,
             ready,
