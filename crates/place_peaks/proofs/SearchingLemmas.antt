@@ -316,3 +316,7 @@ first_choice p s b k peaks unfailed first =
 abbrev pub room_before : ℕ → Option ℕ → ℕ
 room_before n None = n
 room_before n (Some k) = k
+
+pub room_falls : (n k : ℕ) (end : Option ℕ) → k < n → IsBefore end k → k < room_before n end
+room_falls n k None within before = within
+room_falls n k (Some m) within before = before
