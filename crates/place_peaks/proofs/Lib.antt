@@ -21,6 +21,7 @@ pub mod SettlingLemmas
 pub mod LoweringLemmas
 pub mod EndingLemmas
 pub mod SizingLemmas
+pub mod NeedsLemmas
 pub mod OpeningLemmas
 pub mod ReadyLemmas
 pub mod RefreshLemmas
