@@ -3,7 +3,7 @@
 ghost use Rattle.std.specs.Prelude.{◌≡◌, ◌≤◌, ◌<◌, [], IfErr, IfOk, length, map, vec_capacity};
 ghost use Rattle.outside.specs.code.Counts.{IsLater};
 ghost use Rattle.plan_core.specs.Words.{kind, pair_numbers, reads, writes};
-ghost use Rattle.site_yard.specs.code.Loan.{AreReadings, delivery_target, fresh_at, pair_target, targets};
+ghost use Rattle.site_yard.specs.code.Loan.{Aim, AreReadings, delivery_target, fresh_at, pair_target, targets};
 ghost use Rattle.site_yard.specs.code.Failures.{AreMore};
 ghost use Rattle.site_yard.specs.code.Lending.{MakesDraft, MakesDrafts, OpensPair, OpensPairs, OpensReadings, RefusesLoan, count_parts};
 ghost use Rattle.outside.specs.code.Parts.{draft_faults, reading_faults};
@@ -113,6 +113,25 @@ fn pair_place(alloc: Global, plan: &Plan, pair: PairId) -> Result<Place, Memory>
     Ok(Place::Scratch(site, name))
 }
 
+/// Makes a draft of a file that is to stand at a place.
+fn draft_at<H: Host>(
+    host: &mut H,
+    alloc: Global,
+    place: &Place,
+    limit: u64,
+) -> Result<H::Draft, Cause>
+    ensures answer { (x : Aim) → x.place ≡ place.now → x.limit ≡ limit → MakesDraft H.Draft.state x
+        (H.told host.old) (H.counts host.old) (H.counts host.new) result }
+    ensures told { H.told host.new ≡ H.told host.old }
+    ensures marked { H.marked host.new ≡ H.marked host.old }
+    ensures later { IsLater (H.counts host.old) (H.counts host.new) }
+{
+    match host.draft(alloc, place, limit) {
+        Ok(draft) => Ok(draft),
+        Err(fault) => Err(scratch_cause(fault)),
+    }
+}
+
 fn draft_pair<H: Host>(
     plan: &Plan,
     host: &mut H,
@@ -128,10 +147,7 @@ fn draft_pair<H: Host>(
     let Ok(place) = pair_place(alloc, plan, pair) else {
         return Err(Cause::Memory);
     };
-    match host.draft(alloc, &place, pair_limit(plan, pair)) {
-        Ok(draft) => Ok(draft),
-        Err(fault) => Err(scratch_cause(fault)),
-    }
+    draft_at(host, alloc, &place, pair_limit(plan, pair))
 }
 
 fn draft_pairs<H: Host>(
@@ -175,10 +191,12 @@ fn draft_delivery<H: Host>(
     let Ok(name) = Text::copy_of(alloc, file_name(plan, file)) else {
         return Err(Cause::Memory);
     };
-    match host.draft(alloc, &Place::Delivery(name), declared_size(plan, file)) {
-        Ok(draft) => Ok(draft),
-        Err(fault) => Err(scratch_cause(fault)),
-    }
+    draft_at(
+        host,
+        alloc,
+        &Place::Delivery(name),
+        declared_size(plan, file),
+    )
 }
 
 /// Makes the drafts of what a task writes, of a delivery the one of the delivery.
