@@ -1,5 +1,4 @@
-# The crates of the program in the order in which they would end in a first build, a line each: when, and the name; and the word
-# `alone` for those at the end that no other one would run beside.
+# The crates of the program in the order in which they would end in a first build, a line each: when, and the name.
 #
 # As rt has it, `lanes` crates are proved side by side, each waiting in its lane for those below it, and those that stand on the
 # fewest go first; or, with one lane, one after the other, each after those below it. A crate takes as long as its sources and
@@ -54,27 +53,21 @@ END {
   add("pegasus")
   while (ended < total) {
     soonest = -1
-    running = 0
     for (i = 1; i <= lanes; i++) {
       if (!(i in lane) && begun < total) lane[i] = order[++begun]
       if (!(i in lane)) continue
       name = lane[i]
       if (!(name in ends) && is_ready(name)) ends[name] = now + takes[name]
-      if (!(name in ends)) continue
-      running += ends[name] > now
-      if (soonest < 0 || ends[name] < soonest) soonest = ends[name]
+      if (name in ends && (soonest < 0 || ends[name] < soonest)) soonest = ends[name]
     }
     if (soonest < 0) exit
     now = soonest
-    for (i = 1; i <= lanes; i++) {
-      if (!(i in lane) || !(lane[i] in ends)) continue
-      if (running > 1) beside[lane[i]]
-      if (ends[lane[i]] > now) continue
-      over[lane[i]]
-      ended_by[++ended] = lane[i]
-      delete lane[i]
-    }
+    for (i = 1; i <= lanes; i++)
+      if (i in lane && lane[i] in ends && ends[lane[i]] <= now) {
+        print now + 0, lane[i]
+        over[lane[i]]
+        delete lane[i]
+        ended++
+      }
   }
-  for (last = total; last > 0 && takes[ended_by[last]] && !(ended_by[last] in beside); last--);
-  for (i = 1; i <= total; i++) print ends[ended_by[i]] + 0, ended_by[i] (i > last ? " alone" : "")
 }
