@@ -4,6 +4,7 @@ and what each leaves in its folder.
 from __future__ import annotations
 
 import json
+import re
 import shutil
 
 import random_documents
@@ -59,15 +60,17 @@ class Trial:
         if self.chance.is_so(0.5):
             self.values()
 
+    def is_of_document(self, text):
+        """Whether a text says that a document couldn't be read. A request may have a slash twice in its path."""
+        return re.sub("/+", "/", text) in {f"document failed {printed(name)}\n" for name in self.made.documents}
+
     def reads_failing(self):
         """The same where one call of the system fails."""
         command = self.chance.choice(("check", "plan", "schedule", "eval"))
         told = self.folder.fresh(command, "request.json", **self.failing.one(self.chance))
-        names = {f"document failed {printed(name)}\n" for name in self.made.documents}
-        if command == "eval":
-            names.add("failed host -\n")
-        if told.status in (3, 6) and told.text in names:
-            want(told, "status", told.status, 6 if told.text == "failed host -\n" else 3)
+        is_of_host = command == "eval" and told.text == "failed host -\n"
+        if told.status in (3, 6) and (is_of_host or self.is_of_document(told.text)):
+            want(told, "status", told.status, 6 if is_of_host else 3)
             want(told, "files", (told.delivered, told.sites), ({}, {}))
         elif command != "eval":
             status, text = self.said(command, "request.json")[0]
@@ -268,8 +271,7 @@ class Trial:
         workers = self.chance.choice((None, *WORKERS))
         told = self.folder.fresh(*self.runs(workers), **self.failing.one(self.chance))
         self.kinds.append(f"one call failing {told.status}")
-        names = {f"document failed {printed(name)}\n" for name in self.made.documents}
-        if told.status == 3 and told.text in names:
+        if told.status == 3 and self.is_of_document(told.text):
             want(told, "delivered files", told.delivered, {})
         elif told.status == 7:
             is_front = any(it.startswith(told.text[:8]) for it in FIRST) or told.text.startswith(("refused ", "exceeds "))
