@@ -1,13 +1,14 @@
 //! Documents as files.
 
-ghost use Rattle.std.specs.Prelude.{◌≡◌};
-ghost use Rattle.outside.specs.code.Counts.{no_calls};
+ghost use Rattle.std.specs.Prelude.{◌≡◌, []};
+ghost use Rattle.outside.specs.code.Counts.{IsLater, no_calls};
+ghost use Rattle.host_files.specs.FolderDocs.{Fetches};
 
 use crate::reading::{Reading, read_front};
 use outside::{Counts, DocFault, Docs};
 use std::alloc::Global;
 use std::fs;
-use std::io::ErrorKind;
+use std::io::{ErrorKind, Read};
 use std::rt::Files;
 
 /// Files by their paths. What they hold isn't told.
@@ -24,6 +25,39 @@ impl<R: Files> FolderDocs<R> {
         FolderDocs {
             rt,
             counts: Counts::zero(),
+        }
+    }
+}
+
+/// Reads an open document, and counts the call.
+fn fetch_open<F: Read>(
+    file: &mut F,
+    counts: &mut Counts,
+    limit: u64,
+    into: &mut Vec<u8>,
+) -> Result<(), DocFault>
+    requires { into.old.items ≡ [] }
+    ensures answer { Fetches (F.remaining file.old) limit counts.old counts.new result into.new.items }
+    ensures later { IsLater counts.old counts.new }
+{
+    match read_front(file, limit, into) {
+        Reading::Whole => {
+            counts.add_done();
+            Ok(())
+        }
+        Reading::Longer(_) => {
+            into.clear();
+            counts.add_miss();
+            Err(DocFault::TooLong(limit))
+        }
+        Reading::Failed => {
+            into.clear();
+            counts.add_fault();
+            Err(DocFault::Failed)
+        }
+        Reading::Memory => {
+            into.clear();
+            Err(DocFault::Memory)
         }
     }
 }
@@ -61,25 +95,6 @@ impl<R: Files> Docs for FolderDocs<R> {
                 return Err(DocFault::Failed);
             }
         };
-        match read_front(&mut file, limit, into) {
-            Reading::Whole => {
-                self.counts.add_done();
-                Ok(())
-            }
-            Reading::Longer(_) => {
-                into.clear();
-                self.counts.add_miss();
-                Err(DocFault::TooLong(limit))
-            }
-            Reading::Failed => {
-                into.clear();
-                self.counts.add_fault();
-                Err(DocFault::Failed)
-            }
-            Reading::Memory => {
-                into.clear();
-                Err(DocFault::Memory)
-            }
-        }
+        fetch_open(&mut file, &mut self.counts, limit, into)
     }
 }

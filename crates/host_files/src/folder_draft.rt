@@ -1,7 +1,8 @@
 //! A file of the working folder that is being written.
 
 ghost use Rattle.std.specs.Prelude.{◌≡◌, ◌≤◌, IfOk};
-ghost use Rattle.host_files.specs.FolderDraft.{just_made};
+ghost use Rattle.outside.specs.code.Parts.{AppendsOn};
+ghost use Rattle.host_files.specs.FolderDraft.{Writes, just_made};
 
 use crate::target::Target;
 use crate::writing::{create_part, place_part, remove_part};
@@ -33,6 +34,29 @@ impl<F: Write + Drop> FolderDraft<F> {
             size: 0,
             limit,
             faults: 0,
+        }
+    }
+
+    /// Writes a piece into the file, if it stays within the limit.
+    fn write(&mut self, piece: &[u8]) -> Result<(), HostFault>
+        ensures answer { AppendsOn (⟦<FolderDraft<F> as WritePart>⟧.state self.old)
+            (⟦<FolderDraft<F> as WritePart>⟧.state self.new) piece.now result }
+        ensures bytes { Writes (F.contents self.old.file) (F.contents self.new.file) piece.now result }
+    {
+        let length = piece.len() as u64;
+        if length > self.limit - self.size {
+            let length = self.size.saturating_add(length);
+            return Err(HostFault::Over(self.limit, length));
+        }
+        match self.file.write_all(piece) {
+            Ok(()) => {
+                self.size += length;
+                Ok(())
+            }
+            Err(_) => {
+                self.faults = self.faults.saturating_add(1);
+                Err(HostFault::Failed)
+            }
         }
     }
 
@@ -111,20 +135,6 @@ impl<F: Write + Drop> WritePart for FolderDraft<F> {
     }
 
     fn append(&mut self, _alloc: Global, piece: &[u8]) -> Result<(), HostFault> {
-        let length = piece.len() as u64;
-        if length > self.limit - self.size {
-            let length = self.size.saturating_add(length);
-            return Err(HostFault::Over(self.limit, length));
-        }
-        match self.file.write_all(piece) {
-            Ok(()) => {
-                self.size += length;
-                Ok(())
-            }
-            Err(_) => {
-                self.faults = self.faults.saturating_add(1);
-                Err(HostFault::Failed)
-            }
-        }
+        self.write(piece)
     }
 }

@@ -1,7 +1,8 @@
 //! A file of the machine that is being read.
 
 ghost use Rattle.std.specs.Prelude.{◌≡◌, ◌≤◌};
-ghost use Rattle.host_files.specs.FolderReading.{just_opened};
+ghost use Rattle.outside.specs.code.Parts.{ReadsOn};
+ghost use Rattle.host_files.specs.FolderReading.{Gives, just_opened};
 
 use outside::{HostFault, ReadPart};
 use std::io::Read;
@@ -28,6 +29,28 @@ impl<F: Read + Drop> FolderReading<F> {
             faults: 0,
         }
     }
+
+    /// Reads on, and passes on what the file gives.
+    fn give(&mut self, into: &mut [u8]) -> Result<usize, HostFault>
+        ensures answer { ReadsOn (⟦<FolderReading<F> as ReadPart>⟧.state self.old)
+            (⟦<FolderReading<F> as ReadPart>⟧.state self.new) into.old into.new result }
+        ensures bytes { Gives (F.remaining self.old.file) (F.remaining self.new.file) into.new result }
+    {
+        let room = (self.size - self.given).min(into.len() as u64) as usize;
+        if room == 0 {
+            return Ok(0);
+        }
+        match self.file.read(&mut into[..room]) {
+            Ok(count) if count > 0 => {
+                self.given += count as u64;
+                Ok(count)
+            }
+            _ => {
+                self.faults = self.faults.saturating_add(1);
+                Err(HostFault::Failed)
+            }
+        }
+    }
 }
 
 impl<F: Read + Drop> ReadPart for FolderReading<F> {
@@ -44,19 +67,6 @@ impl<F: Read + Drop> ReadPart for FolderReading<F> {
     }
 
     fn read(&mut self, into: &mut [u8]) -> Result<usize, HostFault> {
-        let room = (self.size - self.given).min(into.len() as u64) as usize;
-        if room == 0 {
-            return Ok(0);
-        }
-        match self.file.read(&mut into[..room]) {
-            Ok(count) if count > 0 => {
-                self.given += count as u64;
-                Ok(count)
-            }
-            _ => {
-                self.faults = self.faults.saturating_add(1);
-                Err(HostFault::Failed)
-            }
-        }
+        self.give(into)
     }
 }

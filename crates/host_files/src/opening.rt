@@ -1,6 +1,6 @@
 //! Opening files of the machine. Each call counts itself.
 
-ghost use Rattle.std.specs.Prelude.{◌≡◌, ◌≤◌, Err, IfErr, IfOk, IfSome, None, OnOk};
+ghost use Rattle.std.specs.Prelude.{◌≡◌, ◌≤◌, Err, IfErr, IfOk, IfSome, None, OnOk, Some, option_map};
 ghost use Rattle.outside.specs.code.Counts.{IsLater};
 ghost use Rattle.outside.specs.code.Host.{Reads};
 ghost use Rattle.outside.specs.code.Lending.{Opens};
@@ -61,20 +61,18 @@ fn open_within<R: Files>(
     }
 }
 
-/// Reads a file of the machine, and counts the call.
-pub fn read_file<R: Files>(
+/// Reads an open file to its end, and counts the call.
+fn read_open<F: Read>(
     alloc: Global,
-    rt: &R,
+    file: &mut F,
     counts: &mut Counts,
-    path: &str,
     limit: u64,
 ) -> Result<Blob, HostFault>
-    ensures answer { Reads None limit counts.old counts.new result }
+    ensures answer { Reads (option_map Some (F.remaining file.old)) limit counts.old counts.new result }
     ensures later { IsLater counts.old counts.new }
 {
-    let mut opened = open_within(rt, counts, path, limit)?;
     let mut bytes = Vec::new(alloc);
-    match read_within(&mut opened.file, limit, &mut bytes) {
+    match read_within(file, limit, &mut bytes) {
         Reading::Whole => {
             counts.add_done();
             Ok(Blob::new(bytes))
@@ -89,6 +87,21 @@ pub fn read_file<R: Files>(
         }
         Reading::Memory => Err(HostFault::Memory),
     }
+}
+
+/// Reads a file of the machine, and counts the call.
+pub fn read_file<R: Files>(
+    alloc: Global,
+    rt: &R,
+    counts: &mut Counts,
+    path: &str,
+    limit: u64,
+) -> Result<Blob, HostFault>
+    ensures answer { Reads None limit counts.old counts.new result }
+    ensures later { IsLater counts.old counts.new }
+{
+    let mut opened = open_within(rt, counts, path, limit)?;
+    read_open(alloc, &mut opened.file, counts, limit)
 }
 
 /// Whether a file of length 0 has no bytes. One of `/proc` has that length, and gives some.

@@ -38,3 +38,11 @@ pub use schedule_lines::schedule_text;
 pub use scheduling::schedule_survey;
 pub use survey_text::check_text;
 pub use surveyed::{Surveyed, survey_request};
+
+// What requests, surveys, plans and faults are made of, so that a crate above names what its own lines name.
+pub use {
+    cleanup_refiner, clustering, data_reuse, dependency_graph, digraph, heft_selector, indexmap,
+    list_schedule, peg_json, plan_core, plan_request, replica_catalog, serde_json, site_catalog,
+    site_selector, storage_simulation, transfer_refiner, transformation_catalog, values,
+    workflow_core, workflow_reader,
+};
