@@ -40,9 +40,24 @@ pub use survey_text::check_text;
 pub use surveyed::{Surveyed, survey_request};
 
 // What requests, surveys, plans and faults are made of, so that a crate above names what its own lines name.
-pub use {
-    cleanup_refiner, clustering, data_reuse, dependency_graph, digraph, heft_selector, indexmap,
-    list_schedule, peg_json, plan_core, plan_request, replica_catalog, serde_json, site_catalog,
-    site_selector, storage_simulation, transfer_refiner, transformation_catalog, values,
-    workflow_core, workflow_reader,
-};
+pub use cleanup_refiner;
+pub use clustering;
+pub use data_reuse;
+pub use dependency_graph;
+pub use digraph;
+pub use heft_selector;
+pub use indexmap;
+pub use list_schedule;
+pub use peg_json;
+pub use plan_core;
+pub use plan_request;
+pub use replica_catalog;
+pub use serde_json;
+pub use site_catalog;
+pub use site_selector;
+pub use storage_simulation;
+pub use transfer_refiner;
+pub use transformation_catalog;
+pub use values;
+pub use workflow_core;
+pub use workflow_reader;
