@@ -68,7 +68,8 @@ def built(name, uses, seen):
 lines = [line.split(":", 1) for line in pathlib.Path("crates.txt").read_text(encoding="utf-8").splitlines() if re.match(r"\w+:", line)]
 order = built("pegasus", {name: rest.split() for name, rest in lines}, {})
 guide, measured = (pathlib.Path("docs", name).read_text(encoding="utf-8") for name in ("GUIDE.md", "MEASURED.md"))
-assert f"pegasus: proving {order[0]}, crate 1 of {len(order)}, after" in guide, (order[0], len(order))
+told = re.search(r"pegasus: done with (\w+), (\d+) of (\d+) crates, after", guide)
+assert told and told[1] in order and int(told[2]) < int(told[3]) == len(order), (told, len(order))
 assert f"proves the {len(order)} crates of the program" in measured, len(order)
 sources = list(pathlib.Path("crates").glob("*/src/**/*.rt"))
 assert len(sources) >= 200, len(sources)
