@@ -12,6 +12,11 @@ use Rattle.pegasus_commands.specs.code.Fault.{Answer, not_for}
 use Rattle.pegasus_commands.specs.declared.fault.CallFault.TheVariants.{Memory}
 use Rattle.pegasus_commands.specs.Moments.{DocsMoment}
 use Rattle.command_words.specs.code.Words.{Command, command as command_of}
+use Rattle.run_record.proofs.FaultLemmas.{not_malformed}
+use Rattle.run_record.proofs.OneTextLemmas.{one_text}
+use Rattle.evaluation.proofs.FinishLemmas.{only_memory}
+use Rattle.pegasus_commands.proofs.PlanRunLemmas.{RunsFinish}
+use Rattle.pegasus_commands.proofs.ResumeLemmas.{ResumesFinish}
 use Rattle.pegasus_commands.proofs.CommandsLemmas.{Laws, finishes, unbegun}
 use Rattle.pegasus_cli.specs.declared.outcome.Outcome.{Outcome}
 use Rattle.pegasus_cli.specs.declared.outcome.Outcome.TheVariants as outcomes
@@ -29,6 +34,10 @@ ends_as o text a m i f h = (refl, f, h)
 pub cut_short : (old new : Option (List ℕ)) (from to : ℕ) (piece all text : List ℕ) (a : Outcome) (f : SinkFault) → piece ≡ all → all ≡ text → WroteAll old new from to piece (Err f) → (a ≡ outcomes.Memory → ⊥)
     → Rose from to × (a ≡ outcomes.Memory → ⊥) × (n : ℕ) × Appends old new (take n text)
 cut_short old new from to piece all text a sink_faults.Failed ep ea h m = (h.0, m, h.1, subst (λ (z : List ℕ). Appends old new (take h.1 z)) (ep ∙ ea) h.3)
+
+-- what the commands take of the crates below
+pub laws : RunsFinish → ResumesFinish → Laws
+laws runs resumed = record { runs = runs; evaluations = only_memory; records = not_malformed; one_record = one_text; resumed = resumed }
 
 -- the words of a call are one command
 pub same_command : (o : Option Command) (x y : Command) → o ≡ Some x → o ≡ Some y → x ≡ y

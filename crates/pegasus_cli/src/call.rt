@@ -11,12 +11,10 @@ ghost use Rattle.pegasus_cli.specs.code.Outcome.{IsAnswer, closing, line_of, out
 use crate::outcome::{Outcome, of_answer, push_closing};
 use command_words::quick_command;
 use craft::{Crew, Gate};
-use evaluation::evaluations_finish;
 use outside::{Docs, Host, Memory, Sink, SinkFault, Tool, write_all};
 use pegasus_commands::{Told, has_line, work};
 use plan_run::runs_finish;
 use resume_run::resumes_finish;
-use run_record::{malformed_line_is_one, text_is_of_one_record};
 use std::alloc::Global;
 
 /// Writes the text and the line that closes it, and tells how the call ends.
@@ -94,9 +92,6 @@ pub fn quick<D: Docs, K: Sink, H: Host, T: Tool, G: Gate>(
     // Laws for the proof: they do nothing.
     runs_finish();
     resumes_finish();
-    evaluations_finish();
-    malformed_line_is_one();
-    text_is_of_one_record();
     let mut crew = crew;
     match quick_command(alloc, words) {
         Ok(Some(command)) => {

@@ -12,12 +12,10 @@ use crate::call::{answer, quick, refuse_words};
 use crate::outcome::Outcome;
 use command_words::{threaded, threaded_command};
 use craft::{Crew, Gate};
-use evaluation::evaluations_finish;
 use outside::{Docs, Host, Memory, Sink, Tool};
 use pegasus_commands::work_in_threads;
 use plan_run::runs_finish;
 use resume_run::resumes_finish;
-use run_record::{malformed_line_is_one, text_is_of_one_record};
 use std::alloc::Global;
 use std::sync::Wait;
 use std::thread::Threads;
@@ -55,9 +53,6 @@ where
     // Laws for the proof: they do nothing.
     runs_finish();
     resumes_finish();
-    evaluations_finish();
-    malformed_line_is_one();
-    text_is_of_one_record();
     let mut crew = crew;
     match threaded_command(alloc, words) {
         Ok(Some(command)) => {

@@ -2,7 +2,7 @@ use Rattle.std.proofs.Common.{map, refl}
 use Rattle.std.specs.Prelude.{option_map, string_bytes}
 use Rattle.pegasus_cli.specs.code.Moments.{call_of}
 use Rattle.command_words.specs.code.Words.{Quickly, quick_command, quick_of}
-use Rattle.pegasus_cli.proofs.CallLemmas.{command_answered, keeps_same, some_mapped, unread_answered, usage_answered}
+use Rattle.pegasus_cli.proofs.CallLemmas.{command_answered, keeps_same, laws, some_mapped, unread_answered, usage_answered}
 use Rattle.command_words.proofs.WordsLemmas.{is_quick, quick_is, quick_is_none}
 use Rattle.pegasus_cli.proofs.call.quick.Goals as goal
 
@@ -13,8 +13,7 @@ returns-in-Ok-Some-clause-answered g c =
     let q = quick_of c.in-Ok-Some.command in
     let is = quick_is words q c.requires.words (rw c.in-Ok-Some.field-0-is at c.in-Ok-Some.ensures.is) in
     let told = c.work-worked.result.told in
-    command_answered (record { runs = c.runs_finish.ensures; evaluations = c.evaluations_finish.ensures; records = c.malformed_line_is_one.ensures.none; one_record = c.text_is_of_one_record.ensures; resumed = c.resumes_finish.ensures })
-    _ (Quickly q) told.answer c.answer-outcome.result told.text.items is c.work-worked.ensures.does (rw c.has_line.ensures at c.answer-outcome.ensures)
+    command_answered (laws c.runs_finish.ensures c.resumes_finish.ensures) _ (Quickly q) told.answer c.answer-outcome.result told.text.items is c.work-worked.ensures.does (rw c.has_line.ensures at c.answer-outcome.ensures)
 
 pub returns-in-Ok-Some-clause-others : goal.returns-in-Ok-Some-clause-others
 returns-in-Ok-Some-clause-others g c =
@@ -32,5 +31,4 @@ pub returns-in-Err-clause-answered : goal.returns-in-Err-clause-answered
 unfolding call_of
 returns-in-Err-clause-answered g c =
     let words = map string_bytes c.args.words.now in
-    unread_answered (record { runs = c.runs_finish.ensures; evaluations = c.evaluations_finish.ensures; records = c.malformed_line_is_one.ensures.none; one_record = c.text_is_of_one_record.ensures; resumed = c.resumes_finish.ensures })
-    _ (option_map Quickly (quick_command words)) (is_quick words c.requires.words) (some_mapped Quickly (quick_command words) c.in-Err.ensures.memory) refl refl refl refl (keeps_same _)
+    unread_answered (laws c.runs_finish.ensures c.resumes_finish.ensures) _ (option_map Quickly (quick_command words)) (is_quick words c.requires.words) (some_mapped Quickly (quick_command words) c.in-Err.ensures.memory) refl refl refl refl (keeps_same _)

@@ -3,7 +3,7 @@ use Rattle.std.specs.Prelude.{option_map, string_bytes}
 use Rattle.pegasus_cli.specs.code.Moments.{call_of}
 use Rattle.command_words.specs.code.Words.{InThreads, threaded_of}
 use Rattle.command_words.specs.Words.{threaded_command}
-use Rattle.pegasus_cli.proofs.CallLemmas.{command_answered, keeps_same, some_mapped, unread_answered, usage_answered}
+use Rattle.pegasus_cli.proofs.CallLemmas.{command_answered, keeps_same, laws, some_mapped, unread_answered, usage_answered}
 use Rattle.command_words.proofs.WordsLemmas.{is_in_threads, threaded_is, threaded_is_none}
 use Rattle.pegasus_cli.proofs.threaded_call.in_threads.Goals as goal
 
@@ -14,8 +14,7 @@ returns-in-Ok-Some-clause-answered g c =
     let t = threaded_of c.in-Ok-Some.command in
     let is = threaded_is words t c.requires.words (rw c.in-Ok-Some.field-0-is at c.in-Ok-Some.ensures.is) in
     let told = c.work_in_threads-worked.result.told in
-    command_answered (record { runs = c.runs_finish.ensures; evaluations = c.evaluations_finish.ensures; records = c.malformed_line_is_one.ensures.none; one_record = c.text_is_of_one_record.ensures; resumed = c.resumes_finish.ensures })
-    _ (InThreads t) told.answer c.answer-outcome.result told.text.items is c.work_in_threads-worked.ensures.does c.answer-outcome.ensures
+    command_answered (laws c.runs_finish.ensures c.resumes_finish.ensures) _ (InThreads t) told.answer c.answer-outcome.result told.text.items is c.work_in_threads-worked.ensures.does c.answer-outcome.ensures
 
 pub returns-in-Ok-Some-clause-others : goal.returns-in-Ok-Some-clause-others
 returns-in-Ok-Some-clause-others g c =
@@ -33,5 +32,4 @@ pub returns-in-Err-clause-answered : goal.returns-in-Err-clause-answered
 unfolding call_of
 returns-in-Err-clause-answered g c =
     let words = map string_bytes c.args.words.now in
-    unread_answered (record { runs = c.runs_finish.ensures; evaluations = c.evaluations_finish.ensures; records = c.malformed_line_is_one.ensures.none; one_record = c.text_is_of_one_record.ensures; resumed = c.resumes_finish.ensures })
-    _ (option_map InThreads (threaded_command words)) (is_in_threads words c.requires.words) (some_mapped InThreads (threaded_command words) c.in-Err.ensures.memory) refl refl refl refl (keeps_same _)
+    unread_answered (laws c.runs_finish.ensures c.resumes_finish.ensures) _ (option_map InThreads (threaded_command words)) (is_in_threads words c.requires.words) (some_mapped InThreads (threaded_command words) c.in-Err.ensures.memory) refl refl refl refl (keeps_same _)

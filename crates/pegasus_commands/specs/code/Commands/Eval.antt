@@ -42,10 +42,11 @@ Says w s text (Ok (Some given)) = ⊥
 Says w s text (Err Memory) = Unit {0}
 Says w s text (Err fault) = IsUnvalued w s fault × (text ≡ [])
 
--- it writes nothing to the host, and says what the requested files are worth
+-- it writes nothing to the host and tells its gate nothing, and says what the requested files are worth
 pub record Evaluates (w : Work) (t : Tools) (s : Surveyed) (text : List ℕ) (answer : Answer) : Type 0 where
   -- the host tells what it told, whatever the answer
   pub same : w.after.told ≡ w.before.told
+  pub entered : w.after.entered ≡ w.before.entered
   pub says : Says w s text answer
 
 abbrev pub CanEvaluate : Work → Surveyed → Type 0

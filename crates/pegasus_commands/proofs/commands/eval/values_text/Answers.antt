@@ -1,3 +1,4 @@
+use Rattle.std.proofs.Common.{refl}
 use Rattle.plan_run.specs.Moments.{gateless}
 use Rattle.plan_run.specs.code.Moments.{work_moment, working}
 use Rattle.pegasus_commands.proofs.EvalLemmas.{says_unvalued}
@@ -10,11 +11,13 @@ returns-in-Err g c = λ told t.
     let w = working g.T.Tool.apply g.T.Tool.known before after in
     record {
       same = c.in-Err.ensures.told;
+      entered = refl;
       says = says_unvalued w c.args.surveyed.now c.in-Err.fault _ _ c.in-Err.ensures.answer c.at_once.ensures.text (rw c.of_evaluation_fault.ensures at c.at_once.ensures.answer);
     }
 
 pub returns-in-Ok-value_text : goal.returns-in-Ok-value_text
 returns-in-Ok-value_text g c = λ told t. record {
   same = c.in-Ok.ensures.told;
+  entered = refl;
   says = (_, c.in-Ok.ensures.requested, rw c.deref.ensures.value at c.in-Ok-value_text.ensures);
 }
