@@ -9,7 +9,7 @@ PLAIN = "!\"#$&'()*+,-./:;<=>?@[\\]^_`{|}~"
 FAILING = ("fetch", "write", "host", "run", "part")
 OF_FILE = {"calls", "documents", "replicas", "scratch"}
 OF_CASE = OF_FILE | {f"failing_{kind}" for kind in FAILING} | {
-    "write_takes", "room", "first_run_held", "first_gate_held", "each_front", "status", "text", "after_record",
+    "write_takes", "room", "first_run_held", "first_gate_held", "gate_first", "each_front", "status", "text", "after_record",
     "has_lines", "delivered", "not_delivered", "stored", "not_stored", "trace"}
 
 
@@ -84,7 +84,7 @@ def settings_of(table):
     for key in ("write_takes", "room"):
         if key in table:
             yield f"{key.replace('_', ' ')} {table[key]}"
-    yield from (key.replace("_", " ") for key in ("first_run_held", "first_gate_held") if table.get(key))
+    yield from (key.replace("_", " ") for key in ("first_run_held", "first_gate_held", "gate_first") if table.get(key))
     if "each_front" in table:
         yield f"each front {word_of(table['each_front'])}"
 

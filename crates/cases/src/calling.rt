@@ -73,6 +73,7 @@ fn is_met_by<R: Threads + Wait + Sync>(
         sink,
         host: &host,
         is_held_out: held.is_spent(),
+        is_early: held.is_early(),
     };
     let is_met = ended.tell_unless_met(trial, given, words);
     drop(host);

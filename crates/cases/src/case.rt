@@ -10,7 +10,7 @@ pub const OF_FILE: &str = "calls documents replicas scratch case";
 /// The keys that a case may have.
 pub const OF_CASE: &str = "calls documents replicas scratch
     failing_fetch failing_write failing_host failing_part failing_run write_takes room
-    first_run_held first_gate_held each_front status text after_record has_lines
+    first_run_held first_gate_held gate_first each_front status text after_record has_lines
     delivered not_delivered stored not_stored trace";
 
 /// Why a case isn't tried.

@@ -64,6 +64,8 @@ pub struct Ended<'a> {
     pub host: &'a MemoryHost,
     /// Whether the first run of a tool, or the first task at a gate, was held until its limit, where the case holds it.
     pub is_held_out: bool,
+    /// Whether a tool was run before the gate was asked for its task, where the case looks for that.
+    pub is_early: bool,
 }
 
 /// Whether a file is as it has to be: these bytes, or nothing.
@@ -245,7 +247,10 @@ impl Ended<'_> {
         ensures trace { IfOk result (λ met. IsTrue met → IfSome wanted.now.trace
             (λ text. operation_lines (host_store self.now.host.now).trace ≡ text.now)) }
     {
-        if self.status != wanted.status || !self.is_written(wanted) || self.is_held_out {
+        if self.status != wanted.status || !self.is_written(wanted) {
+            return Ok(false);
+        }
+        if self.is_held_out || self.is_early {
             return Ok(false);
         }
         is_traced(alloc, self.host, wanted.trace)
@@ -255,6 +260,9 @@ impl Ended<'_> {
     fn tell_others(&self, trial: &mut Trial, given: &Given<'_>) {
         if self.is_held_out {
             trial.tell("  held to its limit", &[]);
+        }
+        if self.is_early {
+            trial.tell("  run before its gate", &[]);
         }
         tell_missing(trial, self.sink.bytes(), given.case);
         tell_deliveries(trial, self.host, given.case);

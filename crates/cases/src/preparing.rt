@@ -138,21 +138,29 @@ pub fn sink_of(trial: &mut Trial, case: &Table) -> Option<MemorySink> {
     }
 }
 
-/// What holds the first run of a tool, and the first task at a gate, for so many looks.
+/// What holds the first run of a tool, and the first task at a gate, for so many looks, and whether each run has to come after
+/// a task of its own at the gates.
 #[derive(Drop)]
 pub struct Held {
     runs: Arc<Hold>,
     run_looks: u64,
     gates: Arc<Hold>,
     gate_looks: u64,
+    gate_first: bool,
 }
 
 impl Held {
-    fn new(alloc: Global, run_looks: u64, gate_looks: u64) -> Result<Held, Memory> {
+    fn new(
+        alloc: Global,
+        run_looks: u64,
+        gate_looks: u64,
+        gate_first: bool,
+    ) -> Result<Held, Memory> {
         let runs = Arc::new(alloc, Hold::new())?;
         Ok(Held {
             gates: Arc::new(alloc, Hold::new())?,
             gate_looks,
+            gate_first,
             runs,
             run_looks,
         })
@@ -162,6 +170,11 @@ impl Held {
     pub fn is_spent(&self) -> bool {
         self.run_looks > 0 && self.runs.spent.load(Ordering::SeqCst) != 0
             || self.gates.spent.load(Ordering::SeqCst) != 0
+    }
+
+    /// Whether a run began before its task had come to a gate, where the case asks for that.
+    pub fn is_early(&self) -> bool {
+        self.gate_first && self.runs.early.load(Ordering::SeqCst) != 0
     }
 }
 
@@ -178,7 +191,8 @@ fn looks_of(trial: &mut Trial, case: &Table, key: &'static str) -> u64 {
 pub fn held_of(trial: &mut Trial, case: &Table) -> Option<Held> {
     let run_looks = looks_of(trial, case, "first_run_held");
     let gate_looks = looks_of(trial, case, "first_gate_held");
-    match Held::new(trial.alloc, run_looks, gate_looks) {
+    let gate_first = trial.flag_at(case, "gate_first");
+    match Held::new(trial.alloc, run_looks, gate_looks, gate_first) {
         Ok(held) => Some(held),
         Err(Memory) => {
             trial.complain(Complaint::Memory);
@@ -190,9 +204,10 @@ pub fn held_of(trial: &mut Trial, case: &Table) -> Option<Held> {
 fn member_of(alloc: Global, failing: &[u64], held: &Held) -> Result<Member, Memory> {
     let tool = Faulty::new(Shipped::new(), Vec::from_slice(alloc, failing)?);
     let runs = held.runs.clone()?;
+    let gates = held.gates.clone()?;
     Ok(Crew {
         gate: HoldingGate::new(held.gates.clone()?, held.gate_looks),
-        tool: Holding::new(tool, runs, held.run_looks),
+        tool: Holding::new(tool, runs, gates, held.run_looks),
     })
 }
 

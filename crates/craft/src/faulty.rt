@@ -45,6 +45,8 @@ impl<T: Tool> Tool for Faulty<T> {
 
     ghost faults = { λ t. faults_with (T.faults t.tool) t.failed };
 
+    ghost runs = { λ t. calls_made t.failing };
+
     fn faults(&self) -> u64 {
         self.tool.faults().saturating_add(self.failed)
     }

@@ -7,12 +7,13 @@ use std::alloc::Global;
 use std::sync::Arc;
 use std::sync::atomic::{AtomicU64, Ordering};
 
-/// How many runs have started and been answered, of all tools that share it, and whether the first was held to its limit;
-/// or the same of the tasks at gates.
+/// How many runs have started and been answered, of all tools that share it, how many of them before as many tasks had come
+/// to the gates, and whether the first was held to its limit; or the same of the tasks at gates.
 #[derive(Drop)]
 pub struct Hold {
     pub started: AtomicU64,
     pub answered: AtomicU64,
+    pub early: AtomicU64,
     pub spent: AtomicU64,
 }
 
@@ -22,6 +23,7 @@ impl Hold {
         Hold {
             started: AtomicU64::new(0),
             answered: AtomicU64::new(0),
+            early: AtomicU64::new(0),
             spent: AtomicU64::new(0),
         }
     }
@@ -42,15 +44,21 @@ impl Hold {
 pub struct Holding<T: Tool> {
     tool: T,
     hold: Arc<Hold>,
+    gates: Arc<Hold>,
     limit: u64,
 }
 
 impl<T: Tool> Holding<T> {
-    /// `limit` is how often the held run looks for an answer before it goes on.
-    pub fn new(tool: T, hold: Arc<Hold>, limit: u64) -> Holding<T>
+    /// `limit` is how often the held run looks for an answer before it goes on; `gates` is what the workers' gates share.
+    pub fn new(tool: T, hold: Arc<Hold>, gates: Arc<Hold>, limit: u64) -> Holding<T>
         ensures { ⟦<Holding<T> as Tool>⟧.faults result ≡ T.faults tool }
     {
-        Holding { tool, hold, limit }
+        Holding {
+            tool,
+            hold,
+            gates,
+            limit,
+        }
     }
 }
 
@@ -60,6 +68,8 @@ impl<T: Tool> Tool for Holding<T> {
     ghost known = { T.known };
 
     ghost faults = { λ t. T.faults t.tool };
+
+    ghost runs = { λ t. T.runs t.tool };
 
     fn faults(&self) -> u64 {
         self.tool.faults()
@@ -77,7 +87,11 @@ impl<T: Tool> Tool for Holding<T> {
         ins: &[Blob],
         outs: usize,
     ) -> Result<Vec<Blob>, ToolFault> {
-        if self.hold.started.fetch_add(1, Ordering::SeqCst) == 0 {
+        let started = self.hold.started.fetch_add(1, Ordering::SeqCst);
+        if self.gates.started.load(Ordering::SeqCst) <= started {
+            self.hold.early.fetch_add(1, Ordering::SeqCst);
+        }
+        if started == 0 {
             self.hold.wait(self.limit);
         }
         let made = self.tool.run(alloc, name, args, ins, outs);

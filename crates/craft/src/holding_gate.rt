@@ -36,10 +36,11 @@ impl HoldingGate {
     }
 
     fn pass(&self) {
+        let started = self.hold.started.fetch_add(1, Ordering::SeqCst);
         if self.limit == 0 {
             return;
         }
-        if self.hold.started.fetch_add(1, Ordering::SeqCst) == 0 {
+        if started == 0 {
             self.hold.wait(self.limit);
         } else {
             self.hold.answered.fetch_add(1, Ordering::SeqCst);

@@ -1,6 +1,6 @@
 //! The evaluation of a workflow.
 
-ghost use Rattle.std.specs.Prelude.{◌≡◌, ◌<◌, length, IfOk};
+ghost use Rattle.std.specs.Prelude.{◌≡◌, ◌+◌, ◌≤◌, ◌<◌, length, IfOk};
 ghost use Rattle.outside.specs.code.Counts.{IsLater};
 ghost use Rattle.workflow_core.specs.code.WellFormed.{IsWellFormed};
 ghost use Rattle.dependency_graph.specs.Graph.{IsGraphOf};
@@ -107,6 +107,7 @@ pub fn values_of<H: Host, T: Tool>(
         (chosen workflow.now values.items)) }
     ensures told { H.told host.new ≡ H.told host.old }
     ensures later { IsLater (H.counts host.old) (H.counts host.new) }
+    ensures runs { T.runs tool.new ≤ T.runs tool.old + length graph.now.ordered }
 {
     let prepared = match prepare(alloc, workflow, graph, replicas, request, tool) {
         Ok(prepared) => prepared,

@@ -31,6 +31,8 @@ impl<T: Tool, R: Clock + Eprint + Drop> Tool for ShownTool<T, R> {
 
     ghost faults = { λ t. T.faults t.tool };
 
+    ghost runs = { λ t. T.runs t.tool };
+
     fn faults(&self) -> u64 {
         self.tool.faults()
     }

@@ -25,9 +25,9 @@ pub all_stay : {A B : Type 0} (part : A → B) (crew : List A) (first last : A) 
 all_stay part [] first last is same = refl
 all_stay part (m ∷ ms) first last is same = ap (λ x. x ∷ map part ms) (same ∙ ap part is)
 
--- where the first member's count stayed, and what its gate was asked and told, all members show the same
-pub members_stay : {T G : Type 0} (t : tool.Ghosts T) (g : gate.Ghosts G) (crew : List (Crew T G)) (first last : Crew T G) → first ≡ get_or crew 0 first → g.asked last.gate ≡ g.asked first.gate → t.faults last.tool ≡ t.faults first.tool → g.told last.gate ≡ g.told first.gate → crew_moment t g (slice_set crew 0 last) ≡ crew_moment t g crew
-members_stay t g crew first last is asked same told = all_stay (member_moment t g) crew first last is (λ i. record { faults = same i; asked = Some (asked i); told = told i })
+-- where the first member's counts stayed, and what its gate was asked and told, all members show the same
+pub members_stay : {T G : Type 0} (t : tool.Ghosts T) (g : gate.Ghosts G) (crew : List (Crew T G)) (first last : Crew T G) → first ≡ get_or crew 0 first → g.asked last.gate ≡ g.asked first.gate → t.faults last.tool ≡ t.faults first.tool → t.runs last.tool ≡ t.runs first.tool → g.told last.gate ≡ g.told first.gate → crew_moment t g (slice_set crew 0 last) ≡ crew_moment t g crew
+members_stay t g crew first last is asked same ran told = all_stay (member_moment t g) crew first last is (λ i. record { faults = same i; runs = ran i; asked = Some (asked i); told = told i })
 
 -- what stands behind the first member stays
 pub rest_stays : {A : Type 0} (crew : List A) (last : A) → drop 1 (slice_set crew 0 last) ≡ drop 1 crew

@@ -85,14 +85,14 @@ workload_is_new n = same_but_replicas (each n image_of) blank
 -- ---- a run inside
 
 -- a moment of the work inside, over a store in memory
-abbrev pub inside_at : MemoryHost → ℕ → List (ℕ × Event) → WorkMoment
-inside_at host tool entered = record { told = Some (host_store host); counts = host_counts host; tool = tool; entered = entered }
+abbrev pub inside_at : MemoryHost → ℕ → ℕ → List (ℕ × Event) → WorkMoment
+inside_at host tool runs entered = record { told = Some (host_store host); counts = host_counts host; tool = tool; runs = runs; entered = entered }
 
 abbrev pub inside_of : Work → MemoryHost → MemoryHost → Work
-inside_of w old new = working w.apply w.known (inside_at old w.before.tool w.before.entered) (inside_at new w.after.tool w.after.entered)
+inside_of w old new = working w.apply w.known (inside_at old w.before.tool w.before.runs w.before.entered) (inside_at new w.after.tool w.after.runs w.after.entered)
 
 is_inside : (n : ℕ) (w : Work) (s : Surveyed) (old new : MemoryHost) → IsPrepared n (prepared s old) → IsInside n w (inside_of w old new)
-is_inside n w s old new prep = record { apply = refl; known = refl; told = ap Some prep.store; counts = prep.counts; tool_before = refl; tool_after = refl; entered_before = refl; entered_after = refl }
+is_inside n w s old new prep = record { apply = refl; known = refl; told = ap Some prep.store; counts = prep.counts; tool_before = refl; tool_after = refl; runs_before = refl; runs_after = refl; entered_before = refl; entered_after = refl }
 
 -- the run of a plan, inside
 abbrev inside_run : (w : Work) (t : Tools) (workers : ℕ) (s : Surveyed) (old new : MemoryHost) (p : Plan) (order : List TaskId) (x : Report) (e : End) → IsReady w.known s p order → HasDeliveryLaws p (task_numbers order) → DeliversRequests s.request s.survey p → MeansWorkflow s.request s.survey p
@@ -197,7 +197,7 @@ alone_ran w p order x e run = ∥∥₁_map run (λ (h : HasRunAlone w p order x
 -- a run inside, told of the call: with one worker, and with several
 pub alone_is : (n : ℕ) (m : WorkMoment) (apply : Apply) (known : List ℕ → Bool) (before after : MemberMoment) (s : Surveyed) (old new : MemoryHost) (p : Plan) (order : List TaskId) (log : Option Log) (written : List ℕ) (ds : List Delivered) (f : Figures) (text : List ℕ) (a : Answer) (e : End)
     → IsPrepared n (prepared s old) → IsReady known s p order → HasDeliveryLaws p (task_numbers order) → DeliversRequests s.request s.survey p → MeansWorkflow s.request s.survey p
-    → ∥ HasRunAlone (working apply known (inside_at old before.faults before.told) (inside_at new after.faults after.told)) p (task_numbers order) (reporting log written ds) e ∥₁ → AreFigures s p (task_numbers order) f → TellsEnd n f e log new text a
+    → ∥ HasRunAlone (working apply known (inside_at old before.faults before.runs before.told) (inside_at new after.faults after.runs after.told)) p (task_numbers order) (reporting log written ds) e ∥₁ → AreFigures s p (task_numbers order) f → TellsEnd n f e log new text a
     → let w = working apply known (with_first m before) (with_first m after) in Rehearses n 1 w (first_tool w) s text a
 alone_is n m apply known before after s old new p order log written ds f text a e prep ready laws requests means run figures tells =
     let w = working apply known (with_first m before) (with_first m after) in
@@ -205,7 +205,7 @@ alone_is n m apply known before after s old new p order log written ds f text a 
 
 pub many_is : (n workers : ℕ) (m : WorkMoment) (t : Tools) (apply : Apply) (known : List ℕ → Bool) (before after : MemberMoment) (s : Surveyed) (old new : MemoryHost) (p : Plan) (order : List TaskId) (log : Option Log) (written : List ℕ) (ds : List Delivered) (f : Figures) (text : List ℕ) (a : Answer) (e : End)
     → IsPrepared n (prepared s old) → IsReady known s p order → HasDeliveryLaws p (task_numbers order) → DeliversRequests s.request s.survey p → MeansWorkflow s.request s.survey p
-    → ∥ HasRun (working apply known (inside_at old before.faults before.told) (inside_at new after.faults after.told)) t workers p (task_numbers order) (reporting log written ds) e ∥₁ → AreFigures s p (task_numbers order) f → TellsEnd n f e log new text a
+    → ∥ HasRun (working apply known (inside_at old before.faults before.runs before.told) (inside_at new after.faults after.runs after.told)) t workers p (task_numbers order) (reporting log written ds) e ∥₁ → AreFigures s p (task_numbers order) f → TellsEnd n f e log new text a
     → Rehearses n workers (working apply known (with_first m before) (with_first m after)) t s text a
 many_is n workers m t apply known before after s old new p order log written ds f text a e prep ready laws requests means run figures tells =
     let w = working apply known (with_first m before) (with_first m after) in

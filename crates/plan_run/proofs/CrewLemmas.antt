@@ -1,13 +1,14 @@
 -- A run by the first members of a crew, told of the whole crew.
-use Rattle.std.proofs.Common.{◌≡◌, ℕ, ◌<◌, ◌++◌, List, [], length, map, take, drop, sym, ap, subst, ◌∙◌, arith}
+use Rattle.std.proofs.Common.{◌≡◌, ℕ, ◌+◌, ◌≤◌, ◌<◌, ◌++◌, List, [], length, map, take, drop, sym, ap, subst, ◌∙◌, arith}
 use Rattle.std.proofs.Math.Logic.{∥∥₁_map}
 use Rattle.std.proofs.lemmas.List.{get_or_append_left, length-map, take-append-drop}
 use Rattle.plan_core.specs.declared.plan.Plan.{Plan}
 use Rattle.site_yard.specs.code.Failures.{RoseBy, tool_faults}
 use Rattle.lease_rules.specs.code.Owning.{entries_by}
+use Rattle.worker_gate.specs.code.Runs.{tool_runs}
 use Rattle.worker_gate.specs.Telling.{placed_by}
 use Rattle.plan_run.specs.Moments.{MemberMoment, Tools, Work, gateless, shown_of}
-use Rattle.plan_run.specs.code.Moments.{asked_of, count_of, counting, first_shown}
+use Rattle.plan_run.specs.code.Moments.{asked_of, count_of, counting, first_shown, runs_of}
 use Rattle.plan_run.specs.code.Running.{End, HasAsked, HasRun, Report}
 use Rattle.plan_run.proofs.MembersLemmas.{first_of_both, map_both}
 
@@ -26,6 +27,7 @@ with_tools w t u n p order x a before after h = record {
     inputs = h.run.inputs;
     counted = h.run.counted;
     tools = λ k l. subst (λ (m : MemberMoment). RoseBy (tool_faults k h.r) m.faults (count_of u.after k)) (sym (before k l)) (subst (λ (m : MemberMoment). RoseBy (tool_faults k h.r) (count_of t.before k) m.faults) (sym (after k l)) (h.run.tools k l));
+    ran = λ k l. subst (λ (m : MemberMoment). runs_of u.after k ≤ m.runs + tool_runs p k h.r) (sym (before k l)) (subst (λ (m : MemberMoment). m.runs ≤ runs_of t.before k + tool_runs p k h.r) (sym (after k l)) (h.run.ran k l));
     told = λ k l. ap (λ (m : MemberMoment). m.told) (after k l) ∙ h.run.told k l ∙ ap (λ (m : MemberMoment). m.told ++ placed_by k 0 h.r) (sym (before k l));
   };
   none_open = h.none_open;
@@ -36,7 +38,7 @@ with_tools w t u n p order x a before after h = record {
 
 -- what a crew's first members show
 shown_before : (xs ys : List MemberMoment) (n k : ℕ) → length xs ≡ n → k < n → shown_of (xs ++ ys) k ≡ shown_of xs k
-shown_before xs ys n k many l = get_or_append_left xs ys (gateless 0 []) k (omega (arith, many, l))
+shown_before xs ys n k many l = get_or_append_left xs ys (gateless 0 0 []) k (omega (arith, many, l))
 
 -- A plan was run by the first members of the crew.
 many_is : (w : Work) (n : ℕ) (xs ys zs : List MemberMoment) (p : Plan) (order : List ℕ) (x : Report) (a : End) → length xs ≡ n → length ys ≡ n → ∥ HasRun w (counting xs ys) n p order x a ∥₁ → ∥ HasRun w (counting (xs ++ zs) (ys ++ zs)) n p order x a ∥₁

@@ -39,10 +39,12 @@ use Rattle.site_yard.specs.declared.opening.OpenFault.{OpenFault}
 use Rattle.worker_gate.specs.code.Alone.{AllBy, IsOver, NoneOpen, WorksAlone, tried}
 use Rattle.worker_gate.specs.code.Calls.{AddsCalls, AreAllCalls}
 use Rattle.worker_gate.specs.code.Inputs.{AddsOfInputs, AreOfInputs}
+use Rattle.worker_gate.specs.code.Runs.{RunsWithin, tool_runs}
+use Rattle.worker_gate.proofs.RunsLemmas.{no_runs}
 use Rattle.worker_gate.specs.code.Telling.{IsToldOf}
 use Rattle.worker_gate.specs.Telling.{placed_by}
 use Rattle.plan_run.specs.Moments.{MemberMoment, Tools, Work, gateless, told_of}
-use Rattle.plan_run.specs.code.Moments.{asked_of, count_of, first_tool}
+use Rattle.plan_run.specs.code.Moments.{asked_of, count_of, first_tool, runs_of}
 use Rattle.plan_run.specs.Running.{AreDeliveries, AreWithinOutput}
 use Rattle.plan_run.specs.code.Running.{AreDeliveriesSince, End, EndsAs, Fresh, HasAsked, HasRun, HasRunAlone, IsEmptyReport, IsRefusal, IsReportSince, IsRun, IsShown, IsTextSince, Opening, Report, Reports, ReportsSince, ShowsFailures, TakesCalls, Tells, ended_by, looks_of, marked_if}
 use Rattle.plan_run.specs.RunText.{run_text}
@@ -175,6 +177,7 @@ pub record IsYardEnd (w : Work) (t : Tools) (n : ℕ) (p : Plan) (order : List �
   pub over : (r ≡ []) ⊎ IsOver p (now p order (first ++ r))
   pub inputs : AreOfInputs w.apply p r
   pub tools : (k : ℕ) → k < n → RoseBy (tool_faults k r) (count_of t.before k) (count_of t.after k)
+  pub ran : (k : ℕ) → k < n → runs_of t.after k ≤ runs_of t.before k + tool_runs p k r
   pub entered : (k : ℕ) → k < n → told_of t.after k ≡ told_of t.before k ++ placed_by k (length first) r
 
 -- The entries of a yard's whole record: those with which it was opened, so many, and those that were added.
@@ -207,6 +210,7 @@ run_so w t n p order o first r whole k told marked faults misses parts end shows
       inputs = end.inputs;
       counted = inl (counted_so r w.before.told told faults misses w.before.counts.faults w.before.counts.misses w.after.counts end.tells end.faults_are end.misses_are counted);
       tools = end.tools;
+      ran = end.ran;
       told = end.entered;
     }
 
@@ -239,6 +243,10 @@ first_rose : (w : Work) (r added : List Event) → r ≡ added → RoseBy (tool_
 first_rose w r added is rose zero l = subst (λ (es : List Event). RoseBy (tool_faults 0 es) w.before.tool w.after.tool) (sym is) rose
 first_rose w r added is rose (suc k) l = absurd (omega (arith, l))
 
+first_ran : (w : Work) (p : Plan) (r : List Event) → RunsWithin p 0 [] r w.before.runs w.after.runs → (k : ℕ) → k < 1 → runs_of (first_tool w).after k ≤ runs_of (first_tool w).before k + tool_runs p k r
+first_ran w p r few zero l = let none = no_runs p 0 in omega (arith, few, none)
+first_ran w p r few (suc k) l = absurd (omega (arith, l))
+
 no_gate : (w : Work) (r : List Event) (k : ℕ) → HasAsked (entries_by k r) (asked_of (first_tool w).before k) (asked_of (first_tool w).after k)
 no_gate w r zero = tt
 no_gate w r (suc k) = tt
@@ -252,6 +260,7 @@ pub record IsAloneEnd (w : Work) (p : Plan) (order : List ℕ) (r : List Event) 
   pub works : WorksAlone p order [] r w.before.tool w.after.tool
   pub inputs : AddsOfInputs w.apply p [] r
   pub entered : IsToldOf 0 [] r w.before.entered w.after.entered
+  pub runs : RunsWithin p 0 [] r w.before.runs w.after.runs
   pub looked : AreMore (looks p) 0 0 w.before.counts opened
   pub later : IsLater opened w.after.counts
   pub calls : AddsCalls p [] r opened w.after.counts
@@ -268,6 +277,7 @@ alone_end w p order r opened told marked faults misses end told_is tells marked_
   over = inr end.works.over;
   inputs = subst (AreOfInputs w.apply p) (sym end.inputs.is) end.inputs.are;
   tools = first_rose w r end.works.added end.works.is end.works.counted;
+  ran = first_ran w p r end.runs;
   entered = first_told w r end.entered;
 }
 
@@ -316,6 +326,9 @@ tool_at_start : (k before after : ℕ) → before ≡ after → RoseBy (tool_fau
 unfolding tool_faults
 tool_at_start k before after same = λ l. omega (arith, same)
 
+runs_at_start : (p : Plan) (k before after : ℕ) → after ≡ before → after ≤ before + tool_runs p k []
+runs_at_start p k before after same = omega (arith, same)
+
 gate_at_start : (asked : Option (List ℕ)) → HasAsked [] asked asked
 gate_at_start None = tt
 gate_at_start (Some ts) = record { asked = []; is = sym (append-nil ts); are = refl }
@@ -353,6 +366,7 @@ empty_run w t n p order o first laws legal told failures tools = record {
   inputs = tt;
   counted = failures;
   tools = λ k l. tool_at_start k (count_of t.before k) (count_of t.after k) (ap (λ (c : List MemberMoment). count_of c k) (sym tools));
+  ran = λ k l. runs_at_start p k (runs_of t.before k) (runs_of t.after k) (ap (λ (c : List MemberMoment). runs_of c k) tools);
   told = λ k l. ap (λ (c : List MemberMoment). told_of c k) tools ∙ sym (append-nil (told_of t.before k));
 }
 
@@ -372,11 +386,11 @@ pub was_refused : (w : Work) (t : Tools) (n : ℕ) (p : Plan) (order : List ℕ)
 was_refused w t n p order opening x a laws told tools refuses refusal =
     not_begun w t n p order x a laws told tools (inr (refl, record { opening = opening; refuses = refuses })) (refusal_tells w p order opening a refuses refusal.ends) (refusal_reports w p x a refusal.says)
 
-pub alone_was_refused : (w : Work) (p : Plan) (order : List ℕ) (opening : OpenFault) (x : Report) (a : End) → HasLaws p order [] → w.after.told ≡ w.before.told → w.after.tool ≡ w.before.tool → w.after.entered ≡ w.before.entered
+pub alone_was_refused : (w : Work) (p : Plan) (order : List ℕ) (opening : OpenFault) (x : Report) (a : End) → HasLaws p order [] → w.after.told ≡ w.before.told → w.after.tool ≡ w.before.tool → w.after.runs ≡ w.before.runs → w.after.entered ≡ w.before.entered
     → Refuses p w.before.told w.before.counts w.after.counts opening → IsRefusal p opening x a → HasRunAlone w p order x a
 unfolding was_refused not_begun
-alone_was_refused w p order opening x a laws told tool entered refuses refusal = record {
-  ran = was_refused w (first_tool w) 1 p order opening x a laws told (λ i. gateless (tool i) (entered i) ∷ []) refuses refusal;
+alone_was_refused w p order opening x a laws told tool runs entered refuses refusal = record {
+  ran = was_refused w (first_tool w) 1 p order opening x a laws told (λ i. gateless (tool i) (runs i) (entered i) ∷ []) refuses refusal;
   in_order = refl;
   asked = inr (refl, record { opening = opening; refuses = refuses });
 }

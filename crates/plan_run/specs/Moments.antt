@@ -6,12 +6,13 @@ use Rattle.outside.specs.declared.store.Store.{Store}
 use Rattle.outside.specs.declared.tool.Tool as tool
 use Rattle.run_record.specs.Events.{Event}
 
--- What the host holds, where it is told, its counts, and of the first member of the crew how often its tool has failed and
--- which entries its gate was told.
+-- What the host holds, where it is told, its counts, and of the first member of the crew how often its tool has failed, how
+-- often it was run, if it tells, and which entries its gate was told.
 pub record WorkMoment : Type 0 where
   pub told : Option Store
   pub counts : Counts
   pub tool : ℕ
+  pub runs : ℕ
   pub entered : List (ℕ × Event)
 
 -- what the work meets: what the tool makes and knows, the host and the tool before and after
@@ -21,10 +22,11 @@ pub record Work : Type 0 where
   pub before : WorkMoment
   pub after : WorkMoment
 
--- How often the tool of a member of the crew has failed; the tasks for which its gate was asked, in order, None where no
+-- How often the tool of a member of the crew has failed; how often it was run, if it tells; the tasks for which its gate was asked, in order, None where no
 -- gate is asked; and the entries that its gate was told, in order, each with its place.
 pub record MemberMoment : Type 0 where
   pub faults : ℕ
+  pub runs : ℕ
   pub asked : Option (List ℕ)
   pub told : List (ℕ × Event)
 
@@ -34,12 +36,12 @@ pub record Tools : Type 0 where
   pub after : List MemberMoment
 
 -- a member that asks no gate
-abbrev pub gateless : ℕ → List (ℕ × Event) → MemberMoment
-gateless n entered = record { faults = n; asked = None; told = entered }
+abbrev pub gateless : ℕ → ℕ → List (ℕ × Event) → MemberMoment
+gateless n runs entered = record { faults = n; runs = runs; asked = None; told = entered }
 
 -- what a member of a crew shows
 abbrev pub shown_of : List MemberMoment → ℕ → MemberMoment
-shown_of ms k = get_or ms k (gateless 0 [])
+shown_of ms k = get_or ms k (gateless 0 0 [])
 
 abbrev pub told_of : List MemberMoment → ℕ → List (ℕ × Event)
 told_of ms k = (shown_of ms k).told

@@ -2,6 +2,7 @@ pub mod FailsLemmas
 pub mod FaultsLemmas
 pub mod LostLemmas
 pub mod ReplayingLemmas
+mod RunsLemmas
 mod TellingLemmas
 pub mod RedoingLemmas
 pub mod WorkingLemmas

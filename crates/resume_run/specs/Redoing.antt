@@ -6,10 +6,11 @@ use Rattle.lease_rules.specs.code.Reading.{is_fail}
 use Rattle.lease_rules.specs.State.{now}
 use Rattle.site_yard.specs.code.Failures.{RoseBy, tool_faults, tool_faults_of}
 use Rattle.worker_gate.specs.code.Alone.{NoneOpen}
+use Rattle.worker_gate.specs.code.Runs.{RunsWithin}
 use Rattle.worker_gate.specs.code.Tending.{IsDone}
 use Rattle.worker_gate.specs.code.Telling.{IsToldOf}
 use Rattle.plan_run.specs.Moments.{MemberMoment, told_of}
-use Rattle.plan_run.specs.code.Moments.{count_of}
+use Rattle.plan_run.specs.code.Moments.{count_of, runs_of}
 use Rattle.resume_run.specs.declared.lost.Lost.{Lost}
 
 -- one entry for each of the tasks, in order, by which its own worker is done with it; fewer only at the end
@@ -46,6 +47,10 @@ pub record AddsFaults (r after : List Event) (before later : List MemberMoment) 
 -- Each member's gate was told its worker's entries of what is added after a record r, and nothing else.
 abbrev pub AreToldOf : List Event → List Event → List MemberMoment → List MemberMoment → Type 0
 AreToldOf r after before later = (k : ℕ) → IsToldOf k r after (told_of before k) (told_of later k)
+
+-- Each member's tool was run no more often than its worker's entries say of what is added after a record r.
+abbrev pub AreRunsWithin : Plan → List Event → List Event → List MemberMoment → List MemberMoment → Type 0
+AreRunsWithin p r after before later = (k : ℕ) → RunsWithin p k r after (runs_of before k) (runs_of later k)
 
 -- one entry more, by which its own worker is done with a task, and which the members' counts show; whether it is a Fail
 pub record RedoesOne (l : Lost) (r after : List Event) (before later : List MemberMoment)

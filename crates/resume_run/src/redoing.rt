@@ -12,7 +12,7 @@ ghost use Rattle.worker_gate.specs.code.Calls.{AddsCalls};
 ghost use Rattle.worker_gate.specs.code.Inputs.{AddsOfInputs};
 ghost use Rattle.plan_run.specs.code.Moments.{crew_moment};
 ghost use Rattle.resume_run.specs.Lost.{lost_below};
-ghost use Rattle.resume_run.specs.Redoing.{AddsFaults, AreToldOf, Redoes, RedoesOne};
+ghost use Rattle.resume_run.specs.Redoing.{AddsFaults, AreRunsWithin, AreToldOf, Redoes, RedoesOne};
 
 use crate::lost::Lost;
 use crate::replaying::is_fail;
@@ -51,6 +51,9 @@ fn redo_one<H: Host, T: Tool, G: Gate>(
         ≡ map (λ (c : Crew T G). G.asked c.gate) crew.old.items }
     ensures told { AreToldOf yard.old.book.history.events yard.new.book.history.events
         (crew_moment T.Tool G.Gate crew.old.items) (crew_moment T.Tool G.Gate crew.new.items) }
+    ensures runs { AreRunsWithin yard.old.ordered.plan yard.old.book.history.events
+        yard.new.book.history.events (crew_moment T.Tool G.Gate crew.old.items)
+        (crew_moment T.Tool G.Gate crew.new.items) }
     ensures same { IsSameYard yard.old yard.new }
 {
     let member = &mut crew[lost.worker as usize];
@@ -80,6 +83,8 @@ pub fn redo<H: Host, T: Tool, G: Gate>(
     ensures asked { map (λ (c : Crew T G). G.asked c.gate) crew.new.items
         ≡ map (λ (c : Crew T G). G.asked c.gate) crew.old.items }
     ensures told { AreToldOf yard.book.history.events result.book.history.events
+        (crew_moment T.Tool G.Gate crew.old.items) (crew_moment T.Tool G.Gate crew.new.items) }
+    ensures runs { AreRunsWithin yard.ordered.plan yard.book.history.events result.book.history.events
         (crew_moment T.Tool G.Gate crew.old.items) (crew_moment T.Tool G.Gate crew.new.items) }
     ensures same { IsSameYard yard result }
 {

@@ -9,7 +9,7 @@ ghost use Rattle.worker_gate.specs.code.Calls.{AddsCalls};
 ghost use Rattle.worker_gate.specs.code.Inputs.{AddsOfInputs};
 ghost use Rattle.plan_run.specs.code.Moments.{crew_moment};
 ghost use Rattle.resume_run.specs.Lost.{lost_below};
-ghost use Rattle.resume_run.specs.Redoing.{AreToldOf};
+ghost use Rattle.resume_run.specs.Redoing.{AreRunsWithin, AreToldOf};
 ghost use Rattle.resume_run.specs.Working.{WorksOn};
 
 use crate::lost::Lost;
@@ -40,6 +40,8 @@ pub(crate) fn work_on<H: Host, T: Tool, G: Gate>(
     ensures asked { map (λ (c : Crew T G). G.asked c.gate) crew.new.items
         ≡ map (λ (c : Crew T G). G.asked c.gate) crew.old.items }
     ensures told { AreToldOf yard.book.history.events result.book.history.events
+        (crew_moment T.Tool G.Gate crew.old.items) (crew_moment T.Tool G.Gate crew.new.items) }
+    ensures runs { AreRunsWithin yard.ordered.plan yard.book.history.events result.book.history.events
         (crew_moment T.Tool G.Gate crew.old.items) (crew_moment T.Tool G.Gate crew.new.items) }
     ensures same { IsSameYard yard result }
 {

@@ -1,6 +1,6 @@
 //! What the jobs of a Run make of the bytes that it reads.
 
-ghost use Rattle.std.specs.Prelude.{◌≡◌, ◌≤◌, ℕ, IfOk, Some, is_some, map, true};
+ghost use Rattle.std.specs.Prelude.{◌≡◌, ◌+◌, ◌≤◌, ℕ, IfOk, Some, is_some, length, map, true};
 ghost use Rattle.plan_core.specs.Numbers.{has};
 ghost use Rattle.plan_core.specs.code.Proper.{IsProper};
 ghost use Rattle.plan_core.specs.Words.{file_numbers, is_run, kind, pair_numbers, writes};
@@ -71,6 +71,7 @@ pub(crate) fn compute<T: Tool>(
     ensures answer { Computes T.apply plan.now task.0 blobs.items (T.faults tool.old)
         (T.faults tool.new) result }
     ensures tool { T.faults tool.old ≤ T.faults tool.new }
+    ensures runs { T.runs tool.new ≤ T.runs tool.old + length (jobs_in (kind plan.now task.0)) }
 {
     // Laws for the proof: they do nothing.
     files_are_listed_by_pair();

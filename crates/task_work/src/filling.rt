@@ -1,9 +1,10 @@
 //! What a task's bytes become: its readings are read, and its drafts filled.
 
-ghost use Rattle.std.specs.Prelude.{◌≡◌, ◌+◌, ◌≤◌, [], IfErr, IfOk, map, true};
+ghost use Rattle.std.specs.Prelude.{◌≡◌, ◌+◌, ◌≤◌, [], IfErr, IfOk, length, map, true};
 ghost use Rattle.plan_core.specs.code.Proper.{IsProper};
 ghost use Rattle.plan_core.specs.Words.{is_transfer, kind};
 ghost use Rattle.lease_rules.specs.Legal.{CauseFits};
+ghost use Rattle.task_work.specs.Computing.{jobs_in};
 ghost use Rattle.task_work.specs.Filling.{AreParts, FillsTransfer, HasFilled, IsWhy};
 ghost use Rattle.task_work.specs.Making.{AreBegun, AreEmpty, Each, IsShown, blames};
 ghost use Rattle.outside.specs.code.Parts.{part_faults};
@@ -77,6 +78,7 @@ pub fn fill<I: ReadPart, O: WritePart, T: Tool>(
     ensures readings { Each IsSteadyReading (map I.state readings.old) (map I.state readings.new) }
     ensures drafts { Each IsSteadyDraft (map O.state drafts.old) (map O.state drafts.new) }
     ensures tool { T.faults tool.old ≤ T.faults tool.new }
+    ensures runs { T.runs tool.new ≤ T.runs tool.old + length (jobs_in (kind plan.now task.0)) }
 {
     if plan.is_transfer(task) {
         return fill_transfer(alloc, plan, task, readings, drafts);

@@ -2,9 +2,10 @@
 
 ghost use Rattle.std.specs.Prelude.{◌≡◌, ◌+◌, ◌≤◌, ◌++◌, ◌∷◌, [], IfErr, IfOk, OnOk, length, map, true};
 ghost use Rattle.plan_core.specs.code.Proper.{IsProper};
-ghost use Rattle.plan_core.specs.Words.{is_run, reads, writes};
+ghost use Rattle.plan_core.specs.Words.{is_run, kind, reads, writes};
 ghost use Rattle.lease_rules.specs.Legal.{CauseFits};
 ghost use Rattle.lease_rules.specs.code.Storing.{pair_limit};
+ghost use Rattle.task_work.specs.Computing.{jobs_in};
 ghost use Rattle.task_work.specs.Making.{AreBegun, AreEmpty, AreStored, AreWritten, Each, Fits, IsFaultOf, IsRunCause, IsShown, MakesWithin, OfRead, blames, limit_of};
 ghost use Rattle.outside.specs.code.Parts.{draft_faults, part_faults, reading_faults};
 ghost use Rattle.task_work.specs.Pieces.{HasRead, IsSteadyDraft, IsSteadyReading, fails_in};
@@ -98,6 +99,7 @@ fn make_outputs<T: Tool>(
         (T.faults tool.new) result }
     ensures fits { IfErr result (λ c. CauseFits plan.now task.0 c []) }
     ensures tool { T.faults tool.old ≤ T.faults tool.new }
+    ensures runs { T.runs tool.new ≤ T.runs tool.old + length (jobs_in (kind plan.now task.0)) }
 {
     let outputs = match compute(alloc, plan, task, blobs, tool) {
         Ok(outputs) => outputs,
@@ -166,6 +168,7 @@ pub(crate) fn make_files<I: ReadPart, O: WritePart, T: Tool>(
     ensures readings { Each IsSteadyReading (map I.state readings.old) (map I.state readings.new) }
     ensures drafts { Each IsSteadyDraft (map O.state drafts.old) (map O.state drafts.new) }
     ensures tool { T.faults tool.old ≤ T.faults tool.new }
+    ensures runs { T.runs tool.new ≤ T.runs tool.old + length (jobs_in (kind plan.now task.0)) }
 {
     let blobs = match read_all(alloc, readings) {
         Ok(blobs) => blobs,

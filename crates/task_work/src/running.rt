@@ -1,6 +1,6 @@
 //! Jobs, one after the other, over a table of bytes.
 
-ghost use Rattle.std.specs.Prelude.{◌≡◌, ◌≤◌, Some, IfErr, IfOk, length, slice_get};
+ghost use Rattle.std.specs.Prelude.{◌≡◌, ◌+◌, ◌≤◌, Some, IfErr, IfOk, length, slice_get};
 ghost use Rattle.std.specs.Option.{option_copied};
 ghost use Rattle.plan_core.specs.Words.{file_numbers};
 ghost use Rattle.task_work.specs.Running.{IsToolCause, RunsJob, RunsJobs, RunsTool, made_by};
@@ -31,6 +31,7 @@ fn run_tool<T: Tool>(
     ensures cause { IfErr result (λ c. IsToolCause (made_by T.apply job.now inputs.now) number.0
         (T.faults tool.old) (T.faults tool.new) c) }
     ensures tool { T.faults tool.old ≤ T.faults tool.new }
+    ensures runs { T.runs tool.new ≤ T.runs tool.old + 1 }
 {
     let made = tool.run(
         alloc,
@@ -59,6 +60,7 @@ fn fill_outputs<T: Tool>(
     ensures answer { RunsTool T.apply job.now number.0 inputs.now (at table.old) (at table.new)
         (T.faults tool.old) (T.faults tool.new) result }
     ensures tool { T.faults tool.old ≤ T.faults tool.new }
+    ensures runs { T.runs tool.new ≤ T.runs tool.old + 1 }
 {
     match run_tool(alloc, number, job, inputs, tool) {
         Err(cause) => Err(cause),
@@ -80,6 +82,7 @@ fn run_job<T: Tool>(
     ensures answer { RunsJob T.apply plan.now.jobs number.0 (at table.old) (at table.new) (T.faults tool.old)
         (T.faults tool.new) result }
     ensures tool { T.faults tool.old ≤ T.faults tool.new }
+    ensures runs { T.runs tool.new ≤ T.runs tool.old + 1 }
 {
     match find_job(plan, number) {
         None => Err(Cause::Declined(number)),
@@ -102,6 +105,7 @@ pub(crate) fn run_jobs<T: Tool>(
     ensures answer { RunsJobs T.apply plan.now.jobs jobs.now (at table.old) (at table.new)
         (T.faults tool.old) (T.faults tool.new) result }
     ensures tool { T.faults tool.old ≤ T.faults tool.new }
+    ensures runs { T.runs tool.new ≤ T.runs tool.old + length jobs.now }
 {
     for number in jobs {
         match run_job(alloc, plan, *number, table, tool) {

@@ -109,6 +109,8 @@ impl Tool for Shipped {
 
     ghost faults = { λ _. 0 };
 
+    ghost runs = { λ _. 0 };
+
     fn faults(&self) -> u64 {
         0
     }

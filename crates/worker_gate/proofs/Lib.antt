@@ -12,6 +12,7 @@ pub mod CallsLemmas
 mod TurningLemmas
 mod TendingLemmas
 mod AskingLemmas
+pub mod RunsLemmas
 pub mod TellingLemmas
 mod WorkingLemmas
 mod HandsLemmas

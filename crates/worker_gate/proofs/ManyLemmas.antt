@@ -33,6 +33,7 @@ use Rattle.worker_gate.specs.code.Asking.{AreAskedBy, AreGatesAsked, AsksOwn, Is
 use Rattle.worker_gate.specs.code.Hands.{AreDealt, AreReady, IsDealt, IsGathered, count_at, member_of, own_list}
 use Rattle.worker_gate.specs.code.Inputs.{AddsOfInputs, AreOfInputs}
 use Rattle.worker_gate.specs.code.Many.{AreToolsCounted, CanAllWork, HasWorked, HaveAllAsked, HaveAllWorked, WorksMany}
+use Rattle.worker_gate.specs.code.Runs.{AreToolsRun, HaveAllRun, OwnRunsWithin, RunsWithin, tool_runs}
 use Rattle.worker_gate.specs.code.Telling.{AreGatesTold, HaveAllTold, IsToldOf}
 use Rattle.worker_gate.specs.Telling.{placed_by}
 use Rattle.worker_gate.specs.code.Turning.{IsPlanOf, NoneOpenBy, plan_of, state_of}
@@ -40,6 +41,7 @@ use Rattle.worker_gate.specs.code.Working.{Works}
 use Rattle.worker_gate.specs.declared.hands.Hand.{Hand}
 use Rattle.worker_gate.proofs.AskingLemmas.{no_more}
 use Rattle.worker_gate.proofs.RunLemmas.{no_faults}
+use Rattle.worker_gate.proofs.RunsLemmas.{no_runs, runs_own}
 use Rattle.worker_gate.proofs.StateLemmas.{same_number}
 use Rattle.worker_gate.proofs.TellingLemmas.{told_whole}
 use Rattle.worker_gate.proofs.TurningLemmas.{OpenLaw, OwnLaw}
@@ -329,7 +331,40 @@ module _ {C M : Type 0} {h : _} where
           (own_at_end apply lock g n faults hs news p r same dealt worked gathered items k d there) from in
           here after news is k d (omega (arith, there, same)) ∙ whole ∙ ap (λ (l : List (ℕ × Event)). l ++ placed_by k 0 r) (sym (here before hs (sym was) k d there))
 
+-- how often tools were run
+module _ {C M : Type 0} {h : _} where
+  pub many_run : (apply : Apply) (lock : RuledLock C Charter Event) (g : Charter) (n : ℕ) (faults runs : M → ℕ) (hs news : List (Hand C M Charter Event h)) (p : Pass C Charter Event h) (r : List Event) (before after : List M) → map member_of hs ≡ before → after ≡ map member_of news → length news ≡ length hs → AreDealt lock (Some g) [] n hs → HaveAllWorked apply lock faults hs news → HaveAllRun runs hs news → IsGathered news p → ((k : ℕ) → items_of worker k r ≡ list_of k (lists_of p)) → AreToolsRun g.ordered.plan r (map runs before) (map runs after)
+  many_run apply lock g n faults runs hs news p r before after was is same dealt worked ran gathered items = record { each = each }
+    where
+      here : (ms : List M) (xs : List (Hand C M Charter Event h)) → ms ≡ map member_of xs → (k : ℕ) (d : Hand C M Charter Event h) → k < length xs → get_or (map runs ms) k 0 ≡ runs (get_or xs k d).member
+      here ms xs e k d l =
+          ap (λ (m : List M). get_or (map runs m) k 0) e
+          ∙ get_or-map runs (map member_of xs) k d.member 0 (let m = length-map xs member_of in omega (arith, l, m))
+          ∙ ap runs (get_or-map member_of xs k d d.member l)
+
+      each : (k : ℕ) → k < length (map runs before) → get_or (map runs after) k 0 ≤ get_or (map runs before) k 0 + tool_runs g.ordered.plan k r
+      each k l =
+          let there : k < length hs = (let a = length-map before runs in let e = ap length was in let f = length-map hs member_of in omega (arith, l, a, e, f)) in
+          let d = some_element hs (omega (arith, there)) in
+          let x = dealt k d there in
+          let q = (get_or hs k d).pass in
+          let mine = mine_of (get_or news k d).pass in
+          let a = runs (get_or hs k d).member in
+          let b = runs (get_or news k d).member in
+          let so : RunsWithin g.ordered.plan k [] mine a b =
+          subst (λ (m : List Event). RunsWithin g.ordered.plan k m mine a b) x.new.mine
+          (subst (λ (w : ℕ). RunsWithin g.ordered.plan w (mine_of q) mine a b) x.new.number
+          (subst (λ (c : Option Charter). OwnRunsWithin c (worker_of q) (mine_of q) mine a b) x.new.charter_is (ran k d there))) in
+          let own : tool_runs g.ordered.plan k r ≡ tool_runs g.ordered.plan k mine = runs_own g.ordered.plan k r ∙ ap (tool_runs g.ordered.plan k) (own_at_end apply lock g n faults hs news p r same dealt worked gathered items k d there) in
+          let none = no_runs g.ordered.plan k in
+          let first = here before hs (sym was) k d there in
+          let last = here after news is k d (omega (arith, there, same)) in
+          omega (arith, so, own, none, first, last)
+
 -- a run that was not begun
+pub none_run : (p : Plan) (r : List Event) (counts : List ℕ) → AreToolsRun p r counts counts
+none_run p r counts = record { each = λ k l. omega arith }
+
 pub none_told : (r : List Event) (lists : List (List (ℕ × Event))) → r ≡ [] → AreGatesTold r lists lists
 none_told r lists none = record { each = λ k l. sym (ap (λ (q : List Event). get_or lists k [] ++ placed_by k 0 q) none ∙ append-nil (get_or lists k [])) }
 

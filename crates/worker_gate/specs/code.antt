@@ -9,6 +9,7 @@ pub mod Inputs
 pub mod Calls
 pub mod Asking
 pub mod Telling
+pub mod Runs
 -- What the laws stand on.
 pub mod Law
 -- What its parts answer.

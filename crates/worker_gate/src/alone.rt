@@ -7,6 +7,7 @@ ghost use Rattle.site_yard.specs.code.Yard.{IsSameYard};
 ghost use Rattle.worker_gate.specs.code.Alone.{NoneOpen, WorksAlone};
 ghost use Rattle.worker_gate.specs.code.Calls.{AddsCalls};
 ghost use Rattle.worker_gate.specs.code.Inputs.{AddsOfInputs};
+ghost use Rattle.worker_gate.specs.code.Runs.{RunsWithin};
 ghost use Rattle.worker_gate.specs.code.Telling.{IsToldOf};
 
 use crate::law::lease_laws;
@@ -31,6 +32,8 @@ pub fn run_alone<H: Host, T: Tool, G: Gate>(
     ensures inputs { AddsOfInputs T.apply yard.ordered.plan yard.book.history.events
         result.book.history.events }
     ensures tool { T.faults crew.old.tool ≤ T.faults crew.new.tool }
+    ensures runs { RunsWithin yard.ordered.plan 0 yard.book.history.events result.book.history.events
+        (T.runs crew.old.tool) (T.runs crew.new.tool) }
     ensures asked { G.asked crew.new.gate ≡ G.asked crew.old.gate }
     ensures told { IsToldOf 0 yard.book.history.events result.book.history.events
         (G.told crew.old.gate) (G.told crew.new.gate) }

@@ -1,11 +1,12 @@
 //! All workers over one yard.
 
 ghost use Rattle.std.specs.Prelude.{◌≡◌, ◌≤◌, ◌<◌, [], is_some, length, map, take, true};
-ghost use Rattle.ruled_lock.specs.Pass.{mine_of, seen_of, worker_of};
+ghost use Rattle.ruled_lock.specs.Pass.{charter_of, mine_of, seen_of, worker_of};
 ghost use Rattle.plan_core.specs.Words.{task_numbers};
 ghost use Rattle.worker_gate.specs.code.Asking.{AreGatesAsked, AsksOwn};
 ghost use Rattle.worker_gate.specs.code.Inputs.{AreOfInputs};
 ghost use Rattle.worker_gate.specs.code.Many.{AreToolsCounted, CanAllWork, CanWork, HasWorked, HaveAllAsked, HaveAllWorked, WorksMany};
+ghost use Rattle.worker_gate.specs.code.Runs.{AreToolsRun, HaveAllRun, OwnRunsWithin};
 ghost use Rattle.worker_gate.specs.code.Telling.{AreGatesTold, HaveAllTold, IsToldOf};
 
 use crate::hands::{Hand, deal, gather};
@@ -39,6 +40,8 @@ fn work_hand<R: Wait, H: Host, T: Tool, G: Gate>(
     requires { CanWork lock.now plan.now hand.old.pass }
     ensures worked { HasWorked T.apply lock.now hand.old.pass hand.new.pass (T.faults hand.old.member.tool)
         (T.faults hand.new.member.tool) }
+    ensures runs { OwnRunsWithin (charter_of hand.old.pass) (worker_of hand.old.pass) (mine_of hand.old.pass)
+        (mine_of hand.new.pass) (T.runs hand.old.member.tool) (T.runs hand.new.member.tool) }
     ensures asked { AsksOwn (mine_of hand.old.pass) (mine_of hand.new.pass) (G.asked hand.old.member.gate)
         (G.asked hand.new.member.gate) }
     ensures told { IsToldOf (worker_of hand.old.pass) (seen_of hand.old.pass) (seen_of hand.new.pass)
@@ -61,6 +64,7 @@ where
     requires { CanAllWork lock.now plan.now hands.old }
     ensures length { length hands.new ≡ length hands.old }
     ensures worked { HaveAllWorked T.apply lock.now (λ c. T.faults c.tool) hands.old hands.new }
+    ensures runs { HaveAllRun (λ c. T.runs c.tool) hands.old hands.new }
     ensures asked { HaveAllAsked (λ c. G.asked c.gate) hands.old hands.new }
     ensures told { HaveAllTold (λ c. G.told c.gate) hands.old hands.new }
 {
@@ -98,6 +102,9 @@ where
     ensures tools { AreToolsCounted result.yard.book.history.events
         (map (λ (c : Crew T G). T.faults c.tool) crew.items)
         (map (λ (c : Crew T G). T.faults c.tool) result.crew.items) }
+    ensures runs { AreToolsRun yard.ordered.plan result.yard.book.history.events
+        (map (λ (c : Crew T G). T.runs c.tool) crew.items)
+        (map (λ (c : Crew T G). T.runs c.tool) result.crew.items) }
     ensures gates { AreGatesAsked result.yard.book.history.events
         (map (λ (c : Crew T G). G.asked c.gate) crew.items)
         (map (λ (c : Crew T G). G.asked c.gate) result.crew.items) }

@@ -7,6 +7,7 @@ ghost use Rattle.site_yard.specs.code.Yard.{IsSameYard};
 ghost use Rattle.worker_gate.specs.code.Alone.{NoneOpen};
 ghost use Rattle.worker_gate.specs.code.Calls.{AddsCalls};
 ghost use Rattle.worker_gate.specs.code.Inputs.{AddsOfInputs};
+ghost use Rattle.worker_gate.specs.code.Runs.{RunsWithin};
 ghost use Rattle.worker_gate.specs.code.Stepping.{DoesTask, Steps};
 ghost use Rattle.worker_gate.specs.code.Telling.{IsToldOf};
 
@@ -35,6 +36,8 @@ pub fn do_task<H: Host, T: Tool, G: Gate>(
     ensures inputs { AddsOfInputs T.apply yard.old.ordered.plan yard.old.book.history.events
         yard.new.book.history.events }
     ensures tool { T.faults crew.old.tool ≤ T.faults crew.new.tool }
+    ensures runs { RunsWithin yard.old.ordered.plan worker yard.old.book.history.events
+        yard.new.book.history.events (T.runs crew.old.tool) (T.runs crew.new.tool) }
     ensures same { IsSameYard yard.old yard.new }
     ensures asked { G.asked crew.new.gate ≡ G.asked crew.old.gate }
     ensures told { IsToldOf worker yard.old.book.history.events yard.new.book.history.events
@@ -64,6 +67,8 @@ pub(crate) fn step<H: Host, T: Tool, G: Gate>(
     ensures inputs { AddsOfInputs T.apply yard.old.ordered.plan yard.old.book.history.events
         yard.new.book.history.events }
     ensures tool { T.faults crew.old.tool ≤ T.faults crew.new.tool }
+    ensures runs { RunsWithin yard.old.ordered.plan 0 yard.old.book.history.events
+        yard.new.book.history.events (T.runs crew.old.tool) (T.runs crew.new.tool) }
     ensures same { IsSameYard yard.old yard.new }
     ensures asked { G.asked crew.new.gate ≡ G.asked crew.old.gate }
     ensures told { IsToldOf 0 yard.old.book.history.events yard.new.book.history.events

@@ -1,6 +1,6 @@
 //! One task at a yard, as the worker that it is open for ends it.
 
-ghost use Rattle.std.specs.Prelude.{map, take};
+ghost use Rattle.std.specs.Prelude.{◌+◌, ◌≤◌, map, take};
 ghost use Rattle.plan_core.specs.code.Proper.{IsProper};
 ghost use Rattle.plan_core.specs.Words.{kind};
 ghost use Rattle.lease_book.specs.Book.{state_at};
@@ -10,6 +10,7 @@ ghost use Rattle.task_work.specs.Filling.{AreParts};
 ghost use Rattle.task_work.specs.Making.{AreBegun, AreEmpty};
 ghost use Rattle.worker_gate.specs.code.Calls.{EndsCalls};
 ghost use Rattle.worker_gate.specs.code.Inputs.{AddsOfInputs, IsFilledOf};
+ghost use Rattle.worker_gate.specs.code.Runs.{job_count};
 ghost use Rattle.worker_gate.specs.code.Tending.{CanFinish, EndsTask, Fills, failures_in};
 
 use outside::{Host, TaskId, Tool};
@@ -35,6 +36,7 @@ pub(crate) fn fill_loan<H: Host, T: Tool>(
     ensures fills { Fills T.apply plan.now task.0 (map H.Reading.state loan.old.readings.items)
         (map H.Reading.state loan.new.readings.items) (map H.Draft.state loan.old.drafts.items)
         (map H.Draft.state loan.new.drafts.items) (T.faults tool.old) (T.faults tool.new) result }
+    ensures runs { T.runs tool.new ≤ T.runs tool.old + job_count plan.now task.0 }
 {
     fill(
         alloc,

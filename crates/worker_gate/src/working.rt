@@ -8,6 +8,7 @@ ghost use Rattle.ruled_lock.specs.Lock.{IsOf};
 ghost use Rattle.ruled_lock.specs.Pass.{IsIdle, charter_of, mine_of, seen_of, worker_of};
 ghost use Rattle.worker_gate.specs.code.Asking.{AsksOwn};
 ghost use Rattle.worker_gate.specs.code.Inputs.{AddsOfInputs};
+ghost use Rattle.worker_gate.specs.code.Runs.{OwnRunsWithin, RunsTask};
 ghost use Rattle.worker_gate.specs.code.Telling.{IsToldOf};
 ghost use Rattle.worker_gate.specs.code.Turning.{IsPlanOf, KeepsTurn, NoneOpenBy, NoneOpenFor, plan_of};
 ghost use Rattle.task_work.specs.Filling.{AreParts};
@@ -42,6 +43,7 @@ fn fill_with<H: Host, T: Tool>(
     ensures fills { FillsWith T.apply plan.now task.0 (map H.Reading.state loan.old.readings.items)
         (map H.Reading.state loan.new.readings.items) (map H.Draft.state loan.old.drafts.items)
         (map H.Draft.state loan.new.drafts.items) (T.faults tool.old) (T.faults tool.new) result }
+    ensures runs { RunsTask plan.now task.0 (T.runs tool.old) (T.runs tool.new) }
 {
     match plan {
         Ok(plan) => fill_loan(alloc, plan, task, loan, tool),
@@ -69,6 +71,8 @@ fn do_task<R: Wait, H: Host, T: Tool, G: Gate>(
     ensures inputs { IfSome (charter_of pass.old)
         (λ g. AddsOfInputs T.apply (plan_of g) (mine_of pass.old) (mine_of pass.new)) }
     ensures tool { T.faults crew.old.tool ≤ T.faults crew.new.tool }
+    ensures runs { OwnRunsWithin (charter_of pass.old) (worker_of pass.old) (mine_of pass.old) (mine_of pass.new)
+        (T.runs crew.old.tool) (T.runs crew.new.tool) }
     ensures asked { AsksOwn (mine_of pass.old) (mine_of pass.new) (G.asked crew.old.gate)
         (G.asked crew.new.gate) }
     ensures told { IsToldOf (worker_of pass.old) (seen_of pass.old) (seen_of pass.new)
@@ -108,6 +112,8 @@ pub(crate) fn work_by<R: Wait, H: Host, T: Tool, G: Gate>(
     ensures inputs { IfSome (charter_of pass.old)
         (λ g. AddsOfInputs T.apply (plan_of g) (mine_of pass.old) (mine_of pass.new)) }
     ensures tool { T.faults crew.old.tool ≤ T.faults crew.new.tool }
+    ensures runs { OwnRunsWithin (charter_of pass.old) (worker_of pass.old) (mine_of pass.old) (mine_of pass.new)
+        (T.runs crew.old.tool) (T.runs crew.new.tool) }
     ensures asked { AsksOwn (mine_of pass.old) (mine_of pass.new) (G.asked crew.old.gate)
         (G.asked crew.new.gate) }
     ensures told { IsToldOf (worker_of pass.old) (seen_of pass.old) (seen_of pass.new)
@@ -154,6 +160,8 @@ pub fn work<R: Wait, H: Host, T: Tool, G: Gate>(
     ensures inputs { IfSome (charter_of pass.old)
         (λ g. AddsOfInputs T.apply (plan_of g) (mine_of pass.old) (mine_of pass.new)) }
     ensures tool { T.faults crew.old.tool ≤ T.faults crew.new.tool }
+    ensures runs { OwnRunsWithin (charter_of pass.old) (worker_of pass.old) (mine_of pass.old) (mine_of pass.new)
+        (T.runs crew.old.tool) (T.runs crew.new.tool) }
     ensures asked { AsksOwn (mine_of pass.old) (mine_of pass.new) (G.asked crew.old.gate)
         (G.asked crew.new.gate) }
     ensures told { IsToldOf (worker_of pass.old) (seen_of pass.old) (seen_of pass.new)

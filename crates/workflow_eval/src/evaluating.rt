@@ -1,6 +1,6 @@
 //! The values of a workflow's files.
 
-ghost use Rattle.std.specs.Prelude.{◌≡◌, ◌≤◌, Some, Err, length, IfOk, IfErr};
+ghost use Rattle.std.specs.Prelude.{◌≡◌, ◌+◌, ◌≤◌, Some, Err, length, IfOk, IfErr};
 ghost use Rattle.outside.specs.code.Counts.{Rose};
 ghost use Rattle.values.specs.declared.numbers.JobId.{JobId};
 ghost use Rattle.workflow_core.specs.code.WellFormed.{IsWellFormed};
@@ -32,6 +32,7 @@ fn run_job<T: Tool>(
     ensures fault { IfErr result (λ e. IsFaultOf (run_of T.apply name.now job.now (Some inputs.now)) number.0
         (Rose (T.faults tool.old) (T.faults tool.new)) e) }
     ensures faults { T.faults tool.old ≤ T.faults tool.new }
+    ensures runs { T.runs tool.new ≤ T.runs tool.old + 1 }
 {
     let made = tool.run(
         alloc,
@@ -68,6 +69,7 @@ pub fn evaluate_in<T: Tool>(
     ensures reached { (j : JobId) → result ≡ Err (ToolFailed j)
         → IsReached (basis T.apply tools.now table.items) workflow.now graph.now.ordered j }
     ensures faults { T.faults tool.old ≤ T.faults tool.new }
+    ensures runs { T.runs tool.new ≤ T.runs tool.old + length graph.now.ordered }
 {
     // A law for the proof: it does nothing.
     values_flow_in_order();
@@ -102,6 +104,7 @@ pub fn evaluate<T: Tool>(
     ensures reached { (j : JobId) → result ≡ Err (ToolFailed j)
         → IsReached (basis T.apply tools.now base.now) workflow.now graph.now.ordered j }
     ensures faults { T.faults tool.old ≤ T.faults tool.new }
+    ensures runs { T.runs tool.new ≤ T.runs tool.old + length graph.now.ordered }
 {
     let Ok(table) = table_of(alloc, base) else {
         return Err(EvalFault::Memory);

@@ -49,7 +49,8 @@ Does k d text answer = IsStopped k d text answer ⊎ HasWorked k d text answer
 
 -- of the crew no more may have changed than the first member's tool, and what its gate was told
 abbrev pub OfFirst : Work → Tools → Type 0
-OfFirst w t = w.after.tool ≡ w.before.tool → w.after.entered ≡ w.before.entered → t.after ≡ t.before
+OfFirst w t = w.after.tool ≡ w.before.tool → w.after.runs ≡ w.before.runs → w.after.entered ≡ w.before.entered
+    → t.after ≡ t.before
 
 -- no count of faults rose as it worked
 pub record NoneRoseAtWork (w : Work) (t : Tools) : Type 0 where

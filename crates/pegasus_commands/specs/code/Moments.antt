@@ -9,4 +9,4 @@ docs_moment g d = record { told = g.told d; counts = g.counts d }
 
 -- a moment of the work, with this first member of the crew
 abbrev pub with_first : WorkMoment → MemberMoment → WorkMoment
-with_first m x = record { told = m.told; counts = m.counts; tool = x.faults; entered = x.told }
+with_first m x = record { told = m.told; counts = m.counts; tool = x.faults; runs = x.runs; entered = x.told }

@@ -24,8 +24,8 @@ fn values_text<H: Host, T: Tool>(
     tool: &mut T,
 ) -> Told
     ensures { (told : List (ℕ × Event)) (t : Tools) → Evaluates (working T.apply T.known
-        (work_moment H.Host host.old (gateless (T.faults tool.old) told))
-        (work_moment H.Host host.new (gateless (T.faults tool.new) told)))
+        (work_moment H.Host host.old (gateless (T.faults tool.old) (T.runs tool.old) told))
+        (work_moment H.Host host.new (gateless (T.faults tool.new) (T.runs tool.new) told)))
         t surveyed.now result.text.items result.answer }
 {
     let survey = &surveyed.survey;
@@ -59,8 +59,9 @@ pub(crate) fn work<D: Docs, H: Host, T: Tool>(
     tool: &mut T,
 ) -> Told
     ensures { (told : List (ℕ × Event)) (t : Tools)
-        → let w = working T.apply T.known (work_moment H.Host host.old (gateless (T.faults tool.old) told))
-        (work_moment H.Host host.new (gateless (T.faults tool.new) told)) in
+        → let w = working T.apply T.known
+        (work_moment H.Host host.old (gateless (T.faults tool.old) (T.runs tool.old) told))
+        (work_moment H.Host host.new (gateless (T.faults tool.new) (T.runs tool.new) told)) in
         OfFirst w t
         → Does (eval name.now) (doing (docs_moment D.Docs docs.old) (docs_moment D.Docs docs.new) w t)
         result.text.items result.answer }

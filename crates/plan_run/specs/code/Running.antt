@@ -32,9 +32,10 @@ use Rattle.worker_gate.specs.code.Alone.{NoneOpen, tried}
 use Rattle.worker_gate.specs.code.Asking.{IsAskedFor}
 use Rattle.worker_gate.specs.code.Calls.{AreAllCalls}
 use Rattle.worker_gate.specs.code.Inputs.{AreOfInputs}
+use Rattle.worker_gate.specs.code.Runs.{tool_runs}
 use Rattle.worker_gate.specs.Telling.{placed_by}
 use Rattle.plan_run.specs.Moments.{Tools, Work, told_of}
-use Rattle.plan_run.specs.code.Moments.{asked_of, count_of, first_tool}
+use Rattle.plan_run.specs.code.Moments.{asked_of, count_of, first_tool, runs_of}
 use Rattle.plan_run.specs.RunText.{run_text}
 use Rattle.plan_run.specs.Running.{AreWithinOutput, IsRunText}
 
@@ -116,6 +117,8 @@ pub record IsRun (w : Work) (t : Tools) (n : ℕ) (p : Plan) (order : List ℕ) 
   -- the host failed exactly as often as they lay a failure on it, and each worker's tool at least as often as that worker's do
   pub counted : ShowsFailures w p o r
   pub tools : (k : ℕ) → k < n → RoseBy (tool_faults k r) (count_of t.before k) (count_of t.after k)
+  -- and was run no more often than the tasks have jobs whose attempts that worker's entries end
+  pub ran : (k : ℕ) → k < n → runs_of t.after k ≤ runs_of t.before k + tool_runs p k r
   -- and each worker's gate was told that worker's added entries, each with its place in the record, and nothing else
   pub told : (k : ℕ) → k < n → told_of t.after k ≡ told_of t.before k ++ placed_by k (length first) r
 

@@ -17,7 +17,7 @@ returns-in_default-clause-does g c =
     let last = c.work_by_first.new.crew in
     let before = first_is shown old first c.requires.crew c.index_mut.ensures.value in
     let after = first_set shown old last c.requires.crew in
-    rw (before, after) (c.work_by_first.ensures.does _ (λ e f. members_stay g.T.Tool g.G.Gate old first last c.index_mut.ensures.value c.work_by_first.ensures.gate e f))
+    rw (before, after) (c.work_by_first.ensures.does _ (λ e r f. members_stay g.T.Tool g.G.Gate old first last c.index_mut.ensures.value c.work_by_first.ensures.gate e r f))
 
 pub returns-in_default-clause-others : goal.returns-in_default-clause-others
 returns-in_default-clause-others g c =

@@ -1,5 +1,5 @@
 -- `eval`: tells the values of the requested files, by file number. It delivers nothing.
-use Rattle.std.specs.Prelude.{◌≡◌, ℕ, List, [], Some, None, Ok, Err}
+use Rattle.std.specs.Prelude.{◌≡◌, ℕ, ◌+◌, ◌≤◌, List, [], length, Some, None, Ok, Err}
 use Rattle.planner.specs.declared.surveyed.Surveyed.{Surveyed}
 use Rattle.evaluation.specs.Evaluating.{AllDefined, HasNoValues, HasValues}
 use Rattle.evaluation.specs.Moments.{Meeting, Moment, Subject, subject}
@@ -42,10 +42,12 @@ Says w s text (Ok (Some given)) = ⊥
 Says w s text (Err Memory) = Unit {0}
 Says w s text (Err fault) = IsUnvalued w s fault × (text ≡ [])
 
--- it writes nothing to the host and tells its gate nothing, and says what the requested files are worth
+-- it writes nothing to the host, runs its tool at most once for each job and tells its gate nothing, and says what the
+-- requested files are worth
 pub record Evaluates (w : Work) (t : Tools) (s : Surveyed) (text : List ℕ) (answer : Answer) : Type 0 where
   -- the host tells what it told, whatever the answer
   pub same : w.after.told ≡ w.before.told
+  pub runs : w.after.runs ≤ w.before.runs + length s.survey.graph.ordered
   pub entered : w.after.entered ≡ w.before.entered
   pub says : Says w s text answer
 

@@ -63,6 +63,8 @@ pub record IsInside (n : ℕ) (outer inner : Work) : Type 0 where
   pub counts : inner.before.counts ≡ no_calls
   pub tool_before : inner.before.tool ≡ outer.before.tool
   pub tool_after : inner.after.tool ≡ outer.after.tool
+  pub runs_before : inner.before.runs ≡ outer.before.runs
+  pub runs_after : inner.after.runs ≡ outer.after.runs
   pub entered_before : inner.before.entered ≡ outer.before.entered
   pub entered_after : inner.after.entered ≡ outer.after.entered
 

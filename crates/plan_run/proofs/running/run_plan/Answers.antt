@@ -25,12 +25,13 @@ returns-in-Ok-clause-ran g c =
     let inputs = rw (c.in-Ok.ensures.ordered, c.in-Ok.ensures.history) at c.run_alone-yard.ensures.inputs in
     let calls = rw (c.in-Ok.ensures.ordered, c.in-Ok.ensures.history) at c.run_alone-yard.ensures.calls in
     let entered = rw c.in-Ok.ensures.history at c.run_alone-yard.ensures.told in
+    let runs = rw (c.in-Ok.ensures.ordered, c.in-Ok.ensures.history) at c.run_alone-yard.ensures.runs in
     let fits = c.ordered_plans_fit.ensures c.args.ordered in
     let before = work_moment g.H.Host c.args.host (member_moment g.T.Tool g.G.Gate c.args.crew.now) in
     let after = work_moment g.H.Host y.host (member_moment g.T.Tool g.G.Gate c.run_alone-yard.new.crew) in
     let w = working g.T.Tool.apply g.T.Tool.known before after in
     let opened = g.H.Host.counts c.in-Ok.yard.host in
-    let alone : IsAloneEnd w p order r opened = record { works = works; inputs = inputs; entered = entered; looked = c.in-Ok.ensures.asked; later = c.run_alone-yard.ensures.same.later; calls = calls } in
+    let alone : IsAloneEnd w p order r opened = record { works = works; inputs = inputs; entered = entered; runs = runs; looked = c.in-Ok.ensures.asked; later = c.run_alone-yard.ensures.same.later; calls = calls } in
     let end = alone_end w p order r opened (g.H.Host.told y.host) (g.H.Host.marked y.host) y.faults y.misses alone refl (c.run_alone-yard.ensures.same.tells ∙ ap is_some c.in-Ok.ensures.told)
     (marked_so (g.H.Host.told c.args.host) _ _ c.run_alone-yard.ensures.same.marked c.in-Ok.ensures.marked) (c.run_alone-yard.ensures.same.faults ∙ c.in-Ok.ensures.faults) (c.run_alone-yard.ensures.same.misses ∙ c.in-Ok.ensures.misses) in
     rw c.end_run.ensures.host (∥∥₁_elim legal ∥∥₁_prop (λ l. ∥∥₁_elim shows ∥∥₁_prop (λ s. ∥∥₁_map c.agrees.ensures.counted (λ k.
@@ -63,4 +64,4 @@ returns-in-Err-clause-ran g c =
       output = c.deliveries_stay_within_the_output.ensures p order [] c.args.ordered.proper fits tt;
       left = λ n site. c.what_is_left_is_held.ensures p order [] c.args.ordered.proper fits tt n site;
     })
-    c.in-Err.ensures.back.1 refl refl c.in-Err.ensures.refused refusal ∣₁)
+    c.in-Err.ensures.back.1 refl refl refl c.in-Err.ensures.refused refusal ∣₁)

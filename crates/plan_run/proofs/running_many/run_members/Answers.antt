@@ -8,7 +8,7 @@ use Rattle.worker_gate.specs.code.Alone.{IsOver}
 use Rattle.plan_run.specs.code.Moments.{counting, crew_moment, first_shown, work_moment, working}
 use Rattle.plan_run.specs.code.Running.{reporting}
 use Rattle.plan_run.proofs.RunningLemmas.{marked_so, over_in, ran, was_refused}
-use Rattle.plan_run.proofs.RunningManyLemmas.{gates_shown, many_end, told_shown, tools_shown}
+use Rattle.plan_run.proofs.RunningManyLemmas.{gates_shown, many_end, runs_shown, told_shown, tools_shown}
 use Rattle.plan_run.proofs.running_many.run_members.Goals as goal
 
 pub returns-in-Ok-clause-ran : goal.returns-in-Ok-clause-ran
@@ -31,6 +31,7 @@ returns-in-Ok-clause-ran g c =
     let reports = rw same at c.end_many-ran.ensures.reports in
     let works = rw c.in-Ok.ensures.ordered at c.run_many-end.ensures.works in
     let inputs = rw c.in-Ok.ensures.ordered at c.run_many-end.ensures.inputs in
+    let runs = rw c.in-Ok.ensures.ordered at c.run_many-end.ensures.runs in
     let fits = c.ordered_plans_fit.ensures c.args.ordered in
     let before = work_moment g.H.Host c.args.host (first_shown old) in
     let after = work_moment g.H.Host y.host (first_shown new) in
@@ -43,6 +44,7 @@ returns-in-Ok-clause-ran g c =
     (c.run_many-end.ensures.misses ∙ c.in-Ok.ensures.misses)
     works (λ u. (c.run_many-end.ensures.unstarted u).0)
     (tools_shown g.T.Tool g.G.Gate r c.args.members.items many.crew.items c.run_many-end.ensures.tools)
+    (runs_shown g.T.Tool g.G.Gate p r c.args.members.items many.crew.items runs)
     (told_shown g.T.Tool g.G.Gate r c.args.members.items many.crew.items c.run_many-end.ensures.told) inputs in
     rw c.end_many-ran.ensures.host (∥∥₁_elim legal ∥∥₁_prop (λ l. ∥∥₁_elim shows ∥∥₁_prop (λ s. ∥∥₁_map c.agrees.ensures.counted (λ k.
     ran w t n p order r y.opened (g.H.Host.told y.host) (g.H.Host.marked y.host) y.faults y.misses x end_ fresh c.in-Ok.ensures.unused works.none_open

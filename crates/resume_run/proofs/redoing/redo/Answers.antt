@@ -9,6 +9,8 @@ use Rattle.worker_gate.proofs.InputsLemmas.{adds_both, adds_none}
 use Rattle.plan_run.specs.code.Moments.{crew_moment}
 use Rattle.resume_run.specs.Lost.{lost_below}
 use Rattle.resume_run.proofs.RedoingLemmas.{faults_fails, next_open, nobody, redone_all, redone_fails, redone_more, redone_none, state_of, worker_low}
+use Rattle.resume_run.specs.Redoing.{AreRunsWithin}
+use Rattle.resume_run.proofs.RunsLemmas.{none_ran, ran_more}
 use Rattle.resume_run.proofs.TellingLemmas.{none_told, told_more}
 use Rattle.resume_run.proofs.redoing.redo.Goals as goal
 
@@ -24,6 +26,7 @@ loop-one-init g c =
       crew = refl;
       asked = refl;
       told = none_told y.book.history.events (crew_moment g.T.Tool g.G.Gate c.args.crew.now.items);
+      runs = none_ran p y.book.history.events (crew_moment g.T.Tool g.G.Gate c.args.crew.now.items);
       same = still_yard y;
     }
 
@@ -90,6 +93,9 @@ loop-one-preserved g c =
     let e = c.redo_one.ensures in
     let lost = c.args.lost.now in
     let k = c.loop-one.one-index in
+    let old = crew_moment g.T.Tool g.G.Gate c.args.crew.now.items in
+    let mid = crew_moment g.T.Tool g.G.Gate c.loop-one.crew.items in
+    let new = crew_moment g.T.Tool g.G.Gate c.redo_one.new.crew.items in
     record {
       redone = redone_more a.ordered.plan (task_numbers a.ordered.tasks.items) a.book.history.events b.book.history.events d.book.history.events lost k (get_or lost k nobody) (drop (k + 1) lost) (crew_moment g.T.Tool g.G.Gate c.args.crew.now.items) (crew_moment g.T.Tool g.G.Gate c.loop-one.crew.items) (crew_moment g.T.Tool g.G.Gate c.redo_one.new.crew.items) c.redo_one.result i.redone e.redoes (drop_more lost k nobody c.loop-one-test.true) refl c.if-redo_one.false;
       calls = calls_both a.ordered.plan a.book.history.events b.book.history.events d.book.history.events (g.H.Host.counts a.host) (g.H.Host.counts b.host) (g.H.Host.counts d.host) i.calls (subst (λ p. AddsCalls p b.book.history.events d.book.history.events (g.H.Host.counts b.host) (g.H.Host.counts d.host)) (ap (λ o. o.plan) i.same.ordered) e.calls) e.same.later;
@@ -97,6 +103,7 @@ loop-one-preserved g c =
       crew = e.crew ∙ i.crew;
       asked = e.asked ∙ i.asked;
       told = told_more a.book.history.events b.book.history.events d.book.history.events (crew_moment g.T.Tool g.G.Gate c.args.crew.now.items) (crew_moment g.T.Tool g.G.Gate c.loop-one.crew.items) (crew_moment g.T.Tool g.G.Gate c.redo_one.new.crew.items) i.told e.told;
+      runs = ran_more a.ordered.plan a.book.history.events b.book.history.events d.book.history.events old mid new i.runs (subst (λ p. AreRunsWithin p b.book.history.events d.book.history.events mid new) (ap (λ o. o.plan) i.same.ordered) e.runs);
       same = same_yard a b d i.same e.same;
     }
 
@@ -109,3 +116,14 @@ returns-clause-redoes g c =
 
 pub returns-then-redo_one-clause-told : goal.returns-then-redo_one-clause-told
 returns-then-redo_one-clause-told g c = told_more c.args.yard.book.history.events c.loop-one.yard.book.history.events c.redo_one.new.yard.book.history.events (crew_moment g.T.Tool g.G.Gate c.args.crew.now.items) (crew_moment g.T.Tool g.G.Gate c.loop-one.crew.items) (crew_moment g.T.Tool g.G.Gate c.redo_one.new.crew.items) c.loop-one.invariant.told c.redo_one.ensures.told
+
+pub returns-then-redo_one-clause-runs : goal.returns-then-redo_one-clause-runs
+returns-then-redo_one-clause-runs g c =
+    let a = c.args.yard in
+    let b = c.loop-one.yard in
+    let d = c.redo_one.new.yard in
+    let i = c.loop-one.invariant in
+    let old = crew_moment g.T.Tool g.G.Gate c.args.crew.now.items in
+    let mid = crew_moment g.T.Tool g.G.Gate c.loop-one.crew.items in
+    let new = crew_moment g.T.Tool g.G.Gate c.redo_one.new.crew.items in
+    ran_more a.ordered.plan a.book.history.events b.book.history.events d.book.history.events old mid new i.runs (subst (λ p. AreRunsWithin p b.book.history.events d.book.history.events mid new) (ap (λ o. o.plan) i.same.ordered) c.redo_one.ensures.runs)

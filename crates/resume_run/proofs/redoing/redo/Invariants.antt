@@ -5,7 +5,7 @@ use Rattle.site_yard.specs.code.Yard.{IsSameYard}
 use Rattle.worker_gate.specs.code.Calls.{AddsCalls}
 use Rattle.worker_gate.specs.code.Inputs.{AddsOfInputs}
 use Rattle.plan_run.specs.code.Moments.{crew_moment}
-use Rattle.resume_run.specs.Redoing.{AreToldOf}
+use Rattle.resume_run.specs.Redoing.{AreRunsWithin, AreToldOf}
 use Rattle.resume_run.proofs.RedoingLemmas.{HasRedone}
 use Rattle.resume_run.proofs.redoing.redo.Given as goal
 
@@ -17,5 +17,6 @@ invariant-loop-one g l = record {
   crew : length l.crew.items ≡ length l.initial.crew.items;
   asked : map (λ (c : Crew g.row.T.Denot g.row.G.Denot). g.G.Gate.asked c.gate) l.crew.items ≡ map (λ (c : Crew g.row.T.Denot g.row.G.Denot). g.G.Gate.asked c.gate) l.initial.crew.items;
   told : AreToldOf l.fn.yard.book.history.events l.yard.book.history.events (crew_moment g.T.Tool g.G.Gate l.initial.crew.items) (crew_moment g.T.Tool g.G.Gate l.crew.items);
+  runs : AreRunsWithin l.fn.yard.ordered.plan l.fn.yard.book.history.events l.yard.book.history.events (crew_moment g.T.Tool g.G.Gate l.initial.crew.items) (crew_moment g.T.Tool g.G.Gate l.crew.items);
   same : IsSameYard l.fn.yard l.yard;
 }

@@ -4,6 +4,7 @@ use Rattle.lease_book.specs.declared.book.Book.{Book}
 use Rattle.craft.specs.declared.crew.Crew.{Crew}
 use Rattle.plan_run.specs.code.Moments.{member_moment}
 use Rattle.resume_run.proofs.FaultsLemmas.{used_counts}
+use Rattle.resume_run.proofs.RunsLemmas.{used_runs}
 use Rattle.resume_run.proofs.TellingLemmas.{done_by, part_stays, used_told}
 use Rattle.resume_run.proofs.redoing.redo_one.Goals as goal
 
@@ -36,3 +37,11 @@ returns-clause-told g c =
     let new : Crew g.row.T.Denot g.row.G.Denot = c.do_task.new.crew in
     let d = c.do_task.ensures.does in
     used_told (member_moment g.T.Tool g.G.Gate) crew c.args.lost.worker old new c.args.yard.now.book.history.events c.do_task.new.yard.book.history.events (d.entry ∷ []) c.requires.member c.index_mut-member.ensures.value d.is (done_by c.args.lost.worker c.args.lost.task.0 d.entry d.done, tt) c.do_task.ensures.told
+
+pub returns-clause-runs : goal.returns-clause-runs
+returns-clause-runs g c =
+    let crew = c.args.crew.now.items in
+    let old : Crew g.row.T.Denot g.row.G.Denot = c.index_mut-member.result.now in
+    let new : Crew g.row.T.Denot g.row.G.Denot = c.do_task.new.crew in
+    let d = c.do_task.ensures.does in
+    used_runs (member_moment g.T.Tool g.G.Gate) c.args.yard.now.ordered.plan crew c.args.lost.worker old new c.args.yard.now.book.history.events c.do_task.new.yard.book.history.events (d.entry ∷ []) c.requires.member c.index_mut-member.ensures.value d.is c.do_task.ensures.runs

@@ -9,6 +9,7 @@ use Rattle.resume_run.specs.Resuming.{continued}
 use Rattle.plan_run.specs.code.Running.{reporting}
 use Rattle.plan_run.proofs.RunningLemmas.{marked_so, takes_calls}
 use Rattle.resume_run.proofs.ResumingLemmas.{asked_same, below_by, held_in, inputs_added, not_reopened, over_since, parts_of, went_on}
+use Rattle.resume_run.proofs.RunsLemmas.{ran_since}
 use Rattle.resume_run.proofs.TellingLemmas.{told_since}
 use Rattle.resume_run.proofs.resuming.go_on.Goals as goal
 
@@ -35,6 +36,7 @@ returns-in-Ok-clause-gone_on g c =
     let inputs = rw (e.ordered, e.book) at f.inputs in
     let calls = rw (e.ordered, e.book) at f.calls in
     let told = rw e.book at f.told in
+    let runs = rw (e.ordered, e.book) at f.runs in
     let legal = rw same at c.agrees.ensures.legal in
     let shows = rw same at c.agrees.ensures.shows in
     let ran = c.end_run.result in
@@ -57,6 +59,7 @@ returns-in-Ok-clause-gone_on g c =
       over = inr (over_since p order first works.added whole works.is works.over);
       inputs = inputs_added g.T.Tool.apply p first works.added whole works.is inputs;
       tools = works.tools;
+      ran = λ i l. ran_since p first works.added whole old new works.is runs i;
       entered = λ i l. told_since first works.added whole old new works.is told i;
     })
     (record {

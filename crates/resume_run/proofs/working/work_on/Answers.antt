@@ -5,6 +5,7 @@ use Rattle.lease_book.specs.Book.{state_at}
 use Rattle.worker_gate.proofs.CallsLemmas.{calls_both}
 use Rattle.worker_gate.proofs.InputsLemmas.{adds_both}
 use Rattle.plan_run.specs.code.Moments.{member_moment}
+use Rattle.resume_run.proofs.RunsLemmas.{ran_more, used_runs}
 use Rattle.resume_run.proofs.TellingLemmas.{part_stays, told_more, used_told}
 use Rattle.resume_run.proofs.WorkingLemmas.{failing_in, first_counts, lost_in, none_open_in, unfailing_in, works_stopped, works_then}
 use Rattle.resume_run.proofs.working.work_on.Goals as goal
@@ -69,3 +70,15 @@ returns-clause-told g c =
     let crew = c.redo-yard.new.crew.items in
     told_more a.book.history.events y.book.history.events z.book.history.events _ _ _ e.told
     (used_told (member_moment g.T.Tool g.G.Gate) crew 0 c.index_mut.result.now c.run_alone.new.crew y.book.history.events z.book.history.events works.added (omega (arith, many, c.requires.members)) c.index_mut.ensures.value works.is works.by_zero c.run_alone.ensures.told)
+
+pub returns-clause-runs : goal.returns-clause-runs
+returns-clause-runs g c =
+    let a = c.args.yard in
+    let y = c.redo-yard.result in
+    let z = c.run_alone.result in
+    let e = c.redo-yard.ensures in
+    let works = c.run_alone.ensures.works in
+    let many = e.crew in
+    let crew = c.redo-yard.new.crew.items in
+    ran_more a.ordered.plan a.book.history.events y.book.history.events z.book.history.events _ _ _ e.runs
+    (used_runs (member_moment g.T.Tool g.G.Gate) a.ordered.plan crew 0 c.index_mut.result.now c.run_alone.new.crew y.book.history.events z.book.history.events works.added (omega (arith, many, c.requires.members)) c.index_mut.ensures.value works.is (rw e.same.ordered at c.run_alone.ensures.runs))

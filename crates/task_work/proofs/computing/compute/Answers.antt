@@ -1,4 +1,4 @@
-use Rattle.std.proofs.Common.{◌≡◌, true, sym, subst}
+use Rattle.std.proofs.Common.{◌≡◌, ◌+◌, ◌≤◌, length, true, sym, subst}
 use Rattle.plan_core.specs.Kinds.{jobs_make}
 use Rattle.task_work.specs.Table.{at}
 use Rattle.task_work.proofs.ComputingLemmas.{computes_all, computes_stop, outputs_made, outputs_once}
@@ -23,3 +23,9 @@ outputs_of-requires-clause-once g c =
 pub returns-in-Ok-outputs_of-clause-answer : goal.returns-in-Ok-outputs_of-clause-answer
 returns-in-Ok-outputs_of-clause-answer g c =
     computes_all g.T.Tool.apply c.args.plan.now c.args.task.0 c.args.blobs.items c.jobs_of.result.now c.in-Ok.table c.run_jobs.new.table (g.T.Tool.faults c.args.tool.now) (g.T.Tool.faults c.run_jobs.new.tool) c.in-Ok-outputs_of.outputs c.jobs_of.ensures c.in-Ok.ensures c.in-Ok-run_jobs.ensures.answer c.in-Ok-outputs_of.ensures
+
+pub returns-in-Err-run_jobs-clause-runs : goal.returns-in-Err-run_jobs-clause-runs
+returns-in-Err-run_jobs-clause-runs g c = subst (λ js. g.T.Tool.runs c.run_jobs.new.tool ≤ g.T.Tool.runs c.args.tool.now + length js) c.jobs_of.ensures c.in-Err-run_jobs.ensures.runs
+
+pub returns-in-Ok-outputs_of-clause-runs : goal.returns-in-Ok-outputs_of-clause-runs
+returns-in-Ok-outputs_of-clause-runs g c = subst (λ js. g.T.Tool.runs c.run_jobs.new.tool ≤ g.T.Tool.runs c.args.tool.now + length js) c.jobs_of.ensures c.in-Ok-run_jobs.ensures.runs

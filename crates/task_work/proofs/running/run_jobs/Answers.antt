@@ -1,7 +1,7 @@
 use Rattle.std.proofs.Common.{get_or}
 use Rattle.values.specs.declared.numbers.JobId.{JobId}
 use Rattle.task_work.specs.Table.{at}
-use Rattle.task_work.proofs.SmallLemmas.{both_counts}
+use Rattle.task_work.proofs.SmallLemmas.{all_run, both_counts, last_run, one_run_more}
 use Rattle.task_work.proofs.RunningLemmas.{after_next, all_dropped, declines_next, next_job, ran_all, stops, there_next}
 use Rattle.task_work.proofs.running.run_jobs.Goals as goal
 
@@ -27,6 +27,7 @@ loop-number-preserved g c =
       λ f. after_next g.T.Tool.apply jobs _ _ j v w f _ cut ran (i.1 f),
       λ f h. there_next g.T.Tool.apply jobs _ _ j v w f cut ran (i.2 f h),
       both_counts _ _ _ i.3 c.in-Ok.ensures.tool,
+      one_run_more _ _ j _ _ _ _ cut i.4 c.in-Ok.ensures.runs,
     )
 
 pub returns-clause-answer : goal.returns-clause-answer
@@ -34,3 +35,12 @@ returns-clause-answer g c =
     let i = c.loop-number.invariant in
     let k = c.loop-number.number-index in
     ran_all g.T.Tool.apply c.args.plan.now.jobs c.args.jobs.now _ (at c.args.table.now) (at c.loop-number.table) (all_dropped c.args.jobs.now k c.loop-number-test.false) i.0 i.1 i.2
+
+pub returns-in-Err-clause-runs : goal.returns-in-Err-clause-runs
+returns-in-Err-clause-runs g c =
+    let k = c.loop-number.number-index in
+    let zeroth : JobId = record { 0 = 0 } in
+    last_run _ _ (get_or c.args.jobs.now k zeroth) _ _ _ _ (next_job c.args.jobs.now k zeroth c.loop-number-test.true) c.loop-number.invariant.4 c.in-Err.ensures.runs
+
+pub returns-clause-runs : goal.returns-clause-runs
+returns-clause-runs g c = all_run _ _ _ _ (all_dropped c.args.jobs.now c.loop-number.number-index c.loop-number-test.false) c.loop-number.invariant.4

@@ -1,4 +1,4 @@
-use Rattle.std.proofs.Common.{◌≡◌, ◌≤◌, ◌||◌, ℕ, true, drop}
+use Rattle.std.proofs.Common.{◌≡◌, ◌+◌, ◌≤◌, ◌||◌, ℕ, true, drop, length}
 use Rattle.std.specs.Prelude.{is_some}
 use Rattle.plan_core.specs.Carried.{after_jobs}
 use Rattle.plan_core.specs.Kinds.{jobs_make}
@@ -12,3 +12,4 @@ invariant-loop-number g l =
     × ((f : ℕ) → after_jobs g.T.Tool.apply l.plan.jobs (drop l.number-index l.jobs) (at l.table) f ≡ after_jobs g.T.Tool.apply l.plan.jobs l.jobs (at l.initial.table) f)
     × ((f : ℕ) → jobs_make l.plan.jobs l.jobs f ≡ true → (is_some (at l.table f) || jobs_make l.plan.jobs (drop l.number-index l.jobs) f) ≡ true)
     × (g.T.Tool.faults l.initial.tool ≤ g.T.Tool.faults l.tool)
+    × (g.T.Tool.runs l.tool + length (drop l.number-index l.jobs) ≤ g.T.Tool.runs l.initial.tool + length l.jobs)

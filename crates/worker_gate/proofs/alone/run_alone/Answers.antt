@@ -5,10 +5,12 @@ use Rattle.site_yard.proofs.YardLemmas.{same_yard, still_yard}
 use Rattle.worker_gate.specs.code.Alone.{IsOver}
 use Rattle.worker_gate.specs.code.Calls.{AddsCalls}
 use Rattle.worker_gate.specs.code.Inputs.{AddsOfInputs}
+use Rattle.worker_gate.specs.code.Runs.{RunsWithin}
 use Rattle.worker_gate.specs.code.Stepping.{WorksOn}
 use Rattle.worker_gate.proofs.CallsLemmas.{calls_both, calls_none}
 use Rattle.worker_gate.proofs.InputsLemmas.{adds_none, adds_both}
 use Rattle.worker_gate.proofs.RunLemmas.{both_counts, room_falls_on, same_count, works_alone, works_first, works_then}
+use Rattle.worker_gate.proofs.RunsLemmas.{runs_both, runs_same}
 use Rattle.worker_gate.proofs.TellingLemmas.{told_both, told_nothing}
 use Rattle.worker_gate.proofs.WorkLemmas.{one_run_of}
 use Rattle.worker_gate.proofs.alone.run_alone.Goals as goal
@@ -16,7 +18,7 @@ use Rattle.worker_gate.proofs.alone.run_alone.Goals as goal
 pub loop-alloc-init : goal.loop-alloc-init
 loop-alloc-init g c =
     let x = g.T.Tool.faults c.args.crew.now.tool in
-    (works_first c.args.yard.book x c.requires, same_count x, still_yard c.args.yard, adds_none g.T.Tool.apply c.args.yard.ordered.plan c.args.yard.book.history.events, refl, calls_none c.args.yard.ordered.plan c.args.yard.book.history.events (g.H.Host.counts c.args.yard.host) (g.H.Host.counts c.args.yard.host) refl, told_nothing 0 c.args.yard.book.history.events c.args.yard.book.history.events (g.G.Gate.told c.args.crew.now.gate) (g.G.Gate.told c.args.crew.now.gate) refl refl)
+    (works_first c.args.yard.book x c.requires, same_count x, still_yard c.args.yard, adds_none g.T.Tool.apply c.args.yard.ordered.plan c.args.yard.book.history.events, refl, calls_none c.args.yard.ordered.plan c.args.yard.book.history.events (g.H.Host.counts c.args.yard.host) (g.H.Host.counts c.args.yard.host) refl, told_nothing 0 c.args.yard.book.history.events c.args.yard.book.history.events (g.G.Gate.told c.args.crew.now.gate) (g.G.Gate.told c.args.crew.now.gate) refl refl, runs_same c.args.yard.ordered.plan 0 c.args.yard.book.history.events c.args.yard.book.history.events (g.T.Tool.runs c.args.crew.now.tool) refl)
 
 pub loop-alloc-smaller : goal.loop-alloc-smaller
 loop-alloc-smaller g c =
@@ -47,6 +49,7 @@ loop-alloc-preserved g c =
       e.asked ∙ i.4,
       calls_both a.ordered.plan a.book.history.events b.book.history.events d.book.history.events (g.H.Host.counts a.host) (g.H.Host.counts b.host) (g.H.Host.counts d.host) i.5 (subst (λ p. AddsCalls p b.book.history.events d.book.history.events (g.H.Host.counts b.host) (g.H.Host.counts d.host)) (ap (λ o. o.plan) i.2.ordered) e.calls) e.same.later,
       told_both 0 a.book.history.events b.book.history.events d.book.history.events (g.G.Gate.told c.args.crew.now.gate) (g.G.Gate.told c.loop-alloc.crew.gate) (g.G.Gate.told c.step.new.crew.gate) i.6 e.told,
+      runs_both a.ordered.plan 0 a.book.history.events b.book.history.events d.book.history.events (g.T.Tool.runs c.args.crew.now.tool) (g.T.Tool.runs c.loop-alloc.crew.tool) (g.T.Tool.runs c.step.new.crew.tool) i.7 (subst (λ p. RunsWithin p 0 b.book.history.events d.book.history.events (g.T.Tool.runs c.loop-alloc.crew.tool) (g.T.Tool.runs c.step.new.crew.tool)) (ap (λ o. o.plan) i.2.ordered) e.runs),
     )
 
 pub returns-clause-works : goal.returns-clause-works
@@ -88,3 +91,12 @@ returns-clause-asked g c = c.loop-alloc-test.ensures.asked ∙ c.loop-alloc.inva
 
 pub returns-clause-told : goal.returns-clause-told
 returns-clause-told g c = told_both 0 c.args.yard.book.history.events c.loop-alloc.yard.book.history.events c.step.new.yard.book.history.events (g.G.Gate.told c.args.crew.now.gate) (g.G.Gate.told c.loop-alloc.crew.gate) (g.G.Gate.told c.step.new.crew.gate) c.loop-alloc.invariant.6 c.loop-alloc-test.ensures.told
+
+pub returns-clause-runs : goal.returns-clause-runs
+returns-clause-runs g c =
+    let p = c.args.yard.ordered.plan in
+    let here = c.loop-alloc.yard.book.history.events in
+    let next = c.step.new.yard.book.history.events in
+    let y = g.T.Tool.runs c.loop-alloc.crew.tool in
+    let z = g.T.Tool.runs c.step.new.crew.tool in
+    runs_both p 0 c.args.yard.book.history.events here next (g.T.Tool.runs c.args.crew.now.tool) y z c.loop-alloc.invariant.7 (subst (λ q. RunsWithin q 0 here next y z) (ap (λ o. o.plan) c.loop-alloc.invariant.2.ordered) c.loop-alloc-test.ensures.runs)

@@ -2,8 +2,9 @@ use Rattle.std.proofs.Common.{◌≡◌, ◌++◌, ◌∙◌, length, map, get_o
 use Rattle.std.specs.Prelude.{Some, is_some}
 use Rattle.worker_gate.specs.code.Hands.{AreReady, member_of}
 use Rattle.worker_gate.specs.code.Many.{CanAllWork, HaveAllAsked, HaveAllWorked}
+use Rattle.worker_gate.specs.code.Runs.{HaveAllRun}
 use Rattle.worker_gate.specs.code.Telling.{HaveAllTold}
-use Rattle.worker_gate.proofs.ManyLemmas.{all_ready, can_all, charter_back, charter_with, dealt_as, dealt_many, many_asked, many_counted, many_done, many_inputs, many_told, no_inputs, none_asked, none_counted, none_told}
+use Rattle.worker_gate.proofs.ManyLemmas.{all_ready, can_all, charter_back, charter_with, dealt_as, dealt_many, many_asked, many_counted, many_done, many_inputs, many_run, many_told, no_inputs, none_asked, none_counted, none_run, none_told}
 use Rattle.worker_gate.proofs.SmallLemmas.{lent}
 use Rattle.worker_gate.proofs.TurningLemmas.{plan_copied}
 use Rattle.worker_gate.proofs.many.run_many.Given as given
@@ -219,3 +220,29 @@ returns-in-Ok-new-clause-told g c =
     (subst (HaveAllWorked g.T.Tool.apply lock (λ m. g.T.Tool.faults m.tool) hs) whole (subst (λ l. HaveAllWorked g.T.Tool.apply lock (λ m. g.T.Tool.faults m.tool) l news) c.as_mut_slice.ensures.value c.work_all.ensures.worked))
     (subst (HaveAllTold (λ m. g.G.Gate.told m.gate) hs) whole (subst (λ l. HaveAllTold (λ m. g.G.Gate.told m.gate) l news) c.as_mut_slice.ensures.value c.work_all.ensures.told))
     (λ k d l. (get_or all k d).pass.own) c.gather-pass.ensures.gathered c.close.ensures.seen c.close.ensures.items
+
+pub returns-in_default-clause-runs : goal.returns-in_default-clause-runs
+returns-in_default-clause-runs g c = none_run c.args.yard.ordered.plan c.args.yard.book.history.events (map (λ m. g.T.Tool.runs m.tool) c.args.crew.items)
+
+pub returns-in-Err-clause-runs : goal.returns-in-Err-clause-runs
+returns-in-Err-clause-runs g c = none_run c.args.yard.ordered.plan c.in-Err.field-0.value.book.history.events (map (λ m. g.T.Tool.runs m.tool) c.args.crew.items)
+
+pub returns-in-Ok-new-clause-runs : goal.returns-in-Ok-new-clause-runs
+returns-in-Ok-new-clause-runs g c =
+    let y = c.args.yard in
+    let z = c.close.result in
+    let there = charter_with y.ordered (take y.opened y.book.history.events) (g.H.Host.marked y.host) (is_some (g.H.Host.told y.host)) y.faults y.misses in
+    let first = c.in-Ok-new.first in
+    let lock = c.in-Ok-new.lock in
+    let p = c.in-Ok-new.ensures.pass in
+    let hs = c.deal.new.hands.items in
+    let news = c.work_all.new.hands in
+    let all = take c.deal.new.hands.len (news ++ drop (length news) hs) in
+    let n = length c.args.crew.items in
+    let whole = lent c.deal.new.hands.len news hs (c.work_all.ensures.length ∙ c.as_mut_slice.ensures.len) in
+    let same = sym (ap length whole) ∙ c.work_all.ensures.length ∙ ap length c.as_mut_slice.ensures.value in
+    many_run g.T.Tool.apply lock there n (λ m. g.T.Tool.faults m.tool) (λ m. g.T.Tool.runs m.tool) hs all c.gather-pass.result z.book.history.events c.args.crew.items c.gather-pass.new.crew.items c.deal.ensures.members c.gather-pass.ensures.members same
+    (dealt_as lock there n first hs p.charter_is p.seen_is c.deal.ensures.dealt)
+    (subst (HaveAllWorked g.T.Tool.apply lock (λ m. g.T.Tool.faults m.tool) hs) whole (subst (λ l. HaveAllWorked g.T.Tool.apply lock (λ m. g.T.Tool.faults m.tool) l news) c.as_mut_slice.ensures.value c.work_all.ensures.worked))
+    (subst (HaveAllRun (λ m. g.T.Tool.runs m.tool) hs) whole (subst (λ l. HaveAllRun (λ m. g.T.Tool.runs m.tool) l news) c.as_mut_slice.ensures.value c.work_all.ensures.runs))
+    c.gather-pass.ensures.gathered c.close.ensures.items

@@ -1,4 +1,4 @@
-use Rattle.std.proofs.Common.{◌∙◌, ap, map, subst, sym, take}
+use Rattle.std.proofs.Common.{◌∙◌, ◌+◌, ◌≤◌, ◌++◌, ◌∷◌, [], ap, map, subst, sym, take}
 use Rattle.plan_core.specs.declared.plan.Plan.{Plan}
 use Rattle.plan_core.specs.code.Proper.{IsProper}
 use Rattle.plan_core.specs.Words.{kind}
@@ -10,8 +10,11 @@ use Rattle.worker_gate.specs.code.Calls.{EndsCalls}
 use Rattle.worker_gate.proofs.CallsLemmas.{lent_then}
 use Rattle.worker_gate.proofs.FillingLemmas.{fills_finish, fills_of, finish_then}
 use Rattle.worker_gate.proofs.LoanLemmas.{held_begun, held_empty, lent_held, parts_are}
+use Rattle.worker_gate.specs.code.Runs.{job_count}
+use Rattle.worker_gate.proofs.RunsLemmas.{last_within, runs_still}
 use Rattle.worker_gate.proofs.StateLemmas.{open_loan}
 use Rattle.worker_gate.proofs.TellingLemmas.{told_both}
+use Rattle.worker_gate.proofs.TurningLemmas.{done_last}
 use Rattle.worker_gate.proofs.WorkLemmas.{consistent_at}
 use Rattle.worker_gate.proofs.stepping.do_task.Goals as goal
 
@@ -110,3 +113,19 @@ returns-in-Some-clause-asked g c = c.finish_told.ensures.asked ∙ c.lend_told.e
 
 pub returns-in-Some-clause-told : goal.returns-in-Some-clause-told
 returns-in-Some-clause-told g c = told_both c.args.worker c.args.yard.now.book.history.events c.lend_told.new.yard.book.history.events c.finish_told.new.yard.book.history.events (g.G.Gate.told c.args.crew.now.gate) (g.G.Gate.told c.lend_told.new.gate) (g.G.Gate.told c.finish_told.new.gate) c.lend_told.ensures.entered c.finish_told.ensures.told
+
+pub returns-in-Some-clause-runs : goal.returns-in-Some-clause-runs
+returns-in-Some-clause-runs g c =
+    let p = c.args.yard.now.ordered.plan in
+    let w = c.args.worker in
+    let t = c.args.task.0 in
+    let x = g.T.Tool.runs c.args.crew.now.tool in
+    let y = g.T.Tool.runs c.fill_loan-filled.new.tool in
+    let ends = c.finish_told.ensures.ends in
+    last_within p w t c.args.yard.now.book.history.events c.finish_told.new.yard.book.history.events ends.entry x y (ends.is ∙ ap (λ l. l ++ ends.entry ∷ []) c.in-Some.ensures.history) (done_last w t ends.entry ends.done)
+    (subst (λ (q : Plan). y ≤ x + job_count q t) (c.plan.ensures ∙ ap (λ z. z.plan) c.lend_told.ensures.same.ordered) c.fill_loan-filled.ensures.runs)
+
+pub returns-in_default-clause-runs : goal.returns-in_default-clause-runs
+returns-in_default-clause-runs g c =
+    let told = c.lend_told.ensures.entered in
+    runs_still c.args.yard.now.ordered.plan c.args.worker c.args.yard.now.book.history.events c.lend_told.new.yard.book.history.events told.added (g.T.Tool.runs c.args.crew.now.tool) told.is

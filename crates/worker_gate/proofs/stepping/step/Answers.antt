@@ -9,6 +9,8 @@ use Rattle.worker_gate.proofs.TellingLemmas.{told_both}
 use Rattle.worker_gate.proofs.WorkLemmas.{again_works, failed_works, granted_is_open, granted_works, one_run_of, swept_works}
 use Rattle.worker_gate.proofs.CallsLemmas.{calls_no_entry, fails_calls, grants_calls, sweeps_calls, tries_again_calls}
 use Rattle.worker_gate.proofs.InputsLemmas.{adds_no_entry, fails_so, grants_so, sweeps_so, tries_again_so}
+use Rattle.worker_gate.specs.code.Runs.{RunsWithin}
+use Rattle.worker_gate.proofs.RunsLemmas.{runs_both, runs_still}
 use Rattle.worker_gate.proofs.stepping.step.Goals as goal
 
 pub do_task-requires : goal.do_task-requires
@@ -141,3 +143,39 @@ returns-in-Granted-clause-asked g c = c.do_task.ensures.asked ∙ c.lease_told.e
 
 pub returns-in-Granted-clause-told : goal.returns-in-Granted-clause-told
 returns-in-Granted-clause-told g c = told_both 0 c.args.yard.now.book.history.events c.lease_told.new.yard.book.history.events c.do_task.new.yard.book.history.events (g.G.Gate.told c.args.crew.now.gate) (g.G.Gate.told c.lease_told.new.gate) (g.G.Gate.told c.do_task.new.crew.gate) c.lease_told.ensures.told c.do_task.ensures.told
+
+pub returns-in-Granted-clause-runs : goal.returns-in-Granted-clause-runs
+returns-in-Granted-clause-runs g c =
+    let p = c.args.yard.now.ordered.plan in
+    let r = c.args.yard.now.book.history.events in
+    let mid = c.lease_told.new.yard.book.history.events in
+    let after_ = c.do_task.new.yard.book.history.events in
+    let x = g.T.Tool.runs c.args.crew.now.tool in
+    let y = g.T.Tool.runs c.do_task.new.crew.tool in
+    let told = c.lease_told.ensures.told in
+    runs_both p 0 r mid after_ x x y (runs_still p 0 r mid told.added x told.is) (subst (λ q. RunsWithin q 0 mid after_ x y) (ap (λ o. o.plan) c.lease_told.ensures.same.ordered) c.do_task.ensures.runs)
+
+pub returns-in-Swept-clause-runs : goal.returns-in-Swept-clause-runs
+returns-in-Swept-clause-runs g c =
+    let told = c.lease_told.ensures.told in
+    runs_still c.args.yard.now.ordered.plan 0 c.args.yard.now.book.history.events c.lease_told.new.yard.book.history.events told.added (g.T.Tool.runs c.args.crew.now.tool) told.is
+
+pub returns-in-Failed-clause-runs : goal.returns-in-Failed-clause-runs
+returns-in-Failed-clause-runs g c =
+    let told = c.lease_told.ensures.told in
+    runs_still c.args.yard.now.ordered.plan 0 c.args.yard.now.book.history.events c.lease_told.new.yard.book.history.events told.added (g.T.Tool.runs c.args.crew.now.tool) told.is
+
+pub returns-in-Again-clause-runs : goal.returns-in-Again-clause-runs
+returns-in-Again-clause-runs g c =
+    let told = c.lease_told.ensures.told in
+    runs_still c.args.yard.now.ordered.plan 0 c.args.yard.now.book.history.events c.lease_told.new.yard.book.history.events told.added (g.T.Tool.runs c.args.crew.now.tool) told.is
+
+pub returns-in-Done-clause-runs : goal.returns-in-Done-clause-runs
+returns-in-Done-clause-runs g c =
+    let told = c.lease_told.ensures.told in
+    runs_still c.args.yard.now.ordered.plan 0 c.args.yard.now.book.history.events c.lease_told.new.yard.book.history.events told.added (g.T.Tool.runs c.args.crew.now.tool) told.is
+
+pub returns-in-Stopped-clause-runs : goal.returns-in-Stopped-clause-runs
+returns-in-Stopped-clause-runs g c =
+    let told = c.lease_told.ensures.told in
+    runs_still c.args.yard.now.ordered.plan 0 c.args.yard.now.book.history.events c.lease_told.new.yard.book.history.events told.added (g.T.Tool.runs c.args.crew.now.tool) told.is

@@ -10,4 +10,5 @@ returns g c =
     record {
       fills = fills_lent g.H.Reading.ReadPart.state g.H.Draft.WritePart.state g.T.Tool.apply c.args.plan.now c.args.task.0 loan.readings.items c.as_mut_slice.result.now c.fill.new.readings loan.readings.len loan.drafts.items c.as_mut_slice-2.result.now c.fill.new.drafts loan.drafts.len (g.T.Tool.faults c.args.tool.now) (g.T.Tool.faults c.fill.new.tool) c.fill.result rs.value rs.len ds.value ds.len
           (record { filled = e.filled; why = e.why; shown = e.shown; once = e.once; fits = e.fits; readings = e.readings; drafts = e.drafts; tool = e.tool });
+      runs = e.runs;
     }

@@ -3,6 +3,7 @@ use Rattle.ruled_lock.specs.Pass.{charter_of, mine_of, seen_of, worker_of}
 use Rattle.run_record.specs.Events.{Event}
 use Rattle.worker_gate.specs.code.Asking.{AsksOwn}
 use Rattle.worker_gate.specs.code.Telling.{IsToldOf}
+use Rattle.worker_gate.proofs.RunsLemmas.{own_runs_still, own_runs_task}
 use Rattle.worker_gate.proofs.TellingLemmas.{told_then}
 use Rattle.worker_gate.specs.code.Tending.{failures_in}
 use Rattle.worker_gate.proofs.WorkingLemmas.{begun_for, does_made_by, empty_for, filled_rose, finish_of, inputs_of, plan_parts}
@@ -83,3 +84,17 @@ returns-clause-does g c =
     let x = g.T.Tool.faults c.args.crew.now.tool in
     let y = g.T.Tool.faults filled.new.tool in
     does_made_by (worker_of old) (worker_of mid) t (failures_in filled.result) (mine_of old) (mine_of mid) (mine_of c.finish.new.pass) x y c.begin.ensures.keeps.same.worker c.in-Some.ensures.mine c.finish.ensures.finishes (filled_rose g.T.Tool.apply c.args.plan.now t rs rs1 ds ds1 x y filled.result filled.ensures.fills)
+
+pub returns-clause-runs : goal.returns-clause-runs
+returns-clause-runs g c =
+    let old = c.args.pass.now in
+    let mid = c.begin.new.pass in
+    let done = c.finish.ensures.finishes in
+    own_runs_task (charter_of old) c.args.plan.now (worker_of old) (worker_of mid) c.args.task.0 (mine_of old) (mine_of mid) (mine_of c.finish.new.pass) done.entry (g.T.Tool.runs c.args.crew.now.tool) (g.T.Tool.runs c.fill_with-filled.new.tool)
+    c.requires.plan c.begin.ensures.keeps.same.worker c.in-Some.ensures.mine done.is done.last c.fill_with-filled.ensures.runs
+
+pub returns-in_default-clause-runs : goal.returns-in_default-clause-runs
+returns-in_default-clause-runs g c =
+    let old = c.args.pass.now in
+    let asked = c.begin.ensures.asked in
+    own_runs_still (charter_of old) (worker_of old) (mine_of old) (mine_of c.begin.new.pass) asked.added (g.T.Tool.runs c.args.crew.now.tool) asked.is

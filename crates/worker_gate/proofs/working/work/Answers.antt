@@ -5,6 +5,7 @@ use Rattle.site_yard.specs.declared.chronicle.Charter.{Charter}
 use Rattle.worker_gate.specs.code.Turning.{IsPlanOf, NoneOpenBy}
 use Rattle.worker_gate.proofs.AskingLemmas.{asks_nothing, asks_then}
 use Rattle.worker_gate.proofs.InputsLemmas.{own_both, own_none}
+use Rattle.worker_gate.proofs.RunsLemmas.{own_runs_both, own_runs_same}
 use Rattle.worker_gate.proofs.TellingLemmas.{told_then}
 use Rattle.worker_gate.proofs.WorkingLemmas.{keeps_on, works_from}
 use Rattle.worker_gate.proofs.working.work.Goals as goal
@@ -51,3 +52,11 @@ returns-clause-told g c =
     let first = g.G.Gate.told c.args.crew.now.gate in
     let e = c.copy_plan-plan.ensures in
     told_then (worker_of old) (worker_of mid) (seen_of old) (seen_of mid) (seen_of c.work_by.new.pass) first first (g.G.Gate.told c.work_by.new.crew.gate) e.keeps.same.worker (e.told first) c.work_by.ensures.told
+
+pub returns-clause-runs : goal.returns-clause-runs
+returns-clause-runs g c =
+    let old = c.args.pass.now in
+    let mid = c.copy_plan-plan.new.pass in
+    let e = c.copy_plan-plan.ensures in
+    let x = g.T.Tool.runs c.args.crew.now.tool in
+    own_runs_both (charter_of old) (charter_of mid) (worker_of old) (worker_of mid) (mine_of old) (mine_of mid) (mine_of c.work_by.new.pass) x x (g.T.Tool.runs c.work_by.new.crew.tool) e.keeps.same.charter e.keeps.same.worker (own_runs_same (charter_of old) (worker_of old) (mine_of old) (mine_of mid) x e.mine) c.work_by.ensures.runs

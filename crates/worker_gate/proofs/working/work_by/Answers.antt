@@ -4,10 +4,12 @@ use Rattle.run_record.specs.Events.{Event}
 use Rattle.ruled_lock.specs.Pass.{charter_of, mine_of, seen_of, worker_of}
 use Rattle.worker_gate.specs.code.Asking.{AsksOwn}
 use Rattle.worker_gate.specs.code.Inputs.{AddsOfInputs}
+use Rattle.worker_gate.specs.code.Runs.{OwnRunsWithin}
 use Rattle.worker_gate.specs.code.Telling.{IsToldOf}
 use Rattle.worker_gate.specs.code.Turning.{KeepsTurn, plan_of}
 use Rattle.worker_gate.proofs.AskingLemmas.{asks_nothing, asks_then}
 use Rattle.worker_gate.proofs.InputsLemmas.{own_both, own_none}
+use Rattle.worker_gate.proofs.RunsLemmas.{leased_runs, own_runs_both, own_runs_same}
 use Rattle.worker_gate.proofs.TellingLemmas.{told_nothing, told_then}
 use Rattle.worker_gate.proofs.WorkingLemmas.{granted_opens, keeps_on, own_does_by, own_finishes_by, own_first, own_over_by, own_same, rising, still_tool}
 use Rattle.worker_gate.proofs.working.work_by.Goals as goal
@@ -20,7 +22,7 @@ loop-init g c =
     let asked = g.G.Gate.asked c.args.crew.now.gate in
     let told = g.G.Gate.told c.args.crew.now.gate in
     let here : KeepsTurn c.args.lock.now old old = record { of = c.requires.of; idle = c.requires.idle; same = record { worker = refl; charter = refl; count = refl; joined = refl } } in
-    (here, own_first (worker_of old) mine mine x refl c.requires.none_open, still_tool x, c.requires.plan, own_none g.T.Tool.apply (charter_of old) mine mine refl, asks_nothing mine mine asked refl, told_nothing (worker_of old) (seen_of old) (seen_of old) told told refl refl)
+    (here, own_first (worker_of old) mine mine x refl c.requires.none_open, still_tool x, c.requires.plan, own_none g.T.Tool.apply (charter_of old) mine mine refl, asks_nothing mine mine asked refl, told_nothing (worker_of old) (seen_of old) (seen_of old) told told refl refl, own_runs_same (charter_of old) (worker_of old) mine mine (g.T.Tool.runs c.args.crew.now.tool) refl)
 
 pub do_task-requires-clause-open : goal.do_task-requires-clause-open
 do_task-requires-clause-open g c = granted_opens (worker_of c.loop.pass) c.in-Granted.task.0 (mine_of c.loop.pass) (mine_of c.lease.new.pass) c.in-Granted.ensures.leased
@@ -52,6 +54,8 @@ loop-preserved-in-Granted g c =
       own_both g.T.Tool.apply (charter_of old) (charter_of leased) (mine_of old) (mine_of leased) (mine_of done) (l.keeps.same.charter ∙ i.0.same.charter) (own_both g.T.Tool.apply (charter_of old) (charter_of here) (mine_of old) (mine_of here) (mine_of leased) i.0.same.charter i.4 l.inputs) d.inputs,
       asks_then (mine_of old) (mine_of leased) (mine_of done) first mid later (asks_then (mine_of old) (mine_of here) (mine_of leased) first now mid i.5 l.asked) d.asked,
       told_then (worker_of old) (worker_of leased) (seen_of old) (seen_of leased) (seen_of done) x0 x2 x3 (l.keeps.same.worker ∙ i.0.same.worker) (told_then (worker_of old) (worker_of here) (seen_of old) (seen_of here) (seen_of leased) x0 x1 x2 i.0.same.worker i.6 l.told) d.told,
+      own_runs_both (charter_of old) (charter_of leased) (worker_of old) (worker_of leased) (mine_of old) (mine_of leased) (mine_of done) (g.T.Tool.runs c.args.crew.now.tool) (g.T.Tool.runs c.loop.crew.tool) (g.T.Tool.runs c.do_task.new.crew.tool) (l.keeps.same.charter ∙ i.0.same.charter) (l.keeps.same.worker ∙ i.0.same.worker)
+          (leased_runs (charter_of old) (charter_of here) (worker_of old) (worker_of here) (mine_of old) (mine_of here) (mine_of leased) l.asked.added (g.T.Tool.runs c.args.crew.now.tool) (g.T.Tool.runs c.loop.crew.tool) i.0.same.charter i.0.same.worker i.7 l.asked.is) d.runs,
     )
 
 pub loop-preserved-in-Swept : goal.loop-preserved-in-Swept
@@ -73,6 +77,7 @@ loop-preserved-in-Swept g c =
       own_both g.T.Tool.apply (charter_of old) (charter_of here) (mine_of old) (mine_of here) (mine_of leased) i.0.same.charter i.4 l.inputs,
       asks_then (mine_of old) (mine_of here) (mine_of leased) first now mid i.5 l.asked,
       told_then (worker_of old) (worker_of here) (seen_of old) (seen_of here) (seen_of leased) (g.G.Gate.told c.args.crew.now.gate) (g.G.Gate.told c.loop.crew.gate) (g.G.Gate.told c.lease.new.gate) i.0.same.worker i.6 l.told,
+      leased_runs (charter_of old) (charter_of here) (worker_of old) (worker_of here) (mine_of old) (mine_of here) (mine_of leased) l.asked.added (g.T.Tool.runs c.args.crew.now.tool) (g.T.Tool.runs c.loop.crew.tool) i.0.same.charter i.0.same.worker i.7 l.asked.is,
     )
 
 pub loop-preserved-in-Failed : goal.loop-preserved-in-Failed
@@ -94,6 +99,7 @@ loop-preserved-in-Failed g c =
       own_both g.T.Tool.apply (charter_of old) (charter_of here) (mine_of old) (mine_of here) (mine_of leased) i.0.same.charter i.4 l.inputs,
       asks_then (mine_of old) (mine_of here) (mine_of leased) first now mid i.5 l.asked,
       told_then (worker_of old) (worker_of here) (seen_of old) (seen_of here) (seen_of leased) (g.G.Gate.told c.args.crew.now.gate) (g.G.Gate.told c.loop.crew.gate) (g.G.Gate.told c.lease.new.gate) i.0.same.worker i.6 l.told,
+      leased_runs (charter_of old) (charter_of here) (worker_of old) (worker_of here) (mine_of old) (mine_of here) (mine_of leased) l.asked.added (g.T.Tool.runs c.args.crew.now.tool) (g.T.Tool.runs c.loop.crew.tool) i.0.same.charter i.0.same.worker i.7 l.asked.is,
     )
 
 pub loop-preserved-in-Again : goal.loop-preserved-in-Again
@@ -115,6 +121,7 @@ loop-preserved-in-Again g c =
       own_both g.T.Tool.apply (charter_of old) (charter_of here) (mine_of old) (mine_of here) (mine_of leased) i.0.same.charter i.4 l.inputs,
       asks_then (mine_of old) (mine_of here) (mine_of leased) first now mid i.5 l.asked,
       told_then (worker_of old) (worker_of here) (seen_of old) (seen_of here) (seen_of leased) (g.G.Gate.told c.args.crew.now.gate) (g.G.Gate.told c.loop.crew.gate) (g.G.Gate.told c.lease.new.gate) i.0.same.worker i.6 l.told,
+      leased_runs (charter_of old) (charter_of here) (worker_of old) (worker_of here) (mine_of old) (mine_of here) (mine_of leased) l.asked.added (g.T.Tool.runs c.args.crew.now.tool) (g.T.Tool.runs c.loop.crew.tool) i.0.same.charter i.0.same.worker i.7 l.asked.is,
     )
 
 pub loop-preserved : goal.loop-preserved
@@ -149,6 +156,8 @@ loop-preserved g c =
       subst (λ (r : List Event). IsToldOf (worker_of old) (seen_of old) r x0 x3) (sym e.lists.0)
           (subst (λ (ys : List (ℕ × Event)). IsToldOf (worker_of old) (seen_of old) (seen_of leased) x0 ys) (sym c.idle.ensures.told)
           (told_then (worker_of old) (worker_of here) (seen_of old) (seen_of here) (seen_of leased) x0 x1 x2 i.0.same.worker i.6 l.told)),
+      subst (λ (m : List Event). OwnRunsWithin (charter_of old) (worker_of old) (mine_of old) m (g.T.Tool.runs c.args.crew.now.tool) (g.T.Tool.runs c.loop.crew.tool)) (sym e.lists.1)
+          (leased_runs (charter_of old) (charter_of here) (worker_of old) (worker_of here) (mine_of old) (mine_of here) (mine_of leased) l.asked.added (g.T.Tool.runs c.args.crew.now.tool) (g.T.Tool.runs c.loop.crew.tool) i.0.same.charter i.0.same.worker i.7 l.asked.is),
     )
 
 pub returns-in-Done-clause-inputs : goal.returns-in-Done-clause-inputs
@@ -194,3 +203,19 @@ returns-in-Stopped-clause-works g c =
     let here = c.loop.pass in
     let i = c.loop.invariant in
     own_over_by (worker_of old) (worker_of here) (charter_of old) (charter_of here) (mine_of old) (mine_of here) (mine_of c.lease.new.pass) (seen_of c.lease.new.pass) (g.T.Tool.faults c.args.crew.now.tool) (g.T.Tool.faults c.loop.crew.tool) i.0.same.worker i.0.same.charter i.1 c.in-Stopped.ensures.leased
+
+pub returns-in-Done-clause-runs : goal.returns-in-Done-clause-runs
+returns-in-Done-clause-runs g c =
+    let old = c.args.pass.now in
+    let here = c.loop.pass in
+    let i = c.loop.invariant in
+    let asked = c.lease.ensures.asked in
+    leased_runs (charter_of old) (charter_of here) (worker_of old) (worker_of here) (mine_of old) (mine_of here) (mine_of c.lease.new.pass) asked.added (g.T.Tool.runs c.args.crew.now.tool) (g.T.Tool.runs c.loop.crew.tool) i.0.same.charter i.0.same.worker i.7 asked.is
+
+pub returns-in-Stopped-clause-runs : goal.returns-in-Stopped-clause-runs
+returns-in-Stopped-clause-runs g c =
+    let old = c.args.pass.now in
+    let here = c.loop.pass in
+    let i = c.loop.invariant in
+    let asked = c.lease.ensures.asked in
+    leased_runs (charter_of old) (charter_of here) (worker_of old) (worker_of here) (mine_of old) (mine_of here) (mine_of c.lease.new.pass) asked.added (g.T.Tool.runs c.args.crew.now.tool) (g.T.Tool.runs c.loop.crew.tool) i.0.same.charter i.0.same.worker i.7 asked.is

@@ -3,6 +3,7 @@ use Rattle.std.specs.Prelude.{IfSome}
 use Rattle.ruled_lock.specs.Pass.{charter_of, mine_of, seen_of, worker_of}
 use Rattle.worker_gate.specs.code.Asking.{AsksOwn}
 use Rattle.worker_gate.specs.code.Inputs.{AddsOfInputs}
+use Rattle.worker_gate.specs.code.Runs.{OwnRunsWithin}
 use Rattle.worker_gate.specs.code.Telling.{IsToldOf}
 use Rattle.worker_gate.specs.code.Turning.{IsPlanOf, KeepsTurn, plan_of}
 use Rattle.worker_gate.specs.code.Working.{WorksOwn}
@@ -17,3 +18,4 @@ invariant-loop g l =
     × IfSome (charter_of l.fn.pass) (λ c. AddsOfInputs g.T.Tool.apply (plan_of c) (mine_of l.fn.pass) (mine_of l.pass))
     × AsksOwn (mine_of l.fn.pass) (mine_of l.pass) (g.G.Gate.asked l.fn.crew.gate) (g.G.Gate.asked l.crew.gate)
     × IsToldOf (worker_of l.fn.pass) (seen_of l.fn.pass) (seen_of l.pass) (g.G.Gate.told l.fn.crew.gate) (g.G.Gate.told l.crew.gate)
+    × OwnRunsWithin (charter_of l.fn.pass) (worker_of l.fn.pass) (mine_of l.fn.pass) (mine_of l.pass) (g.T.Tool.runs l.fn.crew.tool) (g.T.Tool.runs l.crew.tool)

@@ -16,6 +16,7 @@ loop-number-init g c =
       bases_stand on c.args.workflow.now c.args.graph.now.ordered flow c.requires.based _ refl,
       none_at_first on c.args.workflow.now c.args.graph.now.ordered,
       omega arith,
+      omega arith,
     )
 
 pub copies_of-requires : goal.copies_of-requires
@@ -62,6 +63,7 @@ loop-number-preserved g c =
       evaluated_more (basis g.T.Tool.apply c.args.tools.now c.args.table.items) c.args.workflow.now c.args.graph.now.ordered c.loop-number.number-index _ c.index-jobs-number.result c.requires.well_formed flow here _ kept.0 kept.1 _ _ looked ran c.in_ok-outputs.ensures.as_many,
       none_before_more (basis g.T.Tool.apply c.args.tools.now c.args.table.items) c.args.workflow.now c.args.graph.now.ordered c.loop-number.number-index _ c.index-jobs-number.result _ here (made ∙ ran) kept.2,
       omega (arith, kept.3, c.in_ok-outputs.ensures.faults),
+      omega (arith, kept.4, c.in_ok-outputs.ensures.runs),
     )
 
 pub into_blobs-requires : goal.into_blobs-requires

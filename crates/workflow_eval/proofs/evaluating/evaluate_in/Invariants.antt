@@ -1,4 +1,4 @@
-use Rattle.std.proofs.Common.{◌≡◌, ◌≤◌, length}
+use Rattle.std.proofs.Common.{◌≡◌, ◌+◌, ◌≤◌, length}
 use Rattle.dependency_graph.specs.Value.{basis}
 use Rattle.workflow_eval.proofs.JobLemmas.{Evaluated}
 use Rattle.workflow_eval.proofs.EvaluatingLemmas.{NoneBefore}
@@ -10,3 +10,4 @@ invariant-loop-number g l =
     × Evaluated (basis g.T.Tool.apply l.tools l.fn.table.items) l.workflow l.graph.ordered l.number-index l.table.items
     × NoneBefore (basis g.T.Tool.apply l.tools l.fn.table.items) l.workflow l.graph.ordered l.number-index
     × (g.T.Tool.faults l.initial.tool ≤ g.T.Tool.faults l.tool)
+    × (g.T.Tool.runs l.tool ≤ g.T.Tool.runs l.initial.tool + l.number-index)
