@@ -41,7 +41,7 @@ halved_most (suc h) m n l = let less = halved_most h m n l in omega (arith, less
 pub halved_end : (h m n : ℕ) → m ≤ n → halved h n ≡ 0 → halved h m ≡ 0
 halved_end h m n l e = let less = halved_most h m n l in omega (arith, less, e)
 
--- one entry changes, and what is over it is to be made anew from some height on
+-- one entry changes, and the one over it at some height is to be made anew
 pub record IsTreeBut (rs : List (Vec (Option Key) Global)) (at h : ℕ) : Type 0 where
   pub some : 0 < length rs
   pub few : length rs ≤ 64
@@ -49,7 +49,7 @@ pub record IsTreeBut (rs : List (Vec (Option Key) Global)) (at h : ℕ) : Type 0
   pub covers : halved (length rs) (length (row rs 0)) ≡ 0
   pub wide : (k i : ℕ) → k + 1 < length rs → i < length (row rs k) → i / 2 < length (row rs (k + 1))
   pub inside : h < length rs → halved h at < length (row rs h)
-  pub pairs : (k i : ℕ) → k + 1 < length rs → (h ≤ k → i ≢ halved (suc k) at) → entry rs (k + 1) i ≡ better (entry rs k (2 * i)) (entry rs k (2 * i + 1))
+  pub pairs : (k i : ℕ) → k + 1 < length rs → (k ≡ h → i ≢ halved (suc k) at) → entry rs (k + 1) i ≡ better (entry rs k (2 * i)) (entry rs k (2 * i + 1))
 
 and_false : (a b : Bool) → (a ≡ true → b ≡ false) → (a && b) ≡ false
 and_false true b f = f refl
@@ -77,8 +77,8 @@ but_start rs new at key tree below long wide w = record {
   wide = λ k i l m. let up = tree.wide k i (omega (arith, l, long)) (omega (arith, m, wide k)) in omega (arith, up, wide (k + 1));
   inside = λ l. omega (arith, below, wide 0);
   pairs = λ k i l off. elsewhere rs new 0 at key w (k + 1) i (λ e. absurd (omega (arith, e))) ∙ tree.pairs k i (omega (arith, l, long))
-      ∙ sym (ap (λ (x : Option Key). better x (entry new k (2 * i + 1))) (elsewhere rs new 0 at key w k (2 * i) (λ e x. off (omega arith) (halves k e i x (omega arith))))
-      ∙ ap (better (entry rs k (2 * i))) (elsewhere rs new 0 at key w k (2 * i + 1) (λ e x. off (omega arith) (odd_halves k e i x))));
+      ∙ sym (ap (λ (x : Option Key). better x (entry new k (2 * i + 1))) (elsewhere rs new 0 at key w k (2 * i) (λ e x. off e (halves k e i x (omega arith))))
+      ∙ ap (better (entry rs k (2 * i))) (elsewhere rs new 0 at key w k (2 * i + 1) (λ e x. off e (odd_halves k e i x))));
 }
   where
     halves : (k : ℕ) → k ≡ 0 → (i : ℕ) → 2 * i ≡ at → 0 ≤ i → i ≡ halved (suc k) at
@@ -113,24 +113,35 @@ but_more rs new at h tree under long wide w = record {
     both : (k i : ℕ) → ((k ≡ h + 1) → i ≢ (halved h at / 2) / 2) → better (entry rs k (2 * i)) (entry rs k (2 * i + 1)) ≡ better (entry new k (2 * i)) (entry new k (2 * i + 1))
     both k i off = sym (ap (λ (x : Option Key). better x (entry new k (2 * i + 1))) (unchanged k (2 * i) (λ e x. off e (omega (arith, x)))) ∙ ap (better (entry rs k (2 * i))) (unchanged k (2 * i + 1) (λ e x. off e (omega (arith, x)))))
 
-    over : (k i : ℕ) → (h + 1 ≤ k → i ≢ halved (suc k) at) → k ≡ h + 1 → i ≢ (halved h at / 2) / 2
-    over k i off e x = off (omega (arith, e)) (x ∙ ap (λ (n : ℕ). n / 2) (sym next) ∙ ap (λ (n : ℕ). halved n at / 2) (sym e))
+    over : (k i : ℕ) → (k ≡ h + 1 → i ≢ halved (suc k) at) → k ≡ h + 1 → i ≢ (halved h at / 2) / 2
+    over k i off e x = off e (x ∙ ap (λ (n : ℕ). n / 2) (sym next) ∙ ap (λ (n : ℕ). halved n at / 2) (sym e))
 
-    by_height : (k i : ℕ) → k + 1 < length new → (h + 1 ≤ k → i ≢ halved (suc k) at) → ((k ≡ h) ⊎ (k ≡ h → ⊥)) → ((i ≡ halved h at / 2) ⊎ (i ≡ halved h at / 2 → ⊥)) → entry new (k + 1) i ≡ better (entry new k (2 * i)) (entry new k (2 * i + 1))
+    by_height : (k i : ℕ) → k + 1 < length new → (k ≡ h + 1 → i ≢ halved (suc k) at) → ((k ≡ h) ⊎ (k ≡ h → ⊥)) → ((i ≡ halved h at / 2) ⊎ (i ≡ halved h at / 2 → ⊥)) → entry new (k + 1) i ≡ better (entry new k (2 * i)) (entry new k (2 * i + 1))
     by_height k i l off (inl e) (inl f) =
         ap (λ (n : ℕ). entry new (n + 1) i) e ∙ ap (entry new (h + 1)) f ∙ there rs new (h + 1) (halved h at / 2) _ w
         ∙ ap (λ (j : ℕ). better (entry rs h (2 * j)) (entry rs h (2 * j + 1))) (sym f) ∙ both h i (λ x. absurd (omega (arith, x))) ∙ ap (λ (n : ℕ). better (entry new n (2 * i)) (entry new n (2 * i + 1))) (sym e)
     by_height k i l off (inl e) (inr g) =
         unchanged (k + 1) i (λ x. g) ∙ tree.pairs k i (omega (arith, l, long)) (λ m x. g (x ∙ ap (λ (n : ℕ). halved n at / 2) e)) ∙ both k i (over k i off)
     by_height k i l off (inr d) c =
-        unchanged (k + 1) i (λ x. absurd (d (omega (arith, x)))) ∙ tree.pairs k i (omega (arith, l, long)) (λ m. off (above k m d)) ∙ both k i (over k i off)
-      where
-        above : (k : ℕ) → h ≤ k → (k ≡ h → ⊥) → h + 1 ≤ k
-        above k m d = go (cases_lt h k)
-          where
-            go : ((h < k) ⊎ (k ≤ h)) → h + 1 ≤ k
-            go (inl x) = omega (arith, x)
-            go (inr x) = absurd (d (omega (arith, x, m)))
+        unchanged (k + 1) i (λ x. absurd (d (omega (arith, x)))) ∙ tree.pairs k i (omega (arith, l, long)) (λ m. absurd (d m)) ∙ both k i (over k i off)
+
+-- what is made anew is what stands there
+pub but_same : (rs : List (Vec (Option Key) Global)) (at h : ℕ) → IsTreeBut rs at h → entry rs (h + 1) (halved h at / 2) ≡ better (entry rs h (2 * (halved h at / 2))) (entry rs h (2 * (halved h at / 2) + 1)) → IsTree rs
+but_same rs at h tree same = record {
+  some = tree.some;
+  few = tree.few;
+  small = tree.small;
+  covers = tree.covers;
+  wide = tree.wide;
+  pairs = λ k i l. by_height k i l (cases_eq k h) (cases_eq i (halved h at / 2));
+}
+  where
+    by_height : (k i : ℕ) → k + 1 < length rs → ((k ≡ h) ⊎ (k ≡ h → ⊥)) → ((i ≡ halved h at / 2) ⊎ (i ≡ halved h at / 2 → ⊥)) → entry rs (k + 1) i ≡ better (entry rs k (2 * i)) (entry rs k (2 * i + 1))
+    by_height k i l (inl e) (inl f) =
+        ap (λ (n : ℕ). entry rs (n + 1) i) e ∙ ap (entry rs (h + 1)) f ∙ same
+        ∙ ap (λ (j : ℕ). better (entry rs h (2 * j)) (entry rs h (2 * j + 1))) (sym f) ∙ ap (λ (n : ℕ). better (entry rs n (2 * i)) (entry rs n (2 * i + 1))) (sym e)
+    by_height k i l (inl e) (inr g) = tree.pairs k i l (λ m x. g (x ∙ ap (λ (n : ℕ). halved n at / 2) e))
+    by_height k i l (inr d) c = tree.pairs k i l (λ m. absurd (d m))
 
 pub but_end : (rs : List (Vec (Option Key) Global)) (at h : ℕ) → IsTreeBut rs at h → length rs ≤ h + 1 → IsTree rs
 but_end rs at h tree end = record {

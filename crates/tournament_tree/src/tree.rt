@@ -1,6 +1,6 @@
 //! A row of keys, over it a row of the lesser one of each two, and so on.
 
-ghost use Rattle.std.specs.Prelude.{◌≡◌, ◌≤◌, ◌<◌, ◌==◌, ◌&&◌, ℕ, cond, length, Vec, Option, None, set, IfOk};
+ghost use Rattle.std.specs.Prelude.{◌≡◌, ◌≤◌, ◌<◌, ◌==◌, ◌&&◌, ℕ, true, cond, length, Vec, Option, None, set, IfOk};
 ghost use Rattle.std.specs.declared.alloc.Global.{Global};
 ghost use Rattle.tournament_tree.specs.Tree.{IsBare, IsEmpty, IsLeast, IsTree, better, entry, is_less, row, with_first, with_last};
 
@@ -34,6 +34,16 @@ pub fn lesser(one: Option<Key>, two: Option<Key>) -> Option<Key>
                 Some(one)
             }
         }
+    }
+}
+
+fn are_same(one: Option<Key>, two: Option<Key>) -> bool
+    ensures { result ≡ true → one ≡ two }
+{
+    match (one, two) {
+        (None, None) => true,
+        (Some(one), Some(two)) => one.score == two.score && one.number == two.number,
+        _ => false,
     }
 }
 
@@ -164,7 +174,7 @@ impl Tree {
         lesser(first, last)
     }
 
-    /// Changes one key.
+    /// Changes one key, and what stands over it as far as that changes too.
     pub fn set(&mut self, at: usize, key: Option<Key>)
         requires tree { IsTree self.old.rows.items }
         requires at { at < length (row self.old.rows.items 0) }
@@ -179,7 +189,11 @@ impl Tree {
             let parent = place / 2;
             let one = entry_of(self.rows.as_slice(), below, 2 * parent);
             let two = entry_of(self.rows.as_slice(), below, 2 * parent + 1);
-            write(&mut self.rows, below + 1, parent, lesser(one, two));
+            let least = lesser(one, two);
+            if are_same(least, entry_of(self.rows.as_slice(), below + 1, parent)) {
+                return;
+            }
+            write(&mut self.rows, below + 1, parent, least);
             place = parent;
         }
     }
