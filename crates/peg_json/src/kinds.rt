@@ -12,13 +12,27 @@ use serde_json::Value;
 use std::alloc::Global;
 use values::Text;
 
+/// The text that a value is, lent.
+pub fn as_lent<'a>(
+    alloc: Global,
+    found: &'a Value,
+    path: &Text,
+    key: &str,
+) -> Result<&'a str, TreeFault>
+    ensures { Gives (λ s. s.now) result
+        (text_of (key_path path.now key.now) (tree_view found.now)) }
+{
+    match found.as_str() {
+        Some(text) => Ok(text),
+        None => Err(TreeFault::WrongKind(at_key(alloc, path, key)?)),
+    }
+}
+
 pub fn as_text(alloc: Global, found: &Value, path: &Text, key: &str) -> Result<Text, TreeFault>
     ensures { Gives (λ t. t) result (text_of (key_path path.now key.now) (tree_view found.now)) }
 {
-    match found.as_str() {
-        Some(text) => Ok(Text::copy_of(alloc, text)?),
-        None => Err(TreeFault::WrongKind(at_key(alloc, path, key)?)),
-    }
+    let text = as_lent(alloc, found, path, key)?;
+    Ok(Text::copy_of(alloc, text)?)
 }
 
 pub fn as_name(alloc: Global, found: &Value, path: &Text, key: &str) -> Result<Text, TreeFault>

@@ -12,15 +12,19 @@ use serde_json::Value;
 use std::alloc::Global;
 use values::Text;
 
+/// Room for so many elements at most is asked for before the first of them is read.
+const FEW: usize = 16;
+
 /// Each element in turn.
 fn elements<T: FromTree>(alloc: Global, items: &[Value], path: &Text) -> Result<Vec<T>, TreeFault>
     ensures { Gives (λ v. map T.seen v.items) result
         (each_from T.reads path.now 0 (map tree_view items.now)) }
 {
-    let mut out = Vec::new(alloc);
+    let mut out = Vec::with_capacity(alloc, items.len().min(FEW))?;
+    let mut place = path::room_in(alloc, path)?;
     let mut index = 0;
     for item in items {
-        let place = path::at_index(alloc, path, index)?;
+        place = path::at_index(place, path, index)?;
         match T::from_tree(alloc, item, &place) {
             Ok(element) => out.push(element)?,
             Err(e) => return Err(e),

@@ -34,9 +34,10 @@ fn gather_elements<T: Listed>(
     ensures { OnOk result
         (into.new.items ≡ into.old.items ++ unknown_from T.unknown path.now 0 (map tree_view items.now)) }
 {
+    let mut place = path::room_in(alloc, path)?;
     let mut index = 0;
     for item in items {
-        let place = path::at_index(alloc, path, index)?;
+        place = path::at_index(place, path, index)?;
         T::gather(alloc, item, &place, into)?;
         index += 1;
     }

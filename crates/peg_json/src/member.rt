@@ -1,15 +1,14 @@
 //! The members of an object, checked against its rows.
 
-ghost use Rattle.std.specs.Prelude.{◌≡◌, ◌++◌, length, IfOk, OnOk, map, option_map, string_bytes};
+ghost use Rattle.std.specs.Prelude.{◌≡◌, ◌++◌, IfOk, OnOk, map, option_map, string_bytes};
 ghost use Rattle.std.specs.BTreeMap.{keys};
 ghost use Rattle.std.specs.List.Sorted.{IsPermutation, IsSorted};
 ghost use Rattle.std.specs.Ordering.{nat_cmp};
 ghost use Rattle.std.specs.Cmp.Lexicographic.{slice_cmp};
 ghost use Rattle.serde_json.specs.View.{view as tree_view};
 ghost use Rattle.peg_json.specs.code.Tree.{Gives};
-ghost use Rattle.peg_json.specs.Tree.{each};
-ghost use Rattle.peg_json.specs.Table.{member_of, is_kind, row_member, members_of, checks, is_key};
-ghost use Rattle.peg_json.specs.code.Table.{row_of, rows_of, members_in};
+ghost use Rattle.peg_json.specs.Table.{member_of, is_kind, checks, is_key};
+ghost use Rattle.peg_json.specs.code.Table.{row_of, rows_of, row_checked, rows_checked};
 ghost use Rattle.peg_json.specs.code.Unknown.{unknown_paths, unknown_in};
 
 use crate::fault::TreeFault;
@@ -49,20 +48,14 @@ fn is_of_kind(value: &Value, kind: Kind) -> bool
     }
 }
 
-/// The object's member of a row, of the row's kind.
-fn checked_row<'a>(
-    alloc: Global,
-    value: &'a Value,
-    path: &Text,
-    row: &KeyRow,
-) -> Result<Option<&'a Value>, TreeFault>
-    ensures { Gives (option_map (λ v. tree_view v.now)) result
-        (row_member path.now (tree_view value.now) (row_of row.now)) }
+/// Checks the object's member of a row: that it is there where it has to be, and of the row's kind.
+fn check_row(alloc: Global, value: &Value, path: &Text, row: &KeyRow) -> Result<(), TreeFault>
+    ensures { Gives (λ u. u) result (row_checked path.now (tree_view value.now) (row_of row.now)) }
 {
     match present(value, row.key) {
         Some(found) => {
             if is_of_kind(found, row.kind) {
-                Ok(Some(found))
+                Ok(())
             } else {
                 Err(TreeFault::WrongKind(path::at_key(alloc, path, row.key)?))
             }
@@ -71,56 +64,23 @@ fn checked_row<'a>(
             if row.required {
                 Err(TreeFault::MissingKey(path::at_key(alloc, path, row.key)?))
             } else {
-                Ok(None)
+                Ok(())
             }
         }
     }
 }
 
-/// The object's member of each row.
-fn each_member<'a>(
-    alloc: Global,
-    value: &'a Value,
-    path: &Text,
-    rows: &[KeyRow],
-) -> Result<Vec<Option<&'a Value>>, TreeFault>
-    ensures answer { Gives (λ v. map (option_map (λ x. tree_view x.now)) v.items) result
-        (each (row_member path.now (tree_view value.now)) (rows_of rows.now)) }
-    ensures len { IfOk result (λ v. length v.items ≡ length rows.now) }
+fn check_rows(alloc: Global, value: &Value, path: &Text, rows: &[KeyRow]) -> Result<(), TreeFault>
+    ensures { Gives (λ u. u) result (rows_checked path.now (tree_view value.now) (rows_of rows.now)) }
 {
-    let mut out = Vec::with_capacity(alloc, rows.len())?;
     for row in rows {
-        match checked_row(alloc, value, path, row) {
-            Ok(found) => out.push(found)?,
-            Err(e) => return Err(e),
-        }
+        check_row(alloc, value, path, row)?;
     }
-    Ok(out)
-}
-
-/// The object's member of each row, where the object is as its rows say.
-#[tactic(auto, unfolding(crate::specs::Table::members_of), using(crate::proofs::TableLemmas::each_members))]
-pub fn members<'a, const N: usize>(
-    alloc: Global,
-    value: &'a Value,
-    path: &Text,
-    table: &KeyTable<N>,
-) -> Result<Vec<Option<&'a Value>>, TreeFault>
-    ensures answer { Gives (λ v. map (option_map (λ x. tree_view x.now)) v.items) result
-        (members_of path.now (tree_view value.now) (rows_of table.now.rows.now)) }
-    ensures found { IfOk result
-        (λ v. map (option_map (λ x. tree_view x.now)) v.items
-        ≡ members_in (tree_view value.now) (rows_of table.now.rows.now)) }
-    ensures len { IfOk result (λ v. length v.items ≡ N) }
-{
-    if !value.is_object() {
-        return Err(TreeFault::WrongKind(path.copied(alloc)?));
-    }
-    let found = each_member(alloc, value, path, table.rows)?;
-    Ok(found)
+    Ok(())
 }
 
 /// Checks an object whole: the first fault of its rows.
+#[tactic(auto, unfolding(crate::specs::Table::members_of), using(crate::proofs::TableLemmas::rows_are_checked))]
 pub fn checked<const N: usize>(
     alloc: Global,
     value: &Value,
@@ -130,8 +90,10 @@ pub fn checked<const N: usize>(
     ensures { Gives (λ u. u) result
         (checks path.now (tree_view value.now) (rows_of table.now.rows.now)) }
 {
-    let _found = members(alloc, value, path, table)?;
-    Ok(())
+    if !value.is_object() {
+        return Err(TreeFault::WrongKind(path.copied(alloc)?));
+    }
+    check_rows(alloc, value, path, table.rows)
 }
 
 /// Whether a row has the key.

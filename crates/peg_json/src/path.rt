@@ -1,17 +1,16 @@
 //! Paths into a tree, as RFC 6901 writes them.
 
-ghost use Rattle.std.specs.Prelude.{◌≡◌, [], IfOk, string_bytes};
+ghost use Rattle.std.specs.Prelude.{◌≡◌, ◌++◌, [], IfOk, OnOk, string_bytes};
 ghost use Rattle.serde_json.specs.Find.{unescape};
 ghost use Rattle.peg_json.specs.Path.{key_path, index_path, escaped};
 
 use std::alloc::Global;
 use values::{Memory, Text};
 
-/// The key, with `~0` for `~` and `~1` for `/`.
-fn escape(alloc: Global, key: &str) -> Result<String, Memory>
-    ensures { IfOk result (λ s. string_bytes s ≡ escaped key.now) }
+/// Adds the key, with `~0` for `~` and `~1` for `/`.
+fn push_escaped(out: &mut String, key: &str) -> Result<(), Memory>
+    ensures { OnOk result (string_bytes out.new ≡ string_bytes out.old ++ escaped key.now) }
 {
-    let mut out = String::new(alloc);
     for c in key.chars() {
         match c {
             '~' => out.push_str("~0")?,
@@ -19,7 +18,7 @@ fn escape(alloc: Global, key: &str) -> Result<String, Memory>
             _ => out.push(c)?,
         }
     }
-    Ok(out)
+    Ok(())
 }
 
 /// The path of a whole document: the empty text.
@@ -35,16 +34,27 @@ pub fn at_key(alloc: Global, path: &Text, key: &str) -> Result<Text, Memory>
     ensures path { IfOk result (λ t. t ≡ key_path path.now key.now) }
     ensures reads_back { unescape (escaped key.now) ≡ key.now }
 {
-    let mut out = String::from_str(alloc, path.as_str())?;
+    let path = path.as_str();
+    let room = path.len().saturating_add(key.len()).saturating_add(1);
+    let mut out = String::with_capacity(alloc, room)?;
+    out.push_str(path)?;
     out.push_str("/")?;
-    let last = escape(alloc, key)?;
-    out.push_str(last.as_str())?;
+    push_escaped(&mut out, key)?;
     Ok(Text::new(out))
 }
 
-/// The path of a list's element.
-pub fn at_index(alloc: Global, path: &Text, index: usize) -> Result<Text, Memory>
+/// A text with room for the path of an element of a short list.
+pub fn room_in(alloc: Global, path: &Text) -> Result<Text, Memory> {
+    let room = path.as_str().len().saturating_add(4);
+    Ok(Text::new(String::with_capacity(alloc, room)?))
+}
+
+/// The path of a list's element, written in place of the path of another one, so that a list asks for room once.
+pub fn at_index(place: Text, path: &Text, index: usize) -> Result<Text, Memory>
     ensures { IfOk result (λ t. t ≡ index_path path.now index) }
 {
-    Ok(Text::new(format!(in alloc; "{}/{index}", path.as_str())?))
+    let mut out = place.into_string();
+    out.clear();
+    write!(out, "{}/{index}", path.as_str())?;
+    Ok(Text::new(out))
 }

@@ -25,6 +25,22 @@ pub fn text(alloc: Global, value: &Value, path: &Text, key: &str) -> Result<Text
     }
 }
 
+/// The text at a key, lent: for one that is only compared.
+pub fn lent_text<'a>(
+    alloc: Global,
+    value: &'a Value,
+    path: &Text,
+    key: &str,
+) -> Result<&'a str, TreeFault>
+    ensures { Gives (λ s. s.now) result
+        (required text_of path.now (tree_view value.now) key.now) }
+{
+    match present(value, key) {
+        Some(found) => kinds::as_lent(alloc, found, path, key),
+        None => Err(TreeFault::MissingKey(at_key(alloc, path, key)?)),
+    }
+}
+
 pub fn optional_text(
     alloc: Global,
     value: &Value,

@@ -38,11 +38,11 @@ fn is_supported(bytes: &[u8]) -> bool
 pub fn version(alloc: Global, value: &Value, path: &Text, key: &str) -> Result<(), TreeFault>
     ensures { Gives (λ u. u) result (version_at path.now (tree_view value.now) key.now) }
 {
-    let named = typed::text(alloc, value, path, key)?;
+    let named = typed::lent_text(alloc, value, path, key)?;
     if is_supported(named.as_bytes()) {
         Ok(())
     } else {
-        Err(TreeFault::BadVersion(named))
+        Err(TreeFault::BadVersion(Text::copy_of(alloc, named)?))
     }
 }
 

@@ -7,6 +7,7 @@ ghost use Rattle.peg_json.specs.code.Table.{rows_of};
 ghost use Rattle.transformation_catalog.specs.Catalog.{transformation_site_rows, installed_at};
 
 use crate::catalog::TransformationSite;
+use peg_json::typed::lent_text;
 use peg_json::{
     FromTree, KeyRow, KeyTable, Kind, Listed, TreeFault, at_key, checked, gather, refuse_value, row,
 };
@@ -46,11 +47,13 @@ fn site_table() -> KeyTable<4>
 fn installed(alloc: Global, value: &Value, path: &Text, key: &str) -> Result<bool, TreeFault>
     ensures { Gives (λ b. b) result (installed_at path.now (tree_view value.now) key.now) }
 {
-    let named = row!(alloc, value, path, key, Text);
-    match named.as_str() {
+    match lent_text(alloc, value, path, key)? {
         "installed" => Ok(true),
         "stageable" => Ok(false),
-        _ => Err(TreeFault::Unsupported(at_key(alloc, path, key)?, named)),
+        named => Err(TreeFault::Unsupported(
+            at_key(alloc, path, key)?,
+            Text::copy_of(alloc, named)?,
+        )),
     }
 }
 

@@ -16,6 +16,9 @@ use std::alloc::Global;
 use values::{Memory, Text};
 use workflow_core::Names;
 
+/// So many uses of a job are compared with each other; more are looked up by name.
+const FEW: usize = 16;
+
 /// Adds the jobs' ids, and refuses one that is there before.
 fn add_ids(alloc: Global, ids: &mut Names, jobs: &[JobEntry]) -> Result<(), ReadFault>
     ensures answer { GivesRead (λ u. u) result
@@ -93,17 +96,65 @@ fn repeated<'a>(
     Ok(None)
 }
 
-/// The first use of a job that is there before.
+/// The first of many uses that is there before, by the names of those before it.
 #[tactic(auto, using(crate::proofs::DuplicatesLemmas::uses_apart))]
-fn repeated_use(alloc: Global, job: &JobEntry) -> Result<Option<&Use>, Memory>
-    ensures { IfOk result (λ found. option_map (λ u. u.now) found ≡ first_repeat same_use [] job.now.uses) }
+fn repeated_of_many(alloc: Global, uses: &[Use]) -> Result<Option<&Use>, Memory>
+    ensures { IfOk result (λ found. option_map (λ u. u.now) found ≡ first_repeat same_use [] uses.now) }
 {
     let mut inputs = Names::new(alloc);
     let mut outputs = Names::new(alloc);
-    let found = repeated(alloc, &mut inputs, &mut outputs, job.uses.as_slice());
+    let found = repeated(alloc, &mut inputs, &mut outputs, uses);
     drop(inputs);
     drop(outputs);
     found
+}
+
+/// The same file, used the same way.
+fn is_same(used: &Use, other: &Use) -> bool
+    ensures { result ≡ same_use used.now other.now }
+{
+    let same_way = match used.direction {
+        Direction::Input => matches!(other.direction, Direction::Input),
+        Direction::Output => matches!(other.direction, Direction::Output),
+    };
+    same_way && used.lfn.as_str() == other.lfn.as_str()
+}
+
+fn is_among(used: &Use, others: &[Use]) -> bool
+    ensures { result ≡ list_any (same_use used.now) others.now }
+{
+    for other in others {
+        if is_same(used, other) {
+            return true;
+        }
+    }
+    false
+}
+
+/// The first of few uses that is there before, each compared with those before it.
+fn repeated_of_few(uses: &[Use]) -> Option<&Use>
+    ensures { option_map (λ u. u.now) result ≡ first_repeat same_use [] uses.now }
+{
+    let mut index = 0;
+    for used in uses {
+        if is_among(used, &uses[..index]) {
+            return Some(used);
+        }
+        index += 1;
+    }
+    None
+}
+
+/// The first use of a job that is there before.
+fn repeated_use(alloc: Global, job: &JobEntry) -> Result<Option<&Use>, Memory>
+    ensures { IfOk result (λ found. option_map (λ u. u.now) found ≡ first_repeat same_use [] job.now.uses) }
+{
+    let uses = job.uses.as_slice();
+    if uses.len() <= FEW {
+        Ok(repeated_of_few(uses))
+    } else {
+        repeated_of_many(alloc, uses)
+    }
 }
 
 fn used_once(alloc: Global, job: &JobEntry) -> Result<(), ReadFault>

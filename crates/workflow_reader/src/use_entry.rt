@@ -7,6 +7,7 @@ ghost use Rattle.peg_json.specs.code.Table.{rows_of};
 ghost use Rattle.workflow_reader.specs.Workflow.{use_rows, direction_at};
 
 use crate::document::{Direction, Use};
+use peg_json::typed::lent_text;
 use peg_json::{FromTree, KeyRow, KeyTable, Kind, Listed, TreeFault, at_key, checked, gather, row};
 use serde_json::Value;
 use std::alloc::Global;
@@ -49,11 +50,13 @@ fn use_table() -> KeyTable<5>
 fn direction(alloc: Global, value: &Value, path: &Text, key: &str) -> Result<Direction, TreeFault>
     ensures { Gives (λ d. d) result (direction_at path.now (tree_view value.now) key.now) }
 {
-    let named = row!(alloc, value, path, key, Text);
-    match named.as_str() {
+    match lent_text(alloc, value, path, key)? {
         "input" => Ok(Direction::Input),
         "output" => Ok(Direction::Output),
-        _ => Err(TreeFault::Unsupported(at_key(alloc, path, key)?, named)),
+        named => Err(TreeFault::Unsupported(
+            at_key(alloc, path, key)?,
+            Text::copy_of(alloc, named)?,
+        )),
     }
 }
 
