@@ -31,6 +31,9 @@ pub struct FolderHost<R: Files> {
     folder: Option<R::File>,
     /// How many drafts were made: each is in a file of its own, which has this number.
     drafts: u64,
+    /// The folder of the site at which the last call opened a file. What a task reads is opened in one go, so the next
+    /// call doesn't look at it again if it opens a file there too.
+    opened: Option<String>,
 }
 
 impl<R: Files + Drop> FolderHost<R>
@@ -45,6 +48,7 @@ where
             counts: Counts::zero(),
             folder: None,
             drafts: 0,
+            opened: None,
         }
     }
 
@@ -74,6 +78,7 @@ where
         ensures err { IfErr result (Refuses self.old.counts self.new.counts) }
         ensures later { IsLater self.old.counts self.new.counts }
     {
+        self.opened = None;
         let number = match self.drafts.checked_add(1) {
             Some(number) if self.has_folder() => number,
             _ => {
@@ -154,6 +159,7 @@ where
     }
 
     fn read_replica(&mut self, alloc: Global, pfn: &str, limit: u64) -> Result<Blob, HostFault> {
+        self.opened = None;
         let Some(path) = path_of(pfn) else {
             self.counts.add_miss();
             return Err(HostFault::Absent);
@@ -168,8 +174,9 @@ where
         name: &str,
         limit: u64,
     ) -> Result<Blob, HostFault> {
+        self.opened = None;
         let at = site_path(alloc, site, name)?;
-        find_at_site(&self.rt, &mut self.counts, &at)?;
+        find_at_site(&self.rt, &mut self.counts, &at, false)?;
         read_file(alloc, &self.rt, &mut self.counts, at.path.as_str(), limit)
     }
 
@@ -194,6 +201,7 @@ where
     }
 
     fn remove(&mut self, alloc: Global, site: &str, name: &str) -> Result<(), HostFault> {
+        self.opened = None;
         let at = site_path(alloc, site, name)?;
         if !self.has_folder() {
             self.counts.add_fault();
@@ -216,6 +224,7 @@ where
     }
 
     fn scratch_empty(&mut self, alloc: Global, site: &str) -> Result<bool, HostFault> {
+        self.opened = None;
         let folder = site_folder(alloc, site)?;
         if !self.has_folder() {
             self.counts.add_miss();
@@ -244,6 +253,7 @@ where
         pfn: &str,
         limit: u64,
     ) -> Result<FolderReading<R::File>, HostFault> {
+        self.opened = None;
         let Some(path) = path_of(pfn) else {
             self.counts.add_miss();
             return Err(HostFault::Absent);
@@ -258,9 +268,17 @@ where
         name: &str,
         limit: u64,
     ) -> Result<FolderReading<R::File>, HostFault> {
+        let last = self.opened.take();
         let at = site_path(alloc, site, name)?;
-        find_at_site(&self.rt, &mut self.counts, &at)?;
-        open_file(&self.rt, &mut self.counts, at.path.as_str(), limit)
+        let folder_seen = match last {
+            Some(folder) => folder.as_str() == at.folder.as_str(),
+            None => false,
+        };
+        find_at_site(&self.rt, &mut self.counts, &at, folder_seen)?;
+        let SitePath { folder, path } = at;
+        let reading = open_file(&self.rt, &mut self.counts, path.as_str(), limit)?;
+        self.opened = Some(folder);
+        Ok(reading)
     }
 
     fn draft(
@@ -276,17 +294,20 @@ where
     }
 
     fn publish(&mut self, _alloc: Global, draft: FolderDraft<R::File>) -> Result<(), HostFault> {
+        self.opened = None;
         take_over(&mut self.counts, draft.faults());
         let placed = draft.place(&self.rt);
         count_call(&mut self.counts, placed)
     }
 
     fn discard(&mut self, draft: FolderDraft<R::File>) {
+        self.opened = None;
         take_over(&mut self.counts, draft.faults());
         draft.remove(&self.rt);
     }
 
     fn finish(&mut self, reading: FolderReading<R::File>) {
+        self.opened = None;
         take_over(&mut self.counts, reading.faults());
     }
 

@@ -8,7 +8,7 @@ ghost use Rattle.host_files.specs.Opening.{FindsNone};
 
 use crate::folder_reading::FolderReading;
 use crate::reading::{Reading, read_within};
-use crate::standing::{Standing, standing_at_site};
+use crate::standing::{Standing, found_at, standing_at_site};
 use crate::target::SitePath;
 use outside::{Blob, Counts, HostFault, ReadPart};
 use std::alloc::Global;
@@ -135,13 +135,24 @@ pub fn open_file<R: Files>(
     Ok(FolderReading::new(opened.file, length))
 }
 
-/// Whether a file stands in a site's folder. A refusal counts itself.
-pub fn find_at_site<R: Files>(rt: &R, counts: &mut Counts, at: &SitePath) -> Result<(), HostFault>
+/// Whether a file stands in a site's folder, which is looked at too where it wasn't just seen. A refusal counts itself.
+pub fn find_at_site<R: Files>(
+    rt: &R,
+    counts: &mut Counts,
+    at: &SitePath,
+    folder_seen: bool,
+) -> Result<(), HostFault>
     ensures ok { OnOk result (counts.new ≡ counts.old) }
     ensures err { IfErr result (FindsNone counts.old counts.new) }
     ensures later { IsLater counts.old counts.new }
 {
-    match standing_at_site(rt, at.folder.as_str(), at.path.as_str()) {
+    let path = at.path.as_str();
+    let found = if folder_seen {
+        found_at(rt, path)
+    } else {
+        standing_at_site(rt, at.folder.as_str(), path)
+    };
+    match found {
         Ok(Standing::File) => Ok(()),
         Ok(Standing::Nothing) => {
             counts.add_miss();
