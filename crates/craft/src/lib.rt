@@ -4,7 +4,8 @@
 //! told in the worker's turn each entry that it has added; [`OpenGate`] lets everything pass, and [`HoldingGate`] holds
 //! the first task until another one came. Contracts see the tasks for which a gate was called and the entries that it
 //! was told, in order; [`Notes`] and [`EntryNotes`] are such lists, which have no bytes in a program. [`Faulty`] fails
-//! at stated runs, and [`Holding`] holds the first run until another one was answered.
+//! at stated runs, and [`Holding`] holds the first run until another one was answered; it notes runs that came before
+//! as many tasks had come to the gates.
 #![tactic(auto)]
 
 mod crew;

@@ -22,8 +22,9 @@ pub record Work : Type 0 where
   pub before : WorkMoment
   pub after : WorkMoment
 
--- How often the tool of a member of the crew has failed; how often it was run, if it tells; the tasks for which its gate was asked, in order, None where no
--- gate is asked; and the entries that its gate was told, in order, each with its place.
+-- How often the tool of a member of the crew has failed; how often it was run, if it tells; the tasks for which its
+-- gate was asked, in order, None where no gate is asked; and the entries that its gate was told, in order, each with
+-- its place.
 pub record MemberMoment : Type 0 where
   pub faults : ℕ
   pub runs : ℕ

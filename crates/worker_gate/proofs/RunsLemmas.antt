@@ -7,7 +7,6 @@ use Rattle.run_record.specs.Events.{Event, Grant, Arrive, End, Clean, Fail, Agai
 use Rattle.lease_rules.specs.code.Owning.{entries_by}
 use Rattle.lease_rules.specs.Owning.{worker}
 use Rattle.site_yard.specs.declared.chronicle.Charter.{Charter}
-use Rattle.worker_gate.specs.code.Alone.{AllBy}
 use Rattle.worker_gate.specs.code.Runs.{OwnRunsWithin, RunsTask, RunsWithin, job_count, tool_runs, tool_runs_of}
 use Rattle.worker_gate.specs.code.Tending.{IsLast}
 use Rattle.worker_gate.specs.code.Turning.{IsPlanOf, plan_of}
@@ -111,15 +110,3 @@ runs_own p k (e ∷ r) = by_worker (eqb (worker e) k) refl (runs_own p k r)
     by_worker : (b : Bool) → eqb (worker e) k ≡ b → tool_runs p k r ≡ tool_runs p k (entries_by k r) → tool_runs_of p k e + tool_runs p k r ≡ tool_runs p k (cond b (e ∷ entries_by k r) (entries_by k r))
     by_worker true is rest = omega (arith, rest)
     by_worker false is rest = let none = runs_where p k e is in omega (arith, rest, none)
-
-not_same : (b : Bool) → (b ≡ true → ⊥) → b ≡ false
-not_same true h = absurd (h refl)
-not_same false h = refl
-
-pub runs_by_others : (p : Plan) (w k : ℕ) (r : List Event) → AllBy w r → (k ≡ w → ⊥) → tool_runs p k r ≡ 0
-unfolding tool_runs
-runs_by_others p w k [] all off = refl
-runs_by_others p w k (e ∷ r) all off =
-    let here : tool_runs_of p k e ≡ 0 = runs_where p k e (not_same (eqb (worker e) k) (λ h. off (sym (eqb-true (worker e) k h) ∙ all.0))) in
-    let rest : tool_runs p k r ≡ 0 = runs_by_others p w k r all.1 off in
-    omega (arith, here, rest)
