@@ -256,7 +256,7 @@ impl Trial {
 
     /// Tells a first word and some more in a line.
     pub fn tell(&mut self, first: &str, words: &[Word<'_>]) {
-        let told = push_line(self.alloc, &mut self.text, first, words);
+        let told = push_line(&mut self.text, first, words);
         self.keep(told);
     }
 

@@ -6,22 +6,22 @@ ghost use Rattle.cases.specs.Trace.{operation_line, operation_lines};
 use outside::{Memory, Operation, Word, push_line};
 use std::alloc::Global;
 
-fn push_operation(alloc: Global, text: &mut Vec<u8>, operation: &Operation) -> Result<(), Memory>
+fn push_operation(text: &mut Vec<u8>, operation: &Operation) -> Result<(), Memory>
     ensures { OnOk result (text.new.items ≡ text.old.items ++ operation_line operation.now) }
 {
     match operation {
         Operation::Publish(site, name, length) => {
             let site = Word::Name(site.as_bytes());
             let name = Word::Name(name.as_bytes());
-            push_line(alloc, text, "publish", &[site, name, Word::Number(*length)])
+            push_line(text, "publish", &[site, name, Word::Number(*length)])
         }
         Operation::Deliver(name, length) => {
             let name = Word::Name(name.as_bytes());
-            push_line(alloc, text, "deliver", &[name, Word::Number(*length)])
+            push_line(text, "deliver", &[name, Word::Number(*length)])
         }
         Operation::Remove(site, name) => {
             let site = Word::Name(site.as_bytes());
-            push_line(alloc, text, "remove", &[site, Word::Name(name.as_bytes())])
+            push_line(text, "remove", &[site, Word::Name(name.as_bytes())])
         }
     }
 }
@@ -32,7 +32,7 @@ pub fn trace_text(alloc: Global, operations: &[Operation]) -> Result<Vec<u8>, Me
 {
     let mut text = Vec::new(alloc);
     for operation in operations {
-        push_operation(alloc, &mut text, operation)?;
+        push_operation(&mut text, operation)?;
     }
     Ok(text)
 }

@@ -42,7 +42,7 @@ fn push_value(alloc: Global, text: &mut Vec<u8>, name: &Text, bytes: &Blob) -> R
     let name = Word::Name(name.as_bytes());
     let length = Word::Number(bytes.as_slice().len() as u64);
     let digits = Word::Plain(digits.as_str());
-    push_line(alloc, text, "value", &[name, length, digits])
+    push_line(text, "value", &[name, length, digits])
 }
 
 /// Adds a line for each marked one of some named files, in order.

@@ -50,7 +50,7 @@ fn keeps_record(words: &[String]) -> bool {
 fn head_of(alloc: Global, words: &[String]) -> Result<Vec<u8>, Memory> {
     let mut head = Vec::new(alloc);
     for word in words {
-        push_line(alloc, &mut head, "word", &[Word::Name(word.as_bytes())])?;
+        push_line(&mut head, "word", &[Word::Name(word.as_bytes())])?;
     }
     Ok(head)
 }

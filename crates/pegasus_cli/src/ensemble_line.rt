@@ -10,80 +10,64 @@ use peg_json::{Counted, ReadFault, TreeFault};
 use planner::{PlanFault, push_refused};
 use std::alloc::Global;
 
-fn push_name(alloc: Global, text: &mut Vec<u8>, words: &str, name: &Text) -> Result<(), Memory>
+fn push_name(text: &mut Vec<u8>, words: &str, name: &Text) -> Result<(), Memory>
     ensures { OnOk result (text.new.items ≡ text.old.items ++ one_name words.now name.now) }
 {
-    push_line(alloc, text, words, &[Word::Name(name.as_bytes())])
+    push_line(text, words, &[Word::Name(name.as_bytes())])
 }
 
-fn push_many(
-    alloc: Global,
-    text: &mut Vec<u8>,
-    what: &str,
-    count: u64,
-    limit: u64,
-) -> Result<(), Memory>
+fn push_many(text: &mut Vec<u8>, what: &str, count: u64, limit: u64) -> Result<(), Memory>
     ensures { OnOk result (text.new.items ≡ text.old.items ++ many_line what.now count limit) }
 {
     let words = &[Word::Plain(what), Word::Number(count), Word::Number(limit)];
-    push_line(alloc, text, "refused many", words)
+    push_line(text, "refused many", words)
 }
 
 /// Adds the line of a fault of the tree.
-fn push_tree(alloc: Global, text: &mut Vec<u8>, fault: &TreeFault) -> Result<(), Memory>
+fn push_tree(text: &mut Vec<u8>, fault: &TreeFault) -> Result<(), Memory>
     ensures { OnOk result (text.new.items ≡ text.old.items ++ ensemble_tree_line fault.now) }
 {
     match fault {
-        TreeFault::Syntax => push_line(alloc, text, "refused ensemble syntax", &[]),
-        TreeFault::MissingKey(path) => push_name(alloc, text, "refused ensemble missing", path),
-        TreeFault::WrongKind(path) => push_name(alloc, text, "refused ensemble kind", path),
+        TreeFault::Syntax => push_line(text, "refused ensemble syntax", &[]),
+        TreeFault::MissingKey(path) => push_name(text, "refused ensemble missing", path),
+        TreeFault::WrongKind(path) => push_name(text, "refused ensemble kind", path),
         TreeFault::OutOfRange(path, number) => push_line(
-            alloc,
             text,
             "refused ensemble range",
             &[Word::Name(path.as_bytes()), Word::Number(*number)],
         ),
         TreeFault::Unsupported(path, what) => push_line(
-            alloc,
             text,
             "refused ensemble unsupported",
             &[Word::Name(path.as_bytes()), Word::Name(what.as_bytes())],
         ),
-        TreeFault::BadVersion(version) => {
-            push_name(alloc, text, "refused ensemble version", version)
-        }
+        TreeFault::BadVersion(version) => { push_name(text, "refused ensemble version", version) }
         TreeFault::Memory => Ok(()),
     }
 }
 
 /// Adds the line of a fault of the tree, or of the execution sites.
-fn push_read(alloc: Global, text: &mut Vec<u8>, fault: &ReadFault) -> Result<(), Memory>
+fn push_read(text: &mut Vec<u8>, fault: &ReadFault) -> Result<(), Memory>
     ensures { OnOk result (text.new.items ≡ text.old.items ++ ensemble_read_line fault.now) }
 {
     match fault {
-        ReadFault::Tree(fault) => push_tree(alloc, text, fault),
+        ReadFault::Tree(fault) => push_tree(text, fault),
         ReadFault::TooMany(Counted::Sites, count, limit) => {
-            push_many(alloc, text, "sites", *count, *limit)
+            push_many(text, "sites", *count, *limit)
         }
-        ReadFault::DuplicateSite(name) => push_name(alloc, text, "refused twice site", name),
+        ReadFault::DuplicateSite(name) => push_name(text, "refused twice site", name),
         _ => Ok(()),
     }
 }
 
 /// Adds the line of a fault of an ensemble's document.
-pub(crate) fn push_ensemble(
-    alloc: Global,
-    text: &mut Vec<u8>,
-    fault: &EnsembleFault,
-) -> Result<(), Memory>
+pub(crate) fn push_ensemble(text: &mut Vec<u8>, fault: &EnsembleFault) -> Result<(), Memory>
     ensures { OnOk result (text.new.items ≡ text.old.items ++ ensemble_line fault.now) }
 {
     match fault {
-        EnsembleFault::Read(fault) => push_read(alloc, text, fault),
-        EnsembleFault::TooMany(count, limit) => push_many(alloc, text, "members", *count, *limit),
-        EnsembleFault::DuplicateMember(name) => {
-            push_name(alloc, text, "refused twice member", name)
-        }
+        EnsembleFault::Read(fault) => push_read(text, fault),
+        EnsembleFault::TooMany(count, limit) => push_many(text, "members", *count, *limit),
+        EnsembleFault::DuplicateMember(name) => { push_name(text, "refused twice member", name) }
     }
 }
 
@@ -102,7 +86,7 @@ fn push_front(alloc: Global, text: &mut Vec<u8>, name: &Text) -> Result<(), Memo
     ensures { OnOk result (text.new.items ≡ text.old.items ++ member_front name.now) }
 {
     let mut line = Vec::new(alloc);
-    push_name(alloc, &mut line, "refused member", name)?;
+    push_name(&mut line, "refused member", name)?;
     push_open(text, &line)
 }
 
@@ -111,7 +95,7 @@ fn push_rest(alloc: Global, text: &mut Vec<u8>, fault: &PlanFault) -> Result<(),
     ensures { OnOk result (text.new.items ≡ text.old.items ++ behind_refused fault.now) }
 {
     let mut line = Vec::new(alloc);
-    push_refused(alloc, &mut line, fault)?;
+    push_refused(&mut line, fault)?;
     if let Some(rest) = line.get(7..) {
         text.extend_from_slice(rest)?;
     }

@@ -104,7 +104,6 @@ pub(crate) fn of_answer(answer: Result<Option<Rehearsal>, CallFault>) -> Outcome
 }
 
 fn push_exceeds(
-    alloc: Global,
     text: &mut Vec<u8>,
     site: &Text,
     task: TaskId,
@@ -117,7 +116,7 @@ fn push_exceeds(
     let task = Word::Number(u64::from(task.0));
     let needed = Word::Number(needed);
     let bound = Word::Number(bound);
-    push_line(alloc, text, "exceeds", &[site, task, needed, bound])
+    push_line(text, "exceeds", &[site, task, needed, bound])
 }
 
 /// Adds the line of an outcome, where it has one.
@@ -125,40 +124,33 @@ fn push_outcome(alloc: Global, text: &mut Vec<u8>, outcome: &Outcome) -> Result<
     ensures { OnOk result (text.new.items ≡ text.old.items ++ line_of outcome.now) }
 {
     match outcome {
-        Outcome::Done(_) => push_line(alloc, text, "done", &[]),
+        Outcome::Done(_) => push_line(text, "done", &[]),
         Outcome::Memory | Outcome::SinkFailed => Ok(()),
-        Outcome::Usage => push_line(alloc, text, USAGE, &[]),
-        Outcome::DocAbsent(name) => push_line(
-            alloc,
-            text,
-            "no document",
-            &[Word::Name(name.as_bytes())],
-        ),
+        Outcome::Usage => push_line(text, USAGE, &[]),
+        Outcome::DocAbsent(name) => push_line(text, "no document", &[Word::Name(name.as_bytes())]),
         Outcome::DocTooLong(name, limit) => push_line(
-            alloc,
             text,
             "document too long",
             &[Word::Name(name.as_bytes()), Word::Number(*limit)],
         ),
         Outcome::DocFailed(name) => push_line(
-            alloc,
             text,
             "document failed",
             &[Word::Name(name.as_bytes())],
         ),
-        Outcome::Refused(fault) => push_refused(alloc, text, fault),
+        Outcome::Refused(fault) => push_refused(text, fault),
         Outcome::Exceeds {
             site,
             task,
             needed,
             bound,
-        } => push_exceeds(alloc, text, site, *task, *needed, *bound),
+        } => push_exceeds(text, site, *task, *needed, *bound),
         Outcome::Failed(fault) => push_failed(alloc, text, fault),
-        Outcome::BadRecord(line) => { push_line(alloc, text, "bad record", &[Word::Number(*line)]) }
+        Outcome::BadRecord(line) => { push_line(text, "bad record", &[Word::Number(*line)]) }
         Outcome::IllegalRecord(entry) => {
-            push_line(alloc, text, "illegal record", &[Word::Number(*entry)])
+            push_line(text, "illegal record", &[Word::Number(*entry)])
         }
-        Outcome::RefusedEnsemble(fault) => push_ensemble(alloc, text, fault),
+        Outcome::RefusedEnsemble(fault) => push_ensemble(text, fault),
         Outcome::RefusedMember(name, fault) => push_member(alloc, text, name, fault),
     }
 }

@@ -8,17 +8,19 @@ ghost use Rattle.plan_core.specs.code.Printing.{file_line, file_number, flag, is
 ghost use Rattle.plan_core.specs.Words.{job_numbers, task_numbers};
 
 use crate::plan::{Pair, Plan, PlanFile, PlanJob, PlanSite, Source, Target, Task, TaskKind};
+use itoa::Buffer;
 use std::alloc::Global;
 use values::{Blob, FileId, JobId, Memory, PairId, Policy, SiteId, TaskId, Text, Word, push_line};
 
 /// Adds numbers, a space before each.
-fn push_numbers(alloc: Global, text: &mut String, numbers: &[u32]) -> Result<(), Memory>
+fn push_numbers(text: &mut String, numbers: &[u32]) -> Result<(), Memory>
     ensures { OnOk result (string_bytes text.new
         ≡ string_bytes text.old ++ spaced (map decimal numbers.now)) }
 {
+    let mut digits = Buffer::new();
     for number in numbers {
-        let word = format!(in alloc; " {number}")?;
-        text.push_str(word.as_str())?;
+        text.push_str(" ")?;
+        text.push_str(digits.format(*number))?;
     }
     Ok(())
 }
@@ -30,8 +32,10 @@ fn numbers_text(alloc: Global, listed: &[u32]) -> Result<String, Memory>
     match listed {
         [] => Ok(String::from_str(alloc, "-")?),
         [first, rest @ ..] => {
-            let mut text = format!(in alloc; "{first}")?;
-            push_numbers(alloc, &mut text, rest)?;
+            let mut text = String::with_capacity(alloc, listed.len().saturating_mul(6))?;
+            let mut digits = Buffer::new();
+            text.push_str(digits.format(*first))?;
+            push_numbers(&mut text, rest)?;
             Ok(text)
         }
     }
@@ -106,7 +110,6 @@ fn push_policy(alloc: Global, text: &mut Vec<u8>, policy: &Policy) -> Result<(),
     let fresh = Word::Number(if policy.fresh { 1 } else { 0 });
     let output = maybe_text(alloc, policy.output)?;
     push_line(
-        alloc,
         text,
         "policy",
         &[retries, fresh, Word::Plain(output.as_str())],
@@ -147,14 +150,14 @@ impl HasLine for PlanSite {
     #[tactic(auto, unfolding(crate::specs::code::Printing::site_line))]
     fn push(
         &self,
-        alloc: Global,
+        _alloc: Global,
         text: &mut Vec<u8>,
         _pairs: &[Pair],
         number: usize,
     ) -> Result<(), Memory> {
         let site = Word::Number(number as u64);
         let name = Word::Name(self.name.as_bytes());
-        push_line(alloc, text, "site", &[site, name, Word::Number(self.bound)])
+        push_line(text, "site", &[site, name, Word::Number(self.bound)])
     }
 }
 
@@ -172,12 +175,7 @@ impl HasLine for PlanFile {
         let file = Word::Number(number as u64);
         let name = Word::Name(self.lfn.as_bytes());
         let size = maybe_text(alloc, self.declared)?;
-        push_line(
-            alloc,
-            text,
-            "file",
-            &[file, name, Word::Plain(size.as_str())],
-        )
+        push_line(text, "file", &[file, name, Word::Plain(size.as_str())])
     }
 }
 
@@ -187,7 +185,7 @@ impl HasLine for PlanJob {
     #[tactic(auto, unfolding(crate::specs::code::Printing::job_line))]
     fn push(
         &self,
-        alloc: Global,
+        _alloc: Global,
         text: &mut Vec<u8>,
         _pairs: &[Pair],
         number: usize,
@@ -197,9 +195,9 @@ impl HasLine for PlanJob {
         match self.site {
             Some(site) => {
                 let place = Word::Number(u64::from(site.0));
-                push_line(alloc, text, "job", &[job, id, Word::Plain("site"), place])
+                push_line(text, "job", &[job, id, Word::Plain("site"), place])
             }
-            None => push_line(alloc, text, "job", &[job, id, Word::Plain("dropped")]),
+            None => push_line(text, "job", &[job, id, Word::Plain("dropped")]),
         }
     }
 }
@@ -207,7 +205,6 @@ impl HasLine for PlanJob {
 /// Adds the line of a Run, given the texts of its lists.
 #[tactic(auto, unfolding(crate::specs::code::Printing::run_row))]
 fn push_run<'a>(
-    alloc: Global,
     text: &mut Vec<u8>,
     number: usize,
     site: SiteId,
@@ -220,7 +217,6 @@ fn push_run<'a>(
         ++ run_row number site jobs.now reads.now writes.now after.now) }
 {
     push_line(
-        alloc,
         text,
         "task",
         &[
@@ -242,7 +238,6 @@ fn push_run<'a>(
 /// Adds the line of a Transfer from a replica.
 #[tactic(auto, unfolding(crate::specs::code::Printing::transfer_row))]
 fn push_from_pfn<'a>(
-    alloc: Global,
     text: &mut Vec<u8>,
     number: usize,
     file: FileId,
@@ -258,7 +253,6 @@ fn push_from_pfn<'a>(
     let from = Word::Name(pfn.as_bytes());
     match to {
         Target::Site(site) => push_line(
-            alloc,
             text,
             "task",
             &[
@@ -276,7 +270,6 @@ fn push_from_pfn<'a>(
             ],
         ),
         Target::Delivery => push_line(
-            alloc,
             text,
             "task",
             &[
@@ -298,7 +291,6 @@ fn push_from_pfn<'a>(
 /// Adds the line of a Transfer from a site to another one.
 #[tactic(auto, unfolding(crate::specs::code::Printing::transfer_row))]
 fn push_move(
-    alloc: Global,
     text: &mut Vec<u8>,
     number: usize,
     file: FileId,
@@ -310,7 +302,6 @@ fn push_move(
         ++ transfer_row number file (Source.Site home) (Target.Site site) after.now) }
 {
     push_line(
-        alloc,
         text,
         "task",
         &[
@@ -332,7 +323,6 @@ fn push_move(
 /// Adds the line of a delivery from a site.
 #[tactic(auto, unfolding(crate::specs::code::Printing::transfer_row))]
 fn push_delivery(
-    alloc: Global,
     text: &mut Vec<u8>,
     number: usize,
     file: FileId,
@@ -343,7 +333,6 @@ fn push_delivery(
         ++ transfer_row number file (Source.Site home) Target.Delivery after.now) }
 {
     push_line(
-        alloc,
         text,
         "task",
         &[
@@ -363,7 +352,6 @@ fn push_delivery(
 
 /// Adds the line of a Transfer from a site.
 fn push_from_site(
-    alloc: Global,
     text: &mut Vec<u8>,
     number: usize,
     file: FileId,
@@ -375,15 +363,14 @@ fn push_from_site(
         ++ transfer_row number file (Source.Site home) to.now after.now) }
 {
     match to {
-        Target::Site(site) => push_move(alloc, text, number, file, home, *site, after),
-        Target::Delivery => push_delivery(alloc, text, number, file, home, after),
+        Target::Site(site) => push_move(text, number, file, home, *site, after),
+        Target::Delivery => push_delivery(text, number, file, home, after),
     }
 }
 
 /// Adds the line of a Clean.
 #[tactic(auto, unfolding(crate::specs::code::Printing::clean_row))]
 fn push_clean(
-    alloc: Global,
     text: &mut Vec<u8>,
     number: usize,
     pairs: &[Pair],
@@ -396,7 +383,6 @@ fn push_clean(
     let site = Word::Number(u64::from(site_number(pairs, pair)));
     let file = Word::Number(u64::from(file_number(pairs, pair)));
     push_line(
-        alloc,
         text,
         "task",
         &[
@@ -429,7 +415,6 @@ fn push_task(
             let reads = files_text(alloc, pairs, task.reads.as_slice())?;
             let writes = files_text(alloc, pairs, task.writes.as_slice())?;
             push_run(
-                alloc,
                 text,
                 number,
                 *site,
@@ -443,15 +428,13 @@ fn push_task(
             file,
             from: Source::Pfn(pfn),
             to,
-        } => push_from_pfn(alloc, text, number, *file, pfn, *to, after.as_str()),
+        } => push_from_pfn(text, number, *file, pfn, *to, after.as_str()),
         TaskKind::Transfer {
             file,
             from: Source::Site(home),
             to,
-        } => push_from_site(alloc, text, number, *file, *home, to, after.as_str()),
-        TaskKind::Clean { pair } => {
-            push_clean(alloc, text, number, pairs, *pair, after.as_str())
-        }
+        } => push_from_site(text, number, *file, *home, to, after.as_str()),
+        TaskKind::Clean { pair } => { push_clean(text, number, pairs, *pair, after.as_str()) }
     }
 }
 
@@ -476,13 +459,12 @@ impl HasLine for u64 {
     #[tactic(auto, unfolding(crate::specs::code::Printing::peak_line))]
     fn push(
         &self,
-        alloc: Global,
+        _alloc: Global,
         text: &mut Vec<u8>,
         _pairs: &[Pair],
         number: usize,
     ) -> Result<(), Memory> {
         push_line(
-            alloc,
             text,
             "peak",
             &[Word::Number(number as u64), Word::Number(*self)],
@@ -500,7 +482,6 @@ pub fn print(alloc: Global, plan: &Plan, order: &[TaskId], peaks: &[u64]) -> Res
     let pairs = plan.pairs.as_slice();
     text.extend_from_slice(b"plan 1\n")?;
     push_line(
-        alloc,
         &mut text,
         "workflow",
         &[Word::Name(plan.workflow.as_bytes())],
@@ -511,7 +492,7 @@ pub fn print(alloc: Global, plan: &Plan, order: &[TaskId], peaks: &[u64]) -> Res
     push_each(alloc, &mut text, pairs, plan.jobs.as_slice())?;
     push_each(alloc, &mut text, pairs, plan.tasks.as_slice())?;
     let placed = tasks_text(alloc, order)?;
-    push_line(alloc, &mut text, "order", &[Word::Plain(placed.as_str())])?;
+    push_line(&mut text, "order", &[Word::Plain(placed.as_str())])?;
     push_each(alloc, &mut text, pairs, peaks)?;
     text.extend_from_slice(b"closed\n")?;
     Ok(Blob::new(text))

@@ -38,7 +38,7 @@ fn push_delivered(
     let name = Word::Name(name_of(plan, delivered.file).as_bytes());
     let length = Word::Number(delivered.length);
     let digits = Word::Plain(digits.as_str());
-    push_line(alloc, text, "delivered", &[name, length, digits])
+    push_line(text, "delivered", &[name, length, digits])
 }
 
 /// A table by file number with these deliveries.

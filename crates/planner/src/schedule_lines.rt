@@ -43,7 +43,6 @@ fn digits_of(alloc: Global, number: u128) -> Result<String, Memory>
 
 #[tactic(auto, unfolding(crate::specs::code::Scheduling::job_row))]
 fn push_row<'a>(
-    alloc: Global,
     text: &mut Vec<u8>,
     job: JobId,
     id: &'a str,
@@ -60,7 +59,6 @@ fn push_row<'a>(
     let begins = Word::Plain(begins);
     let ends = Word::Plain(ends);
     push_line(
-        alloc,
         text,
         "job",
         &[number, name, Word::Plain("site"), place, begins, ends],
@@ -80,7 +78,7 @@ fn push_job(
     let begins = digits_of(alloc, second_at(&heft.starts, job))?;
     let ends = digits_of(alloc, second_at(&heft.finishes, job))?;
     let id = id_of(workflow, job);
-    push_row(alloc, text, job, id, site_of(heft, job), &begins, &ends)
+    push_row(text, job, id, site_of(heft, job), &begins, &ends)
 }
 
 fn push_jobs(

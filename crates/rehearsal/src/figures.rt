@@ -18,20 +18,20 @@ pub struct Figures {
 }
 
 /// Adds a line of a word and a number.
-fn push_number(alloc: Global, text: &mut Vec<u8>, word: &str, number: u64) -> Result<(), Memory>
+fn push_number(text: &mut Vec<u8>, word: &str, number: u64) -> Result<(), Memory>
     ensures { OnOk result (text.new.items ≡ text.old.items ++ number_line word.now number) }
 {
-    push_line(alloc, text, word, &[Word::Number(number)])
+    push_line(text, word, &[Word::Number(number)])
 }
 
 /// Adds a line for each figure.
-fn push_figures(alloc: Global, text: &mut Vec<u8>, figures: &Figures) -> Result<(), Memory>
+fn push_figures(text: &mut Vec<u8>, figures: &Figures) -> Result<(), Memory>
     ensures { OnOk result (text.new.items ≡ text.old.items ++ figure_lines figures.now) }
 {
-    push_number(alloc, text, "jobs", figures.jobs)?;
-    push_number(alloc, text, "tasks", figures.tasks)?;
-    push_number(alloc, text, "bound", figures.bound)?;
-    push_number(alloc, text, "peak", figures.peak)
+    push_number(text, "jobs", figures.jobs)?;
+    push_number(text, "tasks", figures.tasks)?;
+    push_number(text, "bound", figures.bound)?;
+    push_number(text, "peak", figures.peak)
 }
 
 /// Adds the line of the mosaic.
@@ -42,7 +42,7 @@ fn push_mosaic(alloc: Global, text: &mut Vec<u8>, mosaic: &[u8]) -> Result<(), M
     let digits = encode(alloc, digest.as_slice())?;
     let length = Word::Number(mosaic.len() as u64);
     let digits = Word::Plain(digits.as_str());
-    push_line(alloc, text, "delivered mosaic.txt", &[length, digits])
+    push_line(text, "delivered mosaic.txt", &[length, digits])
 }
 
 /// The summary of a rehearsal of so many images: its figures, and what it delivered.
@@ -55,8 +55,8 @@ pub fn summary(
     ensures { IfOk result (λ text. text.items ≡ summary_text images figures.now mosaic.now) }
 {
     let mut text = Vec::new(alloc);
-    push_number(alloc, &mut text, "images", u64::from(images))?;
-    push_figures(alloc, &mut text, figures)?;
+    push_number(&mut text, "images", u64::from(images))?;
+    push_figures(&mut text, figures)?;
     push_mosaic(alloc, &mut text, mosaic)?;
     Ok(text)
 }

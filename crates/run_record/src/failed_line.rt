@@ -24,11 +24,10 @@ fn push_differs(
     let lfn = Word::Name(lfn.as_bytes());
     let wanted = Word::Plain(wanted.as_str());
     let got = Word::Plain(got.as_str());
-    push_line(alloc, text, "failed checksum", &[lfn, wanted, got])
+    push_line(text, "failed checksum", &[lfn, wanted, got])
 }
 
 fn push_oversize<'a>(
-    alloc: Global,
     text: &mut Vec<u8>,
     id: &'a Text,
     lfn: &'a Text,
@@ -42,11 +41,10 @@ fn push_oversize<'a>(
     let lfn = Word::Name(lfn.as_bytes());
     let declared = Word::Number(declared);
     let length = Word::Number(length);
-    push_line(alloc, text, "failed oversize", &[id, lfn, declared, length])
+    push_line(text, "failed oversize", &[id, lfn, declared, length])
 }
 
 fn push_length<'a>(
-    alloc: Global,
     text: &mut Vec<u8>,
     site: &'a Text,
     lfn: &'a Text,
@@ -60,7 +58,7 @@ fn push_length<'a>(
     let lfn = Word::Name(lfn.as_bytes());
     let recorded = Word::Number(recorded);
     let found = Word::Number(found);
-    push_line(alloc, text, "failed length", &[site, lfn, recorded, found])
+    push_line(text, "failed length", &[site, lfn, recorded, found])
 }
 
 /// Adds the line of a failed run.
@@ -69,13 +67,11 @@ pub fn push_failed(alloc: Global, text: &mut Vec<u8>, fault: &RunFault) -> Resul
 {
     match fault {
         RunFault::ReplicaAbsent(lfn, pfn) => push_line(
-            alloc,
             text,
             "failed absent",
             &[Word::Name(lfn.as_bytes()), Word::Name(pfn.as_bytes())],
         ),
         RunFault::ReplicaTooLong(lfn, limit, length) => push_line(
-            alloc,
             text,
             "failed replica",
             &[
@@ -86,41 +82,28 @@ pub fn push_failed(alloc: Global, text: &mut Vec<u8>, fault: &RunFault) -> Resul
         ),
         RunFault::ChecksumDiffers(lfn, wanted, got) => push_differs(alloc, text, lfn, wanted, got),
         RunFault::Oversize(id, lfn, declared, length) => {
-            push_oversize(alloc, text, id, lfn, *declared, *length)
+            push_oversize(text, id, lfn, *declared, *length)
         }
-        RunFault::Declined(id) => push_line(
-            alloc,
-            text,
-            "failed declined",
-            &[Word::Name(id.as_bytes())],
-        ),
-        RunFault::ToolFailed(id) => push_line(
-            alloc,
-            text,
-            "failed tool",
-            &[Word::Name(id.as_bytes())],
-        ),
-        RunFault::HostFailed(None) => push_line(alloc, text, "failed host -", &[]),
+        RunFault::Declined(id) => push_line(text, "failed declined", &[Word::Name(id.as_bytes())]),
+        RunFault::ToolFailed(id) => push_line(text, "failed tool", &[Word::Name(id.as_bytes())]),
+        RunFault::HostFailed(None) => push_line(text, "failed host -", &[]),
         RunFault::HostFailed(Some(task)) => push_line(
-            alloc,
             text,
             "failed host",
             &[Word::Number(u64::from(task.0))],
         ),
         RunFault::ScratchInUse(site) => push_line(
-            alloc,
             text,
             "failed scratch",
             &[Word::Name(site.as_bytes())],
         ),
         RunFault::PairAbsent(site, lfn) => push_line(
-            alloc,
             text,
             "failed pair",
             &[Word::Name(site.as_bytes()), Word::Name(lfn.as_bytes())],
         ),
         RunFault::LengthDiffers(site, lfn, recorded, found) => {
-            push_length(alloc, text, site, lfn, *recorded, *found)
+            push_length(text, site, lfn, *recorded, *found)
         }
         RunFault::Memory => Ok(()),
     }

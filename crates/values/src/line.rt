@@ -7,7 +7,7 @@ ghost use Rattle.values.specs.code.Line.{line, printed_names, spaced_names, word
 use crate::memory::Memory;
 use crate::printed::push_name;
 use crate::text::Text;
-use std::alloc::Global;
+use itoa::Buffer;
 
 /// A word of a line.
 #[derive(Clone, Copy)]
@@ -22,11 +22,11 @@ pub enum Word<'a> {
     Number(u64),
 }
 
-fn push_number(alloc: Global, text: &mut Vec<u8>, number: u64) -> Result<(), Memory>
+fn push_number(text: &mut Vec<u8>, number: u64) -> Result<(), Memory>
     ensures { OnOk result (text.new.items ≡ text.old.items ++ decimal number) }
 {
-    let digits = format!(in alloc; "{number}")?;
-    text.extend_from_slice(digits.as_bytes())?;
+    let mut digits = Buffer::new();
+    text.extend_from_slice(digits.format(number).as_bytes())?;
     Ok(())
 }
 
@@ -52,40 +52,35 @@ fn push_names(text: &mut Vec<u8>, names: &[Text]) -> Result<(), Memory>
     }
 }
 
-fn push_word(alloc: Global, text: &mut Vec<u8>, word: Word<'_>) -> Result<(), Memory>
+fn push_word(text: &mut Vec<u8>, word: Word<'_>) -> Result<(), Memory>
     ensures { OnOk result (text.new.items ≡ text.old.items ++ word_text word.entry) }
 {
     match word {
         Word::Plain(plain) => text.extend_from_slice(plain.as_bytes())?,
         Word::Name(name) => push_name(text, name)?,
         Word::Names(names) => push_names(text, names)?,
-        Word::Number(number) => push_number(alloc, text, number)?,
+        Word::Number(number) => push_number(text, number)?,
     }
     Ok(())
 }
 
 /// Adds the words, a space before each.
-fn push_words(alloc: Global, text: &mut Vec<u8>, words: &[Word<'_>]) -> Result<(), Memory>
+fn push_words(text: &mut Vec<u8>, words: &[Word<'_>]) -> Result<(), Memory>
     ensures { OnOk result (text.new.items ≡ text.old.items ++ words_text words.now) }
 {
     for word in words {
         text.extend_from_slice(b" ")?;
-        push_word(alloc, text, *word)?;
+        push_word(text, *word)?;
     }
     Ok(())
 }
 
 /// Adds a line of a first word and some more, a space before each of them.
-pub fn push_line(
-    alloc: Global,
-    text: &mut Vec<u8>,
-    first: &str,
-    words: &[Word<'_>],
-) -> Result<(), Memory>
+pub fn push_line(text: &mut Vec<u8>, first: &str, words: &[Word<'_>]) -> Result<(), Memory>
     ensures { OnOk result (text.new.items ≡ text.old.items ++ line first.now words.now) }
 {
     text.extend_from_slice(first.as_bytes())?;
-    push_words(alloc, text, words)?;
+    push_words(text, words)?;
     text.extend_from_slice(b"\n")?;
     Ok(())
 }

@@ -20,7 +20,7 @@ pub(crate) fn verdict_text(alloc: Global, verdict: Verdict) -> Result<Vec<u8>, M
     ensures { IfOk result (λ text. text.items ≡ verdict_line verdict) }
 {
     let mut text = Vec::new(alloc);
-    push_verdict(alloc, &mut text, verdict)?;
+    push_verdict(&mut text, verdict)?;
     Ok(text)
 }
 

@@ -28,7 +28,7 @@ fn push_sums(alloc: Global, text: &mut Vec<u8>, judged: &Judged) -> Result<(), M
         judged.now.history.events text.old.items text.new.items) }
 {
     let sums = statistics(alloc, &judged.ordered, &judged.history)?;
-    push_statistics(alloc, text, &sums)
+    push_statistics(text, &sums)
 }
 
 /// The verdict on a record, and what a record that isn't illegal sums up to.
