@@ -6,7 +6,7 @@ PAGES = ("README.md", "docs/COMMANDS.md", "docs/GUIDE.md")
 # How many words a page may have, and all of them together.
 MOST_WORDS = {
     "README": 1400, "GUIDE": 4500, "COMMANDS": 5000, "FORMATS": 3800, "PROVED": 2000, "TESTED": 1800, "ARCHITECTURE": 2500,
-    "DEVELOPING": 2200, "DECISIONS": 1500, "GATE": 500, "MEASURED": 500,
+    "DEVELOPING": 2200, "DECISIONS": 1500, "GATE": 500, "MEASURED": 650,
 }
 MOST_IN_ALL = 27000
 
