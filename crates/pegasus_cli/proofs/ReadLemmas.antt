@@ -17,7 +17,8 @@ use Rattle.pegasus_commands.specs.code.Course.{Asks, Course, Gives, documents, i
 use Rattle.pegasus_commands.specs.Course.{IsDocument}
 use Rattle.pegasus_commands.specs.code.Course.{◌>>=◌}
 use Rattle.pegasus_commands.specs.Moments.{DocsMoment}
-use Rattle.pegasus_commands.specs.code.Survey.{GoesOn}
+use Rattle.pegasus_commands.specs.code.InputSpec.{GoesOn}
+use Rattle.pegasus_commands.specs.code.Survey.{survey_of}
 use Rattle.pegasus_cli.specs.Read.{AreNamed, IsNamed, IsRead, SayThis}
 use Rattle.pegasus_cli.proofs.SaidLemmas.{survey_said}
 
@@ -90,14 +91,14 @@ request_so told name before after x h = by (request_from_text came.bytes) refl c
 
 -- ---- the whole
 
-pub read_so : (name : List ℕ) (before after : DocsMoment) (s : Surveyed) → GoesOn name before after s → IsRead before.told name s
+pub read_so : (name : List ℕ) (before after : DocsMoment) (s : Surveyed) → GoesOn (survey_of name) before after s → IsRead before.told name s
 read_so name before after s h =
-    let read = request_so before.told name before.counts after.counts h.requested h.came.gives in
-    let same = sym h.surveyed.request in record {
+    let read = request_so before.told name before.counts after.counts h.given h.came.gives in
+    let same = sym h.makes.request in record {
       bytes = read.bytes;
       came = read.came;
       request = read.says ∙ ap Ok same;
-      documents = h.requested.documents;
-      named = subst (λ (q : PlanRequest). AreNamed before.told q h.requested.documents) same read.named;
-      say = subst (λ (q : PlanRequest). SayThis q.execute h.requested.documents s.survey) same (survey_said h.requested.request h.requested.documents s.survey h.surveyed.survey);
+      documents = h.given.documents;
+      named = subst (λ (q : PlanRequest). AreNamed before.told q h.given.documents) same read.named;
+      say = subst (λ (q : PlanRequest). SayThis q.execute h.given.documents s.survey) same (survey_said h.given.request h.given.documents s.survey h.makes.survey);
     }

@@ -21,7 +21,8 @@ use Rattle.pegasus_commands.specs.code.Fault.{Answer, IsDoneOrMemory, end_answer
 use Rattle.pegasus_commands.specs.code.PlanRun.{CanRun, IsReady}
 use Rattle.pegasus_commands.proofs.FaultLemmas.{done_prop}
 use Rattle.pegasus_commands.proofs.PlanRunLemmas.{HasDeliveryLaws, RunsFinish, plan_run_finishes, run_is, unrun_finishes}
-use Rattle.pegasus_commands.proofs.SurveyLemmas.{survey_finishes}
+use Rattle.pegasus_commands.specs.code.Survey.{survey_of}
+use Rattle.pegasus_commands.proofs.InputSpecLemmas.{finishes_over}
 
 -- A plan was run by the first member of the crew.
 pub alone_is : (w : Work) (t : Tools) (s : Surveyed) (p : Plan) (order : List TaskId) (log : Option Log) (text : List ℕ) (ds : List Delivered) (e : End) → IsReady w.known s p order → HasDeliveryLaws p (task_numbers order) → DeliversRequests s.request s.survey p → MeansWorkflow s.request s.survey p
@@ -44,4 +45,4 @@ runs_done law w t s text a (inl h) can still = unrun_finishes w (first_tool w) s
 runs_done law w t s text a (inr h) can still = ∥∥₁_elim h (done_prop a) (λ (k : HasRunFirst w s text a). plan_run_finishes law w (first_tool w) 1 s text a k.planned can (none_failed w t still))
 
 pub alone_finishes : RunsFinish → (name : List ℕ) → Finishes (alone name)
-alone_finishes law name = survey_finishes name RunsAlone CanRun (runs_done law)
+alone_finishes law name = finishes_over (survey_of name) RunsAlone CanRun (runs_done law)

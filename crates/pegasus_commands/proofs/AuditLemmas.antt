@@ -33,7 +33,8 @@ use Rattle.pegasus_commands.specs.code.CommandSpec.{Finishes}
 use Rattle.pegasus_commands.specs.code.Fault.{Answer, IsDoneOrMemory, done, not_for, plan_answer}
 use Rattle.pegasus_commands.specs.code.PlanRun.{HasRunPlan}
 use Rattle.pegasus_commands.proofs.PlanRunLemmas.{ended_reports, ended_tells}
-use Rattle.pegasus_commands.proofs.RecordedLemmas.{record_finishes}
+use Rattle.pegasus_commands.specs.code.Recorded.{record_of}
+use Rattle.pegasus_commands.proofs.InputSpecLemmas.{finishes_over}
 
 -- no fault of planning is a bad record
 pub no_bad_record : (k : ℕ) (fault : PlanFault) → BadRecord k ≡ plan_answer fault → ⊥
@@ -101,10 +102,10 @@ says_done law Prints w i text (Err Memory) h can = tt
 says_done law Prints w i text (Err fault) h can = unjudged_short law w i fault can h.0
 
 pub audit_finishes : NoneMalformed → (name history : List ℕ) → Finishes (audit name history)
-audit_finishes law name history = record_finishes name history (Judges PrintsVerdict) CanJudge (λ w t i text a works can still. says_done law PrintsVerdict w i text a works.says can)
+audit_finishes law name history = finishes_over (record_of name history) (Judges PrintsVerdict) CanJudge (λ w t i text a works can still. says_done law PrintsVerdict w i text a works.says can)
 
 pub stat_finishes : NoneMalformed → (name history : List ℕ) → Finishes (stat name history)
-stat_finishes law name history = record_finishes name history (Judges PrintsSums) CanJudge (λ w t i text a works can still. says_done law PrintsSums w i text a works.says can)
+stat_finishes law name history = finishes_over (record_of name history) (Judges PrintsSums) CanJudge (λ w t i text a works can still. says_done law PrintsSums w i text a works.says can)
 
 -- ---- the record that a run has printed
 

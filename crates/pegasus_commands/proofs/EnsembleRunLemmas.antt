@@ -46,7 +46,7 @@ use Rattle.pegasus_commands.proofs.EnsemblesLemmas.{IsPassage, passed, read_is_p
 use Rattle.pegasus_commands.proofs.FaultLemmas.{no_fault_is_done}
 use Rattle.pegasus_commands.proofs.PlanRunLemmas.{RunsFinish}
 use Rattle.pegasus_commands.proofs.RunLemmas.{runs_done as many_done}
-use Rattle.pegasus_commands.proofs.SurveyLemmas.{came_as, nothing_came, of_memory, refused_short, told_step}
+use Rattle.pegasus_commands.proofs.InputSpecLemmas.{came_as, nothing_came, of_memory, refused_short, told_step}
 
 -- ---- what is delivered
 

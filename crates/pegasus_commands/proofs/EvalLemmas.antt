@@ -14,7 +14,8 @@ use Rattle.pegasus_commands.specs.declared.fault.CallFault.TheVariants.{Memory}
 use Rattle.pegasus_commands.specs.code.Commands.Eval.{CanEvaluate, Evaluates, Says, eval, meeting_of, subject_of}
 use Rattle.pegasus_commands.specs.code.CommandSpec.{Finishes, NoneRoseAtWork}
 use Rattle.pegasus_commands.specs.code.Fault.{Answer, IsDoneOrMemory, not_for, value_answer}
-use Rattle.pegasus_commands.proofs.SurveyLemmas.{survey_finishes}
+use Rattle.pegasus_commands.specs.code.Survey.{survey_of}
+use Rattle.pegasus_commands.proofs.InputSpecLemmas.{finishes_over}
 
 -- nothing but a counted failure, or want of memory, keeps an evaluation from values
 abbrev pub EvaluationsFinish : Type 0
@@ -36,4 +37,4 @@ says_done law w t s text (Err fault) h can still =
     subst (λ (f : CallFault). IsDoneOrMemory (not_for f)) (sym (h.0.answers ∙ ap value_answer memory)) tt
 
 pub eval_finishes : EvaluationsFinish → (name : List ℕ) → Finishes (eval name)
-eval_finishes law name = survey_finishes name Evaluates CanEvaluate (λ w t s text a works can still. says_done law w t s text a works.says can still)
+eval_finishes law name = finishes_over (survey_of name) Evaluates CanEvaluate (λ w t s text a works can still. says_done law w t s text a works.says can still)

@@ -1,8 +1,7 @@
 pub mod FaultLemmas
 pub mod CourseLemmas
 pub mod RequestLemmas
-pub mod SurveyLemmas
-pub mod RecordedLemmas
+pub mod InputSpecLemmas
 pub mod EnsemblesLemmas
 pub mod CheckLemmas
 pub mod PlanLemmas

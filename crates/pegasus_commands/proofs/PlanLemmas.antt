@@ -18,7 +18,8 @@ use Rattle.pegasus_commands.specs.declared.fault.CallFault.TheVariants.{Memory}
 use Rattle.pegasus_commands.specs.code.Commands.Plan.{ArePeaksOf, HasNoFault, Plans, Says, plan, task_limit}
 use Rattle.pegasus_commands.specs.code.CommandSpec.{Finishes}
 use Rattle.pegasus_commands.specs.code.Fault.{Answer, IsDoneOrMemory, not_for, plan_answer}
-use Rattle.pegasus_commands.proofs.SurveyLemmas.{survey_finishes}
+use Rattle.pegasus_commands.specs.code.Survey.{survey_of}
+use Rattle.pegasus_commands.proofs.InputSpecLemmas.{finishes_over}
 
 -- the answer for a fault
 pub refused_says : (s : Surveyed) (fault : PlanFault) → CannotPlan s.request s.survey task_limit fault → Says s [] (not_for (plan_answer fault))
@@ -36,7 +37,7 @@ says_done s text (Err Memory) h none = tt
 says_done s text (Err fault) h none = subst (λ (f : CallFault). IsDoneOrMemory (not_for f)) (sym (h.0.answers ∙ ap plan_answer (none h.0.fault h.0.comes))) tt
 
 pub plan_finishes : (name : List ℕ) → Finishes (plan name)
-plan_finishes name = survey_finishes name Plans (λ w s. HasNoFault s) (λ w t s text a works can still. says_done s text a works.says can)
+plan_finishes name = finishes_over (survey_of name) Plans (λ w s. HasNoFault s) (λ w t s text a works can still. says_done s text a works.says can)
 
 -- ---- peaks
 

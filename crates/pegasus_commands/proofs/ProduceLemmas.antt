@@ -29,7 +29,8 @@ use Rattle.pegasus_commands.proofs.AloneLemmas.{none_failed}
 use Rattle.pegasus_commands.proofs.FaultLemmas.{done_prop}
 use Rattle.pegasus_commands.proofs.NamesLemmas.{deliveries_named}
 use Rattle.pegasus_commands.proofs.PlanRunLemmas.{HasDeliveryLaws, RunsFinish, ended_reports, named_in, plan_run_finishes, run_is, unrun_finishes}
-use Rattle.pegasus_commands.proofs.SurveyLemmas.{survey_finishes}
+use Rattle.pegasus_commands.specs.code.Survey.{survey_of}
+use Rattle.pegasus_commands.proofs.InputSpecLemmas.{finishes_over}
 
 -- ---- what was delivered
 
@@ -106,4 +107,4 @@ runs_done law w t s text a (inr h) can still = ∥∥₁_elim h (done_prop a) (�
     says_done s.survey k.run.planned.plan k.run.planned.report.delivered k.said k.ran text a k.says (plan_run_finishes law w (first_tool w) 1 s k.said k.ran k.run.planned can (none_failed w t still)))
 
 pub produce_finishes : RunsFinish → (name : List ℕ) → Finishes (produce name)
-produce_finishes law name = survey_finishes name Produces CanRun (runs_done law)
+produce_finishes law name = finishes_over (survey_of name) Produces CanRun (runs_done law)

@@ -53,7 +53,8 @@ use Rattle.pegasus_commands.specs.PlanRun.{ShownBy, lfn}
 use Rattle.pegasus_commands.proofs.AuditLemmas.{NoneMalformed, OneRecord, no_bad_record, no_illegal_record}
 use Rattle.pegasus_commands.proofs.FaultLemmas.{done_prop}
 use Rattle.pegasus_commands.proofs.PlanRunLemmas.{HasDeliveryLaws, carried_if_delivered, delivered_so, named_in, refused_short, undone_is}
-use Rattle.pegasus_commands.proofs.RecordedLemmas.{record_finishes}
+use Rattle.pegasus_commands.specs.code.Recorded.{record_of}
+use Rattle.pegasus_commands.proofs.InputSpecLemmas.{finishes_over}
 
 -- ---- what a record that says what is so has delivered
 
@@ -266,4 +267,4 @@ resumes_done law records one w t i text a came can still = ∥∥₁_elim came (
     by (inr h) = resumed_done law one w t i text a h can none_failed
 
 pub resume_finishes : ResumesFinish → NoneMalformed → OneRecord → (name history : List ℕ) → Finishes (resume name history)
-resume_finishes law records one name history = record_finishes name history ResumesPlan CanResume (resumes_done law records one)
+resume_finishes law records one name history = finishes_over (record_of name history) ResumesPlan CanResume (resumes_done law records one)

@@ -18,7 +18,8 @@ use Rattle.pegasus_commands.specs.code.Fault.{Answer, IsDoneOrMemory, end_answer
 use Rattle.pegasus_commands.specs.code.PlanRun.{CanRun, HasRunPlan, IsReady}
 use Rattle.pegasus_commands.proofs.FaultLemmas.{done_prop}
 use Rattle.pegasus_commands.proofs.PlanRunLemmas.{HasDeliveryLaws, RunsFinish, plan_run_finishes, run_is, unrun_finishes}
-use Rattle.pegasus_commands.proofs.SurveyLemmas.{survey_finishes}
+use Rattle.pegasus_commands.specs.code.Survey.{survey_of}
+use Rattle.pegasus_commands.proofs.InputSpecLemmas.{finishes_over}
 
 -- A plan was run by several members of the crew.
 pub many_is : (w : Work) (t : Tools) (n : ℕ) (s : Surveyed) (p : Plan) (order : List TaskId) (log : Option Log) (text : List ℕ) (ds : List Delivered) (e : End) → IsReady w.known s p order → HasDeliveryLaws p (task_numbers order) → DeliversRequests s.request s.survey p → MeansWorkflow s.request s.survey p
@@ -30,4 +31,4 @@ runs_done law n w t s text a (inl h) can still = unrun_finishes w t s text a h c
 runs_done law n w t s text a (inr h) can still = ∥∥₁_elim h (done_prop a) (λ (k : HasRunPlan w t n s text a). plan_run_finishes law w t n s text a k can (record { host = still.host; tools = λ j l. still.tools j }))
 
 pub run_finishes : RunsFinish → (name : List ℕ) (workers : ℕ) → Finishes (run name workers)
-run_finishes law name workers = survey_finishes name (RunsMany workers) CanRun (runs_done law workers)
+run_finishes law name workers = finishes_over (survey_of name) (RunsMany workers) CanRun (runs_done law workers)

@@ -10,7 +10,8 @@ use Rattle.pegasus_commands.specs.declared.fault.CallFault.TheVariants.{Memory}
 use Rattle.pegasus_commands.specs.code.Commands.Schedule.{HasSites, Says, Schedules, schedule}
 use Rattle.pegasus_commands.specs.code.CommandSpec.{Finishes}
 use Rattle.pegasus_commands.specs.code.Fault.{Answer, IsDoneOrMemory, not_for, plan_answer}
-use Rattle.pegasus_commands.proofs.SurveyLemmas.{survey_finishes}
+use Rattle.pegasus_commands.specs.code.Survey.{survey_of}
+use Rattle.pegasus_commands.proofs.InputSpecLemmas.{finishes_over}
 
 -- the answer for a fault
 refused_says : (s : Surveyed) (fault : PlanFault) → CannotSchedule s.request s.survey fault → Says s [] (not_for (plan_answer fault))
@@ -28,4 +29,4 @@ says_done s text (Err Memory) h sites = tt
 says_done s text (Err fault) h sites = subst (λ (f : CallFault). IsDoneOrMemory (not_for f)) (sym (h.0.answers ∙ ap plan_answer (sites h.0.fault h.0.comes))) tt
 
 pub schedule_finishes : (name : List ℕ) → Finishes (schedule name)
-schedule_finishes name = survey_finishes name Schedules (λ w s. HasSites s) (λ w t s text a works can still. says_done s text a works.says can)
+schedule_finishes name = finishes_over (survey_of name) Schedules (λ w s. HasSites s) (λ w t s text a works can still. says_done s text a works.says can)

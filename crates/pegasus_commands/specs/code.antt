@@ -4,6 +4,7 @@ pub mod CommandSpec
 pub mod Commands
 pub mod Moments
 pub mod Course
+pub mod InputSpec
 pub mod Survey
 pub mod Recorded
 pub mod Ensembles

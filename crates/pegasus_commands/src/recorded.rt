@@ -1,7 +1,8 @@
 //! The documents of one request, surveyed, with the document of a record.
 
 ghost use Rattle.pegasus_commands.specs.code.Moments.{docs_moment};
-ghost use Rattle.pegasus_commands.specs.code.Recorded.{Surveys};
+ghost use Rattle.pegasus_commands.specs.code.InputSpec.{Comes};
+ghost use Rattle.pegasus_commands.specs.code.Recorded.{record_of};
 
 use crate::course::{Requested, WithRecord, fetch_with_record};
 use crate::fault::{CallFault, of_plan_fault};
@@ -23,7 +24,7 @@ pub(crate) fn read_recorded<D: Docs>(
     name: &str,
     history: &str,
 ) -> Result<Recorded, CallFault>
-    ensures { Surveys name.now history.now (docs_moment D.Docs docs.old)
+    ensures { Comes (record_of name.now history.now) (docs_moment D.Docs docs.old)
         (docs_moment D.Docs docs.new) result }
 {
     let given = match fetch_with_record(alloc, docs, name, history) {

@@ -1,7 +1,8 @@
 //! The documents of one request, surveyed.
 
 ghost use Rattle.pegasus_commands.specs.code.Moments.{docs_moment};
-ghost use Rattle.pegasus_commands.specs.code.Survey.{Surveys};
+ghost use Rattle.pegasus_commands.specs.code.InputSpec.{Comes};
+ghost use Rattle.pegasus_commands.specs.code.Survey.{survey_of};
 
 use crate::course::{Requested, fetch_documents};
 use crate::fault::{CallFault, of_plan_fault};
@@ -15,7 +16,7 @@ pub(crate) fn read_survey<D: Docs>(
     docs: &mut D,
     name: &str,
 ) -> Result<Surveyed, CallFault>
-    ensures { Surveys name.now (docs_moment D.Docs docs.old) (docs_moment D.Docs docs.new) result }
+    ensures { Comes (survey_of name.now) (docs_moment D.Docs docs.old) (docs_moment D.Docs docs.new) result }
 {
     let requested = match fetch_documents(alloc, docs, name) {
         Ok(requested) => requested,

@@ -1,21 +1,21 @@
 //! The request of a workload, and its catalogues of sites and transformations.
 
-ghost use Rattle.std.specs.Prelude.{◌≡◌, ◌≤◌, ◌++◌, IfOk, OnOk};
+ghost use Rattle.std.specs.Prelude.{◌≡◌, ◌++◌, IfOk, OnOk};
 ghost use Rattle.workload_maker.specs.Catalogues.{others_text, request_text, sites_text, some_text, transformation_text, transformations_text};
 
+use crate::images::Images;
 use crate::jobs::push_number;
 use crate::pieces::{Piece, push_piece};
 use std::alloc::Global;
 use values::{Blob, Memory};
 
 /// The text of the request.
-pub(crate) fn request(alloc: Global, images: u32) -> Result<Blob, Memory>
-    requires { images ≤ 3000 }
-    ensures { IfOk result (λ b. b ≡ request_text images) }
+pub(crate) fn request(alloc: Global, images: Images) -> Result<Blob, Memory>
+    ensures { IfOk result (λ b. b ≡ request_text images.count) }
 {
     let mut text = Vec::new(alloc);
     push_piece(&mut text, Piece::Request)?;
-    push_number(alloc, &mut text, 162 * u64::from(images))?;
+    push_number(alloc, &mut text, 162 * u64::from(images.count))?;
     push_piece(&mut text, Piece::Tools)?;
     Ok(Blob::new(text))
 }

@@ -7,6 +7,7 @@
 #![tactic(auto)]
 
 mod catalogues;
+mod images;
 mod jobs;
 mod making;
 mod names;

@@ -4,6 +4,7 @@ ghost use Rattle.std.specs.Prelude.{◌≤◌, IfOk};
 ghost use Rattle.workload_maker.specs.Making.{IsMontage};
 
 use crate::catalogues::{request, site_catalog, transformation_catalog};
+use crate::images::Images;
 use crate::replicas::{image_replicas, replica_catalog};
 use crate::workflow::workflow;
 use std::alloc::Global;
@@ -24,6 +25,7 @@ pub fn montage(alloc: Global, images: u32) -> Result<Workload, Memory>
     requires few { images ≤ 3000 }
     ensures { IfOk result (IsMontage images) }
 {
+    let images = Images { count: images };
     let documents = Documents {
         workflow: workflow(alloc, images)?,
         sites: Some(site_catalog(alloc)?),

@@ -5,6 +5,7 @@ ghost use Rattle.std.specs.List.{flat_map};
 ghost use Rattle.workload_maker.specs.Jobs.{commas, each, with_comma};
 ghost use Rattle.workload_maker.specs.Replicas.{image_of, image_text, pfn_text, replica_text, replicas_text};
 
+use crate::images::Images;
 use crate::names::{FileName, push_digits, push_name};
 use crate::pieces::{Piece, push_piece};
 use std::alloc::Global;
@@ -38,21 +39,17 @@ fn push_replicas(text: &mut Vec<u8>, count: u32) -> Result<(), Memory>
 }
 
 /// Adds the entries of all images, a comma between.
-fn push_all(text: &mut Vec<u8>, images: u32) -> Result<(), Memory>
-    requires some { 1 ≤ images }
-    requires few { images ≤ 3000 }
-    ensures { OnOk result (text.new.items ≡ text.old.items ++ commas (each images replica_text)) }
+fn push_all(text: &mut Vec<u8>, images: Images) -> Result<(), Memory>
+    ensures { OnOk result (text.new.items ≡ text.old.items ++ commas (each images.count replica_text)) }
 {
-    push_replicas(text, images - 1)?;
-    push_replica(text, images - 1)?;
+    push_replicas(text, images.count - 1)?;
+    push_replica(text, images.count - 1)?;
     Ok(())
 }
 
 /// The text of the catalogue of replicas.
-pub(crate) fn replica_catalog(alloc: Global, images: u32) -> Result<Blob, Memory>
-    requires some { 1 ≤ images }
-    requires few { images ≤ 3000 }
-    ensures { IfOk result (λ b. b ≡ replicas_text images) }
+pub(crate) fn replica_catalog(alloc: Global, images: Images) -> Result<Blob, Memory>
+    ensures { IfOk result (λ b. b ≡ replicas_text images.count) }
 {
     let mut text = Vec::new(alloc);
     push_piece(&mut text, Piece::Replicas)?;
@@ -87,12 +84,11 @@ fn image(alloc: Global, number: u32) -> Result<Blob, Memory>
 
 /// The images by their pfns.
 #[tactic(auto, using(crate::proofs::TextLemmas::images_more))]
-pub(crate) fn image_replicas(alloc: Global, count: u32) -> Result<Vec<(Text, Blob)>, Memory>
-    requires { count ≤ 3000 }
-    ensures { IfOk result (λ v. v.items ≡ each count image_of) }
+pub(crate) fn image_replicas(alloc: Global, wanted: Images) -> Result<Vec<(Text, Blob)>, Memory>
+    ensures { IfOk result (λ v. v.items ≡ each wanted.count image_of) }
 {
     let mut images = Vec::new(alloc);
-    for number in 0..count {
+    for number in 0..wanted.count {
         images.push((pfn(alloc, number)?, image(alloc, number)?))?;
     }
     Ok(images)

@@ -5,6 +5,7 @@ ghost use Rattle.std.specs.List.{flat_map};
 ghost use Rattle.workload_maker.specs.Jobs.{commas, each, followed, job_text};
 ghost use Rattle.workload_maker.specs.Workflow.{add, background, bg, bg_model, concat_fit, diff_fit, fit, fits, jobs, model, mosaic, proj, project, raw, workflow_text};
 
+use crate::images::Images;
 use crate::jobs::{Named, push_job};
 use crate::names::{File, FileName};
 use crate::pieces::{Piece, push_piece};
@@ -52,14 +53,12 @@ fn bg(number: u32) -> File
 }
 
 /// All fits.
-fn fits(images: u32) -> File
-    requires some { 1 ≤ images }
-    requires few { images ≤ 3000 }
-    ensures { result ≡ fits images }
+fn fits(images: Images) -> File
+    ensures { result ≡ fits images.count }
 {
     File {
         name: FileName::Fits,
-        size: 32 * u64::from(images - 1),
+        size: 32 * u64::from(images.count - 1),
     }
 }
 
@@ -74,13 +73,12 @@ fn model() -> File
 }
 
 /// The mosaic, which is requested.
-fn mosaic(images: u32) -> File
-    requires { images ≤ 3000 }
-    ensures { result ≡ mosaic images }
+fn mosaic(images: Images) -> File
+    ensures { result ≡ mosaic images.count }
 {
     File {
         name: FileName::Mosaic,
-        size: 81 * u64::from(images),
+        size: 81 * u64::from(images.count),
     }
 }
 
@@ -99,12 +97,11 @@ fn all_fits(alloc: Global, count: u32) -> Result<Vec<File>, Memory>
 
 /// The first images without their backgrounds.
 #[tactic(auto, using(crate::proofs::TextLemmas::files_more))]
-fn all_bgs(alloc: Global, count: u32) -> Result<Vec<File>, Memory>
-    requires { count ≤ 3000 }
-    ensures { IfOk result (λ v. v.items ≡ each count bg) }
+fn all_bgs(alloc: Global, images: Images) -> Result<Vec<File>, Memory>
+    ensures { IfOk result (λ v. v.items ≡ each images.count bg) }
 {
     let mut files = Vec::new(alloc);
-    for number in 0..count {
+    for number in 0..images.count {
         files.push(bg(number))?;
     }
     Ok(files)
@@ -112,11 +109,10 @@ fn all_bgs(alloc: Global, count: u32) -> Result<Vec<File>, Memory>
 
 /// Adds the projections, a comma behind each.
 #[tactic(auto, using(crate::proofs::TextLemmas::followed_more))]
-fn push_projects(alloc: Global, text: &mut Vec<u8>, images: u32) -> Result<(), Memory>
-    requires { images ≤ 3000 }
-    ensures { OnOk result (text.new.items ≡ text.old.items ++ flat_map followed (each images project)) }
+fn push_projects(alloc: Global, text: &mut Vec<u8>, images: Images) -> Result<(), Memory>
+    ensures { OnOk result (text.new.items ≡ text.old.items ++ flat_map followed (each images.count project)) }
 {
-    for number in 0..images {
+    for number in 0..images.count {
         let named = Named {
             name: "mProject",
             number,
@@ -130,13 +126,11 @@ fn push_projects(alloc: Global, text: &mut Vec<u8>, images: u32) -> Result<(), M
 
 /// Adds the fits, a comma behind each.
 #[tactic(auto, using(crate::proofs::TextLemmas::followed_more))]
-fn push_diff_fits(alloc: Global, text: &mut Vec<u8>, images: u32) -> Result<(), Memory>
-    requires some { 1 ≤ images }
-    requires few { images ≤ 3000 }
+fn push_diff_fits(alloc: Global, text: &mut Vec<u8>, images: Images) -> Result<(), Memory>
     ensures { OnOk result (text.new.items ≡ text.old.items
-        ++ flat_map followed (each (images - 1) diff_fit)) }
+        ++ flat_map followed (each (images.count - 1) diff_fit)) }
 {
-    for number in 0..images - 1 {
+    for number in 0..images.count - 1 {
         let named = Named {
             name: "mDiffFit",
             number,
@@ -171,37 +165,32 @@ fn push_background(alloc: Global, text: &mut Vec<u8>, number: u32) -> Result<(),
 
 /// Adds those of all images.
 #[tactic(auto, using(crate::proofs::TextLemmas::followed_more))]
-fn push_backgrounds(alloc: Global, text: &mut Vec<u8>, images: u32) -> Result<(), Memory>
-    requires { images ≤ 3000 }
-    ensures { OnOk result (text.new.items ≡ text.old.items ++ flat_map followed (each images background)) }
+fn push_backgrounds(alloc: Global, text: &mut Vec<u8>, images: Images) -> Result<(), Memory>
+    ensures { OnOk result (text.new.items ≡ text.old.items ++ flat_map followed (each images.count background)) }
 {
-    for number in 0..images {
+    for number in 0..images.count {
         push_background(alloc, text, number)?;
     }
     Ok(())
 }
 
 /// Adds the job that joins the fits, and a comma.
-fn push_concat_fit(alloc: Global, text: &mut Vec<u8>, images: u32) -> Result<(), Memory>
-    requires some { 1 ≤ images }
-    requires few { images ≤ 3000 }
-    ensures { OnOk result (text.new.items ≡ text.old.items ++ followed (concat_fit images)) }
+fn push_concat_fit(alloc: Global, text: &mut Vec<u8>, images: Images) -> Result<(), Memory>
+    ensures { OnOk result (text.new.items ≡ text.old.items ++ followed (concat_fit images.count)) }
 {
     let named = Named {
         name: "mConcatFit",
         number: 0,
     };
-    let inputs = all_fits(alloc, images - 1)?;
+    let inputs = all_fits(alloc, images.count - 1)?;
     push_job(alloc, text, named, inputs.as_slice(), &fits(images), false)?;
     push_piece(text, Piece::Comma)?;
     Ok(())
 }
 
 /// Adds the job that makes the model, and a comma.
-fn push_bg_model(alloc: Global, text: &mut Vec<u8>, images: u32) -> Result<(), Memory>
-    requires some { 1 ≤ images }
-    requires few { images ≤ 3000 }
-    ensures { OnOk result (text.new.items ≡ text.old.items ++ followed (bg_model images)) }
+fn push_bg_model(alloc: Global, text: &mut Vec<u8>, images: Images) -> Result<(), Memory>
+    ensures { OnOk result (text.new.items ≡ text.old.items ++ followed (bg_model images.count)) }
 {
     let named = Named {
         name: "mBgModel",
@@ -214,9 +203,8 @@ fn push_bg_model(alloc: Global, text: &mut Vec<u8>, images: u32) -> Result<(), M
 }
 
 /// Adds the job that makes the mosaic.
-fn push_add(alloc: Global, text: &mut Vec<u8>, images: u32) -> Result<(), Memory>
-    requires { images ≤ 3000 }
-    ensures { OnOk result (text.new.items ≡ text.old.items ++ job_text (add images)) }
+fn push_add(alloc: Global, text: &mut Vec<u8>, images: Images) -> Result<(), Memory>
+    ensures { OnOk result (text.new.items ≡ text.old.items ++ job_text (add images.count)) }
 {
     let named = Named {
         name: "mAdd",
@@ -228,10 +216,8 @@ fn push_add(alloc: Global, text: &mut Vec<u8>, images: u32) -> Result<(), Memory
 }
 
 /// All jobs, a comma between.
-fn push_jobs(alloc: Global, text: &mut Vec<u8>, images: u32) -> Result<(), Memory>
-    requires some { 1 ≤ images }
-    requires few { images ≤ 3000 }
-    ensures { OnOk result (text.new.items ≡ text.old.items ++ commas (list_map job_text (jobs images))) }
+fn push_jobs(alloc: Global, text: &mut Vec<u8>, images: Images) -> Result<(), Memory>
+    ensures { OnOk result (text.new.items ≡ text.old.items ++ commas (list_map job_text (jobs images.count))) }
 {
     push_projects(alloc, text, images)?;
     push_diff_fits(alloc, text, images)?;
@@ -243,10 +229,8 @@ fn push_jobs(alloc: Global, text: &mut Vec<u8>, images: u32) -> Result<(), Memor
 }
 
 /// The text of the workflow of so many images.
-pub(crate) fn workflow(alloc: Global, images: u32) -> Result<Blob, Memory>
-    requires some { 2 ≤ images }
-    requires few { images ≤ 3000 }
-    ensures { IfOk result (λ b. b ≡ workflow_text images) }
+pub(crate) fn workflow(alloc: Global, images: Images) -> Result<Blob, Memory>
+    ensures { IfOk result (λ b. b ≡ workflow_text images.count) }
 {
     let mut text = Vec::new(alloc);
     push_piece(&mut text, Piece::Workflow)?;

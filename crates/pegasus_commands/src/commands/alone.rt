@@ -18,24 +18,26 @@ use planner::{Surveyed, plans_deliver_requests};
 use site_yard::complete_records_deliver;
 use std::alloc::Global;
 
-/// Runs the plan of a surveyed request.
+/// Runs the plan of a surveyed request. The survey goes before the run, which has no need of it.
 pub(crate) fn run_survey<H: Host, T: Tool, G: Gate>(
     alloc: Global,
-    surveyed: &Surveyed,
+    surveyed: Surveyed,
     host: H,
     crew: &mut Crew<T, G>,
 ) -> Worked<H>
     ensures works { (t : Tools)
         → RunsAlone (working T.apply T.known (work_moment H.Host host (member_moment T.Tool G.Gate crew.old))
         (work_moment H.Host result.host (member_moment T.Tool G.Gate crew.new)))
-        t surveyed.now result.told.text.items result.told.answer }
+        t surveyed result.told.text.items result.told.answer }
     ensures gate { G.asked crew.new.gate ≡ G.asked crew.old.gate }
 {
     // Laws for the proof: they do nothing.
     ordered_plans_fit();
     plans_deliver_requests();
     complete_records_deliver();
-    match ready_plan(alloc, surveyed, &crew.tool) {
+    let ready = ready_plan(alloc, &surveyed, &crew.tool);
+    drop(surveyed);
+    match ready {
         Ok(ordered) => ended(run_plan(alloc, ordered, host, crew)),
         Err(fault) => unrun(alloc, fault, host),
     }
@@ -56,11 +58,7 @@ pub(crate) fn work<D: Docs, H: Host, T: Tool, G: Gate>(
     ensures gate { G.asked crew.new.gate ≡ G.asked crew.old.gate }
 {
     match read_survey(alloc, docs, name) {
-        Ok(surveyed) => {
-            let worked = run_survey(alloc, &surveyed, host, crew);
-            drop(surveyed);
-            worked
-        }
+        Ok(surveyed) => run_survey(alloc, surveyed, host, crew),
         Err(fault) => unrun(alloc, fault, host),
     }
 }

@@ -33,11 +33,7 @@ pub(crate) fn work<D: Docs, H: Host, T: Tool, G: Gate>(
     ensures gate { G.asked crew.new.gate ≡ G.asked crew.old.gate }
 {
     match read_joint(alloc, docs, name) {
-        Ok(surveyed) => {
-            let worked = alone::run_survey(alloc, &surveyed, host, crew);
-            drop(surveyed);
-            worked
-        }
+        Ok(surveyed) => alone::run_survey(alloc, surveyed, host, crew),
         Err(fault) => unrun(alloc, fault, host),
     }
 }
@@ -73,11 +69,7 @@ where
     ensures others { drop workers crew.new.items ≡ drop workers crew.old.items }
 {
     match read_joint(alloc, docs, name) {
-        Ok(surveyed) => {
-            let worked = run::run_survey(rt, alloc, workers, &surveyed, host, crew);
-            drop(surveyed);
-            worked
-        }
+        Ok(surveyed) => run::run_survey(rt, alloc, workers, surveyed, host, crew),
         Err(fault) => unrun(alloc, fault, host),
     }
 }

@@ -39,10 +39,12 @@ fn text_of(alloc: Global, ordered: &Ordered) -> Result<Vec<u8>, Memory>
 }
 
 /// The text of the plan of a surveyed request, or why there is none.
-fn plan_text(alloc: Global, surveyed: &Surveyed) -> Told
-    ensures { Says surveyed.now result.text.items result.answer }
+fn plan_text(alloc: Global, surveyed: Surveyed) -> Told
+    ensures { Says surveyed result.text.items result.answer }
 {
-    let ordered = match plan_survey(alloc, surveyed, TASK_LIMIT) {
+    let planned = plan_survey(alloc, &surveyed, TASK_LIMIT);
+    drop(surveyed);
+    let ordered = match planned {
         Ok(ordered) => ordered,
         Err(fault) => return at_once(alloc, of_plan_fault(fault)),
     };
@@ -63,11 +65,7 @@ pub(crate) fn work<D: Docs>(alloc: Global, name: &str, docs: &mut D) -> Told
         result.text.items result.answer }
 {
     match read_survey(alloc, docs, name) {
-        Ok(surveyed) => {
-            let told = plan_text(alloc, &surveyed);
-            drop(surveyed);
-            told
-        }
+        Ok(surveyed) => plan_text(alloc, surveyed),
         Err(fault) => at_once(alloc, fault),
     }
 }

@@ -74,18 +74,18 @@ fn tell_run<H: Host>(alloc: Global, plan: &Plan, ran: Ran<H>) -> Worked<H>
     }
 }
 
-/// Runs the plan of a surveyed request, and catalogues what it delivers.
+/// Runs the plan of a surveyed request, and catalogues what it delivers. The survey goes before the run.
 fn run_survey<H: Host, T: Tool, G: Gate>(
     alloc: Global,
-    surveyed: &Surveyed,
+    surveyed: Surveyed,
     host: H,
     crew: &mut Crew<T, G>,
 ) -> Worked<H>
-    requires named { AreFilesNamed surveyed.now.survey }
+    requires named { AreFilesNamed surveyed.survey }
     ensures works { (t : Tools)
         → Produces (working T.apply T.known (work_moment H.Host host (member_moment T.Tool G.Gate crew.old))
         (work_moment H.Host result.host (member_moment T.Tool G.Gate crew.new)))
-        t surveyed.now result.told.text.items result.told.answer }
+        t surveyed result.told.text.items result.told.answer }
     ensures gate { G.asked crew.new.gate ≡ G.asked crew.old.gate }
 {
     // Laws for the proof: they do nothing.
@@ -94,7 +94,9 @@ fn run_survey<H: Host, T: Tool, G: Gate>(
     complete_records_deliver();
     deliveries_can_be_written();
     written_files_keep_nothing();
-    let ordered = match ready_plan(alloc, surveyed, &crew.tool) {
+    let ready = ready_plan(alloc, &surveyed, &crew.tool);
+    drop(surveyed);
+    let ordered = match ready {
         Ok(ordered) => ordered,
         Err(fault) => return unrun(alloc, fault, host),
     };
@@ -126,11 +128,7 @@ pub(crate) fn work<D: Docs, H: Host, T: Tool, G: Gate>(
     ensures gate { G.asked crew.new.gate ≡ G.asked crew.old.gate }
 {
     match read_survey(alloc, docs, name) {
-        Ok(surveyed) => {
-            let worked = run_survey(alloc, &surveyed, host, crew);
-            drop(surveyed);
-            worked
-        }
+        Ok(surveyed) => run_survey(alloc, surveyed, host, crew),
         Err(fault) => unrun(alloc, fault, host),
     }
 }

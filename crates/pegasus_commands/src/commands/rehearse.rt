@@ -120,28 +120,31 @@ fn tell_end(alloc: Global, images: u32, figures: &Figures, ran: Ran<MemoryHost>)
 fn run_workload<T: Tool, G: Gate>(
     alloc: Global,
     images: u32,
-    surveyed: &Surveyed,
+    surveyed: Surveyed,
     host: MemoryHost,
     crew: &mut Crew<T, G>,
 ) -> Told
-    requires { IsPrepared images (prepared surveyed.now host) }
+    requires { IsPrepared images (prepared surveyed host) }
     ensures works { (m : WorkMoment) → let w = working T.apply T.known (with_first m (member_moment T.Tool G.Gate crew.old))
         (with_first m (member_moment T.Tool G.Gate crew.new)) in
-        Rehearses images 1 w (first_tool w) surveyed.now result.text.items result.answer }
+        Rehearses images 1 w (first_tool w) surveyed result.text.items result.answer }
     ensures gate { G.asked crew.new.gate ≡ G.asked crew.old.gate }
 {
     // Laws for the proof: they do nothing.
     ordered_plans_fit();
     plans_deliver_requests();
     complete_records_deliver();
-    let ordered = match ready_plan(alloc, surveyed, &crew.tool) {
+    let ordered = match ready_plan(alloc, &surveyed, &crew.tool) {
         Ok(ordered) => ordered,
         Err(fault) => {
+            drop(surveyed);
             drop(host);
             return at_once(alloc, fault);
         }
     };
-    let Some(figures) = figures_of(surveyed, &ordered) else {
+    let figures = figures_of(&surveyed, &ordered);
+    drop(surveyed);
+    let Some(figures) = figures else {
         drop(ordered);
         drop(host);
         return at_once(alloc, CallFault::Memory);
@@ -156,18 +159,18 @@ fn run_workload_by<R: Threads + Wait + Sync, T: Tool + Send, G: Gate + Send>(
     alloc: Global,
     images: u32,
     workers: u32,
-    surveyed: &Surveyed,
+    surveyed: Surveyed,
     host: MemoryHost,
     crew: &mut Vec<Crew<T, G>>,
 ) -> Told
-    requires prepared { IsPrepared images (prepared surveyed.now host) }
+    requires prepared { IsPrepared images (prepared surveyed host) }
     requires workers { AreFew workers }
     requires crew { length crew.old.items ≡ 16 }
     ensures works { (m : WorkMoment) → let before = crew_moment T.Tool G.Gate crew.old.items in
         let after = crew_moment T.Tool G.Gate crew.new.items in
         Rehearses images workers (working T.apply T.known (with_first m (first_shown before))
         (with_first m (first_shown after)))
-        (counting before after) surveyed.now result.text.items result.answer }
+        (counting before after) surveyed result.text.items result.answer }
     ensures crew { length crew.new.items ≡ 16 }
     ensures others { drop workers crew.new.items ≡ drop workers crew.old.items }
 {
@@ -175,14 +178,17 @@ fn run_workload_by<R: Threads + Wait + Sync, T: Tool + Send, G: Gate + Send>(
     ordered_plans_fit();
     plans_deliver_requests();
     complete_records_deliver();
-    let ordered = match ready_plan(alloc, surveyed, &crew[0].tool) {
+    let ordered = match ready_plan(alloc, &surveyed, &crew[0].tool) {
         Ok(ordered) => ordered,
         Err(fault) => {
+            drop(surveyed);
             drop(host);
             return at_once(alloc, fault);
         }
     };
-    let Some(figures) = figures_of(surveyed, &ordered) else {
+    let figures = figures_of(&surveyed, &ordered);
+    drop(surveyed);
+    let Some(figures) = figures else {
         drop(ordered);
         drop(host);
         return at_once(alloc, CallFault::Memory);
@@ -202,11 +208,7 @@ pub(crate) fn work<T: Tool, G: Gate>(alloc: Global, images: u32, crew: &mut Crew
     ensures gate { G.asked crew.new.gate ≡ G.asked crew.old.gate }
 {
     match prepare(alloc, images) {
-        Ok(Prepared { surveyed, host }) => {
-            let told = run_workload(alloc, images, &surveyed, host, crew);
-            drop(surveyed);
-            told
-        }
+        Ok(Prepared { surveyed, host }) => run_workload(alloc, images, surveyed, host, crew),
         Err(fault) => at_once(alloc, of_plan_fault(fault)),
     }
 }
@@ -232,11 +234,9 @@ pub(crate) fn work_by<R: Threads + Wait + Sync, T: Tool + Send, G: Gate + Send>(
     ensures others { drop workers crew.new.items ≡ drop workers crew.old.items }
 {
     match prepare(alloc, images) {
-        Ok(Prepared { surveyed, host }) => {
-            let told = run_workload_by(rt, alloc, images, workers, &surveyed, host, crew);
-            drop(surveyed);
-            told
-        }
+        Ok(Prepared { surveyed, host }) => run_workload_by(
+            rt, alloc, images, workers, surveyed, host, crew,
+        ),
         Err(fault) => at_once(alloc, of_plan_fault(fault)),
     }
 }

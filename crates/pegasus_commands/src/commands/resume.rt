@@ -41,7 +41,7 @@ fn ended<H: Host>(resumed: Resumed<H>) -> Worked<H>
 /// Goes on with a run of the plan of a surveyed request, from the record that was read.
 fn resume_recorded<H: Host, T: Tool, G: Gate>(
     alloc: Global,
-    recorded: &Recorded,
+    recorded: Recorded,
     host: H,
     crew: &mut Vec<Crew<T, G>>,
 ) -> Worked<H>
@@ -50,7 +50,7 @@ fn resume_recorded<H: Host, T: Tool, G: Gate>(
         let after = crew_moment T.Tool G.Gate crew.new.items in
         ResumesPlan (working T.apply T.known (work_moment H.Host host (first_shown before))
         (work_moment H.Host result.host (first_shown after)))
-        (counting before after) recorded.now result.told.text.items result.told.answer }
+        (counting before after) recorded result.told.text.items result.told.answer }
     ensures crew { length crew.new.items ≡ 16 }
     ensures gates { map (λ (c : Crew T G). G.asked c.gate) crew.new.items
         ≡ map (λ (c : Crew T G). G.asked c.gate) crew.old.items }
@@ -59,11 +59,19 @@ fn resume_recorded<H: Host, T: Tool, G: Gate>(
     ordered_plans_fit();
     plans_deliver_requests();
     complete_records_deliver();
-    let ordered = match ready_plan(alloc, &recorded.surveyed, &crew[0].tool) {
+    let Recorded { surveyed, bytes } = recorded;
+    let ready = ready_plan(alloc, &surveyed, &crew[0].tool);
+    drop(surveyed);
+    let ordered = match ready {
         Ok(ordered) => ordered,
-        Err(fault) => return unrun(alloc, fault, host),
+        Err(fault) => {
+            drop(bytes);
+            return unrun(alloc, fault, host);
+        }
     };
-    match record_in(alloc, &recorded.bytes) {
+    let history = record_in(alloc, &bytes);
+    drop(bytes);
+    match history {
         Ok(history) => {
             let resumed = resume_plan(alloc, ordered, &history, host, crew);
             drop(history);
@@ -96,11 +104,7 @@ pub(crate) fn work<D: Docs, H: Host, T: Tool, G: Gate>(
         ≡ map (λ (c : Crew T G). G.asked c.gate) crew.old.items }
 {
     match read_recorded(alloc, docs, name, history) {
-        Ok(recorded) => {
-            let worked = resume_recorded(alloc, &recorded, host, crew);
-            drop(recorded);
-            worked
-        }
+        Ok(recorded) => resume_recorded(alloc, recorded, host, crew),
         Err(fault) => unrun(alloc, fault, host),
     }
 }

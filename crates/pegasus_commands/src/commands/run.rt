@@ -20,12 +20,12 @@ use std::alloc::Global;
 use std::sync::Wait;
 use std::thread::Threads;
 
-/// Runs the plan of a surveyed request.
+/// Runs the plan of a surveyed request. The survey goes before the run, which has no need of it.
 pub(crate) fn run_survey<R: Threads + Wait + Sync, H: Host + Send, T: Tool + Send, G: Gate + Send>(
     rt: &R,
     alloc: Global,
     workers: u32,
-    surveyed: &Surveyed,
+    surveyed: Surveyed,
     host: H,
     crew: &mut Vec<Crew<T, G>>,
 ) -> Worked<H>
@@ -38,7 +38,7 @@ where
         let after = crew_moment T.Tool G.Gate crew.new.items in
         RunsMany workers (working T.apply T.known (work_moment H.Host host (first_shown before))
         (work_moment H.Host result.host (first_shown after)))
-        (counting before after) surveyed.now result.told.text.items result.told.answer }
+        (counting before after) surveyed result.told.text.items result.told.answer }
     ensures crew { length crew.new.items ≡ 16 }
     ensures others { drop workers crew.new.items ≡ drop workers crew.old.items }
 {
@@ -46,7 +46,9 @@ where
     ordered_plans_fit();
     plans_deliver_requests();
     complete_records_deliver();
-    match ready_plan(alloc, surveyed, &crew[0].tool) {
+    let ready = ready_plan(alloc, &surveyed, &crew[0].tool);
+    drop(surveyed);
+    match ready {
         Ok(ordered) => ended(run_plan_by(rt, alloc, workers, ordered, host, crew)),
         Err(fault) => unrun(alloc, fault, host),
     }
@@ -82,11 +84,7 @@ where
     ensures others { drop workers crew.new.items ≡ drop workers crew.old.items }
 {
     match read_survey(alloc, docs, name) {
-        Ok(surveyed) => {
-            let worked = run_survey(rt, alloc, workers, &surveyed, host, crew);
-            drop(surveyed);
-            worked
-        }
+        Ok(surveyed) => run_survey(rt, alloc, workers, surveyed, host, crew),
         Err(fault) => unrun(alloc, fault, host),
     }
 }

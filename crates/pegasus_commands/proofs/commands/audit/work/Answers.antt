@@ -1,9 +1,10 @@
 use Rattle.pegasus_commands.specs.code.Commands.Audit.{CanJudge, Judges, PrintsVerdict}
-use Rattle.pegasus_commands.proofs.RecordedLemmas.{record_stops, record_works}
+use Rattle.pegasus_commands.specs.code.Recorded.{record_of}
+use Rattle.pegasus_commands.proofs.InputSpecLemmas.{has_worked, is_stopped}
 use Rattle.pegasus_commands.proofs.commands.audit.work.Goals as goal
 
 pub returns-in-Err : goal.returns-in-Err
-returns-in-Err g c = λ w t same unused. record_stops c.args.name.now c.args.history.now (Judges PrintsVerdict) CanJudge _ _ _ c.in-Err.fault c.in-Err.ensures c.at_once.ensures.answer same unused c.at_once.ensures.text
+returns-in-Err g c = λ w t same unused. is_stopped (record_of c.args.name.now c.args.history.now) (Judges PrintsVerdict) CanJudge _ _ _ c.in-Err.fault c.in-Err.ensures c.at_once.ensures.answer same unused c.at_once.ensures.text
 
 pub returns-in-Ok : goal.returns-in-Ok
-returns-in-Ok g c = λ w t same unused. record_works c.args.name.now c.args.history.now (Judges PrintsVerdict) CanJudge _ _ _ c.in-Ok.recorded c.in-Ok.ensures (record { untouched = same; says = c.judged_text-told.ensures })
+returns-in-Ok g c = λ w t same unused. has_worked (record_of c.args.name.now c.args.history.now) (Judges PrintsVerdict) CanJudge _ _ _ c.in-Ok.recorded c.in-Ok.ensures (record { untouched = same; says = c.judged_text-told.ensures })

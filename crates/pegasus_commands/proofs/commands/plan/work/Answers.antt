@@ -1,9 +1,10 @@
 use Rattle.pegasus_commands.specs.code.Commands.Plan.{HasNoFault, Plans}
-use Rattle.pegasus_commands.proofs.SurveyLemmas.{survey_stops, survey_works}
+use Rattle.pegasus_commands.specs.code.Survey.{survey_of}
+use Rattle.pegasus_commands.proofs.InputSpecLemmas.{has_worked, is_stopped}
 use Rattle.pegasus_commands.proofs.commands.plan.work.Goals as goal
 
 pub returns-in-Err : goal.returns-in-Err
-returns-in-Err g c = λ w t same unused. survey_stops c.args.name.now Plans (λ w s. HasNoFault s) _ _ _ c.in-Err.fault c.in-Err.ensures c.at_once.ensures.answer same unused c.at_once.ensures.text
+returns-in-Err g c = λ w t same unused. is_stopped (survey_of c.args.name.now) Plans (λ w s. HasNoFault s) _ _ _ c.in-Err.fault c.in-Err.ensures c.at_once.ensures.answer same unused c.at_once.ensures.text
 
 pub returns-in-Ok : goal.returns-in-Ok
-returns-in-Ok g c = λ w t same unused. survey_works c.args.name.now Plans (λ w s. HasNoFault s) _ _ _ c.in-Ok.surveyed c.in-Ok.ensures (record { untouched = same; says = c.plan_text-told.ensures })
+returns-in-Ok g c = λ w t same unused. has_worked (survey_of c.args.name.now) Plans (λ w s. HasNoFault s) _ _ _ c.in-Ok.surveyed c.in-Ok.ensures (record { untouched = same; says = c.plan_text.ensures })

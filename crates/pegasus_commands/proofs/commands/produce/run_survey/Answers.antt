@@ -10,7 +10,7 @@ use Rattle.pegasus_commands.proofs.commands.produce.run_survey.Goals as goal
 
 pub tell_run-worked-requires : goal.tell_run-worked-requires
 tell_run-worked-requires g c =
-    let s = c.args.surveyed.now in
+    let s = c.args.surveyed in
     let o = c.in-Ok.ordered in
     let p = o.plan in
     let order = task_numbers o.tasks.items in
@@ -35,7 +35,7 @@ tell_run-worked-requires g c =
 
 pub returns-in-Ok-copy-clause-works : goal.returns-in-Ok-copy-clause-works
 returns-in-Ok-copy-clause-works g c =
-    let s = c.args.surveyed.now in
+    let s = c.args.surveyed in
     let o = c.in-Ok.ordered in
     let p = o.plan in
     let order = task_numbers o.tasks.items in
@@ -66,11 +66,11 @@ returns-in-Err-copy-clause-works g c =
     let first = member_moment g.T.Tool g.G.Gate c.args.crew.now in
     let moment = work_moment g.H.Host c.args.host first in
     let w = working g.T.Tool.apply g.T.Tool.known moment moment in
-    λ t. rw c.unrun-in-Err-copy.ensures.host (inl (unrun_is w (first_tool w) c.args.surveyed.now _ _ Memory tt c.unrun-in-Err-copy.ensures.answer refl refl c.unrun-in-Err-copy.ensures.text))
+    λ t. rw c.unrun-in-Err-copy.ensures.host (inl (unrun_is w (first_tool w) c.args.surveyed _ _ Memory tt c.unrun-in-Err-copy.ensures.answer refl refl c.unrun-in-Err-copy.ensures.text))
 
 pub returns-in-Err-clause-works : goal.returns-in-Err-clause-works
 returns-in-Err-clause-works g c =
     let first = member_moment g.T.Tool g.G.Gate c.args.crew.now in
     let moment = work_moment g.H.Host c.args.host first in
     let w = working g.T.Tool.apply g.T.Tool.known moment moment in
-    λ t. rw c.unrun.ensures.host (inl (unrun_is w (first_tool w) c.args.surveyed.now _ _ c.in-Err.fault c.in-Err.ensures.readies c.unrun.ensures.answer refl refl c.unrun.ensures.text))
+    λ t. rw c.unrun.ensures.host (inl (unrun_is w (first_tool w) c.args.surveyed _ _ c.in-Err.fault c.in-Err.ensures.readies c.unrun.ensures.answer refl refl c.unrun.ensures.text))

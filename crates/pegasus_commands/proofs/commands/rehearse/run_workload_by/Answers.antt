@@ -8,7 +8,7 @@ use Rattle.pegasus_commands.proofs.commands.rehearse.run_workload_by.Goals as go
 
 pub returns-clause-works : goal.returns-clause-works
 returns-clause-works g c = λ m.
-    let s = c.args.surveyed.now in
+    let s = c.args.surveyed in
     let o = c.in-Ok.ordered in
     let fits = c.ordered_plans_fit.ensures o in
     let ran = c.run_plan_by-ran.result in

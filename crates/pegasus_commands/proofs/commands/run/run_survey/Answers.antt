@@ -8,7 +8,7 @@ use Rattle.pegasus_commands.proofs.commands.run.run_survey.Goals as goal
 
 pub returns-in-Ok-clause-works : goal.returns-in-Ok-clause-works
 returns-in-Ok-clause-works g c =
-    let s = c.args.surveyed.now in
+    let s = c.args.surveyed in
     let o = c.in-Ok.ordered in
     let p = o.plan in
     let order = task_numbers o.tasks.items in
@@ -34,4 +34,4 @@ returns-in-Err-clause-works g c =
     let old = crew_moment g.T.Tool g.G.Gate c.args.crew.now.items in
     let moment = work_moment g.H.Host c.args.host (first_shown old) in
     let w = working g.T.Tool.apply g.T.Tool.known moment moment in
-    rw c.unrun.ensures.host (inl (unrun_is w (counting old old) c.args.surveyed.now _ _ c.in-Err.fault c.in-Err.ensures.readies c.unrun.ensures.answer refl refl c.unrun.ensures.text))
+    rw c.unrun.ensures.host (inl (unrun_is w (counting old old) c.args.surveyed _ _ c.in-Err.fault c.in-Err.ensures.readies c.unrun.ensures.answer refl refl c.unrun.ensures.text))

@@ -1,11 +1,12 @@
 use Rattle.std.proofs.Common.{refl}
 use Rattle.pegasus_commands.specs.code.Commands.Run.{RunsMany}
 use Rattle.pegasus_commands.specs.code.PlanRun.{CanRun}
-use Rattle.pegasus_commands.proofs.SurveyLemmas.{survey_stops, survey_works}
+use Rattle.pegasus_commands.specs.code.Survey.{survey_of}
+use Rattle.pegasus_commands.proofs.InputSpecLemmas.{has_worked, is_stopped}
 use Rattle.pegasus_commands.proofs.commands.run.work.Goals as goal
 
 pub returns-in-Err-clause-does : goal.returns-in-Err-clause-does
-returns-in-Err-clause-does g c = rw c.unrun.ensures.host (survey_stops c.args.name.now (RunsMany c.args.workers) CanRun _ _ _ c.in-Err.fault c.in-Err.ensures c.unrun.ensures.answer refl refl c.unrun.ensures.text)
+returns-in-Err-clause-does g c = rw c.unrun.ensures.host (is_stopped (survey_of c.args.name.now) (RunsMany c.args.workers) CanRun _ _ _ c.in-Err.fault c.in-Err.ensures c.unrun.ensures.answer refl refl c.unrun.ensures.text)
 
 pub returns-in-Ok-clause-does : goal.returns-in-Ok-clause-does
-returns-in-Ok-clause-does g c = survey_works c.args.name.now (RunsMany c.args.workers) CanRun _ _ _ c.in-Ok.surveyed c.in-Ok.ensures c.run_survey-worked.ensures.works
+returns-in-Ok-clause-does g c = has_worked (survey_of c.args.name.now) (RunsMany c.args.workers) CanRun _ _ _ c.in-Ok.surveyed c.in-Ok.ensures c.run_survey.ensures.works

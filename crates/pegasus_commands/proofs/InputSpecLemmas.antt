@@ -1,4 +1,4 @@
--- Commands over the documents of one request: what ends them, and what keeps them from Done.
+-- What ends a command at its documents, and what keeps it from Done.
 use Rattle.std.proofs.Common.{◌≡◌, ℕ, List, [], length, refl, sym, ap, subst, ◌∙◌, inl, inr, arith}
 use Rattle.std.specs.Prelude.{◌⊎◌, Some, Result, Ok, Err}
 use Rattle.outside.specs.code.Counts.{Rose}
@@ -12,16 +12,14 @@ use Rattle.plan_request.specs.declared.request.PlanRequest.{PlanRequest}
 use Rattle.planner.specs.code.Course.{GraphRefuses, Refuses, SurveyEntry, surveyed}
 use Rattle.planner.specs.declared.plan_fault.PlanFault.{PlanFault}
 use Rattle.planner.specs.declared.plan_fault.PlanFault.TheVariants as plan
-use Rattle.planner.specs.declared.surveyed.Surveyed.{Surveyed}
 use Rattle.plan_run.specs.Moments.{Tools, Work}
-use Rattle.pegasus_commands.specs.declared.course.Requested.{Requested}
 use Rattle.pegasus_commands.specs.declared.fault.CallFault.{CallFault}
 use Rattle.pegasus_commands.specs.declared.fault.CallFault.TheVariants as faults
 use Rattle.pegasus_commands.specs.code.CommandSpec.{Does, Doing, Finishes, NoneRoseAtWork, NoneRoseIn}
-use Rattle.pegasus_commands.specs.code.Course.{ButMemory, Course, Gives, HasFailed, IsStep, documents, read_from}
+use Rattle.pegasus_commands.specs.code.Course.{ButMemory, Course, Gives, HasFailed, IsStep, read_from}
 use Rattle.pegasus_commands.specs.code.Fault.{Answer, IsDoneOrMemory, not_for, plan_answer}
 use Rattle.pegasus_commands.specs.Moments.{DocsMoment}
-use Rattle.pegasus_commands.specs.code.Survey.{GoesOn, IsSurveyed, MaySurvey, Stops, over_survey}
+use Rattle.pegasus_commands.specs.code.InputSpec.{GoesOn, InputSpec, MayGoOn, Stops, over}
 use Rattle.pegasus_commands.proofs.CourseLemmas.{result_again, told_gives}
 
 -- told documents give what they read, where no fault was counted
@@ -73,32 +71,31 @@ nothing_came faults.Memory a h = refl
 nothing_came {A} e a h = absurd (no_answer {A = A} e a h)
 
 -- documents that go on stop a command for want of memory alone
-stops_short : (name : List ℕ) (CanWork : Work → Surveyed → Type 0) (d : Doing) (e : CallFault) → MaySurvey name CanWork d.before.told d.work → NoneRoseIn d → Stops name d.before d.after e → e ≡ faults.Memory
-stops_short name CanWork d e may still (inl step) = nothing_came {A = Requested} e may.requested (told_step (documents name) d.before d.after may.files may.requested (Err e) may.told_is may.reads still.docs step)
-stops_short name CanWork d e may still (inr h) =
-    let same = came_as {A = Requested} h.requested may.requested (told_step (documents name) d.before d.after may.files may.requested (Ok h.requested) may.told_is may.reads still.docs h.came) in
-    let refuses = subst (λ (x : Requested). Refuses x.request x.documents h.fault) same h.refuses in
-    h.answers ∙ ap plan_answer (refused_short may.requested.request may.requested.documents may.said h.fault may.says may.sound refuses)
+stops_short : (k : InputSpec) (CanWork : Work → k.Inputs → Type 0) (d : Doing) (e : CallFault) → MayGoOn k CanWork d.before.told d.work → NoneRoseIn d → Stops k d.before d.after e → e ≡ faults.Memory
+stops_short k CanWork d e may still (inl step) = nothing_came {A = k.Given} e may.given (told_step k.course d.before d.after may.files may.given (Err e) may.told_is may.reads still.docs step)
+stops_short k CanWork d e may still (inr h) =
+    let same = came_as {A = k.Given} h.given may.given (told_step k.course d.before d.after may.files may.given (Ok h.given) may.told_is may.reads still.docs h.came) in
+    let refuses = subst (λ (x : k.Given). Refuses (k.requested x).request (k.requested x).documents h.fault) same h.refuses in
+    h.answers ∙ ap plan_answer (refused_short (k.requested may.given).request (k.requested may.given).documents may.said h.fault may.says may.sound refuses)
 
 pub of_memory : (e : CallFault) → e ≡ faults.Memory → IsDoneOrMemory (not_for e)
 of_memory e h = subst (λ (z : CallFault). IsDoneOrMemory (not_for z)) (sym h) tt
 
 -- The documents ended the command.
-pub survey_stops : (name : List ℕ) (Works : Work → Tools → Surveyed → List ℕ → Answer → Type 0) (CanWork : Work → Surveyed → Type 0) (d : Doing) (text : List ℕ) (answer : Answer) (e : CallFault)
-    → Stops name d.before d.after e → answer ≡ not_for e → d.work.after ≡ d.work.before → d.tools.after ≡ d.tools.before → text ≡ [] → Does (over_survey name Works CanWork) d text answer
-survey_stops name Works CanWork d text answer e stops is untouched unused none = inl (record { fault = e; comes = stops; answers = is; untouched = untouched; unused = unused; no_text = none })
+pub is_stopped : (k : InputSpec) (Works : Work → Tools → k.Inputs → List ℕ → Answer → Type 0) (CanWork : Work → k.Inputs → Type 0) (d : Doing) (text : List ℕ) (answer : Answer) (e : CallFault)
+    → Stops k d.before d.after e → answer ≡ not_for e → d.work.after ≡ d.work.before → d.tools.after ≡ d.tools.before → text ≡ [] → Does (over k Works CanWork) d text answer
+is_stopped k Works CanWork d text answer e stops is untouched unused none = inl (record { fault = e; comes = stops; answers = is; untouched = untouched; unused = unused; no_text = none })
 
 -- They let it go on, and it did its work.
-pub survey_works : (name : List ℕ) (Works : Work → Tools → Surveyed → List ℕ → Answer → Type 0) (CanWork : Work → Surveyed → Type 0) (d : Doing) (text : List ℕ) (answer : Answer) (s : Surveyed)
-    → GoesOn name d.before d.after s → Works d.work d.tools s text answer → Does (over_survey name Works CanWork) d text answer
-survey_works name Works CanWork d text answer s goes_on works = inr (record { inputs = s; comes = goes_on; works = works })
+pub has_worked : (k : InputSpec) (Works : Work → Tools → k.Inputs → List ℕ → Answer → Type 0) (CanWork : Work → k.Inputs → Type 0) (d : Doing) (text : List ℕ) (answer : Answer) (i : k.Inputs)
+    → GoesOn k d.before d.after i → Works d.work d.tools i text answer → Does (over k Works CanWork) d text answer
+has_worked k Works CanWork d text answer i goes_on works = inr (record { inputs = i; comes = goes_on; works = works })
 
--- What finishes over each survey finishes.
-pub survey_finishes : (name : List ℕ) (Works : Work → Tools → Surveyed → List ℕ → Answer → Type 0) (CanWork : Work → Surveyed → Type 0)
-    → ((w : Work) (t : Tools) (s : Surveyed) (text : List ℕ) (a : Answer) → Works w t s text a → CanWork w s → NoneRoseAtWork w t → IsDoneOrMemory a) → Finishes (over_survey name Works CanWork)
-survey_finishes name Works CanWork each d text a (inl h) may still = subst IsDoneOrMemory (sym h.answers) (of_memory h.fault (stops_short name CanWork d h.fault may still h.comes))
-survey_finishes name Works CanWork each d text a (inr h) may still =
-    let on : GoesOn name d.before d.after h.inputs = h.comes in
-    let came = came_as {A = Requested} on.requested may.requested (told_step (documents name) d.before d.after may.files may.requested (Ok on.requested) may.told_is may.reads still.docs on.came) in
-    let surveyed = subst (λ (x : Requested). IsSurveyed x h.inputs) came on.surveyed in
-    each d.work d.tools h.inputs text a h.works (may.can_work h.inputs surveyed) still.work
+-- What finishes over all that documents make finishes.
+pub finishes_over : (k : InputSpec) (Works : Work → Tools → k.Inputs → List ℕ → Answer → Type 0) (CanWork : Work → k.Inputs → Type 0)
+    → ((w : Work) (t : Tools) (i : k.Inputs) (text : List ℕ) (a : Answer) → Works w t i text a → CanWork w i → NoneRoseAtWork w t → IsDoneOrMemory a) → Finishes (over k Works CanWork)
+finishes_over k Works CanWork each d text a (inl h) may still = subst IsDoneOrMemory (sym h.answers) (of_memory h.fault (stops_short k CanWork d h.fault may still h.comes))
+finishes_over k Works CanWork each d text a (inr h) may still =
+    let on : GoesOn k d.before d.after h.inputs = h.comes in
+    let came = came_as {A = k.Given} on.given may.given (told_step k.course d.before d.after may.files may.given (Ok on.given) may.told_is may.reads still.docs on.came) in
+    each d.work d.tools h.inputs text a h.works (may.can_work h.inputs (subst (λ (x : k.Given). k.Makes x h.inputs) came on.makes)) still.work
