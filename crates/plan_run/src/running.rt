@@ -60,10 +60,10 @@ pub(crate) fn out_of_memory<H: Host>(alloc: Global, host: H) -> Ran<H>
 
 /// How a run that is over ended.
 fn end_of<H: Host, T: Tool>(alloc: Global, yard: &Yard<H, T>) -> Result<(), RunFault>
-    requires over { IsComplete yard.now.ordered.plan (state_at yard.now.book)
+    requires over { IsComplete yard.now.ordered.value.plan (state_at yard.now.book)
         ⊎ ((state_at yard.now.book).failing ≡ true) }
-    ensures { EndsAs yard.now.ordered.plan
-        (task_numbers yard.now.ordered.tasks.items) yard.now.book.history.events result }
+    ensures { EndsAs yard.now.ordered.value.plan
+        (task_numbers yard.now.ordered.value.tasks.items) yard.now.book.history.events result }
 {
     match yard.ending(alloc) {
         Ok(()) => Ok(()),
@@ -73,7 +73,7 @@ fn end_of<H: Host, T: Tool>(alloc: Global, yard: &Yard<H, T>) -> Result<(), RunF
 
 /// The record of a run, and what was delivered since the yard's opening.
 fn report_of<H: Host, T: Tool>(alloc: Global, yard: &Yard<H, T>) -> Result<Report, Memory>
-    ensures { IfOk result (λ x. IsReportSince T.apply yard.now.ordered.plan
+    ensures { IfOk result (λ x. IsReportSince T.apply yard.now.ordered.value.plan
         (take yard.now.opened yard.now.book.history.events)
         (drop yard.now.opened yard.now.book.history.events)
         (marked_if (H.told yard.now.host) (H.marked yard.now.host))
@@ -97,11 +97,11 @@ fn report_of<H: Host, T: Tool>(alloc: Global, yard: &Yard<H, T>) -> Result<Repor
 /// The end and the report of a run that is over, and its host. Of a yard that was opened with a record it tells what was
 /// delivered since.
 pub fn end_run<H: Host, T: Tool>(alloc: Global, yard: Yard<H, T>) -> Ran<H>
-    requires over { IsComplete yard.ordered.plan (state_at yard.book)
+    requires over { IsComplete yard.ordered.value.plan (state_at yard.book)
         ⊎ ((state_at yard.book).failing ≡ true) }
-    ensures ends { EndsAs yard.ordered.plan
-        (task_numbers yard.ordered.tasks.items) yard.book.history.events result.end }
-    ensures reports { ReportsSince T.apply yard.ordered.plan (take yard.opened yard.book.history.events)
+    ensures ends { EndsAs yard.ordered.value.plan
+        (task_numbers yard.ordered.value.tasks.items) yard.book.history.events result.end }
+    ensures reports { ReportsSince T.apply yard.ordered.value.plan (take yard.opened yard.book.history.events)
         (drop yard.opened yard.book.history.events)
         (marked_if (H.told yard.host) (H.marked yard.host))
         (reporting result.history result.text.items result.delivered.items) result.end }

@@ -29,10 +29,10 @@ struct RanBy<H: Host, T: Tool, G: Gate> {
 /// The end and the report of a run that is over, or that there was no memory to begin, and its host.
 fn end_many<H: Host, T: Tool>(alloc: Global, yard: Yard<H, T>, unstarted: bool) -> Ran<H>
     requires over { unstarted ≡ false
-        → IsComplete yard.ordered.plan (state_at yard.book) ⊎ ((state_at yard.book).failing ≡ true) }
-    ensures ends { EndsAs yard.ordered.plan
-        (task_numbers yard.ordered.tasks.items) yard.book.history.events result.end }
-    ensures reports { ReportsSince T.apply yard.ordered.plan (take yard.opened yard.book.history.events)
+        → IsComplete yard.ordered.value.plan (state_at yard.book) ⊎ ((state_at yard.book).failing ≡ true) }
+    ensures ends { EndsAs yard.ordered.value.plan
+        (task_numbers yard.ordered.value.tasks.items) yard.book.history.events result.end }
+    ensures reports { ReportsSince T.apply yard.ordered.value.plan (take yard.opened yard.book.history.events)
         (drop yard.opened yard.book.history.events)
         (marked_if (H.told yard.host) (H.marked yard.host))
         (reporting result.history result.text.items result.delivered.items) result.end }

@@ -42,16 +42,16 @@ fn redo_one<H: Host, T: Tool, G: Gate>(
     requires member { lost.worker < length crew.old.items }
     ensures redoes { RedoesOne lost yard.old.book.history.events yard.new.book.history.events
         (crew_moment T.Tool G.Gate crew.old.items) (crew_moment T.Tool G.Gate crew.new.items) result }
-    ensures calls { AddsCalls yard.old.ordered.plan yard.old.book.history.events yard.new.book.history.events
+    ensures calls { AddsCalls yard.old.ordered.value.plan yard.old.book.history.events yard.new.book.history.events
         (H.counts yard.old.host) (H.counts yard.new.host) }
-    ensures inputs { AddsOfInputs T.apply yard.old.ordered.plan yard.old.book.history.events
+    ensures inputs { AddsOfInputs T.apply yard.old.ordered.value.plan yard.old.book.history.events
         yard.new.book.history.events }
     ensures crew { length crew.new.items ≡ length crew.old.items }
     ensures asked { map (λ (c : Crew T G). G.asked c.gate) crew.new.items
         ≡ map (λ (c : Crew T G). G.asked c.gate) crew.old.items }
     ensures told { AreToldOf yard.old.book.history.events yard.new.book.history.events
         (crew_moment T.Tool G.Gate crew.old.items) (crew_moment T.Tool G.Gate crew.new.items) }
-    ensures runs { AreRunsWithin yard.old.ordered.plan yard.old.book.history.events
+    ensures runs { AreRunsWithin yard.old.ordered.value.plan yard.old.book.history.events
         yard.new.book.history.events (crew_moment T.Tool G.Gate crew.old.items)
         (crew_moment T.Tool G.Gate crew.new.items) }
     ensures same { IsSameYard yard.old yard.new }
@@ -70,12 +70,12 @@ pub fn redo<H: Host, T: Tool, G: Gate>(
     crew: &mut Vec<Crew<T, G>>,
 ) -> Yard<H, T>
     requires members { 16 ≤ length crew.old.items }
-    requires lost { lost.now ≡ lost_below (state_at yard.book) (count_tasks yard.ordered.plan) }
-    ensures redoes { Redoes yard.ordered.plan
-        (task_numbers yard.ordered.tasks.items) yard.book.history.events result.book.history.events lost.now }
-    ensures calls { AddsCalls yard.ordered.plan yard.book.history.events result.book.history.events
+    requires lost { lost.now ≡ lost_below (state_at yard.book) (count_tasks yard.ordered.value.plan) }
+    ensures redoes { Redoes yard.ordered.value.plan
+        (task_numbers yard.ordered.value.tasks.items) yard.book.history.events result.book.history.events lost.now }
+    ensures calls { AddsCalls yard.ordered.value.plan yard.book.history.events result.book.history.events
         (H.counts yard.host) (H.counts result.host) }
-    ensures inputs { AddsOfInputs T.apply yard.ordered.plan yard.book.history.events
+    ensures inputs { AddsOfInputs T.apply yard.ordered.value.plan yard.book.history.events
         result.book.history.events }
     ensures tools { AddsFaults yard.book.history.events result.book.history.events
         (crew_moment T.Tool G.Gate crew.old.items) (crew_moment T.Tool G.Gate crew.new.items) }
@@ -84,7 +84,7 @@ pub fn redo<H: Host, T: Tool, G: Gate>(
         ≡ map (λ (c : Crew T G). G.asked c.gate) crew.old.items }
     ensures told { AreToldOf yard.book.history.events result.book.history.events
         (crew_moment T.Tool G.Gate crew.old.items) (crew_moment T.Tool G.Gate crew.new.items) }
-    ensures runs { AreRunsWithin yard.ordered.plan yard.book.history.events result.book.history.events
+    ensures runs { AreRunsWithin yard.ordered.value.plan yard.book.history.events result.book.history.events
         (crew_moment T.Tool G.Gate crew.old.items) (crew_moment T.Tool G.Gate crew.new.items) }
     ensures same { IsSameYard yard result }
 {

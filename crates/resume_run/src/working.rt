@@ -28,20 +28,20 @@ pub(crate) fn work_on<H: Host, T: Tool, G: Gate>(
     crew: &mut Vec<Crew<T, G>>,
 ) -> Yard<H, T>
     requires members { 16 ≤ length crew.old.items }
-    requires lost { lost.now ≡ lost_below (state_at yard.book) (count_tasks yard.ordered.plan) }
-    ensures works { WorksOn yard.ordered.plan
-        (task_numbers yard.ordered.tasks.items) yard.book.history.events result.book.history.events
+    requires lost { lost.now ≡ lost_below (state_at yard.book) (count_tasks yard.ordered.value.plan) }
+    ensures works { WorksOn yard.ordered.value.plan
+        (task_numbers yard.ordered.value.tasks.items) yard.book.history.events result.book.history.events
         (crew_moment T.Tool G.Gate crew.old.items) (crew_moment T.Tool G.Gate crew.new.items) }
-    ensures calls { AddsCalls yard.ordered.plan yard.book.history.events result.book.history.events
+    ensures calls { AddsCalls yard.ordered.value.plan yard.book.history.events result.book.history.events
         (H.counts yard.host) (H.counts result.host) }
-    ensures inputs { AddsOfInputs T.apply yard.ordered.plan yard.book.history.events
+    ensures inputs { AddsOfInputs T.apply yard.ordered.value.plan yard.book.history.events
         result.book.history.events }
     ensures crew { length crew.new.items ≡ length crew.old.items }
     ensures asked { map (λ (c : Crew T G). G.asked c.gate) crew.new.items
         ≡ map (λ (c : Crew T G). G.asked c.gate) crew.old.items }
     ensures told { AreToldOf yard.book.history.events result.book.history.events
         (crew_moment T.Tool G.Gate crew.old.items) (crew_moment T.Tool G.Gate crew.new.items) }
-    ensures runs { AreRunsWithin yard.ordered.plan yard.book.history.events result.book.history.events
+    ensures runs { AreRunsWithin yard.ordered.value.plan yard.book.history.events result.book.history.events
         (crew_moment T.Tool G.Gate crew.old.items) (crew_moment T.Tool G.Gate crew.new.items) }
     ensures same { IsSameYard yard result }
 {

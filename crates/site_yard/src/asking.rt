@@ -24,10 +24,10 @@ use std::alloc::Global;
 impl<H: Host, T: Tool> Yard<H, T> {
     /// The record is Legal; a host that tells shows its entries since the opening, and the host's counts their failures.
     pub fn agrees(&self)
-        ensures legal { ∥ Legal self.now.ordered.plan
-            (task_numbers self.now.ordered.tasks.items) self.now.book.history.events ∥₁ }
+        ensures legal { ∥ Legal self.now.ordered.value.plan
+            (task_numbers self.now.ordered.value.tasks.items) self.now.book.history.events ∥₁ }
         ensures shows { ∥ IfSome (H.told self.now.host)
-            (AgreesSince T.apply self.now.ordered.plan (take self.now.opened self.now.book.history.events)
+            (AgreesSince T.apply self.now.ordered.value.plan (take self.now.opened self.now.book.history.events)
             (drop self.now.opened self.now.book.history.events) (H.marked self.now.host)) ∥₁ }
         ensures counted { ∥ AreCounted (H.told self.now.host) self.now.faults self.now.misses
             (H.counts self.now.host) (drop self.now.opened self.now.book.history.events) ∥₁ }
@@ -39,17 +39,16 @@ impl<H: Host, T: Tool> Yard<H, T> {
 
     /// Why the run failed, by its first Fail.
     pub fn ending(&self, alloc: Global) -> Result<(), RunFault>
-        requires over { IsComplete self.now.ordered.plan (state_at self.now.book)
+        requires over { IsComplete self.now.ordered.value.plan (state_at self.now.book)
             ⊎ ((state_at self.now.book).failing ≡ true) }
-        ensures ends { Ends self.now.ordered.plan self.now.book.history.events result }
-        ensures done { IfOk result (λ u. IsComplete self.now.ordered.plan (state_at self.now.book)) }
+        ensures ends { Ends self.now.ordered.value.plan self.now.book.history.events result }
+        ensures done { IfOk result (λ u. IsComplete self.now.ordered.value.plan (state_at self.now.book)) }
     {
         plan_laws();
         record_laws();
-        let ordered = &self.ordered;
         match first_failed(self.book.record()) {
             None => Ok(()),
-            Some(failed) => match run_fault(ordered.plan(), alloc, failed.task, &failed.cause) {
+            Some(failed) => match run_fault(self.book.plan(), alloc, failed.task, &failed.cause) {
                 Ok(fault) => Err(fault),
                 Err(_) => Err(RunFault::Memory),
             },
@@ -58,15 +57,15 @@ impl<H: Host, T: Tool> Yard<H, T> {
 
     /// What was delivered since the opening, in the order of the record.
     pub fn delivered(&self) -> &[Delivered]
-        ensures files { AreFiles result.now (arrivals self.now.ordered.plan
+        ensures files { AreFiles result.now (arrivals self.now.ordered.value.plan
             (drop self.now.opened self.now.book.history.events)) }
         ensures lengths { AreLengths result.now
-            (arrivals self.now.ordered.plan (drop self.now.opened self.now.book.history.events)) }
-        ensures digests { IsOpening T.apply self.now.ordered.plan
+            (arrivals self.now.ordered.value.plan (drop self.now.opened self.now.book.history.events)) }
+        ensures digests { IsOpening T.apply self.now.ordered.value.plan
             (take self.now.opened self.now.book.history.events) (H.marked self.now.host)
             → IfSome (H.told self.now.host) (λ s. AreDigests
-            (carries T.apply self.now.ordered.plan (H.marked self.now.host)) result.now
-            (arrivals self.now.ordered.plan (drop self.now.opened self.now.book.history.events))) }
+            (carries T.apply self.now.ordered.value.plan (H.marked self.now.host)) result.now
+            (arrivals self.now.ordered.value.plan (drop self.now.opened self.now.book.history.events))) }
         ensures of_bytes { AreOfBytes result.now }
     {
         &self.delivered
@@ -74,10 +73,9 @@ impl<H: Host, T: Tool> Yard<H, T> {
 
     /// The plan of the record.
     pub fn plan(&self) -> &Plan
-        ensures { result.now ≡ self.now.ordered.plan }
+        ensures { result.now ≡ self.now.ordered.value.plan }
     {
-        let ordered = &self.ordered;
-        ordered.plan()
+        self.book.plan()
     }
 
     pub fn book(&self) -> &Book

@@ -39,7 +39,7 @@ impl<H: Host, T: Tool> Chronicle for Yard<H, T> {
     type Item = JournalEntry;
 
     ghost charter = { λ y. record {
-      ordered = y.ordered;
+      ordered = y.ordered.value;
       opened = take y.opened y.book.history.events;
       marked = H.marked y.host;
       tells = is_some (H.told y.host);

@@ -29,8 +29,7 @@ impl<H: Host, T: Tool> Yard<H, T> {
     {
         plan_laws();
         record_laws();
-        let ordered = &self.ordered;
-        match sweep_pair(ordered.plan(), &mut self.host, alloc, pair) {
+        match sweep_pair(self.book.plan(), &mut self.host, alloc, pair) {
             Ok(()) => {
                 self.book.clean(worker, task);
                 Leased::Swept(task)
@@ -45,15 +44,14 @@ impl<H: Host, T: Tool> Yard<H, T> {
     /// The next task that may begin: granted, or, where it is a Clean, swept.
     pub fn lease(&mut self, alloc: Global, worker: u32) -> Leased
         requires { worker < 16 }
-        ensures leased { Leases self.old.ordered.plan
+        ensures leased { Leases self.old.ordered.value.plan
             (state_at self.old.book) worker self.old.book.history.events self.new.book.history.events
             (H.told self.old.host) (H.counts self.old.host) (H.counts self.new.host) result }
         ensures same { IsSameYard self.old self.new }
     {
         match self.book.next(worker) {
             Next::Task(task) => {
-                let ordered = &self.ordered;
-                match swept_pair(ordered.plan(), task) {
+                match swept_pair(self.book.plan(), task) {
                     Some(pair) => self.sweep(alloc, worker, task, pair),
                     None => Leased::Granted(task),
                 }

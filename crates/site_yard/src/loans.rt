@@ -34,22 +34,21 @@ impl<H: Host, T: Tool> Yard<H, T> {
     pub fn lend(&mut self, alloc: Global, worker: u32, task: TaskId) -> Option<Loan<H>>
         requires open { IsOpen (state_at self.old.book) worker task.0 }
         ensures history { IfSome result (λ l. self.new.book.history.events ≡ self.old.book.history.events) }
-        ensures lent { IfSome result (λ l. IsLent T.apply self.old.ordered.plan
+        ensures lent { IfSome result (λ l. IsLent T.apply self.old.ordered.value.plan
             (take self.old.opened self.old.book.history.events) (H.marked self.old.host)
             (H.told self.old.host) task.0 (map H.Reading.state l.readings.items)
             (map H.Draft.state l.drafts.items)) }
-        ensures asked { IfSome result (λ l. AreMore (count_parts self.old.ordered.plan task.0) 0 0
+        ensures asked { IfSome result (λ l. AreMore (count_parts self.old.ordered.value.plan task.0) 0 0
             (H.counts self.old.host) (H.counts self.new.host)) }
         ensures none { IfNone result (Adds self.old.book.history.events self.new.book.history.events
-            (IsFailure worker task.0) (TakesWithin (count_parts self.old.ordered.plan task.0))
+            (IsFailure worker task.0) (TakesWithin (count_parts self.old.ordered.value.plan task.0))
             (H.told self.old.host) (H.counts self.old.host) (H.counts self.new.host)) }
         ensures told { H.told self.new.host ≡ H.told self.old.host }
         ensures same { IsSameYard self.old self.new }
     {
         plan_laws();
         record_laws();
-        let ordered = &self.ordered;
-        let made = make_loan(ordered.plan(), &mut self.host, alloc, task);
+        let made = make_loan(self.book.plan(), &mut self.host, alloc, task);
         if let Err(cause) = &made {
             self.book.fail(worker, task, cause, &[]);
         }
@@ -68,13 +67,13 @@ impl<H: Host, T: Tool> Yard<H, T> {
         digest: Option<[u8; 32]>,
     )
         requires open { IsOpen (state_at self.old.book) worker task.0 }
-        requires settles { CanSettle T.apply self.old.ordered.plan
+        requires settles { CanSettle T.apply self.old.ordered.value.plan
             (take self.old.opened self.old.book.history.events) (H.marked self.old.host)
             (H.told self.old.host) task.0 (map H.Reading.state loan.readings.items)
             (map H.Draft.state loan.drafts.items) sizes.now digest }
         ensures entry { Adds self.old.book.history.events self.new.book.history.events
-            (IsSettled self.old.ordered.plan worker task.0 sizes.now)
-            (TakesPublished (length (targets self.old.ordered.plan task.0))) (H.told self.old.host)
+            (IsSettled self.old.ordered.value.plan worker task.0 sizes.now)
+            (TakesPublished (length (targets self.old.ordered.value.plan task.0))) (H.told self.old.host)
             (H.counts self.old.host) (H.counts self.new.host) }
         ensures same { IsSameYard self.old self.new }
     {
@@ -89,8 +88,7 @@ impl<H: Host, T: Tool> Yard<H, T> {
                 self.book.fail(worker, task, &cause, &sizes[..done.count]);
             }
             None => {
-                let ordered = &self.ordered;
-                let plan = ordered.plan();
+                let plan = self.book.plan();
                 if plan.is_transfer(task) {
                     let size = only_size(sizes);
                     keep(plan, &mut self.delivered, task, size, digest);
@@ -105,21 +103,21 @@ impl<H: Host, T: Tool> Yard<H, T> {
     /// Gives the parts of a loan back, publishes nothing, and adds the failure that a worker tells. It takes no memory.
     pub fn abandon(&mut self, worker: u32, task: TaskId, loan: Loan<H>, cause: &Cause)
         requires open { IsOpen (state_at self.old.book) worker task.0 }
-        requires loan { IsLoan self.old.ordered.plan (H.told self.old.host) task.0
+        requires loan { IsLoan self.old.ordered.value.plan (H.told self.old.host) task.0
             (map H.Reading.state loan.readings.items) (map H.Draft.state loan.drafts.items) }
         requires kind { IsWorkers cause.now }
-        requires fits { CauseFits self.old.ordered.plan task.0 cause.now [] }
+        requires fits { CauseFits self.old.ordered.value.plan task.0 cause.now [] }
         requires shown { IsBehind (map H.Reading.state loan.readings.items)
             (map H.Draft.state loan.drafts.items) cause.now }
-        requires told { IsOpening T.apply self.old.ordered.plan
+        requires told { IsOpening T.apply self.old.ordered.value.plan
             (take self.old.opened self.old.book.history.events) (H.marked self.old.host)
-            → IsTold T.apply self.old.ordered.plan (H.marked self.old.host)
+            → IsTold T.apply self.old.ordered.value.plan (H.marked self.old.host)
             (H.told self.old.host) task.0 cause.now }
         ensures entry { self.new.book.history.events
-            ≡ self.old.book.history.events ++ failure self.old.ordered.plan
+            ≡ self.old.book.history.events ++ failure self.old.ordered.value.plan
             (state_at self.old.book) worker task.0 cause.now [] ∷ [] }
         ensures counted { IsCounted (H.told self.old.host) (H.counts self.old.host) (H.counts self.new.host)
-            (failure self.old.ordered.plan (state_at self.old.book) worker task.0 cause.now []) }
+            (failure self.old.ordered.value.plan (state_at self.old.book) worker task.0 cause.now []) }
         ensures asked { IsMore 0 (H.counts self.old.host).done (H.counts self.new.host).done }
         ensures told { H.told self.new.host ≡ H.told self.old.host }
         ensures same { IsSameYard self.old self.new }

@@ -16,6 +16,7 @@ use outside::{Host, HostFault, PairId, ReadPart, Tool};
 use plan_core::Plan;
 use std::alloc::Global;
 use std::marker::PhantomData;
+use std::snapshot::Snapshot;
 use storage_simulation::{Held, Ordered};
 
 /// The length of the file at a pair's name.
@@ -108,7 +109,7 @@ impl<H: Host, T: Tool> Yard<H, T> {
         requires plan { book.plan ≡ ordered.plan }
         requires order { book.order.items ≡ ordered.tasks.items }
         requires unfailing { (state_at book).failing ≡ false }
-        ensures ordered { IfOk result (λ y. y.ordered ≡ ordered) }
+        ensures ordered { IfOk result (λ y. y.ordered.value ≡ ordered) }
         ensures book { IfOk result (λ y. y.book ≡ book) }
         ensures told { IfOk result (λ y. H.told y.host ≡ H.told host) }
         ensures marked { IfOk result (λ y. IfSome (H.told host) (λ s. H.marked y.host ≡ s)) }
@@ -135,8 +136,10 @@ impl<H: Host, T: Tool> Yard<H, T> {
                 Ok(()) => match check_pairs(ordered.plan(), &book, &mut host, alloc) {
                     Err(fault) => fault,
                     Ok(()) => {
+                        let given = Snapshot::of(&ordered);
+                        drop(ordered);
                         return Ok(Yard {
-                            ordered,
+                            ordered: given,
                             book,
                             host,
                             faults,

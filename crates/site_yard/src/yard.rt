@@ -12,13 +12,14 @@ use lease_book::Book;
 use outside::{Host, Tool};
 use std::alloc::Global;
 use std::marker::PhantomData;
+use std::snapshot::Snapshot;
 use storage_simulation::Ordered;
 
 /// A plan's book, the host that holds what the book says, and what was delivered, with room for all deliveries. `opened` is
 /// how many entries it was opened with. It holds no tool: the type says what tools make.
 #[derive(Drop)]
 pub struct Yard<H: Host, T: Tool> {
-    pub(crate) ordered: Ordered,
+    pub(crate) ordered: Snapshot<Ordered>,
     pub(crate) book: Book,
     pub(crate) host: H,
     pub(crate) faults: u64,
@@ -26,8 +27,8 @@ pub struct Yard<H: Host, T: Tool> {
     pub(crate) opened: usize,
     pub(crate) delivered: Vec<Delivered>,
     pub(crate) tool: PhantomData<T>,
-    ghost same_plan: { book.plan ≡ ordered.plan },
-    ghost same_order: { book.order.items ≡ ordered.tasks.items },
+    ghost same_plan: { book.plan ≡ ordered.value.plan },
+    ghost same_order: { book.order.items ≡ ordered.value.tasks.items },
     ghost begun: { opened ≤ length book.history.events },
     ghost kept: { ∥ IsKept T.apply book.plan (task_numbers book.order.items)
         (take opened book.history.events) (drop opened book.history.events) (H.told host)
@@ -45,7 +46,7 @@ impl<H: Host, T: Tool> Yard<H, T> {
     /// has a pair once.
     pub fn open(alloc: Global, ordered: Ordered, host: H) -> Result<Yard<H, T>, OpenRefused<H>>
         requires { retries ordered.plan ≤ 10 }
-        ensures ordered { IfOk result (λ y. y.ordered ≡ ordered) }
+        ensures ordered { IfOk result (λ y. y.ordered.value ≡ ordered) }
         ensures history { IfOk result (λ y. y.book.history.events ≡ []) }
         ensures told { IfOk result (λ y. H.told y.host ≡ H.told host) }
         ensures marked { IfOk result (λ y. IfSome (H.told host) (λ s. H.marked y.host ≡ s)) }
@@ -70,11 +71,11 @@ impl<H: Host, T: Tool> Yard<H, T> {
                 Err(_) => OpenFault::Memory,
                 Ok(()) => match look(ordered.plan(), &mut host, alloc) {
                     Err(fault) => fault,
-                    Ok(()) => match Book::open(alloc, &ordered) {
-                        Err(_) => OpenFault::Memory,
-                        Ok(book) => {
-                            return Ok(Yard {
-                                ordered,
+                    Ok(()) => {
+                        let given = Snapshot::of(&ordered);
+                        return match Book::over(alloc, ordered) {
+                            Ok(book) => Ok(Yard {
+                                ordered: given,
                                 book,
                                 host,
                                 faults,
@@ -82,9 +83,14 @@ impl<H: Host, T: Tool> Yard<H, T> {
                                 opened: 0,
                                 delivered,
                                 tool: PhantomData,
-                            });
-                        }
-                    },
+                            }),
+                            Err(ordered) => Err(OpenRefused {
+                                fault: OpenFault::Memory,
+                                ordered,
+                                host,
+                            }),
+                        };
+                    }
                 },
             },
         };

@@ -95,6 +95,16 @@ impl Ordered {
     {
         peak_at(&self.peaks, site.0)
     }
+
+    /// The plan and the tasks in order, given over.
+    pub fn into_parts(self) -> (Plan, Vec<TaskId>)
+        ensures plan { result.0 ≡ self.plan }
+        ensures tasks { result.1 ≡ self.tasks }
+    {
+        let Ordered { plan, tasks, peaks } = self;
+        drop(peaks);
+        (plan, tasks)
+    }
 }
 
 /// The order of a plan from the start, on a bench.

@@ -24,15 +24,15 @@ pub fn run_alone<H: Host, T: Tool, G: Gate>(
     crew: &mut Crew<T, G>,
 ) -> Yard<H, T>
     requires { NoneOpen (state_at yard.book) }
-    ensures works { WorksAlone yard.ordered.plan
-        (task_numbers yard.ordered.tasks.items) yard.book.history.events result.book.history.events
+    ensures works { WorksAlone yard.ordered.value.plan
+        (task_numbers yard.ordered.value.tasks.items) yard.book.history.events result.book.history.events
         (T.faults crew.old.tool) (T.faults crew.new.tool) }
-    ensures calls { AddsCalls yard.ordered.plan yard.book.history.events result.book.history.events
+    ensures calls { AddsCalls yard.ordered.value.plan yard.book.history.events result.book.history.events
         (H.counts yard.host) (H.counts result.host) }
-    ensures inputs { AddsOfInputs T.apply yard.ordered.plan yard.book.history.events
+    ensures inputs { AddsOfInputs T.apply yard.ordered.value.plan yard.book.history.events
         result.book.history.events }
     ensures tool { T.faults crew.old.tool ≤ T.faults crew.new.tool }
-    ensures runs { RunsWithin yard.ordered.plan 0 yard.book.history.events result.book.history.events
+    ensures runs { RunsWithin yard.ordered.value.plan 0 yard.book.history.events result.book.history.events
         (T.runs crew.old.tool) (T.runs crew.new.tool) }
     ensures asked { G.asked crew.new.gate ≡ G.asked crew.old.gate }
     ensures told { IsToldOf 0 yard.book.history.events result.book.history.events

@@ -89,7 +89,7 @@ where
     H::Draft: Send,
     requires members { (0 < length crew.items) × (length crew.items ≤ 16) }
     requires empty { yard.book.history.events ≡ [] }
-    ensures ordered { result.yard.ordered ≡ yard.ordered }
+    ensures ordered { result.yard.ordered.value ≡ yard.ordered.value }
     ensures opened { take result.yard.opened result.yard.book.history.events
         ≡ take yard.opened yard.book.history.events }
     ensures marked { H.marked result.yard.host ≡ H.marked yard.host }
@@ -97,12 +97,12 @@ where
     ensures misses { result.yard.misses ≡ yard.misses }
     ensures tells { is_some (H.told result.yard.host) ≡ is_some (H.told yard.host) }
     ensures members { length result.crew.items ≡ length crew.items }
-    ensures works { WorksMany yard.ordered.plan (task_numbers yard.ordered.tasks.items)
+    ensures works { WorksMany yard.ordered.value.plan (task_numbers yard.ordered.value.tasks.items)
         (length crew.items) result.unstarted result.yard.book.history.events }
     ensures tools { AreToolsCounted result.yard.book.history.events
         (map (λ (c : Crew T G). T.faults c.tool) crew.items)
         (map (λ (c : Crew T G). T.faults c.tool) result.crew.items) }
-    ensures runs { AreToolsRun yard.ordered.plan result.yard.book.history.events
+    ensures runs { AreToolsRun yard.ordered.value.plan result.yard.book.history.events
         (map (λ (c : Crew T G). T.runs c.tool) crew.items)
         (map (λ (c : Crew T G). T.runs c.tool) result.crew.items) }
     ensures gates { AreGatesAsked result.yard.book.history.events
@@ -111,7 +111,7 @@ where
     ensures told { AreGatesTold result.yard.book.history.events
         (map (λ (c : Crew T G). G.told c.gate) crew.items)
         (map (λ (c : Crew T G). G.told c.gate) result.crew.items) }
-    ensures inputs { AreOfInputs T.apply yard.ordered.plan result.yard.book.history.events }
+    ensures inputs { AreOfInputs T.apply yard.ordered.value.plan result.yard.book.history.events }
     ensures unstarted { result.unstarted ≡ true
         → (result.yard.book.history.events ≡ []) × (result.crew.items ≡ crew.items) }
 {

@@ -31,12 +31,12 @@ pub fn do_task<H: Host, T: Tool, G: Gate>(
     requires { IsOpen (state_at yard.old.book) worker task.0 }
     ensures does { DoesTask worker yard.old.book.history.events yard.new.book.history.events task.0
         (T.faults crew.old.tool) (T.faults crew.new.tool) }
-    ensures calls { AddsCalls yard.old.ordered.plan yard.old.book.history.events yard.new.book.history.events
+    ensures calls { AddsCalls yard.old.ordered.value.plan yard.old.book.history.events yard.new.book.history.events
         (H.counts yard.old.host) (H.counts yard.new.host) }
-    ensures inputs { AddsOfInputs T.apply yard.old.ordered.plan yard.old.book.history.events
+    ensures inputs { AddsOfInputs T.apply yard.old.ordered.value.plan yard.old.book.history.events
         yard.new.book.history.events }
     ensures tool { T.faults crew.old.tool ≤ T.faults crew.new.tool }
-    ensures runs { RunsWithin yard.old.ordered.plan worker yard.old.book.history.events
+    ensures runs { RunsWithin yard.old.ordered.value.plan worker yard.old.book.history.events
         yard.new.book.history.events (T.runs crew.old.tool) (T.runs crew.new.tool) }
     ensures same { IsSameYard yard.old yard.new }
     ensures asked { G.asked crew.new.gate ≡ G.asked crew.old.gate }
@@ -59,15 +59,15 @@ pub(crate) fn step<H: Host, T: Tool, G: Gate>(
     crew: &mut Crew<T, G>,
 ) -> bool
     requires { NoneOpen (state_at yard.old.book) }
-    ensures steps { Steps yard.old.ordered.plan
+    ensures steps { Steps yard.old.ordered.value.plan
         (state_at yard.old.book) yard.old.book.history.events yard.new.book.history.events
         (state_at yard.new.book) (T.faults crew.old.tool) (T.faults crew.new.tool) result }
-    ensures calls { AddsCalls yard.old.ordered.plan yard.old.book.history.events yard.new.book.history.events
+    ensures calls { AddsCalls yard.old.ordered.value.plan yard.old.book.history.events yard.new.book.history.events
         (H.counts yard.old.host) (H.counts yard.new.host) }
-    ensures inputs { AddsOfInputs T.apply yard.old.ordered.plan yard.old.book.history.events
+    ensures inputs { AddsOfInputs T.apply yard.old.ordered.value.plan yard.old.book.history.events
         yard.new.book.history.events }
     ensures tool { T.faults crew.old.tool ≤ T.faults crew.new.tool }
-    ensures runs { RunsWithin yard.old.ordered.plan 0 yard.old.book.history.events
+    ensures runs { RunsWithin yard.old.ordered.value.plan 0 yard.old.book.history.events
         yard.new.book.history.events (T.runs crew.old.tool) (T.runs crew.new.tool) }
     ensures same { IsSameYard yard.old yard.new }
     ensures asked { G.asked crew.new.gate ≡ G.asked crew.old.gate }

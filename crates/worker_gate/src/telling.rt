@@ -40,7 +40,7 @@ pub(crate) fn lease_told<H: Host, T: Tool, G: Gate>(
     gate: &mut G,
 ) -> Leased
     requires { worker < 16 }
-    ensures leased { Leases yard.old.ordered.plan
+    ensures leased { Leases yard.old.ordered.value.plan
         (state_at yard.old.book) worker yard.old.book.history.events yard.new.book.history.events
         (H.told yard.old.host) (H.counts yard.old.host) (H.counts yard.new.host) result }
     ensures same { IsSameYard yard.old yard.new }
@@ -64,14 +64,14 @@ pub(crate) fn lend_told<H: Host, T: Tool, G: Gate>(
 ) -> Option<Loan<H>>
     requires open { IsOpen (state_at yard.old.book) worker task.0 }
     ensures history { IfSome result (λ l. yard.new.book.history.events ≡ yard.old.book.history.events) }
-    ensures lent { IfSome result (λ l. IsLent T.apply yard.old.ordered.plan
+    ensures lent { IfSome result (λ l. IsLent T.apply yard.old.ordered.value.plan
         (take yard.old.opened yard.old.book.history.events) (H.marked yard.old.host)
         (H.told yard.old.host) task.0 (map H.Reading.state l.readings.items)
         (map H.Draft.state l.drafts.items)) }
-    ensures asked { IfSome result (λ l. AreMore (count_parts yard.old.ordered.plan task.0) 0 0
+    ensures asked { IfSome result (λ l. AreMore (count_parts yard.old.ordered.value.plan task.0) 0 0
         (H.counts yard.old.host) (H.counts yard.new.host)) }
     ensures none { IfNone result (Adds yard.old.book.history.events yard.new.book.history.events
-        (IsFailure worker task.0) (TakesWithin (count_parts yard.old.ordered.plan task.0))
+        (IsFailure worker task.0) (TakesWithin (count_parts yard.old.ordered.value.plan task.0))
         (H.told yard.old.host) (H.counts yard.old.host) (H.counts yard.new.host)) }
     ensures told { H.told yard.new.host ≡ H.told yard.old.host }
     ensures same { IsSameYard yard.old yard.new }
@@ -96,16 +96,16 @@ pub(crate) fn finish_told<H: Host, T: Tool, G: Gate>(
     gate: &mut G,
 )
     requires open { IsOpen (state_at yard.old.book) worker task.0 }
-    requires can { CanFinish T.apply yard.old.ordered.plan
+    requires can { CanFinish T.apply yard.old.ordered.value.plan
         (take yard.old.opened yard.old.book.history.events) (H.marked yard.old.host)
         (H.told yard.old.host) task.0 (map H.Reading.state loan.readings.items)
         (map H.Draft.state loan.drafts.items) filled }
-    requires inputs { IsFilledOf T.apply yard.old.ordered.plan task.0 filled }
+    requires inputs { IsFilledOf T.apply yard.old.ordered.value.plan task.0 filled }
     ensures ends { EndsTask worker task.0
         (failures_in filled) yard.old.book.history.events yard.new.book.history.events }
-    ensures calls { EndsCalls yard.old.ordered.plan task.0 yard.old.book.history.events
+    ensures calls { EndsCalls yard.old.ordered.value.plan task.0 yard.old.book.history.events
         yard.new.book.history.events (H.counts yard.old.host) (H.counts yard.new.host) }
-    ensures inputs { AddsOfInputs T.apply yard.old.ordered.plan yard.old.book.history.events
+    ensures inputs { AddsOfInputs T.apply yard.old.ordered.value.plan yard.old.book.history.events
         yard.new.book.history.events }
     ensures same { IsSameYard yard.old yard.new }
     ensures asked { G.asked gate.new ≡ G.asked gate.old }

@@ -58,16 +58,16 @@ pub(crate) fn finish_at<H: Host, T: Tool>(
     filled: Result<Filled, Cause>,
 )
     requires open { IsOpen (state_at yard.old.book) worker task.0 }
-    requires can { CanFinish T.apply yard.old.ordered.plan
+    requires can { CanFinish T.apply yard.old.ordered.value.plan
         (take yard.old.opened yard.old.book.history.events) (H.marked yard.old.host)
         (H.told yard.old.host) task.0 (map H.Reading.state loan.readings.items)
         (map H.Draft.state loan.drafts.items) filled }
-    requires inputs { IsFilledOf T.apply yard.old.ordered.plan task.0 filled }
+    requires inputs { IsFilledOf T.apply yard.old.ordered.value.plan task.0 filled }
     ensures ends { EndsTask worker task.0
         (failures_in filled) yard.old.book.history.events yard.new.book.history.events }
-    ensures calls { EndsCalls yard.old.ordered.plan task.0 yard.old.book.history.events
+    ensures calls { EndsCalls yard.old.ordered.value.plan task.0 yard.old.book.history.events
         yard.new.book.history.events (H.counts yard.old.host) (H.counts yard.new.host) }
-    ensures inputs { AddsOfInputs T.apply yard.old.ordered.plan yard.old.book.history.events
+    ensures inputs { AddsOfInputs T.apply yard.old.ordered.value.plan yard.old.book.history.events
         yard.new.book.history.events }
     ensures same { IsSameYard yard.old yard.new }
 {

@@ -127,7 +127,7 @@ IsSettled p w t sizes _ = ⊥
 -- host told and counted then, and a host that tells where the other told. No count of the host has fallen.
 module _ {H T Reading Draft : Type 0} {h : host.Ghosts H Reading Draft} {r : _} {w : _} {t : _} where
   pub record IsSameYard (old new : Yard H T Reading Draft h r w t) : Type 0 where
-    pub ordered : new.ordered ≡ old.ordered
+    pub ordered : new.ordered.value ≡ old.ordered.value
     pub opened : new.opened ≡ old.opened
     pub marked : h.marked new.host ≡ h.marked old.host
     pub faults : new.faults ≡ old.faults

@@ -83,6 +83,6 @@ pub end_many-ran-requires : goal.end_many-ran-requires
 end_many-ran-requires g c =
     let y = c.run_many-end.result.yard in
     record {
-      over = λ begun. over_in y.book y.ordered.plan y.ordered.tasks.items y.same_plan y.same_order
+      over = λ begun. over_in y.book y.ordered.value.plan y.ordered.value.tasks.items y.same_plan y.same_order
           (subst (λ (o : Ordered). IsOver o.plan (now o.plan (task_numbers o.tasks.items) y.book.history.events)) (sym c.run_many-end.ensures.ordered) (c.run_many-end.ensures.works.over begun));
     }

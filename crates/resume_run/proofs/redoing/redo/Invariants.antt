@@ -11,12 +11,12 @@ use Rattle.resume_run.proofs.redoing.redo.Given as goal
 
 abbrev pub invariant-loop-one : goal.invariant-loop-one
 invariant-loop-one g l = record {
-  redone : HasRedone l.fn.yard.ordered.plan (task_numbers l.fn.yard.ordered.tasks.items) l.fn.yard.book.history.events l.yard.book.history.events l.lost l.one-index (crew_moment g.T.Tool g.G.Gate l.initial.crew.items) (crew_moment g.T.Tool g.G.Gate l.crew.items);
-  calls : AddsCalls l.fn.yard.ordered.plan l.fn.yard.book.history.events l.yard.book.history.events (g.H.Host.counts l.fn.yard.host) (g.H.Host.counts l.yard.host);
-  inputs : AddsOfInputs g.T.Tool.apply l.fn.yard.ordered.plan l.fn.yard.book.history.events l.yard.book.history.events;
+  redone : HasRedone l.fn.yard.ordered.value.plan (task_numbers l.fn.yard.ordered.value.tasks.items) l.fn.yard.book.history.events l.yard.book.history.events l.lost l.one-index (crew_moment g.T.Tool g.G.Gate l.initial.crew.items) (crew_moment g.T.Tool g.G.Gate l.crew.items);
+  calls : AddsCalls l.fn.yard.ordered.value.plan l.fn.yard.book.history.events l.yard.book.history.events (g.H.Host.counts l.fn.yard.host) (g.H.Host.counts l.yard.host);
+  inputs : AddsOfInputs g.T.Tool.apply l.fn.yard.ordered.value.plan l.fn.yard.book.history.events l.yard.book.history.events;
   crew : length l.crew.items ≡ length l.initial.crew.items;
   asked : map (λ (c : Crew g.row.T.Denot g.row.G.Denot). g.G.Gate.asked c.gate) l.crew.items ≡ map (λ (c : Crew g.row.T.Denot g.row.G.Denot). g.G.Gate.asked c.gate) l.initial.crew.items;
   told : AreToldOf l.fn.yard.book.history.events l.yard.book.history.events (crew_moment g.T.Tool g.G.Gate l.initial.crew.items) (crew_moment g.T.Tool g.G.Gate l.crew.items);
-  runs : AreRunsWithin l.fn.yard.ordered.plan l.fn.yard.book.history.events l.yard.book.history.events (crew_moment g.T.Tool g.G.Gate l.initial.crew.items) (crew_moment g.T.Tool g.G.Gate l.crew.items);
+  runs : AreRunsWithin l.fn.yard.ordered.value.plan l.fn.yard.book.history.events l.yard.book.history.events (crew_moment g.T.Tool g.G.Gate l.initial.crew.items) (crew_moment g.T.Tool g.G.Gate l.crew.items);
   same : IsSameYard l.fn.yard l.yard;
 }

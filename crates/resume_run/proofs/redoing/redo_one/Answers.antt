@@ -44,4 +44,4 @@ returns-clause-runs g c =
     let old : Crew g.row.T.Denot g.row.G.Denot = c.index_mut-member.result.now in
     let new : Crew g.row.T.Denot g.row.G.Denot = c.do_task.new.crew in
     let d = c.do_task.ensures.does in
-    used_runs (member_moment g.T.Tool g.G.Gate) c.args.yard.now.ordered.plan crew c.args.lost.worker old new c.args.yard.now.book.history.events c.do_task.new.yard.book.history.events (d.entry ∷ []) c.requires.member c.index_mut-member.ensures.value d.is c.do_task.ensures.runs
+    used_runs (member_moment g.T.Tool g.G.Gate) c.args.yard.now.ordered.value.plan crew c.args.lost.worker old new c.args.yard.now.book.history.events c.do_task.new.yard.book.history.events (d.entry ∷ []) c.requires.member c.index_mut-member.ensures.value d.is c.do_task.ensures.runs

@@ -19,7 +19,7 @@ returns-in-Err-clause-tools g c = none_counted c.in-Err.field-0.value.book.histo
 pub work_all-requires-after_bounds : goal.work_all-requires-after_bounds
 work_all-requires-after_bounds g c κs within =
     let y = c.args.yard in
-    let there = charter_with y.ordered (take y.opened y.book.history.events) (g.H.Host.marked y.host) (is_some (g.H.Host.told y.host)) y.faults y.misses in
+    let there = charter_with y.ordered.value (take y.opened y.book.history.events) (g.H.Host.marked y.host) (is_some (g.H.Host.told y.host)) y.faults y.misses in
     let first = c.in-Ok-new.first in
     let p = c.in-Ok-new.ensures.pass in
     let hs = c.deal.new.hands.items in
@@ -32,7 +32,7 @@ work_all-requires-after_bounds g c κs within =
 pub gather-pass-requires-clause-hands : goal.gather-pass-requires-clause-hands
 gather-pass-requires-clause-hands g c =
     let y = c.args.yard in
-    let there = charter_with y.ordered (take y.opened y.book.history.events) (g.H.Host.marked y.host) (is_some (g.H.Host.told y.host)) y.faults y.misses in
+    let there = charter_with y.ordered.value (take y.opened y.book.history.events) (g.H.Host.marked y.host) (is_some (g.H.Host.told y.host)) y.faults y.misses in
     let first = c.in-Ok-new.first in
     let lock = c.in-Ok-new.lock in
     let p = c.in-Ok-new.ensures.pass in
@@ -55,12 +55,12 @@ gather-pass-requires-clause-room g c =
     omega (arith, whole, same, many, c.deal.ensures.crew_room)
 
 -- the charter of the yard that comes back
-back : (g : given.Over) (c : goal.After-close g) → charter_with c.close.result.ordered (take c.close.result.opened c.close.result.book.history.events) (g.H.Host.marked c.close.result.host) (is_some (g.H.Host.told c.close.result.host)) c.close.result.faults c.close.result.misses ≡ charter_with c.args.yard.ordered (take c.args.yard.opened c.args.yard.book.history.events) (g.H.Host.marked c.args.yard.host) (is_some (g.H.Host.told c.args.yard.host)) c.args.yard.faults c.args.yard.misses
+back : (g : given.Over) (c : goal.After-close g) → charter_with c.close.result.ordered.value (take c.close.result.opened c.close.result.book.history.events) (g.H.Host.marked c.close.result.host) (is_some (g.H.Host.told c.close.result.host)) c.close.result.faults c.close.result.misses ≡ charter_with c.args.yard.ordered.value (take c.args.yard.opened c.args.yard.book.history.events) (g.H.Host.marked c.args.yard.host) (is_some (g.H.Host.told c.args.yard.host)) c.args.yard.faults c.args.yard.misses
 back g c =
     let y = c.args.yard in
     let z = c.close.result in
-    let there = charter_with y.ordered (take y.opened y.book.history.events) (g.H.Host.marked y.host) (is_some (g.H.Host.told y.host)) y.faults y.misses in
-    let here = charter_with z.ordered (take z.opened z.book.history.events) (g.H.Host.marked z.host) (is_some (g.H.Host.told z.host)) z.faults z.misses in
+    let there = charter_with y.ordered.value (take y.opened y.book.history.events) (g.H.Host.marked y.host) (is_some (g.H.Host.told y.host)) y.faults y.misses in
+    let here = charter_with z.ordered.value (take z.opened z.book.history.events) (g.H.Host.marked z.host) (is_some (g.H.Host.told z.host)) z.faults z.misses in
     let first = c.in-Ok-new.first in
     let lock = c.in-Ok-new.lock in
     let p = c.in-Ok-new.ensures.pass in
@@ -107,7 +107,7 @@ pub returns-in-Ok-new-clause-works : goal.returns-in-Ok-new-clause-works
 returns-in-Ok-new-clause-works g c =
     let y = c.args.yard in
     let z = c.close.result in
-    let there = charter_with y.ordered (take y.opened y.book.history.events) (g.H.Host.marked y.host) (is_some (g.H.Host.told y.host)) y.faults y.misses in
+    let there = charter_with y.ordered.value (take y.opened y.book.history.events) (g.H.Host.marked y.host) (is_some (g.H.Host.told y.host)) y.faults y.misses in
     let first = c.in-Ok-new.first in
     let lock = c.in-Ok-new.lock in
     let p = c.in-Ok-new.ensures.pass in
@@ -128,7 +128,7 @@ pub returns-in-Ok-new-clause-tools : goal.returns-in-Ok-new-clause-tools
 returns-in-Ok-new-clause-tools g c =
     let y = c.args.yard in
     let z = c.close.result in
-    let there = charter_with y.ordered (take y.opened y.book.history.events) (g.H.Host.marked y.host) (is_some (g.H.Host.told y.host)) y.faults y.misses in
+    let there = charter_with y.ordered.value (take y.opened y.book.history.events) (g.H.Host.marked y.host) (is_some (g.H.Host.told y.host)) y.faults y.misses in
     let first = c.in-Ok-new.first in
     let lock = c.in-Ok-new.lock in
     let p = c.in-Ok-new.ensures.pass in
@@ -144,16 +144,16 @@ returns-in-Ok-new-clause-tools g c =
     c.gather-pass.ensures.gathered c.close.ensures.items
 
 pub returns-in_default-clause-inputs : goal.returns-in_default-clause-inputs
-returns-in_default-clause-inputs g c = no_inputs g.T.Tool.apply c.args.yard.ordered.plan c.args.yard.book.history.events c.requires.empty
+returns-in_default-clause-inputs g c = no_inputs g.T.Tool.apply c.args.yard.ordered.value.plan c.args.yard.book.history.events c.requires.empty
 
 pub returns-in-Err-clause-inputs : goal.returns-in-Err-clause-inputs
-returns-in-Err-clause-inputs g c = no_inputs g.T.Tool.apply c.args.yard.ordered.plan c.in-Err.field-0.value.book.history.events (ap (λ y. y.book.history.events) c.in-Err.ensures.refused ∙ c.requires.empty)
+returns-in-Err-clause-inputs g c = no_inputs g.T.Tool.apply c.args.yard.ordered.value.plan c.in-Err.field-0.value.book.history.events (ap (λ y. y.book.history.events) c.in-Err.ensures.refused ∙ c.requires.empty)
 
 pub returns-in-Ok-new-clause-inputs : goal.returns-in-Ok-new-clause-inputs
 returns-in-Ok-new-clause-inputs g c =
     let y = c.args.yard in
     let z = c.close.result in
-    let there = charter_with y.ordered (take y.opened y.book.history.events) (g.H.Host.marked y.host) (is_some (g.H.Host.told y.host)) y.faults y.misses in
+    let there = charter_with y.ordered.value (take y.opened y.book.history.events) (g.H.Host.marked y.host) (is_some (g.H.Host.told y.host)) y.faults y.misses in
     let first = c.in-Ok-new.first in
     let lock = c.in-Ok-new.lock in
     let p = c.in-Ok-new.ensures.pass in
@@ -179,7 +179,7 @@ pub returns-in-Ok-new-clause-gates : goal.returns-in-Ok-new-clause-gates
 returns-in-Ok-new-clause-gates g c =
     let y = c.args.yard in
     let z = c.close.result in
-    let there = charter_with y.ordered (take y.opened y.book.history.events) (g.H.Host.marked y.host) (is_some (g.H.Host.told y.host)) y.faults y.misses in
+    let there = charter_with y.ordered.value (take y.opened y.book.history.events) (g.H.Host.marked y.host) (is_some (g.H.Host.told y.host)) y.faults y.misses in
     let first = c.in-Ok-new.first in
     let lock = c.in-Ok-new.lock in
     let p = c.in-Ok-new.ensures.pass in
@@ -205,7 +205,7 @@ pub returns-in-Ok-new-clause-told : goal.returns-in-Ok-new-clause-told
 returns-in-Ok-new-clause-told g c =
     let y = c.args.yard in
     let z = c.close.result in
-    let there = charter_with y.ordered (take y.opened y.book.history.events) (g.H.Host.marked y.host) (is_some (g.H.Host.told y.host)) y.faults y.misses in
+    let there = charter_with y.ordered.value (take y.opened y.book.history.events) (g.H.Host.marked y.host) (is_some (g.H.Host.told y.host)) y.faults y.misses in
     let first = c.in-Ok-new.first in
     let lock = c.in-Ok-new.lock in
     let p = c.in-Ok-new.ensures.pass in
@@ -222,16 +222,16 @@ returns-in-Ok-new-clause-told g c =
     (λ k d l. (get_or all k d).pass.own) c.gather-pass.ensures.gathered c.close.ensures.seen c.close.ensures.items
 
 pub returns-in_default-clause-runs : goal.returns-in_default-clause-runs
-returns-in_default-clause-runs g c = none_run c.args.yard.ordered.plan c.args.yard.book.history.events (map (λ m. g.T.Tool.runs m.tool) c.args.crew.items)
+returns-in_default-clause-runs g c = none_run c.args.yard.ordered.value.plan c.args.yard.book.history.events (map (λ m. g.T.Tool.runs m.tool) c.args.crew.items)
 
 pub returns-in-Err-clause-runs : goal.returns-in-Err-clause-runs
-returns-in-Err-clause-runs g c = none_run c.args.yard.ordered.plan c.in-Err.field-0.value.book.history.events (map (λ m. g.T.Tool.runs m.tool) c.args.crew.items)
+returns-in-Err-clause-runs g c = none_run c.args.yard.ordered.value.plan c.in-Err.field-0.value.book.history.events (map (λ m. g.T.Tool.runs m.tool) c.args.crew.items)
 
 pub returns-in-Ok-new-clause-runs : goal.returns-in-Ok-new-clause-runs
 returns-in-Ok-new-clause-runs g c =
     let y = c.args.yard in
     let z = c.close.result in
-    let there = charter_with y.ordered (take y.opened y.book.history.events) (g.H.Host.marked y.host) (is_some (g.H.Host.told y.host)) y.faults y.misses in
+    let there = charter_with y.ordered.value (take y.opened y.book.history.events) (g.H.Host.marked y.host) (is_some (g.H.Host.told y.host)) y.faults y.misses in
     let first = c.in-Ok-new.first in
     let lock = c.in-Ok-new.lock in
     let p = c.in-Ok-new.ensures.pass in

@@ -21,7 +21,7 @@ use Rattle.worker_gate.proofs.stepping.do_task.Goals as goal
 pub fill_loan-filled-requires-clause-parts : goal.fill_loan-filled-requires-clause-parts
 fill_loan-filled-requires-clause-parts g c =
     let y = c.args.yard.now in
-    let p = y.ordered.plan in
+    let p = y.ordered.value.plan in
     let first = take y.opened y.book.history.events in
     let m = g.H.Host.marked y.host in
     let o = g.H.Host.told y.host in
@@ -35,7 +35,7 @@ fill_loan-filled-requires-clause-parts g c =
 pub fill_loan-filled-requires-clause-start : goal.fill_loan-filled-requires-clause-start
 fill_loan-filled-requires-clause-start g c =
     let y = c.args.yard.now in
-    let p = y.ordered.plan in
+    let p = y.ordered.value.plan in
     let first = take y.opened y.book.history.events in
     let m = g.H.Host.marked y.host in
     let o = g.H.Host.told y.host in
@@ -47,7 +47,7 @@ fill_loan-filled-requires-clause-start g c =
 pub fill_loan-filled-requires-clause-empty : goal.fill_loan-filled-requires-clause-empty
 fill_loan-filled-requires-clause-empty g c =
     let y = c.args.yard.now in
-    let p = y.ordered.plan in
+    let p = y.ordered.value.plan in
     let first = take y.opened y.book.history.events in
     let m = g.H.Host.marked y.host in
     let o = g.H.Host.told y.host in
@@ -61,7 +61,7 @@ finish_told-requires-clause-can g c =
     let y = c.args.yard.now in
     let z = c.lend_told.new.yard in
     let e = c.in-Some.ensures in
-    let p = y.ordered.plan in
+    let p = y.ordered.value.plan in
     let first = take y.opened y.book.history.events in
     let m = g.H.Host.marked y.host in
     let o = g.H.Host.told y.host in
@@ -75,7 +75,7 @@ finish_told-requires-clause-can g c =
     let b = g.T.Tool.faults filled.new.tool in
     let proper = subst IsProper y.same_plan y.book.proper in
     let fills = subst (λ (q : Plan). Fills g.T.Tool.apply q t rs rs1 ds ds1 a b filled.result) (c.plan.ensures ∙ ap (λ x. x.plan) c.lend_told.ensures.same.ordered) filled.ensures.fills in
-    finish_then g.T.Tool.apply p z.ordered.plan first (take z.opened z.book.history.events) m (g.H.Host.marked z.host) o (g.H.Host.told z.host) t rs1 ds1 filled.result
+    finish_then g.T.Tool.apply p z.ordered.value.plan first (take z.opened z.book.history.events) m (g.H.Host.marked z.host) o (g.H.Host.told z.host) t rs1 ds1 filled.result
     (ap (λ x. x.plan) c.lend_told.ensures.same.ordered) (λ i. take (c.lend_told.ensures.same.opened i) (e.history i)) c.lend_told.ensures.same.marked c.lend_told.ensures.told
     (fills_finish g.T.Tool.apply p proper (c.plan_laws.ensures p proper) (c.runs_carry_what_they_compute.ensures g.T.Tool.apply) first m t rs rs1 ds ds1 o a b filled.result (lent_held g.T.Tool.apply p first m o t rs ds e.lent) fills)
 
@@ -83,7 +83,7 @@ pub finish_told-requires-clause-inputs : goal.finish_told-requires-clause-inputs
 finish_told-requires-clause-inputs g c =
     let y = c.args.yard.now in
     let e = c.in-Some.ensures in
-    let p = y.ordered.plan in
+    let p = y.ordered.value.plan in
     let first = take y.opened y.book.history.events in
     let m = g.H.Host.marked y.host in
     let o = g.H.Host.told y.host in
@@ -105,7 +105,7 @@ returns-in-Some-clause-calls g c =
     let y = c.args.yard.now in
     let z = c.lend_told.new.yard in
     let e = c.in-Some.ensures in
-    lent_then y.ordered.plan c.args.task.0 y.book.history.events z.book.history.events _ (g.H.Host.counts y.host) (g.H.Host.counts z.host) _ e.history e.asked
+    lent_then y.ordered.value.plan c.args.task.0 y.book.history.events z.book.history.events _ (g.H.Host.counts y.host) (g.H.Host.counts z.host) _ e.history e.asked
     (subst (λ (q : Plan). EndsCalls q c.args.task.0 z.book.history.events c.finish_told.new.yard.book.history.events (g.H.Host.counts z.host) (g.H.Host.counts c.finish_told.new.yard.host)) (ap (λ x. x.plan) c.lend_told.ensures.same.ordered) c.finish_told.ensures.calls) c.finish_told.ensures.same.later
 
 pub returns-in-Some-clause-asked : goal.returns-in-Some-clause-asked
@@ -116,7 +116,7 @@ returns-in-Some-clause-told g c = told_both c.args.worker c.args.yard.now.book.h
 
 pub returns-in-Some-clause-runs : goal.returns-in-Some-clause-runs
 returns-in-Some-clause-runs g c =
-    let p = c.args.yard.now.ordered.plan in
+    let p = c.args.yard.now.ordered.value.plan in
     let w = c.args.worker in
     let t = c.args.task.0 in
     let x = g.T.Tool.runs c.args.crew.now.tool in
@@ -128,4 +128,4 @@ returns-in-Some-clause-runs g c =
 pub returns-in_default-clause-runs : goal.returns-in_default-clause-runs
 returns-in_default-clause-runs g c =
     let told = c.lend_told.ensures.entered in
-    runs_still c.args.yard.now.ordered.plan c.args.worker c.args.yard.now.book.history.events c.lend_told.new.yard.book.history.events told.added (g.T.Tool.runs c.args.crew.now.tool) told.is
+    runs_still c.args.yard.now.ordered.value.plan c.args.worker c.args.yard.now.book.history.events c.lend_told.new.yard.book.history.events told.added (g.T.Tool.runs c.args.crew.now.tool) told.is

@@ -13,5 +13,5 @@ returns-clause-told g c =
     let many = c.len-before.ensures.events ∙ ap (λ (h : Log). length h.events) c.record.ensures.value ∙ ap (λ (b : Book). length b.history.events) c.book.ensures in
     let is = ap (λ (h : Log). h.events) c.record-2.ensures.value ∙ ap (λ (b : Book). b.history.events) c.book-2.ensures in
     told_as_seen c.args.worker y.book.history.events z.book.history.events c.record-2.result.now.events c.len-before.result (g.G.Gate.told c.args.gate.now) (g.G.Gate.told c.tell.new.gate) many is
-    (lease_adds y.ordered.plan (state_at y.book) c.args.worker y.book.history.events z.book.history.events (g.H.Host.told y.host) (g.H.Host.counts y.host) (g.H.Host.counts z.host) c.lease-leased.result c.lease-leased.ensures.leased)
+    (lease_adds y.ordered.value.plan (state_at y.book) c.args.worker y.book.history.events z.book.history.events (g.H.Host.told y.host) (g.H.Host.counts y.host) (g.H.Host.counts z.host) c.lease-leased.result c.lease-leased.ensures.leased)
     c.tell.ensures.told

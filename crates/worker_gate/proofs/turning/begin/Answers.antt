@@ -21,7 +21,7 @@ give-requires-clause-charter g c =
     let y = c.take-yard.result in
     let z = c.lend_told-lent.new.yard in
     let e = c.lend_told-lent.ensures in
-    charter_kept _ y.ordered z.ordered (take y.opened y.book.history.events) (take z.opened z.book.history.events) (g.H.Host.marked y.host) (g.H.Host.marked z.host) (is_some (g.H.Host.told y.host)) (is_some (g.H.Host.told z.host)) y.faults z.faults y.misses z.misses (c.take-yard.ensures.same.charter ∙ c.take-yard.ensures.charter) e.same.ordered
+    charter_kept _ y.ordered.value z.ordered.value (take y.opened y.book.history.events) (take z.opened z.book.history.events) (g.H.Host.marked y.host) (g.H.Host.marked z.host) (is_some (g.H.Host.told y.host)) (is_some (g.H.Host.told z.host)) y.faults z.faults y.misses z.misses (c.take-yard.ensures.same.charter ∙ c.take-yard.ensures.charter) e.same.ordered
     (opened_kept c.worker.result y.opened z.opened y.book.history.events z.book.history.events y.begun e.same.opened (lend_adds _ c.worker.result c.args.task.0 y.book.history.events z.book.history.events (g.H.Host.told y.host) (g.H.Host.counts y.host) (g.H.Host.counts z.host) c.lend_told-lent.result e.history e.none))
     e.same.marked e.same.tells e.same.faults e.same.misses
 
@@ -38,8 +38,8 @@ returns-clause-held g c =
     let y = c.take-yard.result in
     let old = c.args.pass.now in
     let open_ = open_there c.own_entries_tell_open_tasks.ensures.entries c.own_entries_tell_open_tasks.ensures.decides y.book (worker_of old) c.worker.result c.args.task.0 (mine_of old) (c.worker.ensures.number ∙ c.take-yard.ensures.same.worker) c.take-yard.ensures.mine c.requires.open in
-    held_turn g.T.Tool.apply y.book (record { ordered = y.ordered; opened = take y.opened y.book.history.events; marked = g.H.Host.marked y.host; tells = is_some (g.H.Host.told y.host); faults = y.faults; misses = y.misses }) (charter_of old) (g.H.Host.told y.host) c.args.task.0 (λ l. map g.H.Reading.ReadPart.state l.readings.items) (λ l. map g.H.Draft.WritePart.state l.drafts.items) c.lend_told-lent.result
-    y.same_plan c.take-yard.ensures.charter refl (open_loan y.book.plan y.ordered.plan (state_at y.book) c.args.task.0 y.same_plan (consistent_at y.book).sound open_.runs) c.lend_told-lent.ensures.lent
+    held_turn g.T.Tool.apply y.book (record { ordered = y.ordered.value; opened = take y.opened y.book.history.events; marked = g.H.Host.marked y.host; tells = is_some (g.H.Host.told y.host); faults = y.faults; misses = y.misses }) (charter_of old) (g.H.Host.told y.host) c.args.task.0 (λ l. map g.H.Reading.ReadPart.state l.readings.items) (λ l. map g.H.Draft.WritePart.state l.drafts.items) c.lend_told-lent.result
+    y.same_plan c.take-yard.ensures.charter refl (open_loan y.book.plan y.ordered.value.plan (state_at y.book) c.args.task.0 y.same_plan (consistent_at y.book).sound open_.runs) c.lend_told-lent.ensures.lent
 
 pub returns-clause-mine : goal.returns-clause-mine
 returns-clause-mine g c =
@@ -63,11 +63,11 @@ returns-clause-inputs g c =
     let e = c.lend_told-lent.ensures in
     let old = c.args.pass.now in
     let mid = c.take-yard.new.pass in
-    inputs_turn g.T.Tool.apply (record { ordered = y.ordered; opened = take y.opened y.book.history.events; marked = g.H.Host.marked y.host; tells = is_some (g.H.Host.told y.host); faults = y.faults; misses = y.misses }) (charter_of old) c.worker.result (taken_of mid) y.book.history.events z.book.history.events (mine_of old) (mine_of mid) (mine_of c.give.new.pass)
+    inputs_turn g.T.Tool.apply (record { ordered = y.ordered.value; opened = take y.opened y.book.history.events; marked = g.H.Host.marked y.host; tells = is_some (g.H.Host.told y.host); faults = y.faults; misses = y.misses }) (charter_of old) c.worker.result (taken_of mid) y.book.history.events z.book.history.events (mine_of old) (mine_of mid) (mine_of c.give.new.pass)
     c.take-yard.ensures.charter c.take-yard.ensures.taken c.take-yard.ensures.lists.1
     (lend_adds _ c.worker.result c.args.task.0 y.book.history.events z.book.history.events (g.H.Host.told y.host) (g.H.Host.counts y.host) (g.H.Host.counts z.host) c.lend_told-lent.result e.history e.none)
     c.give.ensures.grown
-    (lends_so _ g.T.Tool.apply y.ordered.plan c.worker.result c.args.task.0 y.book.history.events z.book.history.events (g.H.Host.told y.host) (g.H.Host.counts y.host) (g.H.Host.counts z.host) c.lend_told-lent.result e.history e.none)
+    (lends_so _ g.T.Tool.apply y.ordered.value.plan c.worker.result c.args.task.0 y.book.history.events z.book.history.events (g.H.Host.told y.host) (g.H.Host.counts y.host) (g.H.Host.counts z.host) c.lend_told-lent.result e.history e.none)
 
 pub returns-clause-asked : goal.returns-clause-asked
 returns-clause-asked g c =

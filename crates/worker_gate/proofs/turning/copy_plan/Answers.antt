@@ -11,14 +11,14 @@ pub returns-clause-none_open : goal.returns-clause-none_open
 returns-clause-none_open g c =
     let y = c.take-yard.result in
     let old = c.args.pass.now in
-    let there : Charter = record { ordered = y.ordered; opened = take y.opened y.book.history.events; marked = g.H.Host.marked y.host; tells = is_some (g.H.Host.told y.host); faults = y.faults; misses = y.misses } in
+    let there : Charter = record { ordered = y.ordered.value; opened = take y.opened y.book.history.events; marked = g.H.Host.marked y.host; tells = is_some (g.H.Host.told y.host); faults = y.faults; misses = y.misses } in
     none_by_seen c.own_entries_tell_open_tasks.ensures.entries c.own_entries_tell_open_tasks.ensures.decides y.book there (worker_of old) (seen_of old) (mine_of old) y.same_plan y.same_order c.take-yard.ensures.seen old.own
     (subst (λ (k : Option Charter). IfSome k (λ d. NoneOpenFor d (worker_of old) (seen_of old))) c.take-yard.ensures.charter c.requires.none_open)
 
 pub returns-clause-plan : goal.returns-clause-plan
 returns-clause-plan g c =
     let y = c.take-yard.result in
-    plan_copied (charter_of c.args.pass.now) (record { ordered = y.ordered; opened = take y.opened y.book.history.events; marked = g.H.Host.marked y.host; tells = is_some (g.H.Host.told y.host); faults = y.faults; misses = y.misses }) c.plan.result.now c.copy-plan.result c.take-yard.ensures.charter c.copy-plan.ensures c.plan.ensures
+    plan_copied (charter_of c.args.pass.now) (record { ordered = y.ordered.value; opened = take y.opened y.book.history.events; marked = g.H.Host.marked y.host; tells = is_some (g.H.Host.told y.host); faults = y.faults; misses = y.misses }) c.plan.result.now c.copy-plan.result c.take-yard.ensures.charter c.copy-plan.ensures c.plan.ensures
 
 pub returns-clause-told : goal.returns-clause-told
 returns-clause-told g c =

@@ -18,14 +18,14 @@ finish_told-requires-clause-open g c =
 pub finish_told-requires-clause-can : goal.finish_told-requires-clause-can
 finish_told-requires-clause-can g c =
     let y = c.take-yard.result in
-    finish_here g.T.Tool.apply (charter_of c.args.pass.now) (record { ordered = y.ordered; opened = take y.opened y.book.history.events; marked = g.H.Host.marked y.host; tells = is_some (g.H.Host.told y.host); faults = y.faults; misses = y.misses }) (g.H.Host.told y.host) c.args.task.0 (map g.H.Reading.ReadPart.state c.args.loan.readings.items) (map g.H.Draft.WritePart.state c.args.loan.drafts.items) c.args.filled c.take-yard.ensures.charter refl c.requires.can
+    finish_here g.T.Tool.apply (charter_of c.args.pass.now) (record { ordered = y.ordered.value; opened = take y.opened y.book.history.events; marked = g.H.Host.marked y.host; tells = is_some (g.H.Host.told y.host); faults = y.faults; misses = y.misses }) (g.H.Host.told y.host) c.args.task.0 (map g.H.Reading.ReadPart.state c.args.loan.readings.items) (map g.H.Draft.WritePart.state c.args.loan.drafts.items) c.args.filled c.take-yard.ensures.charter refl c.requires.can
 
 pub give-requires-clause-charter : goal.give-requires-clause-charter
 give-requires-clause-charter g c =
     let y = c.take-yard.result in
     let z = c.finish_told.new.yard in
     let e = c.finish_told.ensures in
-    charter_kept _ y.ordered z.ordered (take y.opened y.book.history.events) (take z.opened z.book.history.events) (g.H.Host.marked y.host) (g.H.Host.marked z.host) (is_some (g.H.Host.told y.host)) (is_some (g.H.Host.told z.host)) y.faults z.faults y.misses z.misses (c.take-yard.ensures.same.charter ∙ c.take-yard.ensures.charter) e.same.ordered
+    charter_kept _ y.ordered.value z.ordered.value (take y.opened y.book.history.events) (take z.opened z.book.history.events) (g.H.Host.marked y.host) (g.H.Host.marked z.host) (is_some (g.H.Host.told y.host)) (is_some (g.H.Host.told z.host)) y.faults z.faults y.misses z.misses (c.take-yard.ensures.same.charter ∙ c.take-yard.ensures.charter) e.same.ordered
     (opened_kept c.worker.result y.opened z.opened y.book.history.events z.book.history.events y.begun e.same.opened (finishes_adds c.worker.result c.args.task.0 (failures_in c.args.filled) y.book.history.events z.book.history.events (ends_finishes c.worker.result c.args.task.0 (failures_in c.args.filled) y.book.history.events z.book.history.events c.finish_told.ensures.ends)))
     e.same.marked e.same.tells e.same.faults e.same.misses
 
@@ -47,7 +47,7 @@ returns-clause-finishes g c =
 pub finish_told-requires-clause-inputs : goal.finish_told-requires-clause-inputs
 finish_told-requires-clause-inputs g c =
     let y = c.take-yard.result in
-    filled_here g.T.Tool.apply (charter_of c.args.pass.now) (record { ordered = y.ordered; opened = take y.opened y.book.history.events; marked = g.H.Host.marked y.host; tells = is_some (g.H.Host.told y.host); faults = y.faults; misses = y.misses }) c.args.task.0 c.args.filled c.take-yard.ensures.charter c.requires.inputs
+    filled_here g.T.Tool.apply (charter_of c.args.pass.now) (record { ordered = y.ordered.value; opened = take y.opened y.book.history.events; marked = g.H.Host.marked y.host; tells = is_some (g.H.Host.told y.host); faults = y.faults; misses = y.misses }) c.args.task.0 c.args.filled c.take-yard.ensures.charter c.requires.inputs
 
 pub returns-clause-inputs : goal.returns-clause-inputs
 returns-clause-inputs g c =
@@ -55,7 +55,7 @@ returns-clause-inputs g c =
     let z = c.finish_told.new.yard in
     let old = c.args.pass.now in
     let mid = c.take-yard.new.pass in
-    inputs_turn g.T.Tool.apply (record { ordered = y.ordered; opened = take y.opened y.book.history.events; marked = g.H.Host.marked y.host; tells = is_some (g.H.Host.told y.host); faults = y.faults; misses = y.misses }) (charter_of old) c.worker.result (taken_of mid) y.book.history.events z.book.history.events (mine_of old) (mine_of mid) (mine_of c.give.new.pass)
+    inputs_turn g.T.Tool.apply (record { ordered = y.ordered.value; opened = take y.opened y.book.history.events; marked = g.H.Host.marked y.host; tells = is_some (g.H.Host.told y.host); faults = y.faults; misses = y.misses }) (charter_of old) c.worker.result (taken_of mid) y.book.history.events z.book.history.events (mine_of old) (mine_of mid) (mine_of c.give.new.pass)
     c.take-yard.ensures.charter c.take-yard.ensures.taken c.take-yard.ensures.lists.1
     (finishes_adds c.worker.result c.args.task.0 (failures_in c.args.filled) y.book.history.events z.book.history.events (ends_finishes c.worker.result c.args.task.0 (failures_in c.args.filled) y.book.history.events z.book.history.events c.finish_told.ensures.ends))
     c.give.ensures.grown c.finish_told.ensures.inputs

@@ -12,14 +12,14 @@ invariant_of-self-clause-kept g c =
 pub sweep-requires-clause-choice : goal.sweep-requires-clause-choice
 sweep-requires-clause-choice g c =
     let y = c.args.self.now in
-    let clean = clean_is y.book.plan c.in-Task.task.0 c.in-Some.pair (ap (λ p. kind p c.in-Task.task.0) (y.same_plan ∙ sym c.plan.ensures) ∙ c.in-Some.ensures) in
+    let clean = clean_is y.book.plan c.in-Task.task.0 c.in-Some.pair (ap (λ p. kind p c.in-Task.task.0) (sym (c.plan.ensures ∙ c.next.ensures.plan)) ∙ c.in-Some.ensures) in
     next_choice y.book c.next.new.self c.args.worker c.in-Task.task.0 c.next.ensures.plan (ap (λ o. o.items) c.next.ensures.order) clean c.in-Task.ensures.next
 
 pub returns-in-Some-clause-leased : goal.returns-in-Some-clause-leased
 returns-in-Some-clause-leased g c =
     let y = c.args.self.now in
-    let clean = clean_is y.book.plan c.in-Task.task.0 c.in-Some.pair (ap (λ p. kind p c.in-Task.task.0) (y.same_plan ∙ sym c.plan.ensures) ∙ c.in-Some.ensures) in
-    next_leases y.book c.next.new.self y.ordered.plan c.args.worker c.in-Task.task.0 _ _ _ _ c.sweep.result y.same_plan c.next.ensures.plan (ap (λ o. o.items) c.next.ensures.order) clean c.in-Task.ensures.next c.sweep.ensures.leased
+    let clean = clean_is y.book.plan c.in-Task.task.0 c.in-Some.pair (ap (λ p. kind p c.in-Task.task.0) (sym (c.plan.ensures ∙ c.next.ensures.plan)) ∙ c.in-Some.ensures) in
+    next_leases y.book c.next.new.self y.ordered.value.plan c.args.worker c.in-Task.task.0 _ _ _ _ c.sweep.result y.same_plan c.next.ensures.plan (ap (λ o. o.items) c.next.ensures.order) clean c.in-Task.ensures.next c.sweep.ensures.leased
 
 pub returns-in-NotYet-clause-leased : goal.returns-in-NotYet-clause-leased
 returns-in-NotYet-clause-leased g c =

@@ -29,7 +29,7 @@ invariant_of-self-clause-kept g c =
     let st = g.H.Host.counts in
     let refused = subst (λ r. IfErr r (RefusesLoan c.plan.result.now c.args.task.0 (g.H.Host.told y.host) (st y.host) (st made.new.host))) c.in-Err.is made.ensures.refused in
     rw (c.fail.ensures.history, c.fail.ensures.plan, c.fail.ensures.order, made.ensures.marked)
-    (lend_keeps y.book _ g.T.Tool.apply y.opened (g.H.Host.told y.host) (g.H.Host.told made.new.host) (g.H.Host.marked y.host) y.faults y.misses (st y.host) (st made.new.host) c.args.worker c.args.task.0 c.in-Err.cause (c.plan.ensures ∙ sym y.same_plan) (book_laws y.book c.plan_laws.ensures c.record_laws.ensures) y.kept c.requires.open made.ensures.later refused y.begun made.ensures.told)
+    (lend_keeps y.book _ g.T.Tool.apply y.opened (g.H.Host.told y.host) (g.H.Host.told made.new.host) (g.H.Host.marked y.host) y.faults y.misses (st y.host) (st made.new.host) c.args.worker c.args.task.0 c.in-Err.cause c.plan.ensures (book_laws y.book c.plan_laws.ensures c.record_laws.ensures) y.kept c.requires.open made.ensures.later refused y.begun made.ensures.told)
 
 pub invariant_of-self-clause-listed : goal.invariant_of-self-clause-listed
 invariant_of-self-clause-listed g c =
@@ -58,10 +58,10 @@ pub returns-clause-lent : goal.returns-clause-lent
 returns-clause-lent g c =
     let y = c.args.self.now in
     let made = c.make_loan-made in
-    rw (sym c.plan.ensures)
+    rw (sym (c.plan.ensures ∙ y.same_plan))
     (some_if_ok made.result c.ok.result _ c.ok.ensures.value
     (if_ok_both made.result _ _ _ (λ l readings drafts.
-    lend_lends y.book _ g.T.Tool.apply y.opened (g.H.Host.told y.host) (g.H.Host.marked y.host) y.faults y.misses (g.H.Host.counts y.host) c.args.worker c.args.task.0 _ _ (y.same_plan ∙ sym c.plan.ensures) (book_laws y.book c.plan_laws.ensures c.record_laws.ensures) c.requires.open y.kept readings drafts) made.ensures.readings made.ensures.drafts))
+    lend_lends y.book _ g.T.Tool.apply y.opened (g.H.Host.told y.host) (g.H.Host.marked y.host) y.faults y.misses (g.H.Host.counts y.host) c.args.worker c.args.task.0 _ _ (sym c.plan.ensures) (book_laws y.book c.plan_laws.ensures c.record_laws.ensures) c.requires.open y.kept readings drafts) made.ensures.readings made.ensures.drafts))
 
 pub returns-clause-none : goal.returns-clause-none
 returns-clause-none g c =
@@ -73,6 +73,6 @@ returns-clause-none g c =
           let refused = subst (λ r. IfErr r (RefusesLoan c.plan.result.now c.args.task.0 (g.H.Host.told y.host) (st y.host) (st made.new.host))) w.in-Err.is made.ensures.refused in
           none_if_err made.result c.ok.result _ _ c.ok.ensures.value w.in-Err.is
           (rw (w.self-is, sym y.same_plan)
-          (lend_adds y.book _ g.T.Tool.apply y.opened (g.H.Host.told y.host) (g.H.Host.told made.new.host) (g.H.Host.marked y.host) y.faults y.misses (st y.host) (st made.new.host) c.args.worker c.args.task.0 w.in-Err.cause (c.plan.ensures ∙ sym y.same_plan) (book_laws y.book c.plan_laws.ensures c.record_laws.ensures) y.kept c.requires.open made.ensures.later refused _ w.fail.ensures.history))
+          (lend_adds y.book _ g.T.Tool.apply y.opened (g.H.Host.told y.host) (g.H.Host.told made.new.host) (g.H.Host.marked y.host) y.faults y.misses (st y.host) (st made.new.host) c.args.worker c.args.task.0 w.in-Err.cause c.plan.ensures (book_laws y.book c.plan_laws.ensures c.record_laws.ensures) y.kept c.requires.open made.ensures.later refused _ w.fail.ensures.history))
       | in_default w ↦ some_if_none made.result c.ok.result w.in_default.field-0 _ c.ok.ensures.value w.in_default.is
     ]

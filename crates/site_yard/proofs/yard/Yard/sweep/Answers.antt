@@ -20,7 +20,7 @@ pub invariant_of-self-clause-kept : goal.invariant_of-self-clause-kept
 invariant_of-self-clause-kept g c =
     let y = c.args.self.now in
     rw (c.clean.ensures.history, c.clean.ensures.plan, c.clean.ensures.order, c.in-Ok.ensures.marked)
-    (sweep_keeps y.book _ g.T.Tool.apply y.opened _ _ _ y.faults y.misses _ _ c.args.worker c.args.task.0 c.args.pair (c.plan.ensures ∙ sym y.same_plan) (book_laws y.book c.plan_laws.ensures c.record_laws.ensures) y.begun y.kept c.requires.kind c.in-Ok.ensures.later c.in-Ok.ensures.answer)
+    (sweep_keeps y.book _ g.T.Tool.apply y.opened _ _ _ y.faults y.misses _ _ c.args.worker c.args.task.0 c.args.pair c.plan.ensures (book_laws y.book c.plan_laws.ensures c.record_laws.ensures) y.begun y.kept c.requires.kind c.in-Ok.ensures.later c.in-Ok.ensures.answer)
 
 pub invariant_of-self-clause-listed : goal.invariant_of-self-clause-listed
 invariant_of-self-clause-listed g c =
@@ -37,7 +37,7 @@ pub invariant_of-self-in-Err-clause-kept : goal.invariant_of-self-in-Err-clause-
 invariant_of-self-in-Err-clause-kept g c =
     let y = c.args.self.now in
     rw (c.fail.ensures.history, c.fail.ensures.plan, c.fail.ensures.order, c.in-Err.ensures.marked)
-    (sweep_stops y.book _ g.T.Tool.apply y.opened (g.H.Host.told y.host) _ _ y.faults y.misses (g.H.Host.counts y.host) _ c.args.worker c.args.task c.args.pair c.in-Err.cause (c.plan.ensures ∙ sym y.same_plan) (book_laws y.book c.plan_laws.ensures c.record_laws.ensures) y.kept c.requires.choice c.requires.kind c.in-Err.ensures.later c.in-Err.ensures.answer y.begun)
+    (sweep_stops y.book _ g.T.Tool.apply y.opened (g.H.Host.told y.host) _ _ y.faults y.misses (g.H.Host.counts y.host) _ c.args.worker c.args.task c.args.pair c.in-Err.cause c.plan.ensures (book_laws y.book c.plan_laws.ensures c.record_laws.ensures) y.kept c.requires.choice c.requires.kind c.in-Err.ensures.later c.in-Err.ensures.answer y.begun)
 
 pub invariant_of-self-in-Err-clause-listed : goal.invariant_of-self-in-Err-clause-listed
 invariant_of-self-in-Err-clause-listed g c =
@@ -48,4 +48,4 @@ invariant_of-self-in-Err-clause-listed g c =
 pub returns-in-Err-clause-leased : goal.returns-in-Err-clause-leased
 returns-in-Err-clause-leased g c =
     let y = c.args.self.now in
-    sweep_answers y.book _ g.T.Tool.apply y.opened (g.H.Host.told y.host) _ _ y.faults y.misses (g.H.Host.counts y.host) _ c.args.worker c.args.task c.args.pair c.in-Err.cause (c.plan.ensures ∙ sym y.same_plan) (book_laws y.book c.plan_laws.ensures c.record_laws.ensures) y.kept c.requires.choice c.requires.kind c.in-Err.ensures.later c.in-Err.ensures.answer _ _ c.fail.ensures.history (c.failed.ensures ∙ ap (λ (l : Log). failed_as c.args.task (slice_get l.events (length l.events - 1))) c.record.ensures.value)
+    sweep_answers y.book _ g.T.Tool.apply y.opened (g.H.Host.told y.host) _ _ y.faults y.misses (g.H.Host.counts y.host) _ c.args.worker c.args.task c.args.pair c.in-Err.cause c.plan.ensures (book_laws y.book c.plan_laws.ensures c.record_laws.ensures) y.kept c.requires.choice c.requires.kind c.in-Err.ensures.later c.in-Err.ensures.answer _ _ c.fail.ensures.history (c.failed.ensures ∙ ap (λ (l : Log). failed_as c.args.task (slice_get l.events (length l.events - 1))) c.record.ensures.value)
