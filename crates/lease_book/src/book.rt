@@ -97,7 +97,7 @@ impl Book {
     {
         let plan = ordered.plan().copy(alloc)?;
         let order = copied(alloc, ordered.tasks())?;
-        let rest = rest_of(alloc, &plan, order.as_slice())?;
+        let rest = rest_of(alloc, ordered.plan(), ordered.tasks())?;
         Ok(Book::with(plan, order, rest))
     }
 
@@ -148,5 +148,20 @@ impl Book {
         ensures { result.now ≡ self.now.plan }
     {
         &self.plan
+    }
+
+    /// The record, given over.
+    pub fn into_record(self) -> Record
+        ensures { result ≡ self.history }
+    {
+        let Book {
+            plan,
+            order,
+            history,
+            state,
+            trial,
+            bench,
+        } = self;
+        history
     }
 }

@@ -3,7 +3,7 @@
 //! To the layer above a book is its record: a list of entries that is always legal (`lease_rules` says what that is);
 //! what the calls of a book answer is in `specs/Book.antt`. A book shows the state by arrays and, of the tasks that are
 //! left, by the trees of `place_peaks`, of which it asks the Choice. The start of a task is tried, in a second
-//! standing, only for a fresh order. After [`Book::open`] no call takes memory.
+//! standing, only for a fresh order. After [`Book::open`] or [`Book::over`] no call takes memory.
 #![tactic(auto)]
 
 mod allowing;

@@ -1,4 +1,3 @@
-pub mod RecordCopyLemmas
 pub mod OutputLemmas
 pub mod RunningLemmas
 pub mod RunningManyLemmas

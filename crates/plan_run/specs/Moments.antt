@@ -3,7 +3,6 @@ use Rattle.std.specs.Prelude.{ℕ, Bool, List, [], get_or, Option, None}
 use Rattle.values.specs.Apply.{Apply}
 use Rattle.outside.specs.declared.counts.Counts.{Counts}
 use Rattle.outside.specs.declared.store.Store.{Store}
-use Rattle.outside.specs.declared.tool.Tool as tool
 use Rattle.run_record.specs.Events.{Event}
 
 -- What the host holds, where it is told, its counts, and of the first member of the crew how often its tool has failed, how

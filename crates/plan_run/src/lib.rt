@@ -8,7 +8,6 @@
 
 mod law;
 mod members;
-mod record_copy;
 mod run_text;
 mod running;
 mod running_many;

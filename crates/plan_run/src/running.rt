@@ -9,7 +9,6 @@ ghost use Rattle.plan_run.specs.code.Moments.{member_moment, work_moment, workin
 ghost use Rattle.plan_run.specs.code.Running.{EndsAs, HasRunAlone, IsEmptyReport, IsRefusal, IsReportSince, ReportsSince, ended_by, marked_if, reporting};
 
 use crate::law::deliveries_stay_within_the_output;
-use crate::record_copy::copy_of;
 use crate::run_text::print_run;
 use craft::{Crew, Gate};
 use lease_rules::{legal_records_are_safe, ordered_plans_fit};
@@ -71,27 +70,19 @@ fn end_of<H: Host, T: Tool>(alloc: Global, yard: &Yard<H, T>) -> Result<(), RunF
     }
 }
 
-/// The record of a run, and what was delivered since the yard's opening.
-fn report_of<H: Host, T: Tool>(alloc: Global, yard: &Yard<H, T>) -> Result<Report, Memory>
-    ensures { IfOk result (λ x. IsReportSince T.apply yard.now.ordered.value.plan
+/// The text of a run: the yard's record, and what was delivered since its opening.
+fn text_of<H: Host, T: Tool>(alloc: Global, yard: &Yard<H, T>) -> Result<Vec<u8>, Memory>
+    ensures { IfOk result (λ text. IsReportSince T.apply yard.now.ordered.value.plan
         (take yard.now.opened yard.now.book.history.events)
         (drop yard.now.opened yard.now.book.history.events)
         (marked_if (H.told yard.now.host) (H.marked yard.now.host))
-        (reporting (Some x.history) x.text.items x.delivered.items)) }
+        (reporting (Some yard.now.book.history) text.items yard.now.delivered.items)) }
 {
     let record = yard.book().record();
     // What holds of every record, for the proof.
     record.has_entries();
-    let arrived = yard.delivered();
-    let text = print_run(alloc, yard.plan(), record, arrived)?;
-    let history = copy_of(alloc, record)?;
-    let mut delivered = Vec::new(alloc);
-    delivered.extend_from_slice(arrived)?;
-    Ok(Report {
-        history,
-        text,
-        delivered,
-    })
+    let text = print_run(alloc, yard.plan(), record, yard.delivered())?;
+    Ok(text)
 }
 
 /// The end and the report of a run that is over, and its host. Of a yard that was opened with a record it tells what was
@@ -107,20 +98,16 @@ pub fn end_run<H: Host, T: Tool>(alloc: Global, yard: Yard<H, T>) -> Ran<H>
         (reporting result.history result.text.items result.delivered.items) result.end }
     ensures host { result.host ≡ yard.host }
 {
-    match report_of(alloc, &yard) {
-        Ok(report) => {
-            let Report {
-                history,
-                text,
-                delivered,
-            } = report;
+    match text_of(alloc, &yard) {
+        Ok(text) => {
             let end = end_of(alloc, &yard);
+            let (host, history, delivered) = yard.into_parts();
             Ran {
                 end,
                 history: Some(history),
                 text,
                 delivered,
-                host: yard.into_host(),
+                host,
             }
         }
         Err(Memory) => out_of_memory(alloc, yard.into_host()),

@@ -18,7 +18,7 @@ use crate::yard::Yard;
 use lease_book::Book;
 use outside::{Host, Tool};
 use plan_core::Plan;
-use run_record::RunFault;
+use run_record::{Record, RunFault};
 use std::alloc::Global;
 
 impl<H: Host, T: Tool> Yard<H, T> {
@@ -67,6 +67,7 @@ impl<H: Host, T: Tool> Yard<H, T> {
             (carries T.apply self.now.ordered.value.plan (H.marked self.now.host)) result.now
             (arrivals self.now.ordered.value.plan (drop self.now.opened self.now.book.history.events))) }
         ensures of_bytes { AreOfBytes result.now }
+        ensures value { result.now ≡ self.now.delivered.items }
     {
         &self.delivered
     }
@@ -88,5 +89,24 @@ impl<H: Host, T: Tool> Yard<H, T> {
         ensures { result ≡ self.host }
     {
         self.host
+    }
+
+    /// The host, the record and what was delivered since the opening, given over.
+    pub fn into_parts(self) -> (H, Record, Vec<Delivered>)
+        ensures host { result.0 ≡ self.host }
+        ensures record { result.1 ≡ self.book.history }
+        ensures delivered { result.2 ≡ self.delivered }
+    {
+        let Yard {
+            ordered,
+            book,
+            host,
+            faults,
+            misses,
+            opened,
+            delivered,
+            tool,
+        } = self;
+        (host, book.into_record(), delivered)
     }
 }

@@ -21,7 +21,6 @@ use Rattle.plan_core.proofs.plan.Plan.TheSendSync as Plan
 use Rattle.run_record.proofs.history.Record.TheSendSync as Record
 use Rattle.lease_book.proofs.trial.Trial.TheSendSync as Trial
 use Rattle.storage_simulation.proofs.bench.Bench.TheSendSync as Bench
-use Rattle.storage_simulation.proofs.ordered.Ordered.TheSendSync as Ordered
 use Rattle.std.proofs.marker.PhantomData.TheSendSync as PhantomData
 use Rattle.outside.specs.declared.host.Host as host
 use Rattle.outside.specs.declared.parts.ReadPart as read
@@ -108,7 +107,7 @@ book_send = declared_send Book.the_type (
 -- and so does a yard whose host does
 pub yard_send : (H T R D : RattleType) (h : host.Ghosts H.Denot R.Denot D.Denot) (r : read.Ghosts R.Denot) (w : write.Ghosts D.Denot) (t : tool.Ghosts T.Denot) → IsSend H → IsSend (Yard.the_row H T R D h r w t)
 yard_send H T R D h r w t s = declared_send (Yard.the_type H T R D h r w t) (
-  search (sendable, Ordered.the_send) depth 30,
+  search (sendable, crosses) depth 30,
   (
     search (sendable, book_send) depth 30,
     (

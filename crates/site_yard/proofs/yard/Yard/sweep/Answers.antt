@@ -1,4 +1,4 @@
-use Rattle.std.proofs.Common.{sym, ap, refl, ◌∙◌, ◌-◌, length, []}
+use Rattle.std.proofs.Common.{ap, refl, ◌∙◌, ◌-◌, length, []}
 use Rattle.std.specs.Prelude.{slice_get}
 use Rattle.run_record.specs.Events.{Clean}
 use Rattle.run_record.specs.code.Events.{Log}
